@@ -1,0 +1,4 @@
+pub mod Decimal
+pub mod ListWithRoom
+pub mod Threshold
+pub mod formers

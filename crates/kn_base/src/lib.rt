@@ -1,0 +1,21 @@
+//! What every crate of keynoted stands on: lists, octets, spans, counted steps and the limits.
+#![tactic(auto)]
+
+pub mod limits;
+mod list;
+mod memory;
+mod number;
+mod octets;
+mod reserved;
+mod span;
+mod steps;
+#[cfg(test)]
+mod tests;
+
+pub use list::List;
+pub use memory::NoMemory;
+pub use number::decimal;
+pub use octets::Octets;
+pub use reserved::Reserved;
+pub use span::Span;
+pub use steps::Steps;

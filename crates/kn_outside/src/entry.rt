@@ -1,0 +1,8 @@
+use kn_base::Octets;
+
+/// A file in memory.
+#[derive(Debug, Drop)]
+pub struct FileEntry {
+    pub name: Octets,
+    pub content: Octets,
+}

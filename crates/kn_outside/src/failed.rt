@@ -1,0 +1,3 @@
+/// A call to the outside failed.
+#[derive(Debug, Clone, Copy, PartialEq, Eq)]
+pub struct Failed;

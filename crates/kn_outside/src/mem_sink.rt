@@ -1,0 +1,81 @@
+ghost use Rattle.std.specs.Prelude.{◌≡◌, ◌+◌, ◌-◌, ◌^◌, ◌<◌, ◌≤◌, [], ◌++◌, true, false, min, length, IfOk, OnOk, OnErr, IsErr, IsTrue, ◌↔◌};
+ghost use Rattle.kn_outside.specs.InMemory.{raised, is_failing};
+ghost use Rattle.kn_outside.specs.Faults.{Rose};
+
+use crate::failed::Failed;
+use crate::numbered::fails;
+use crate::sink::Sink;
+use kn_base::{List, Octets};
+use std::alloc::Global;
+use std::marker::Model;
+
+/// A sink in memory, which keeps what is written to it. Chosen writes of it fail.
+#[derive(Debug, Drop)]
+pub struct MemSink {
+    written: Octets,
+    calls: u64,
+    faults: u64,
+    failing: List<u32>,
+}
+
+impl Model for MemSink {
+    ghost use Rattle.kn_outside.specs.InMemory.{SinkInMemory};
+
+    ghost Value = { SinkInMemory };
+
+    ghost view = { λ s. record { written = s.written; calls = s.calls; faults = s.faults; failing = s.failing } };
+}
+
+impl MemSink {
+    /// A sink to which nothing was written. The writes with these numbers, counted from 1, fail.
+    pub fn of(alloc: Global, failing: List<u32>) -> MemSink
+        ensures { result ≡ record { written = []; calls = 0; faults = 0; failing = failing } }
+    {
+        MemSink {
+            written: Octets::new(alloc),
+            calls: 0,
+            faults: 0,
+            failing,
+        }
+    }
+
+    pub fn written(&self) -> &[u8]
+        ensures { result.now ≡ self.now.written }
+    {
+        self.written.as_slice()
+    }
+
+    /// How many writes failed.
+    pub fn faults(&self) -> u64
+        ensures { result ≡ self.now.faults }
+    {
+        self.faults
+    }
+}
+
+impl Sink for MemSink {
+    ghost use Rattle.std.specs.Prelude.{[], Some};
+
+    ghost written = { λ s. Some s.written };
+
+    ghost taken = { λ s. Some [] };
+
+    ghost left = { λ s. Some [] };
+
+    ghost faults = { λ s. s.faults };
+
+    fn write(&mut self, piece: &[u8]) -> Result<usize, Failed>
+        ensures whole { IfOk result (λ n. n ≡ length piece.now) }
+        ensures ok { OnOk result (self.new ≡ record self.old { written = self.old.written ++ piece.now; calls = raised self.old.calls }) }
+        ensures err { OnErr result (self.new ≡ record self.old { calls = raised self.old.calls; faults = raised self.old.faults }) }
+        ensures later { self.old.faults ≤ self.new.faults }
+        ensures chosen { IsTrue (is_failing self.old.failing (raised self.old.calls)) → IsErr result }
+    {
+        self.calls = self.calls.saturating_add(1);
+        if !fails(&self.failing, self.calls) && self.written.extend(piece).is_ok() {
+            return Ok(piece.len());
+        }
+        self.faults = self.faults.saturating_add(1);
+        Err(Failed)
+    }
+}

@@ -1,0 +1,68 @@
+-- A well-formed system stays so as principals and rows are added.
+use Rattle.std.proofs.Common.{◌≡◌, ℕ, zero, suc, ◌+◌, ◌<◌, ◌≤◌, ◌^◌, Bool, List, [], ◌∷◌, ◌++◌, length, slice_index_or, arith}
+use Rattle.std.proofs.lemmas.List.Elements.{All-weaker, All-push}
+use Rattle.kn_system.specs.declared.rows.Piece.{Piece}
+use Rattle.kn_system.specs.declared.rows.Piece.TheVariants.{Who, Gate}
+use Rattle.kn_system.specs.declared.rows.Row.{Row}
+use Rattle.kn_system.specs.Equations.{IsRow, IsSystem, node_total, leaf_total}
+use Rattle.kn_system.specs.Form.{leaf_count}
+use Rattle.kn_system.specs.Simple.{AreLeaves, IsSimple}
+use Rattle.kn_system.proofs.Leaves.{leaf_count-le}
+
+AreLeaves-more : (n m : ℕ) → n ≤ m → (ps : List Piece) → AreLeaves n ps → AreLeaves m ps
+AreLeaves-more n m l [] h = tt
+AreLeaves-more n m l (Who p ∷ ps) h = (omega (arith, h.0), AreLeaves-more n m l ps h.1)
+AreLeaves-more n m l (Gate k c ∷ ps) h = absurd h
+
+IsSimple-more : (n m : ℕ) → n ≤ m → (ps : List Piece) → IsSimple n ps → IsSimple m ps
+IsSimple-more n m l [] h = absurd h
+IsSimple-more n m l (Who p ∷ ps) h = (omega (arith, h.0), h.1)
+IsSimple-more n m l (Gate k c ∷ ps) h = (h.0, h.1, AreLeaves-more n m l ps h.2)
+
+IsRow-more : (levels n m : ℕ) → n ≤ m → (row : Row) → IsRow levels n row → IsRow levels m row
+IsRow-more levels n m l row h = record {
+  authorizer = omega (arith, h.authorizer);
+  ceiling = h.ceiling;
+  formula = IsSimple-more n m l row.formula h.formula;
+}
+
+-- with more principals
+pub IsSystem-more_principals : (levels : ℕ) (before after : List Bool) (rows : List Row) → length before ≤ length after → length after ≤ 2 ^ 24
+    → IsSystem (record { levels = levels; requesters = before; rows = rows }) → IsSystem (record { levels = levels; requesters = after; rows = rows })
+IsSystem-more_principals levels before after rows more fit h = record {
+  levels_fit = h.levels_fit;
+  principals_fit = (omega (arith, h.principals_fit.0), fit);
+  nodes_fit = h.nodes_fit;
+  rows_fit = All-weaker (IsRow levels (length before)) (IsRow levels (length after)) (IsRow-more levels (length before) (length after) more) rows h.rows_fit;
+}
+
+pub node_total-push : (rows : List Row) (row : Row) → node_total (rows ++ row ∷ []) ≡ node_total rows + length row.formula
+node_total-push [] row = omega arith
+node_total-push (first ∷ rows) row = let rest = node_total-push rows row in omega arith
+
+pub leaf_total-push : (rows : List Row) (row : Row) → leaf_total (rows ++ row ∷ []) ≡ leaf_total rows + leaf_count row.formula
+leaf_total-push [] row = omega arith
+leaf_total-push (first ∷ rows) row = let rest = leaf_total-push rows row in omega arith
+
+pub leaf_total-le : (rows : List Row) → leaf_total rows ≤ node_total rows
+leaf_total-le [] = omega arith
+leaf_total-le (row ∷ rows) =
+    let rest = leaf_total-le rows in
+    let here = leaf_count-le row.formula in
+    omega arith
+
+-- with one more row
+pub IsSystem-more_rows : (levels : ℕ) (requesters : List Bool) (rows : List Row) (row : Row) → IsRow levels (length requesters) row → node_total rows + length row.formula < 2 ^ 24
+    → IsSystem (record { levels = levels; requesters = requesters; rows = rows }) → IsSystem (record { levels = levels; requesters = requesters; rows = rows ++ row ∷ [] })
+IsSystem-more_rows levels requesters rows row one fit h = record {
+  levels_fit = h.levels_fit;
+  principals_fit = h.principals_fit;
+  nodes_fit = omega (arith, node_total-push rows row);
+  rows_fit = All-push (IsRow levels (length requesters)) rows row h.rows_fit one;
+}
+
+-- no row has more nodes than all together
+pub node_total-ge : (rows : List Row) (i : ℕ) (d : Row) → i < length rows → length (slice_index_or rows i d).formula ≤ node_total rows
+node_total-ge [] i d l = absurd (omega arith)
+node_total-ge (row ∷ rows) zero d l = omega arith
+node_total-ge (row ∷ rows) (suc i) d l = let rest = node_total-ge rows i d (omega arith) in omega arith

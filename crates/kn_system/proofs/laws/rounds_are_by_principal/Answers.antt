@@ -1,0 +1,5 @@
+use Rattle.kn_system.proofs.Turned.{by_principal}
+use Rattle.kn_system.proofs.laws.rounds_are_by_principal.Goals as goal
+
+pub returns : goal.returns
+returns c = by_principal

@@ -1,0 +1,37 @@
+-- A query over numbered principals: what a system is seen as.
+use Rattle.std.specs.Prelude.{ℕ, ◌+◌, ◌<◌, ◌≤◌, ◌^◌, Bool, List, [], ◌∷◌, All, length, slice_index_or}
+use Rattle.kn_system.specs.declared.rows.Row.{Row}
+use Rattle.kn_system.specs.Form.{leaf_count}
+use Rattle.kn_system.specs.Simple.{IsSimple}
+
+-- how many levels there are, which principals are requesters, by number, and the rows
+pub record Equations : Type 0 where
+  pub levels : ℕ
+  pub requesters : List Bool
+  pub rows : List Row
+
+-- a row by its number
+abbrev pub row_at : List Row → ℕ → Row
+row_at rows i = slice_index_or rows i (record { authorizer = 0; ceiling = 0; formula = [] })
+
+-- a row's numbers are in range, and its formula is one over the principals
+pub record IsRow (levels principals : ℕ) (row : Row) : Type 0 where
+  pub authorizer : row.authorizer < principals
+  pub ceiling : row.ceiling < levels
+  pub formula : IsSimple principals row.formula
+
+-- how many nodes the formulas have together, principals and gates
+abbrev pub node_total : List Row → ℕ
+node_total [] = 0
+node_total (row ∷ rows) = length row.formula + node_total rows
+
+-- how many principals stand in the formulas together
+abbrev pub leaf_total : List Row → ℕ
+leaf_total [] = 0
+leaf_total (row ∷ rows) = leaf_count row.formula + leaf_total rows
+
+pub record IsSystem (s : Equations) : Type 0 where
+  pub levels_fit : (2 ≤ s.levels) × (s.levels ≤ 64)
+  pub principals_fit : (1 ≤ length s.requesters) × (length s.requesters ≤ 2 ^ 24)
+  pub nodes_fit : node_total s.rows < 2 ^ 24
+  pub rows_fit : All (IsRow s.levels (length s.requesters)) s.rows

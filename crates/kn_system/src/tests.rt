@@ -1,0 +1,91 @@
+ghost use Rattle.std.specs.Prelude.{◌≡◌, ◌∷◌, [], IfOk};
+ghost use Rattle.kn_system.specs.declared.rows.Piece.TheVariants.{Who, Gate};
+
+use crate::formula::copied;
+use crate::{Piece, System};
+use kn_base::{List, NoMemory, Steps};
+use std::alloc::Global;
+use std::process::Abort;
+use std::test::Fail;
+
+#[derive(Debug, Drop)]
+struct Mark;
+
+fn who(alloc: Global, principal: u32) -> Result<List<Piece>, NoMemory>
+    ensures { IfOk result (λ pieces. pieces ≡ Who principal ∷ []) }
+{
+    copied(alloc, &[Piece::Who(principal)])
+}
+
+fn either(alloc: Global, first: u32, second: u32) -> Result<List<Piece>, NoMemory>
+    ensures { IfOk result (λ pieces. pieces ≡ Gate 1 2 ∷ Who first ∷ Who second ∷ []) }
+{
+    let gate = Piece::Gate { need: 1, count: 2 };
+    copied(alloc, &[gate, Piece::Who(first), Piece::Who(second)])
+}
+
+// The levels after a round over four principals.
+fn after_round(
+    rt: &impl Abort,
+    system: &System<Mark>,
+    levels: [u8; 4],
+    steps: &mut Steps<Mark>,
+) -> [u8; 4] {
+    let count = system.levels();
+    assert!(rt; system.principals() == 4);
+    assert!(rt; levels.iter().all(|level| *level < count));
+    let mut next = [0; 4];
+    for principal in 0..4 {
+        if system.is_requester(principal) {
+            next[principal as usize] = count - 1;
+        }
+    }
+    for row in 0..system.rows() {
+        let worth = system
+            .form_value(row, &levels, steps)
+            .min(system.ceiling(row));
+        let authorizer = system.authorizer(row) as usize;
+        next[authorizer] = next[authorizer].max(worth);
+    }
+    next
+}
+
+#[test]
+fn chain_passes_the_lowest_ceiling(rt: HostRuntime) -> Result<(), Fail> {
+    let alloc = rt.alloc();
+    let mut system = System::start(alloc, Mark, 4);
+    let middle = system.push_principal(false)?;
+    let requester = system.push_principal(true)?;
+    let other = system.push_principal(false)?;
+    system.push_row(0, 3, &either(alloc, other, middle)?)?;
+    system.push_row(middle, 2, &who(alloc, requester)?)?;
+    let mut steps = Steps::start(Mark);
+    let first = after_round(&rt, &system, [0, 0, 3, 0], &mut steps);
+    assert_eq!(rt; first, [0, 2, 3, 0]);
+    let second = after_round(&rt, &system, first, &mut steps);
+    assert_eq!(rt; second, [2, 2, 3, 0]);
+    assert_eq!(rt; after_round(&rt, &system, second, &mut steps), second);
+    assert_eq!(rt; steps.count(), 12);
+    Ok(())
+}
+
+#[test]
+fn cycle_grants_nothing(rt: HostRuntime) -> Result<(), Fail> {
+    let alloc = rt.alloc();
+    let mut system = System::start(alloc, Mark, 2);
+    let left = system.push_principal(false)?;
+    let right = system.push_principal(false)?;
+    let requester = system.push_principal(true)?;
+    system.push_row(0, 1, &who(alloc, left)?)?;
+    system.push_row(left, 1, &who(alloc, right)?)?;
+    system.push_row(right, 1, &either(alloc, left, right)?)?;
+    let last = system.push_row(left, 0, &either(alloc, right, requester)?)?;
+    assert_eq!(rt; (system.rows(), last), (4, 3));
+    assert_eq!(rt; (system.nodes(), system.uses_total()), (8, 6));
+    let start = [0, 0, 0, 1];
+    let mut steps = Steps::start(Mark);
+    assert_eq!(rt; after_round(&rt, &system, start, &mut steps), start);
+    // Levels that hold each other up are a fixed point too, and not the least one.
+    assert_eq!(rt; after_round(&rt, &system, [1; 4], &mut steps), [1; 4]);
+    Ok(())
+}
