@@ -1,0 +1,197 @@
+-- What each status of a run says.
+use Rattle.std.proofs.Common.{◌≡◌, ◌≢◌, ℕ, ◌+◌, ◌<◌, ◌≤◌, ◌⊎◌, inl, inr, List, [], ◌∷◌, ◌++◌, length, take, refl, sym, ap, ◌∙◌, ⊎_elim, arith, length-append, Option, Some, None}
+use Rattle.std.specs.Prelude.{codes, IfSome, IsSomeAnd}
+use Rattle.kn_base.specs.declared.limits.TheConstants.{FILE_BYTES}
+use Rattle.kn_outside.specs.Told.{more, before}
+use Rattle.kn_outside.specs.Faults.{Rose}
+use Rattle.kn_assert.specs.declared.assertion.Assertion.{Assertion}
+use Rattle.kn_assert.specs.FirstForm.{IsFirstForm}
+use Rattle.kn_meaning.specs.declared.script.Script.{Script}
+use Rattle.kn_meaning.specs.FirstInput.{IsFirstInput}
+use Rattle.keynoted.specs.declared.stop.Stop.{Stop}
+use Rattle.keynoted.specs.declared.stop.Stop.TheVariants.{Words, FileFailed, FileTooLarge, FileForm, ReadFailed, InputForm, WriteFailed, Memory}
+use Rattle.keynoted.specs.Running.{FilesSeen, LinkSeen, SinkSeen, AskFor, HasContent, IsTooLarge, IsRead, IsReadWhole, IsWrongInput, IsPolicy, IsDue, Answering, IsAnswering, Cause, WordsFit, status_of, line_of, IsTold, IsRun, IsDone, IsRefused, IsFileFault, IsNoPolicy, IsLinkFault}
+
+-- a status below 9 is that of what was due, and its line was written whole
+told-whole : (line : List ℕ) (s s' : SinkSeen) (due status : ℕ) → IsTold line s s' due status → (status ≡ 9 → ⊥) → (status ≡ due) × (s'.written ≡ more line s.written)
+told-whole line s s' due status told other =
+    ⊎_elim (λ (t : (status ≡ due) × (s'.written ≡ more line s.written)). t)
+    (λ (t : (status ≡ 9) × Rose s.faults s'.faults × (n : ℕ) × (n < length line) × (s'.written ≡ more (take n line) s.written)). absurd (other t.0))
+    told
+
+-- a status is that of what was due, or 9
+another : (line : List ℕ) (s s' : SinkSeen) (due status k : ℕ) → IsTold line s s' due status → status ≡ k → (k ≡ due → ⊥) → (k ≡ 9 → ⊥) → ⊥
+another line s s' due status k told is not_due not_nine =
+    let whole = told-whole line s s' due status told (λ e. not_nine (sym is ∙ e)) in
+    not_due (sym is ∙ whole.0)
+
+-- what was due, or 9 in its place
+pub due_or_nine : (line : List ℕ) (s s' : SinkSeen) (due status : ℕ) → IsTold line s s' due status → (status ≡ due) ⊎ ((status ≡ 9) × Rose s.faults s'.faults)
+due_or_nine line s s' due status told =
+    ⊎_elim (λ (t : (status ≡ due) × (s'.written ≡ more line s.written)). inl t.0)
+    (λ (t : (status ≡ 9) × Rose s.faults s'.faults × (n : ℕ) × (n < length line) × (s'.written ≡ more (take n line) s.written)). inr (t.0, t.1))
+    told
+
+module _ (given : List (List ℕ)) (f f' : FilesSeen) (o o' : LinkSeen) (s s' : SinkSeen) (status : ℕ) where
+  done : (name : List ℕ) (due : Option Stop) → WordsFit given name due → Cause name f f' o o' due → IsTold (line_of name due) s s' (status_of due) status → status ≡ 0 →
+      IsDone given f f' o o'
+  done name None fit cause told at =
+      let whole = told-whole (line_of name None) s s' 0 status told (λ nine. absurd (omega arith)) in
+      record { name = name; words = fit; answered = cause }
+  done name (Some Words) fit cause told at = absurd (another (line_of name (Some Words)) s s' 1 status 0 told at (λ q. omega arith) (λ q. omega arith))
+  done name (Some FileFailed) fit cause told at = absurd (another (line_of name (Some FileFailed)) s s' 2 status 0 told at (λ q. omega arith) (λ q. omega arith))
+  done name (Some FileTooLarge) fit cause told at = absurd (another (line_of name (Some FileTooLarge)) s s' 2 status 0 told at (λ q. omega arith) (λ q. omega arith))
+  done name (Some FileForm) fit cause told at = absurd (another (line_of name (Some FileForm)) s s' 3 status 0 told at (λ q. omega arith) (λ q. omega arith))
+  done name (Some ReadFailed) fit cause told at = absurd (another (line_of name (Some ReadFailed)) s s' 4 status 0 told at (λ q. omega arith) (λ q. omega arith))
+  done name (Some InputForm) fit cause told at = absurd (another (line_of name (Some InputForm)) s s' 4 status 0 told at (λ q. omega arith) (λ q. omega arith))
+  done name (Some WriteFailed) fit cause told at = absurd (another (line_of name (Some WriteFailed)) s s' 4 status 0 told at (λ q. omega arith) (λ q. omega arith))
+  done name (Some Memory) fit cause told at = absurd (another (line_of name (Some Memory)) s s' 5 status 0 told at (λ q. omega arith) (λ q. omega arith))
+
+  pub run-done : IsRun given f f' o o' s s' status → status ≡ 0 →
+      IsDone given f f' o o'
+  run-done r = done r.name r.due r.words r.cause r.told
+
+  words : (name : List ℕ) (due : Option Stop) → WordsFit given name due → Cause name f f' o o' due → IsTold (line_of name due) s s' (status_of due) status → status ≡ 1 →
+      IsRefused given s s'
+  words name None fit cause told at = absurd (another (line_of name None) s s' 0 status 1 told at (λ q. omega arith) (λ q. omega arith))
+  words name (Some Words) fit cause told at =
+      let whole = told-whole (line_of name (Some Words)) s s' 1 status told (λ nine. absurd (omega arith)) in
+      record { words = fit; line = whole.1 }
+  words name (Some FileFailed) fit cause told at = absurd (another (line_of name (Some FileFailed)) s s' 2 status 1 told at (λ q. omega arith) (λ q. omega arith))
+  words name (Some FileTooLarge) fit cause told at = absurd (another (line_of name (Some FileTooLarge)) s s' 2 status 1 told at (λ q. omega arith) (λ q. omega arith))
+  words name (Some FileForm) fit cause told at = absurd (another (line_of name (Some FileForm)) s s' 3 status 1 told at (λ q. omega arith) (λ q. omega arith))
+  words name (Some ReadFailed) fit cause told at = absurd (another (line_of name (Some ReadFailed)) s s' 4 status 1 told at (λ q. omega arith) (λ q. omega arith))
+  words name (Some InputForm) fit cause told at = absurd (another (line_of name (Some InputForm)) s s' 4 status 1 told at (λ q. omega arith) (λ q. omega arith))
+  words name (Some WriteFailed) fit cause told at = absurd (another (line_of name (Some WriteFailed)) s s' 4 status 1 told at (λ q. omega arith) (λ q. omega arith))
+  words name (Some Memory) fit cause told at = absurd (another (line_of name (Some Memory)) s s' 5 status 1 told at (λ q. omega arith) (λ q. omega arith))
+
+  pub run-words : IsRun given f f' o o' s s' status → status ≡ 1 →
+      IsRefused given s s'
+  run-words r = words r.name r.due r.words r.cause r.told
+
+  file : (name : List ℕ) (due : Option Stop) → WordsFit given name due → Cause name f f' o o' due → IsTold (line_of name due) s s' (status_of due) status → status ≡ 2 →
+      IsFileFault given f f' s s'
+  file name None fit cause told at = absurd (another (line_of name None) s s' 0 status 2 told at (λ q. omega arith) (λ q. omega arith))
+  file name (Some Words) fit cause told at = absurd (another (line_of name (Some Words)) s s' 1 status 2 told at (λ q. omega arith) (λ q. omega arith))
+  file name (Some FileFailed) fit cause told at =
+      let whole = told-whole (line_of name (Some FileFailed)) s s' 2 status told (λ nine. absurd (omega arith)) in
+      record { name = name; words = fit; asked = cause.0; fault = inl (cause.1, whole.1) }
+  file name (Some FileTooLarge) fit cause told at =
+      let whole = told-whole (line_of name (Some FileTooLarge)) s s' 2 status told (λ nine. absurd (omega arith)) in
+      record { name = name; words = fit; asked = cause.0; fault = inr (cause.1, whole.1) }
+  file name (Some FileForm) fit cause told at = absurd (another (line_of name (Some FileForm)) s s' 3 status 2 told at (λ q. omega arith) (λ q. omega arith))
+  file name (Some ReadFailed) fit cause told at = absurd (another (line_of name (Some ReadFailed)) s s' 4 status 2 told at (λ q. omega arith) (λ q. omega arith))
+  file name (Some InputForm) fit cause told at = absurd (another (line_of name (Some InputForm)) s s' 4 status 2 told at (λ q. omega arith) (λ q. omega arith))
+  file name (Some WriteFailed) fit cause told at = absurd (another (line_of name (Some WriteFailed)) s s' 4 status 2 told at (λ q. omega arith) (λ q. omega arith))
+  file name (Some Memory) fit cause told at = absurd (another (line_of name (Some Memory)) s s' 5 status 2 told at (λ q. omega arith) (λ q. omega arith))
+
+  pub run-file : IsRun given f f' o o' s s' status → status ≡ 2 →
+      IsFileFault given f f' s s'
+  run-file r = file r.name r.due r.words r.cause r.told
+
+  form : (name : List ℕ) (due : Option Stop) → WordsFit given name due → Cause name f f' o o' due → IsTold (line_of name due) s s' (status_of due) status → status ≡ 3 →
+      IsNoPolicy given f f' s s'
+  form name None fit cause told at = absurd (another (line_of name None) s s' 0 status 3 told at (λ q. omega arith) (λ q. omega arith))
+  form name (Some Words) fit cause told at = absurd (another (line_of name (Some Words)) s s' 1 status 3 told at (λ q. omega arith) (λ q. omega arith))
+  form name (Some FileFailed) fit cause told at = absurd (another (line_of name (Some FileFailed)) s s' 2 status 3 told at (λ q. omega arith) (λ q. omega arith))
+  form name (Some FileTooLarge) fit cause told at = absurd (another (line_of name (Some FileTooLarge)) s s' 2 status 3 told at (λ q. omega arith) (λ q. omega arith))
+  form name (Some FileForm) fit cause told at =
+      let whole = told-whole (line_of name (Some FileForm)) s s' 3 status told (λ nine. absurd (omega arith)) in
+      record { name = name; words = fit; asked = cause.1; bytes = cause.0; content = cause.2; none = cause.3; line = whole.1 }
+  form name (Some ReadFailed) fit cause told at = absurd (another (line_of name (Some ReadFailed)) s s' 4 status 3 told at (λ q. omega arith) (λ q. omega arith))
+  form name (Some InputForm) fit cause told at = absurd (another (line_of name (Some InputForm)) s s' 4 status 3 told at (λ q. omega arith) (λ q. omega arith))
+  form name (Some WriteFailed) fit cause told at = absurd (another (line_of name (Some WriteFailed)) s s' 4 status 3 told at (λ q. omega arith) (λ q. omega arith))
+  form name (Some Memory) fit cause told at = absurd (another (line_of name (Some Memory)) s s' 5 status 3 told at (λ q. omega arith) (λ q. omega arith))
+
+  pub run-form : IsRun given f f' o o' s s' status → status ≡ 3 →
+      IsNoPolicy given f f' s s'
+  run-form r = form r.name r.due r.words r.cause r.told
+
+  link : (name : List ℕ) (due : Option Stop) → WordsFit given name due → Cause name f f' o o' due → IsTold (line_of name due) s s' (status_of due) status → status ≡ 4 →
+      IsLinkFault given f f' o o' s s'
+  link name None fit cause told at = absurd (another (line_of name None) s s' 0 status 4 told at (λ q. omega arith) (λ q. omega arith))
+  link name (Some Words) fit cause told at = absurd (another (line_of name (Some Words)) s s' 1 status 4 told at (λ q. omega arith) (λ q. omega arith))
+  link name (Some FileFailed) fit cause told at = absurd (another (line_of name (Some FileFailed)) s s' 2 status 4 told at (λ q. omega arith) (λ q. omega arith))
+  link name (Some FileTooLarge) fit cause told at = absurd (another (line_of name (Some FileTooLarge)) s s' 2 status 4 told at (λ q. omega arith) (λ q. omega arith))
+  link name (Some FileForm) fit cause told at = absurd (another (line_of name (Some FileForm)) s s' 3 status 4 told at (λ q. omega arith) (λ q. omega arith))
+  link name (Some ReadFailed) fit cause told at =
+      let whole = told-whole (line_of name (Some ReadFailed)) s s' 4 status told (λ nine. absurd (omega arith)) in
+      record { name = name; words = fit; fault = inl (cause, whole.1) }
+  link name (Some InputForm) fit cause told at =
+      let whole = told-whole (line_of name (Some InputForm)) s s' 4 status told (λ nine. absurd (omega arith)) in
+      record { name = name; words = fit; fault = inr (inl (cause, whole.1)) }
+  link name (Some WriteFailed) fit cause told at =
+      let whole = told-whole (line_of name (Some WriteFailed)) s s' 4 status told (λ nine. absurd (omega arith)) in
+      record { name = name; words = fit; fault = inr (inr (cause, whole.1)) }
+  link name (Some Memory) fit cause told at = absurd (another (line_of name (Some Memory)) s s' 5 status 4 told at (λ q. omega arith) (λ q. omega arith))
+
+  pub run-link : IsRun given f f' o o' s s' status → status ≡ 4 →
+      IsLinkFault given f f' o o' s s'
+  run-link r = link r.name r.due r.words r.cause r.told
+
+  memory : (name : List ℕ) (due : Option Stop) → WordsFit given name due → Cause name f f' o o' due → IsTold (line_of name due) s s' (status_of due) status → status ≡ 5 →
+      (o'.written ≡ o.written) × (s'.written ≡ more (codes "error memory\n") s.written)
+  memory name None fit cause told at = absurd (another (line_of name None) s s' 0 status 5 told at (λ q. omega arith) (λ q. omega arith))
+  memory name (Some Words) fit cause told at = absurd (another (line_of name (Some Words)) s s' 1 status 5 told at (λ q. omega arith) (λ q. omega arith))
+  memory name (Some FileFailed) fit cause told at = absurd (another (line_of name (Some FileFailed)) s s' 2 status 5 told at (λ q. omega arith) (λ q. omega arith))
+  memory name (Some FileTooLarge) fit cause told at = absurd (another (line_of name (Some FileTooLarge)) s s' 2 status 5 told at (λ q. omega arith) (λ q. omega arith))
+  memory name (Some FileForm) fit cause told at = absurd (another (line_of name (Some FileForm)) s s' 3 status 5 told at (λ q. omega arith) (λ q. omega arith))
+  memory name (Some ReadFailed) fit cause told at = absurd (another (line_of name (Some ReadFailed)) s s' 4 status 5 told at (λ q. omega arith) (λ q. omega arith))
+  memory name (Some InputForm) fit cause told at = absurd (another (line_of name (Some InputForm)) s s' 4 status 5 told at (λ q. omega arith) (λ q. omega arith))
+  memory name (Some WriteFailed) fit cause told at = absurd (another (line_of name (Some WriteFailed)) s s' 4 status 5 told at (λ q. omega arith) (λ q. omega arith))
+  memory name (Some Memory) fit cause told at =
+      let whole = told-whole (line_of name (Some Memory)) s s' 5 status told (λ nine. absurd (omega arith)) in
+      (cause.1, whole.1)
+
+  pub run-memory : IsRun given f f' o o' s s' status → status ≡ 5 →
+      (o'.written ≡ o.written) × (s'.written ≡ more (codes "error memory\n") s.written)
+  run-memory r = memory r.name r.due r.words r.cause r.told
+
+  sink : (line : List ℕ) (due : ℕ) → IsTold line s s' due status → status ≡ 9 → (due ≡ 9 → ⊥) → Rose s.faults s'.faults
+  sink line due told at other =
+      ⊎_elim (λ (t : (status ≡ due) × (s'.written ≡ more line s.written)). absurd (other (sym t.0 ∙ at)))
+      (λ (t : (status ≡ 9) × Rose s.faults s'.faults × (n : ℕ) × (n < length line) × (s'.written ≡ more (take n line) s.written)). t.1)
+      told
+
+  due_below_nine : (due : Option Stop) → status_of due ≡ 9 → ⊥
+  due_below_nine None q = omega arith
+  due_below_nine (Some Words) q = omega arith
+  due_below_nine (Some FileFailed) q = omega arith
+  due_below_nine (Some FileTooLarge) q = omega arith
+  due_below_nine (Some FileForm) q = omega arith
+  due_below_nine (Some ReadFailed) q = omega arith
+  due_below_nine (Some InputForm) q = omega arith
+  due_below_nine (Some WriteFailed) q = omega arith
+  due_below_nine (Some Memory) q = omega arith
+
+  pub run-sink : IsRun given f f' o o' s s' status → status ≡ 9 → Rose s.faults s'.faults
+  run-sink r at = sink (line_of r.name r.due) (status_of r.due) r.told at (due_below_nine r.due)
+
+  refused : (name : List ℕ) (due : Option Stop) → WordsFit given name due → IsTold (line_of name due) s s' (status_of due) status →
+      ((file : List ℕ) → AskFor given file → ⊥) → (status ≡ 1) ⊎ ((status ≡ 9) × Rose s.faults s'.faults)
+  refused name None fit told none = absurd (none name fit)
+  refused name (Some Words) fit told none = due_or_nine (line_of name (Some Words)) s s' 1 status told
+  refused name (Some FileFailed) fit told none = absurd (none name fit)
+  refused name (Some FileTooLarge) fit told none = absurd (none name fit)
+  refused name (Some FileForm) fit told none = absurd (none name fit)
+  refused name (Some ReadFailed) fit told none = absurd (none name fit)
+  refused name (Some InputForm) fit told none = absurd (none name fit)
+  refused name (Some WriteFailed) fit told none = absurd (none name fit)
+  refused name (Some Memory) fit told none = absurd (none name fit)
+
+  pub run-refused : IsRun given f f' o o' s s' status → ((file : List ℕ) → AskFor given file → ⊥) → (status ≡ 1) ⊎ ((status ≡ 9) × Rose s.faults s'.faults)
+  run-refused r = refused r.name r.due r.words r.told
+
+  asks : (name : List ℕ) (due : Option Stop) → WordsFit given name due → Cause name f f' o o' due → (f'.asked ≡ f.asked) ⊎ ((file : List ℕ) × AskFor given file × (f'.asked ≡ f.asked ++ file ∷ []))
+  asks name None fit cause = inr (name, fit, cause.asked)
+  asks name (Some Words) fit cause = inl (ap (λ (g : FilesSeen). g.asked) cause.0)
+  asks name (Some FileFailed) fit cause = inr (name, fit, cause.0)
+  asks name (Some FileTooLarge) fit cause = inr (name, fit, cause.0)
+  asks name (Some FileForm) fit cause = inr (name, fit, cause.1)
+  asks name (Some ReadFailed) fit cause = inr (name, fit, cause.asked)
+  asks name (Some InputForm) fit cause = inr (name, fit, cause.asked)
+  asks name (Some WriteFailed) fit cause = inr (name, fit, cause.asked)
+  asks name (Some Memory) fit cause = ⊎_elim (λ (same : f'.asked ≡ f.asked). inl same) (λ (one : f'.asked ≡ f.asked ++ name ∷ []). inr (name, fit, one)) cause.0
+
+  pub run-asks : IsRun given f f' o o' s s' status → (f'.asked ≡ f.asked) ⊎ ((file : List ℕ) × AskFor given file × (f'.asked ≡ f.asked ++ file ∷ []))
+  run-asks r = asks r.name r.due r.words r.cause

@@ -1,0 +1,6 @@
+use Rattle.std.proofs.Common.{◌-◌, length}
+use Rattle.keynoted.proofs.real.read_to_limit.Given as goal
+
+-- the bytes that may still be read, the one too many among them
+abbrev pub decreases-loop-buf : goal.decreases-loop-buf
+decreases-loop-buf g l = 16777217 - length l.content

@@ -1,0 +1,5 @@
+pub mod Sizes
+pub mod Numbering
+pub mod Session
+pub mod Answering
+pub mod Running

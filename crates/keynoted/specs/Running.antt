@@ -1,0 +1,186 @@
+-- How a run of the program ends: its status, the line that it prints, and what it leaves.
+use Rattle.std.specs.Prelude.{ℕ, ◌≡◌, ◌<◌, ◌≤◌, List, [], ◌∷◌, ◌++◌, length, take, codes, Option, Some, None, IfSome, IsSomeAnd, ◌⊎◌}
+use Rattle.kn_base.specs.declared.limits.TheConstants.{FILE_BYTES}
+use Rattle.kn_outside.specs.Told.{more, before}
+use Rattle.kn_outside.specs.Faults.{Rose}
+use Rattle.kn_assert.specs.declared.assertion.Assertion.{Assertion}
+use Rattle.kn_assert.specs.FirstForm.{IsFirstForm, HasFirstForm}
+use Rattle.kn_assert.specs.Files.{pieces_of}
+use Rattle.kn_meaning.specs.declared.script.Script.{Script}
+use Rattle.kn_meaning.specs.FirstInput.{IsFirstInput}
+use Rattle.kn_meaning.specs.Asked.{IsAsked}
+use Rattle.keynoted.specs.declared.stop.Stop.{Stop}
+use Rattle.keynoted.specs.declared.stop.Stop.TheVariants.{Words, FileFailed, FileTooLarge, FileForm, ReadFailed, InputForm, WriteFailed, Memory}
+
+-- what is seen of files: their contents where they are told, the names that were asked for, and how many reads failed
+pub record FilesSeen : Type 0 where
+  pub content : Option (List ℕ → Option (List ℕ))
+  pub asked : List (List ℕ)
+  pub faults : ℕ
+
+-- what is seen of a link: what was written and read, and what is left to read, where that is told; how many calls failed
+pub record LinkSeen : Type 0 where
+  pub written : Option (List ℕ)
+  pub taken : Option (List ℕ)
+  pub left : Option (List ℕ)
+  pub faults : ℕ
+
+-- what is seen of a sink: what was written, where that is told, and how many writes failed
+pub record SinkSeen : Type 0 where
+  pub written : Option (List ℕ)
+  pub faults : ℕ
+
+-- the words ask for the policy in the file of this name
+abbrev pub AskFor : List (List ℕ) → List ℕ → Type 0
+AskFor words name = words ≡ codes "ask" ∷ name ∷ []
+
+-- these bytes were read from the file of this name: its content, if contents are told, and not too large
+pub record HasContent (files : FilesSeen) (name bytes : List ℕ) : Type 0 where
+  pub content : IfSome files.content (λ content_of. content_of name ≡ Some bytes)
+  pub within : length bytes ≤ FILE_BYTES
+
+-- the file of this name is larger than any that is read, if contents are told
+abbrev pub IsTooLarge : FilesSeen → List ℕ → Type 0
+IsTooLarge files name = IfSome files.content (λ content_of. IsSomeAnd (content_of name) (λ bytes. FILE_BYTES < length bytes))
+
+-- this much of the input was read, if the link tells it
+pub record IsRead (old new : LinkSeen) (input : List ℕ) : Type 0 where
+  pub taken : new.taken ≡ more input old.taken
+  pub left : old.left ≡ before input new.left
+
+-- the input was read to its end
+pub record IsReadWhole (old new : LinkSeen) (input : List ℕ) : Type 0 where
+  pub read : IsRead old new input
+  pub ended : IfSome new.left (λ left. left ≡ [])
+
+-- the input hasn't the first form: what was read of it to its end, or it is longer than that form may be
+pub record IsWrongInput (old new : LinkSeen) (input : List ℕ) : Type 0 where
+  pub read : IsRead old new input
+  pub wrong : (IfSome new.left (λ left. left ≡ []) × ((script : Option Script) → IsFirstInput input script → ⊥)) ⊎ (65536 < length input)
+
+-- a policy file of the first form
+pub record IsPolicy (files : FilesSeen) (name bytes : List ℕ) : Type 0 where
+  pub content : HasContent files name bytes
+  pub assertions : List Assertion
+  pub form : IsFirstForm bytes assertions
+
+-- the reply to the whole input over the policy file of these bytes
+pub record IsDue (bytes : List ℕ) (old new : LinkSeen) (reply : List ℕ) : Type 0 where
+  pub input : List ℕ
+  pub whole : IsReadWhole old new input
+  pub script : Option Script
+  pub form : IsFirstInput input script
+  pub asked : IsAsked (pieces_of bytes) input reply
+
+-- What answering the link over the policy file of these bytes does where this stops it. At None the reply was written whole.
+abbrev pub Answering : List ℕ → LinkSeen → LinkSeen → Option Stop → Type 0
+Answering bytes o o' None = (reply : List ℕ) × IsDue bytes o o' reply × (o'.written ≡ more reply o.written)
+Answering bytes o o' (Some WriteFailed) = (reply : List ℕ) × (n : ℕ) × IsDue bytes o o' reply × (n < length reply) × (o'.written ≡ more (take n reply) o.written) × Rose o.faults o'.faults
+Answering bytes o o' (Some InputForm) = (input : List ℕ) × IsWrongInput o o' input × (o'.written ≡ o.written)
+Answering bytes o o' (Some ReadFailed) = Rose o.faults o'.faults × (o'.written ≡ o.written)
+Answering bytes o o' (Some Memory) = o'.written ≡ o.written
+Answering bytes o o' (Some Words) = ⊥
+Answering bytes o o' (Some FileFailed) = ⊥
+Answering bytes o o' (Some FileTooLarge) = ⊥
+Answering bytes o o' (Some FileForm) = ⊥
+
+-- the file of this name was asked for, and it is the policy over which the link was answered
+pub record IsAnswering (name : List ℕ) (f f' : FilesSeen) (o o' : LinkSeen) (due : Option Stop) : Type 0 where
+  pub asked : f'.asked ≡ f.asked ++ name ∷ []
+  pub bytes : List ℕ
+  pub policy : IsPolicy f name bytes
+  pub answering : Answering bytes o o' due
+
+-- why a run ends so, and what it leaves of the files and of the link
+abbrev pub Cause : List ℕ → FilesSeen → FilesSeen → LinkSeen → LinkSeen → Option Stop → Type 0
+Cause name f f' o o' (Some Words) = (f' ≡ f) × (o' ≡ o)
+Cause name f f' o o' (Some FileFailed) = (f'.asked ≡ f.asked ++ name ∷ []) × Rose f.faults f'.faults × (o' ≡ o)
+Cause name f f' o o' (Some FileTooLarge) = (f'.asked ≡ f.asked ++ name ∷ []) × IsTooLarge f name × (o' ≡ o)
+Cause name f f' o o' (Some FileForm) = (bytes : List ℕ) × (f'.asked ≡ f.asked ++ name ∷ []) × HasContent f name bytes
+    × (HasFirstForm bytes → ⊥) × (o' ≡ o)
+Cause name f f' o o' (Some ReadFailed) = IsAnswering name f f' o o' (Some ReadFailed)
+Cause name f f' o o' (Some InputForm) = IsAnswering name f f' o o' (Some InputForm)
+Cause name f f' o o' (Some WriteFailed) = IsAnswering name f f' o o' (Some WriteFailed)
+Cause name f f' o o' (Some Memory) = ((f'.asked ≡ f.asked) ⊎ (f'.asked ≡ f.asked ++ name ∷ [])) × (o'.written ≡ o.written)
+Cause name f f' o o' None = IsAnswering name f f' o o' None
+
+-- the words are those of no command, or of this one
+abbrev pub WordsFit : List (List ℕ) → List ℕ → Option Stop → Type 0
+WordsFit words name None = AskFor words name
+WordsFit words name (Some Words) = (file : List ℕ) → AskFor words file → ⊥
+WordsFit words name (Some stop) = AskFor words name
+
+abbrev pub status_of : Option Stop → ℕ
+status_of None = 0
+status_of (Some Words) = 1
+status_of (Some FileFailed) = 2
+status_of (Some FileTooLarge) = 2
+status_of (Some FileForm) = 3
+status_of (Some ReadFailed) = 4
+status_of (Some InputForm) = 4
+status_of (Some WriteFailed) = 4
+status_of (Some Memory) = 5
+
+-- the line that is due, with the name of the file
+abbrev pub line_of : List ℕ → Option Stop → List ℕ
+line_of name None = []
+line_of name (Some Words) = codes "error words\n"
+line_of name (Some FileFailed) = codes "error file " ++ name ++ codes " read\n"
+line_of name (Some FileTooLarge) = codes "error file " ++ name ++ codes " large\n"
+line_of name (Some FileForm) = codes "error form " ++ name ++ codes "\n"
+line_of name (Some ReadFailed) = codes "error link read\n"
+line_of name (Some InputForm) = codes "error link form\n"
+line_of name (Some WriteFailed) = codes "error link write\n"
+line_of name (Some Memory) = codes "error memory\n"
+
+-- the line was written whole and the status is its own; or a write failed, the status is 9 and only a front of the line stands
+abbrev pub IsTold : List ℕ → SinkSeen → SinkSeen → ℕ → ℕ → Type 0
+IsTold line s s' due status = ((status ≡ due) × (s'.written ≡ more line s.written))
+    ⊎ ((status ≡ 9) × Rose s.faults s'.faults × (n : ℕ) × (n < length line) × (s'.written ≡ more (take n line) s.written))
+
+-- a run: why it ended, and what it told
+pub record IsRun (given : List (List ℕ)) (f f' : FilesSeen) (o o' : LinkSeen) (s s' : SinkSeen) (status : ℕ) : Type 0 where
+  pub name : List ℕ
+  pub due : Option Stop
+  pub words : WordsFit given name due
+  pub cause : Cause name f f' o o' due
+  pub told : IsTold (line_of name due) s s' (status_of due) status
+
+-- What the statuses say one by one.
+
+-- status 0: the reply to the whole input was written whole
+pub record IsDone (given : List (List ℕ)) (f f' : FilesSeen) (o o' : LinkSeen) : Type 0 where
+  pub name : List ℕ
+  pub words : AskFor given name
+  pub answered : IsAnswering name f f' o o' None
+
+-- status 1: the words are those of no command
+pub record IsRefused (given : List (List ℕ)) (s s' : SinkSeen) : Type 0 where
+  pub words : (file : List ℕ) → AskFor given file → ⊥
+  pub line : s'.written ≡ more (codes "error words\n") s.written
+
+-- status 2: reading the file failed, or it is too large
+pub record IsFileFault (given : List (List ℕ)) (f f' : FilesSeen) (s s' : SinkSeen) : Type 0 where
+  pub name : List ℕ
+  pub words : AskFor given name
+  pub asked : f'.asked ≡ f.asked ++ name ∷ []
+  pub fault : (Rose f.faults f'.faults × (s'.written ≡ more (codes "error file " ++ name ++ codes " read\n") s.written))
+      ⊎ (IsTooLarge f name × (s'.written ≡ more (codes "error file " ++ name ++ codes " large\n") s.written))
+
+-- status 3: the file hasn't the first policy form
+pub record IsNoPolicy (given : List (List ℕ)) (f f' : FilesSeen) (s s' : SinkSeen) : Type 0 where
+  pub name : List ℕ
+  pub words : AskFor given name
+  pub asked : f'.asked ≡ f.asked ++ name ∷ []
+  pub bytes : List ℕ
+  pub content : HasContent f name bytes
+  pub none : HasFirstForm bytes → ⊥
+  pub line : s'.written ≡ more (codes "error form " ++ name ++ codes "\n") s.written
+
+-- status 4: reading or writing the link failed, or its input hasn't the first form
+pub record IsLinkFault (given : List (List ℕ)) (f f' : FilesSeen) (o o' : LinkSeen) (s s' : SinkSeen) : Type 0 where
+  pub name : List ℕ
+  pub words : AskFor given name
+  pub fault : (IsAnswering name f f' o o' (Some ReadFailed) × (s'.written ≡ more (codes "error link read\n") s.written))
+      ⊎ ((IsAnswering name f f' o o' (Some InputForm) × (s'.written ≡ more (codes "error link form\n") s.written))
+      ⊎ (IsAnswering name f f' o o' (Some WriteFailed) × (s'.written ≡ more (codes "error link write\n") s.written)))

@@ -1,0 +1,32 @@
+//! keynoted: may these principals do this?
+#![tactic(auto)]
+
+mod levels;
+mod real;
+#[cfg(test)]
+mod real_tests;
+mod replies;
+mod run;
+mod script;
+mod stop;
+mod text;
+mod words;
+
+use crate::real::{RealFiles, StdLink, StdOut};
+use kn_base::NoMemory;
+use kn_outside::write_all;
+use std::process::ExitCode;
+
+fn main(rt: HostRuntime) -> ExitCode {
+    let mut files = RealFiles::new(rt);
+    let mut own = StdLink::new(&rt);
+    let mut out = StdOut::new(&rt);
+    let words = match words::words(&rt) {
+        Ok(words) => words,
+        Err(NoMemory) => {
+            let _ = write_all(&mut out, b"error memory\n");
+            return ExitCode::from(5);
+        }
+    };
+    ExitCode::from(run::run(rt.alloc(), words.as_slice(), &mut files, &mut own, &mut out))
+}

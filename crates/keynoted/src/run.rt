@@ -1,0 +1,295 @@
+//! The program over whatever files, link and output it is given.
+ghost use Rattle.std.specs.Prelude.{◌≡◌, ◌≢◌, ◌<◌, ◌≤◌, ◌∷◌, ◌++◌, [], ℕ, Some, codes, List, Option as Maybe, ◌⊎◌, length, take, OnOk, OnErr, IfOk, IfErr, IfSome, IfNone};
+ghost use Rattle.std.specs.Result.{IsErrOf, result_err};
+ghost use Rattle.kn_outside.specs.Told.{more};
+ghost use Rattle.kn_outside.specs.Faults.{Rose};
+ghost use Rattle.kn_assert.specs.FirstForm.{IsFirstForm, HasFirstForm};
+ghost use Rattle.kn_assert.specs.Files.{pieces_of};
+ghost use Rattle.kn_meaning.specs.FirstInput.{IsFirstInput, requests_of};
+ghost use Rattle.kn_meaning.specs.History.{loaded_history};
+ghost use Rattle.kn_meaning.specs.Asked.{IsAnswered};
+ghost use Rattle.keynoted.specs.Running.{AskFor, Answering, Cause, line_of, status_of, IsTold, IsRun, IsRead, IsDone, IsRefused, IsFileFault, IsNoPolicy, IsLinkFault};
+ghost use Rattle.kn_meaning.specs.declared.script.Script.{Script};
+ghost use Rattle.keynoted.specs.declared.stop.Stop.TheVariants as S;
+
+use crate::replies::replies;
+use crate::script::{INPUT_BYTES, ScriptFault, read_script};
+use crate::stop::Stop;
+use kn_assert::{Assertion, FirstFault, first_form, laws};
+use kn_base::limits::FILE_BYTES;
+use kn_base::{List, NoMemory, Octets};
+use kn_meaning::laws as requests;
+use kn_outside::{Failed, FileFault, Files, Link, Sink, write_all};
+use std::alloc::Global;
+
+/// The name of the policy file, where the words are `ask` and one more.
+fn policy_name(words: &[Octets]) -> Option<&Octets>
+    ensures some { IfSome result (λ name. AskFor words.now name.now) }
+    ensures none { IfNone result ((file : List ℕ) → AskFor words.now file → ⊥) }
+{
+    if words.len() != 2 || words[0].as_slice() != b"ask".as_slice() {
+        return None;
+    }
+    Some(&words[1])
+}
+
+/// The assertions of the policy in an opened file.
+fn read_policy(alloc: Global, file: &Octets) -> Result<List<Assertion>, Stop>
+    ensures ok { IfOk result (λ assertions. IsFirstForm file.now assertions) }
+    ensures err { IfErr result (λ stop. (stop ≡ S.Memory) ⊎ ((stop ≡ S.FileForm) × ¬ HasFirstForm file.now)) }
+{
+    match first_form(alloc, file.as_slice()) {
+        Ok(assertions) => Ok(assertions),
+        Err(FirstFault::Form) => Err(Stop::FileForm),
+        Err(FirstFault::NoMemory) => Err(Stop::Memory),
+    }
+}
+
+/// The input of a link, to its end or past the bytes that an input may have.
+fn read_input<L: Link>(alloc: Global, own: &mut L) -> Result<Octets, Stop>
+    ensures read { IfOk result (λ input. IsRead (record { written = L.written own.old; taken = L.taken own.old; left = L.left own.old; faults = L.faults own.old })
+        (record { written = L.written own.new; taken = L.taken own.new; left = L.left own.new; faults = L.faults own.new }) input) }
+    ensures ended { IfOk result (λ input. length input ≤ 65536 → IfSome (L.left own.new) (λ left. left ≡ [])) }
+    ensures err { IfErr result (λ stop. (stop ≡ S.Memory) ⊎ ((stop ≡ S.ReadFailed) × Rose (L.faults own.old) (L.faults own.new))) }
+    ensures keeps_written { L.written own.new ≡ L.written own.old }
+    ensures later { L.faults own.old ≤ L.faults own.new }
+{
+    let mut input = Octets::new(alloc);
+    let mut buffer = [0u8; 4096];
+    while input.len() <= INPUT_BYTES {
+        let read = match own.read(&mut buffer) {
+            Ok(read) => read,
+            Err(Failed) => return Err(Stop::ReadFailed),
+        };
+        if read == 0 {
+            return Ok(input);
+        }
+        match input.extend(buffer.split_at(read).0) {
+            Ok(()) => {}
+            Err(NoMemory) => return Err(Stop::Memory),
+        }
+    }
+    Ok(input)
+}
+
+/// The reply to an input over the assertions of a policy.
+fn reply_to(
+    alloc: Global,
+    file: &Octets,
+    assertions: &List<Assertion>,
+    input: &Octets,
+) -> Result<Octets, Stop>
+    requires policy { IsFirstForm file.now assertions.now }
+    requires size { length file.now ≤ FILE_BYTES }
+    ensures ok { IfOk result (λ reply. (script : Maybe Script) × IsFirstInput input.now script × IsAnswered (loaded_history (pieces_of file.now)) (requests_of script) reply) }
+    ensures err { IfErr result (λ stop. (stop ≡ S.Memory) ⊎ ((stop ≡ S.InputForm) × ((script : Maybe Script) → IsFirstInput input.now script → ⊥))) }
+{
+    laws::texts_of_file();
+    let script = match read_script(alloc, input.as_slice()) {
+        Ok(script) => script,
+        Err(ScriptFault::Form) => return Err(Stop::InputForm),
+        Err(ScriptFault::NoMemory) => return Err(Stop::Memory),
+    };
+    match replies(alloc, assertions, &script) {
+        Ok(reply) => Ok(reply),
+        Err(NoMemory) => Err(Stop::Memory),
+    }
+}
+
+/// Answers the whole input of a link over the assertions of a policy.
+fn answer<L: Link>(
+    alloc: Global,
+    file: &Octets,
+    assertions: &List<Assertion>,
+    own: &mut L,
+) -> Result<(), Stop>
+    requires policy { IsFirstForm file.now assertions.now }
+    requires size { length file.now ≤ FILE_BYTES }
+    ensures { Answering file.now
+        (record { written = L.written own.old; taken = L.taken own.old; left = L.left own.old; faults = L.faults own.old })
+        (record { written = L.written own.new; taken = L.taken own.new; left = L.left own.new; faults = L.faults own.new })
+        (result_err result) }
+{
+    requests::input_is_taken();
+    let input = read_input(alloc, own)?;
+    let reply = reply_to(alloc, file, assertions, &input)?;
+    match write_all(own, reply.as_slice()) {
+        Ok(()) => Ok(()),
+        Err(Failed) => Err(Stop::WriteFailed),
+    }
+}
+
+/// Answers the link over the policy in the file of this name.
+fn ask<F: Files, L: Link>(
+    alloc: Global,
+    name: &[u8],
+    files: &mut F,
+    own: &mut L,
+) -> Result<(), Stop>
+    ensures cause { Cause name.now
+        (record { content = F.content files.old; asked = F.asked files.old; faults = F.faults files.old })
+        (record { content = F.content files.new; asked = F.asked files.new; faults = F.faults files.new })
+        (record { written = L.written own.old; taken = L.taken own.old; left = L.left own.old; faults = L.faults own.old })
+        (record { written = L.written own.new; taken = L.taken own.new; left = L.left own.new; faults = L.faults own.new })
+        (result_err result) }
+    ensures words { result ≢ Err S.Words }
+{
+    let file = match files.read(name) {
+        Ok(file) => file,
+        Err(FileFault::Failed) => return Err(Stop::FileFailed),
+        Err(FileFault::TooLarge) => return Err(Stop::FileTooLarge),
+        Err(FileFault::NoMemory) => return Err(Stop::Memory),
+    };
+    let assertions = read_policy(alloc, &file)?;
+    answer(alloc, &file, &assertions, own)
+}
+
+/// Prints a line that begins and ends so, round a name.
+fn print_named<O: Sink>(out: &mut O, front: &[u8], name: &[u8], end: &[u8]) -> Result<(), Failed>
+    ensures ok { OnOk result (O.written out.new ≡ more (front.now ++ name.now ++ end.now) (O.written out.old)) }
+    ensures err { OnErr result ((n : ℕ) × (n < length (front.now ++ name.now ++ end.now))
+        × (O.written out.new ≡ more (take n (front.now ++ name.now ++ end.now)) (O.written out.old))) }
+    ensures failed { OnErr result (Rose (O.faults out.old) (O.faults out.new)) }
+{
+    write_all(out, front)?;
+    write_all(out, name)?;
+    write_all(out, end)?;
+    Ok(())
+}
+
+/// Prints the line of what stopped the program.
+fn print_line<O: Sink>(out: &mut O, stop: Stop, name: &[u8]) -> Result<(), Failed>
+    ensures ok { OnOk result (O.written out.new ≡ more (line_of name.now (Some stop)) (O.written out.old)) }
+    ensures err { OnErr result ((n : ℕ) × (n < length (line_of name.now (Some stop)))
+        × (O.written out.new ≡ more (take n (line_of name.now (Some stop))) (O.written out.old))) }
+    ensures failed { OnErr result (Rose (O.faults out.old) (O.faults out.new)) }
+{
+    match stop {
+        Stop::Words => write_all(out, b"error words\n"),
+        Stop::FileFailed => print_named(out, b"error file ", name, b" read\n"),
+        Stop::FileTooLarge => print_named(out, b"error file ", name, b" large\n"),
+        Stop::FileForm => print_named(out, b"error form ", name, b"\n"),
+        Stop::ReadFailed => write_all(out, b"error link read\n"),
+        Stop::InputForm => write_all(out, b"error link form\n"),
+        Stop::WriteFailed => write_all(out, b"error link write\n"),
+        Stop::Memory => write_all(out, b"error memory\n"),
+    }
+}
+
+/// Ends with the status and the line of what stopped the program, or with 9 where the line can't be written.
+fn end<O: Sink>(out: &mut O, stop: Stop, name: &[u8]) -> u8
+    ensures { IsTold (line_of name.now (Some stop))
+        (record { written = O.written out.old; faults = O.faults out.old })
+        (record { written = O.written out.new; faults = O.faults out.new })
+        (status_of (Some stop)) result }
+{
+    match print_line(out, stop, name) {
+        Ok(()) => stop.status(),
+        Err(Failed) => 9,
+    }
+}
+
+/// Does what the words ask and tells how it ended.
+fn carry_out<F: Files, L: Link, O: Sink>(
+    alloc: Global,
+    words: &[Octets],
+    files: &mut F,
+    own: &mut L,
+    out: &mut O,
+) -> u8
+    ensures { IsRun words.now
+        (record { content = F.content files.old; asked = F.asked files.old; faults = F.faults files.old })
+        (record { content = F.content files.new; asked = F.asked files.new; faults = F.faults files.new })
+        (record { written = L.written own.old; taken = L.taken own.old; left = L.left own.old; faults = L.faults own.old })
+        (record { written = L.written own.new; taken = L.taken own.new; left = L.left own.new; faults = L.faults own.new })
+        (record { written = O.written out.old; faults = O.faults out.old })
+        (record { written = O.written out.new; faults = O.faults out.new })
+        result }
+{
+    let Some(name) = policy_name(words) else {
+        return end(out, Stop::Words, b"");
+    };
+    match ask(alloc, name.as_slice(), files, own) {
+        Ok(()) => 0,
+        Err(stop) => end(out, stop, name.as_slice()),
+    }
+}
+
+/// The whole program, over the words after its name: it answers the exit status.
+///
+/// `ask FILE` answers the input of `own` over the policy in that file, and writes the replies to it. What stops it is
+/// told by a line on `out`. The words, the statuses and the lines are keynoted's own.
+///
+/// | status | line | cause |
+/// |---|---|---|
+/// | 0 | none | the replies were written whole |
+/// | 1 | `error words` | the words aren't `ask` and one more |
+/// | 2 | `error file NAME read`, `error file NAME large` | the file couldn't be read, or has more than 16,777,216 bytes |
+/// | 3 | `error form NAME` | the file hasn't the first policy form |
+/// | 4 | `error link read`, `error link form`, `error link write` | the link failed, or its input hasn't the first form |
+/// | 5 | `error memory` | want of memory; nothing was written to `own` |
+/// | 9 | a front of the line | the line couldn't be written |
+pub fn run<F: Files, L: Link, O: Sink>(
+    alloc: Global,
+    words: &[Octets],
+    files: &mut F,
+    own: &mut L,
+    out: &mut O,
+) -> u8
+    // Each run has one cause, with what it leaves of files and link; the line of the cause was told, or a front of it.
+    ensures ends { IsRun words.now
+        (record { content = F.content files.old; asked = F.asked files.old; faults = F.faults files.old })
+        (record { content = F.content files.new; asked = F.asked files.new; faults = F.faults files.new })
+        (record { written = L.written own.old; taken = L.taken own.old; left = L.left own.old; faults = L.faults own.old })
+        (record { written = L.written own.new; taken = L.taken own.new; left = L.left own.new; faults = L.faults own.new })
+        (record { written = O.written out.old; faults = O.faults out.old })
+        (record { written = O.written out.new; faults = O.faults out.new })
+        result }
+
+    // What each status says.
+    ensures done { result ≡ 0 → IsDone words.now
+        (record { content = F.content files.old; asked = F.asked files.old; faults = F.faults files.old })
+        (record { content = F.content files.new; asked = F.asked files.new; faults = F.faults files.new })
+        (record { written = L.written own.old; taken = L.taken own.old; left = L.left own.old; faults = L.faults own.old })
+        (record { written = L.written own.new; taken = L.taken own.new; left = L.left own.new; faults = L.faults own.new }) }
+    ensures words { result ≡ 1 → IsRefused words.now
+        (record { written = O.written out.old; faults = O.faults out.old })
+        (record { written = O.written out.new; faults = O.faults out.new }) }
+    ensures file { result ≡ 2 → IsFileFault words.now
+        (record { content = F.content files.old; asked = F.asked files.old; faults = F.faults files.old })
+        (record { content = F.content files.new; asked = F.asked files.new; faults = F.faults files.new })
+        (record { written = O.written out.old; faults = O.faults out.old })
+        (record { written = O.written out.new; faults = O.faults out.new }) }
+    ensures form { result ≡ 3 → IsNoPolicy words.now
+        (record { content = F.content files.old; asked = F.asked files.old; faults = F.faults files.old })
+        (record { content = F.content files.new; asked = F.asked files.new; faults = F.faults files.new })
+        (record { written = O.written out.old; faults = O.faults out.old })
+        (record { written = O.written out.new; faults = O.faults out.new }) }
+    ensures link { result ≡ 4 → IsLinkFault words.now
+        (record { content = F.content files.old; asked = F.asked files.old; faults = F.faults files.old })
+        (record { content = F.content files.new; asked = F.asked files.new; faults = F.faults files.new })
+        (record { written = L.written own.old; taken = L.taken own.old; left = L.left own.old; faults = L.faults own.old })
+        (record { written = L.written own.new; taken = L.taken own.new; left = L.left own.new; faults = L.faults own.new })
+        (record { written = O.written out.old; faults = O.faults out.old })
+        (record { written = O.written out.new; faults = O.faults out.new }) }
+    ensures memory { result ≡ 5 → (L.written own.new ≡ L.written own.old) × (O.written out.new ≡ more (codes "error memory\n") (O.written out.old)) }
+    ensures sink { result ≡ 9 → Rose (O.faults out.old) (O.faults out.new) }
+
+    // Which statuses are left where the words, the file or the input are known.
+    ensures no_words { ((file : List ℕ) → AskFor words.now file → ⊥) → (result ≡ 1) ⊎ ((result ≡ 9) × Rose (O.faults out.old) (O.faults out.new)) }
+    ensures no_policy { (file bytes : List ℕ) (content_of : List ℕ → Maybe (List ℕ)) → AskFor words.now file →
+        F.content files.old ≡ Some content_of → content_of file ≡ Some bytes → (length bytes ≤ FILE_BYTES → HasFirstForm bytes → ⊥) →
+        (result ≡ 2) ⊎ ((result ≡ 3) ⊎ ((result ≡ 5) ⊎ (result ≡ 9))) }
+    ensures no_input { (input : List ℕ) → L.left own.old ≡ Some input → ((script : Maybe Script) → IsFirstInput input script → ⊥) → result ≢ 0 }
+    ensures complete { (file bytes input : List ℕ) (content_of : List ℕ → Maybe (List ℕ)) (script : Maybe Script) → AskFor words.now file →
+        F.content files.old ≡ Some content_of → content_of file ≡ Some bytes → length bytes ≤ FILE_BYTES → HasFirstForm bytes →
+        L.left own.old ≡ Some input → IsFirstInput input script →
+        ¬ Rose (F.faults files.old) (F.faults files.new) → ¬ Rose (L.faults own.old) (L.faults own.new) → ¬ Rose (O.faults out.old) (O.faults out.new) →
+        (result ≡ 0) ⊎ (result ≡ 5) }
+
+    // No file but the one that is asked for is asked for, and that at most once.
+    ensures asks { (F.asked files.new ≡ F.asked files.old)
+        ⊎ ((file : List ℕ) × AskFor words.now file × (F.asked files.new ≡ F.asked files.old ++ file ∷ [])) }
+{
+    carry_out(alloc, words, files, own, out)
+}

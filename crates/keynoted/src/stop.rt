@@ -1,0 +1,40 @@
+//! What stops the program before its work is done.
+ghost use Rattle.std.specs.Prelude.{◌≡◌, Some};
+
+/// Why `ask` writes no reply, or only a part of it.
+#[derive(Debug, Clone, Copy, PartialEq, Eq)]
+pub enum Stop {
+    /// The words match no form.
+    Words,
+    /// The policy file could not be read.
+    FileFailed,
+    /// The policy file is larger than any that is read.
+    FileTooLarge,
+    /// The policy file hasn't the first policy form.
+    FileForm,
+    /// Reading the link failed.
+    ReadFailed,
+    /// The input hasn't the first input form.
+    InputForm,
+    /// Writing to the link failed.
+    WriteFailed,
+    /// There was no memory.
+    Memory,
+}
+
+impl Stop {
+    ghost use Rattle.keynoted.specs.Running.{status_of};
+
+    /// The exit status.
+    pub fn status(self) -> u8
+        ensures { result ≡ status_of (Some self) }
+    {
+        match self {
+            Stop::Words => 1,
+            Stop::FileFailed | Stop::FileTooLarge => 2,
+            Stop::FileForm => 3,
+            Stop::ReadFailed | Stop::InputForm | Stop::WriteFailed => 4,
+            Stop::Memory => 5,
+        }
+    }
+}

@@ -1,0 +1,6 @@
+pub mod AssertionsLemmas
+pub mod Bytes
+pub mod CutsLemmas
+pub mod FilePieces
+pub mod Files
+pub mod Lines

@@ -1,0 +1,7 @@
+pub mod Principals
+pub mod Wording
+pub mod Cuts
+pub mod Files
+pub mod FirstForm
+pub mod Reading
+pub mod Readers

@@ -1,0 +1,57 @@
+-- The equations of a query (RFC 2704, section 5) over named principals, and their least solution.
+use Rattle.std.specs.Prelude.{ℕ, ◌≡◌, ◌≤◌, List, [], ◌∷◌, Bool, min, max, Option, Some, None, if◌then◌else◌}
+use Rattle.std.specs.List.{list_any}
+use Rattle.std.specs.Str.{bytes_eq}
+use Rattle.kn_assert.specs.Principals.{policy}
+use Rattle.kn_assert.specs.declared.assertion.Formula.{Formula}
+use Rattle.kn_assert.specs.declared.assertion.Assertion.{Assertion}
+use Rattle.kn_meaning.specs.Formulas.{Levels, formula_level}
+
+-- an assertion in a query, with the compliance value of its conditions there
+pub record Statement : Type 0 where
+  pub authorizer : List ℕ
+  pub ceiling : ℕ
+  pub licensees : Option Formula
+
+-- what an assertion states; the value of its conditions is the top, since an assertion has none yet
+abbrev pub statement_of : ℕ → Assertion → Statement
+statement_of top a = record { authorizer = a.authorizer; ceiling = top; licensees = a.licensees }
+
+-- what a query asks: the greatest compliance value, who requests, and what is stated
+pub record Equations : Type 0 where
+  pub top : ℕ
+  pub requesters : List (List ℕ)
+  pub statements : List Statement
+
+-- the level of an assertion's licensees; a missing field has the lowest
+abbrev pub licensees_level : ℕ → Levels → Option Formula → ℕ
+licensees_level top at None = 0
+licensees_level top at (Some formula) = formula_level top at formula
+
+-- what an assertion is worth: the lower of its conditions' and its licensees' value
+abbrev pub worth : ℕ → Levels → Statement → ℕ
+worth top at s = min s.ceiling (licensees_level top at s.licensees)
+
+-- the highest worth among the assertions of which the principal is authorizer, and 0 where there is none
+abbrev pub highest_worth : ℕ → Levels → List ℕ → List Statement → ℕ
+highest_worth top at name [] = 0
+highest_worth top at name (s ∷ ss) = max (if bytes_eq s.authorizer name then worth top at s else 0) (highest_worth top at name ss)
+
+abbrev pub is_requester : Equations → List ℕ → Bool
+is_requester e name = list_any (bytes_eq name) e.requesters
+
+-- a requester has the top, and another principal the highest worth among the assertions of which it is authorizer
+abbrev pub round : Equations → Levels → Levels
+round e at name = if is_requester e name then e.top else highest_worth e.top at name e.statements
+
+-- The least fixed point: the levels solve the equations, and are at or below all levels that a round does not raise. On
+-- cycles the least solution is meant (keynoted's own choice).
+pub record IsLeast (e : Equations) (at : Levels) : Type 0 where
+  pub solves : (name : List ℕ) → round e at name ≡ at name
+  pub least : (other : Levels) → ((name : List ℕ) → round e other name ≤ other name) → (name : List ℕ) → at name ≤ other name
+
+-- the policy's level in the least fixed point is this
+pub record IsPolicyLevel (e : Equations) (level : ℕ) : Type 0 where
+  pub levels : Levels
+  pub least : IsLeast e levels
+  pub here : levels policy ≡ level

@@ -1,0 +1,20 @@
+-- Small policies.
+use Rattle.std.specs.Prelude.{ℕ, List, [], ◌∷◌, Some, codes}
+use Rattle.kn_assert.specs.declared.assertion.Formula.TheVariants.{Who}
+use Rattle.kn_meaning.specs.Equations.{Equations, Statement}
+
+-- one principal licenses another
+abbrev pub licence : List ℕ → List ℕ → Statement
+licence authorizer licensee = record { authorizer = authorizer; ceiling = 1; licensees = Some (Who licensee) }
+
+-- one requester asks between two compliance values
+abbrev pub question : List ℕ → List Statement → Equations
+question requester statements = record { top = 1; requesters = requester ∷ []; statements = statements }
+
+-- the policy licenses alice
+abbrev pub direct_policy : List Statement
+direct_policy = licence (codes "POLICY") (codes "alice") ∷ []
+
+-- the policy licenses a, and a and b license each other
+abbrev pub cyclic_policy : List Statement
+cyclic_policy = licence (codes "POLICY") (codes "a") ∷ licence (codes "a") (codes "b") ∷ licence (codes "b") (codes "a") ∷ []

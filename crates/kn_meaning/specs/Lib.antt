@@ -1,0 +1,13 @@
+pub mod Names
+pub mod Formulas
+pub mod Equations
+pub mod History
+pub mod Requests
+pub mod Replies
+pub mod Daemon
+pub mod Linearized
+pub mod FirstInput
+pub mod Asked
+pub mod Laws
+pub mod Tables
+pub mod Examples

@@ -1,0 +1,404 @@
+//! Plain and slow programs that compute the definitions. They are only there to be compared with.
+
+ghost use Rattle.std.specs.Prelude.{◌≡◌, ◌≤◌, ◌++◌, ◌∷◌, [], length, map, decimal, eqb, OnOk, IfOk};
+ghost use Rattle.std.specs.List.{list_any, position_or_len};
+ghost use Rattle.std.specs.Str.{bytes_eq};
+ghost use Rattle.kn_meaning.specs.Names as N;
+ghost use Rattle.kn_meaning.specs.Formulas as L;
+ghost use Rattle.kn_meaning.specs.Equations as E;
+ghost use Rattle.kn_meaning.specs.Tables.{level_in, statement_of, equations_in, next_table, entry_of, first_table, last_table};
+ghost use Rattle.kn_meaning.specs.Replies.{reply_text, Done, Started, Value, No, refusal_text, word_text};
+
+use crate::refusal::{LimitWord, Refusal};
+use itoa::Buffer;
+use kn_assert::Formula;
+use kn_base::{List, NoMemory, Octets};
+use std::alloc::Global;
+
+/// A principal's level, counted from 0.
+#[derive(Drop)]
+pub struct Level {
+    pub name: Octets,
+    pub level: u8,
+}
+
+/// An assertion in a query, with the compliance value of its conditions there.
+#[derive(Drop)]
+pub struct Stated {
+    pub authorizer: Octets,
+    pub ceiling: u8,
+    pub licensees: Option<Formula>,
+}
+
+/// The level that a table first gives a name, and 0 where it has none.
+/// Slow, and only there to be compared with.
+pub fn level_of(table: &[Level], name: &[u8]) -> u8
+    ensures { result ≡ level_in table.now name.now }
+{
+    for entry in table {
+        if entry.name.as_slice() == name {
+            return entry.level;
+        }
+    }
+    0
+}
+
+/// The level of a formula by a walk over it.
+/// Slow, and only there to be compared with.
+#[tactic(auto, using(crate::proofs::Walks::formula_level_who, crate::proofs::Walks::formula_level_any, crate::proofs::Walks::threshold_push))]
+pub fn formula_level(top: u8, table: &[Level], formula: &Formula) -> u8
+    ensures { result ≡ L.formula_level top (level_in table.now) formula.now }
+{
+    match formula {
+        Formula::Who(name) => level_of(table, name.as_slice()),
+        Formula::Any(parts) => {
+            let mut best = 0;
+            for part in parts.as_slice() {
+                best = formula_level(top, table, part).min(top).max(best);
+            }
+            best
+        }
+    }
+}
+
+/// What an assertion is worth under these levels.
+/// Slow, and only there to be compared with.
+pub fn worth(top: u8, table: &[Level], stated: &Stated) -> u8
+    ensures { result ≡ E.worth top (level_in table.now) (statement_of stated.now) }
+{
+    match &stated.licensees {
+        None => 0,
+        Some(formula) => formula_level(top, table, formula).min(stated.ceiling),
+    }
+}
+
+/// The highest worth among the assertions of which `name` is authorizer, and 0 where there is none.
+/// Slow, and only there to be compared with.
+pub fn highest_worth(top: u8, table: &[Level], name: &[u8], statements: &[Stated]) -> u8
+    ensures { result ≡ E.highest_worth top (level_in table.now) name.now (map statement_of statements.now) }
+{
+    let mut best = 0;
+    for stated in statements {
+        if stated.authorizer.as_slice() == name {
+            best = worth(top, table, stated).max(best);
+        }
+    }
+    best
+}
+
+/// Whether a name is one of these.
+/// Slow, and only there to be compared with.
+pub fn is_among(name: &[u8], names: &[Octets]) -> bool
+    ensures { result ≡ list_any (bytes_eq name.now) names.now }
+{
+    for other in names {
+        if name == other.as_slice() {
+            return true;
+        }
+    }
+    false
+}
+
+/// A principal's level after one more round of the equations.
+/// Slow, and only there to be compared with.
+pub fn round_level(
+    top: u8,
+    requesters: &[Octets],
+    table: &[Level],
+    name: &[u8],
+    statements: &[Stated],
+) -> u8
+    ensures { result ≡ E.round (equations_in top requesters.now statements.now) (level_in table.now) name.now }
+{
+    if is_among(name, requesters) {
+        return top;
+    }
+    highest_worth(top, table, name, statements)
+}
+
+/// The levels of a table after one more round of the equations.
+/// Slow, and only there to be compared with.
+pub fn next_levels(
+    alloc: Global,
+    top: u8,
+    requesters: &[Octets],
+    statements: &[Stated],
+    table: &[Level],
+) -> Result<List<Level>, NoMemory>
+    ensures { IfOk result (λ next. next ≡ next_table (equations_in top requesters.now statements.now) table.now) }
+{
+    let mut next = List::new(alloc);
+    for entry in table {
+        let level = round_level(top, requesters, table, entry.name.as_slice(), statements);
+        let name = Octets::from_slice(alloc, entry.name.as_slice())?;
+        match next.push(Level { name, level }) {
+            Ok(()) => {}
+            Err(_) => return Err(NoMemory),
+        }
+    }
+    Ok(next)
+}
+
+/// Adds an entry to a table.
+fn push_level(
+    alloc: Global,
+    table: List<Level>,
+    name: &[u8],
+    level: u8,
+) -> Result<List<Level>, NoMemory>
+    ensures { IfOk result (λ new. new ≡ table ++ entry_of name.now level ∷ []) }
+{
+    let mut table = table;
+    let name = Octets::from_slice(alloc, name)?;
+    match table.push(Level { name, level }) {
+        Ok(()) => Ok(table),
+        Err(_) => Err(NoMemory),
+    }
+}
+
+/// Requesters have the top, and authorizers 0.
+/// Slow, and only there to be compared with.
+pub fn first_levels(
+    alloc: Global,
+    top: u8,
+    requesters: &[Octets],
+    statements: &[Stated],
+) -> Result<List<Level>, NoMemory>
+    ensures { IfOk result (λ table. table ≡ first_table top requesters.now statements.now) }
+{
+    let mut table = List::new(alloc);
+    for requester in requesters {
+        table = push_level(alloc, table, requester.as_slice(), top)?;
+    }
+    for stated in statements {
+        table = push_level(alloc, table, stated.authorizer.as_slice(), 0)?;
+    }
+    Ok(table)
+}
+
+/// The levels after as many rounds as there are entries times `top`.
+/// Slow, and only there to be compared with.
+pub fn least_levels(
+    alloc: Global,
+    top: u8,
+    requesters: &[Octets],
+    statements: &[Stated],
+) -> Result<List<Level>, NoMemory>
+    ensures { IfOk result (λ table. table ≡ last_table top requesters.now statements.now) }
+{
+    let mut table = first_levels(alloc, top, requesters, statements)?;
+    let rounds = table.len() as u64 * top as u64;
+    for _round in 0..rounds {
+        table = next_levels(alloc, top, requesters, statements, table.as_slice())?;
+    }
+    Ok(table)
+}
+
+/// `OK` alone.
+/// Slow, and only there to be compared with.
+pub fn done_text(alloc: Global) -> Result<Octets, NoMemory>
+    ensures { IfOk result (λ text. text ≡ reply_text Done) }
+{
+    Octets::from_slice(alloc, b"OK\n")
+}
+
+/// Adds a number in decimal digits.
+fn push_number(text: &mut Octets, number: u32) -> Result<(), NoMemory>
+    ensures { OnOk result (text.new ≡ text.old ++ decimal number) }
+{
+    let mut buffer = Buffer::new();
+    text.extend(buffer.format(number).as_bytes())
+}
+
+/// The reply to an OPEN that started session `session`, pinned to this version.
+/// Slow, and only there to be compared with.
+pub fn started_text(alloc: Global, session: u32, version: u32) -> Result<Octets, NoMemory>
+    ensures { IfOk result (λ text. text ≡ reply_text (Started session version)) }
+{
+    let mut text = Octets::from_slice(alloc, b"OK ")?;
+    push_number(&mut text, session)?;
+    text.push(b' ')?;
+    push_number(&mut text, version)?;
+    text.push(b'\n')?;
+    Ok(text)
+}
+
+/// The reply to a QUERY, without rows.
+/// Slow, and only there to be compared with.
+pub fn value_text(alloc: Global, index: u8, name: &[u8], version: u32) -> Result<Octets, NoMemory>
+    ensures { IfOk result (λ text. text ≡ reply_text (Value index name.now version [])) }
+{
+    let mut text = Octets::from_slice(alloc, b"VALUE ")?;
+    push_number(&mut text, index as u32)?;
+    text.push(b' ')?;
+    text.extend(name)?;
+    text.push(b' ')?;
+    push_number(&mut text, version)?;
+    text.push(b' ')?;
+    push_number(&mut text, 0)?;
+    text.extend(b"\nEND\n")?;
+    Ok(text)
+}
+
+/// The word of what is counted against a limit.
+fn limit_word(word: LimitWord) -> &'static [u8]
+    ensures { result.now ≡ word_text word }
+{
+    match word {
+        LimitWord::Sessions => b"sessions",
+        LimitWord::Private => b"private",
+        LimitWord::PrivateBytes => b"private-bytes",
+        LimitWord::Requesters => b"requesters",
+        LimitWord::Attributes => b"attributes",
+        LimitWord::Live => b"live",
+        LimitWord::LiveBytes => b"live-bytes",
+        LimitWord::Updates => b"updates",
+        LimitWord::LogBytes => b"log-bytes",
+    }
+}
+
+/// Adds the text of a refusal.
+fn push_refusal(text: &mut Octets, refusal: &Refusal) -> Result<(), NoMemory>
+    ensures { OnOk result (text.new ≡ text.old ++ refusal_text refusal.now) }
+{
+    match refusal {
+        Refusal::Syntax => text.extend(b"1 syntax"),
+        Refusal::Command => text.extend(b"2 command"),
+        Refusal::Session => text.extend(b"3 session"),
+        Refusal::Admin => text.extend(b"4 admin"),
+        Refusal::Read { fault, place } => {
+            text.extend(b"5 read ")?;
+            push_number(text, *fault as u32)?;
+            text.push(b' ')?;
+            push_number(text, *place)
+        }
+        Refusal::Policy => text.extend(b"6 policy"),
+        Refusal::Auth { fault } => {
+            text.extend(b"7 auth ")?;
+            push_number(text, *fault as u32)
+        }
+        Refusal::Name => text.extend(b"8 name"),
+        Refusal::Value => text.extend(b"9 value"),
+        Refusal::Values => text.extend(b"10 values"),
+        Refusal::Principal => text.extend(b"11 principal"),
+        Refusal::Unknown => text.extend(b"12 unknown"),
+        Refusal::Limit { word, count } => {
+            text.extend(b"13 limit ")?;
+            text.extend(limit_word(*word))?;
+            text.push(b' ')?;
+            push_number(text, *count)
+        }
+        Refusal::Long => text.extend(b"14 long"),
+        Refusal::Block => text.extend(b"15 block"),
+    }
+}
+
+/// The reply that refuses a request.
+/// Slow, and only there to be compared with.
+pub fn refusal_reply_text(alloc: Global, refusal: &Refusal) -> Result<Octets, NoMemory>
+    ensures { IfOk result (λ text. text ≡ reply_text (No refusal.now)) }
+{
+    let mut text = Octets::from_slice(alloc, b"NO ")?;
+    push_refusal(&mut text, refusal)?;
+    text.push(b'\n')?;
+    Ok(text)
+}
+
+/// A name of 1 to 128 bytes, each from 33 to 126.
+/// Slow, and only there to be compared with.
+pub fn is_value_name(name: &[u8]) -> bool
+    ensures { result ≡ N.is_value_name name.now }
+{
+    if name.is_empty() || name.len() > 128 {
+        return false;
+    }
+    for byte in name {
+        if *byte < 33 || *byte > 126 {
+            return false;
+        }
+    }
+    true
+}
+
+/// Whether no name stands twice.
+/// Slow, and only there to be compared with.
+pub fn are_distinct(names: &[Octets]) -> bool
+    ensures { result ≡ N.are_distinct names.now }
+{
+    let mut rest = names;
+    while let Some((first, others)) = rest.split_first() {
+        if is_among(first.as_slice(), others) {
+            return false;
+        }
+        rest = others;
+    }
+    true
+}
+
+/// Whether these are 2 to 64 different names.
+/// Slow, and only there to be compared with.
+pub fn are_values(names: &[Octets]) -> bool
+    ensures { result ≡ N.are_values names.now }
+{
+    if names.len() < 2 || names.len() > 64 {
+        return false;
+    }
+    for name in names {
+        if !is_value_name(name.as_slice()) {
+            return false;
+        }
+    }
+    are_distinct(names)
+}
+
+/// The place of the first comma, or the length where there is none.
+/// Slow, and only there to be compared with.
+pub fn comma_place(text: &[u8]) -> usize
+    ensures place { result ≡ position_or_len (λ b. eqb b 44) text.now }
+    ensures bound { result ≤ length text.now }
+{
+    for (place, byte) in text.iter().enumerate() {
+        if *byte == b',' {
+            return place;
+        }
+    }
+    text.len()
+}
+
+/// The pieces of a text between its commas.
+/// Slow, and only there to be compared with.
+#[tactic(auto, using(crate::proofs::Pieces::piece_moved, crate::proofs::Pieces::piece_last))]
+pub fn pieces(alloc: Global, text: &[u8]) -> Result<List<Octets>, NoMemory>
+    ensures { IfOk result (λ pieces. pieces ≡ N.between_commas text.now) }
+{
+    let mut pieces = List::new(alloc);
+    let mut rest = text;
+    let mut place = comma_place(rest);
+    while place < rest.len() {
+        let piece = Octets::from_slice(alloc, rest.split_at(place).0)?;
+        match pieces.push(piece) {
+            Ok(()) => {}
+            Err(_) => return Err(NoMemory),
+        }
+        rest = rest.split_at(place + 1).1;
+        place = comma_place(rest);
+    }
+    let last = Octets::from_slice(alloc, rest)?;
+    match pieces.push(last) {
+        Ok(()) => Ok(pieces),
+        Err(_) => Err(NoMemory),
+    }
+}
+
+/// The compliance values that a text names, the lowest first, or None where it names none.
+/// Slow, and only there to be compared with.
+pub fn values(alloc: Global, text: &[u8]) -> Result<Option<List<Octets>>, NoMemory>
+    ensures { IfOk result (λ names. names ≡ N.values_of text.now) }
+{
+    let names = pieces(alloc, text)?;
+    if are_values(names.as_slice()) {
+        Ok(Some(names))
+    } else {
+        Ok(None)
+    }
+}

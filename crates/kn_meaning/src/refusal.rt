@@ -1,0 +1,38 @@
+//! Refusals of requests.
+
+/// What is counted against a limit.
+#[derive(Debug, Clone, Copy, PartialEq, Eq, Drop)]
+pub enum LimitWord {
+    Sessions,
+    Private,
+    PrivateBytes,
+    Requesters,
+    Attributes,
+    Live,
+    LiveBytes,
+    Updates,
+    LogBytes,
+}
+
+/// Why a request is refused, in the order of the protocol's codes 1 to 15 (keynoted's own protocol).
+#[derive(Debug, Clone, Copy, PartialEq, Eq, Drop)]
+pub enum Refusal {
+    Syntax,
+    Command,
+    Session,
+    Admin,
+    /// The text has this fault at this place.
+    Read { fault: u8, place: u32 },
+    Policy,
+    /// The authenticator's fault.
+    Auth { fault: u8 },
+    Name,
+    Value,
+    Values,
+    Principal,
+    Unknown,
+    /// The counted quantity is at its limit, or the new text passes it.
+    Limit { word: LimitWord, count: u32 },
+    Long,
+    Block,
+}

@@ -1,0 +1,110 @@
+use crate::plain::{
+    Stated, done_text, least_levels, level_of, refusal_reply_text, started_text, value_text, values,
+};
+use crate::refusal::{LimitWord, Refusal};
+use kn_assert::Formula;
+use kn_base::{List, NoMemory, Octets};
+use std::alloc::Global;
+
+/// The statement that an authorizer licenses any of these, at most at this level.
+fn statement(
+    alloc: Global,
+    authorizer: &[u8],
+    ceiling: u8,
+    licensed: &[&[u8]],
+) -> Result<Stated, NoMemory> {
+    let mut parts = List::new(alloc);
+    for name in licensed {
+        match parts.push(Formula::Who(Octets::from_slice(alloc, name)?)) {
+            Ok(()) => {}
+            Err(_) => return Err(NoMemory),
+        }
+    }
+    Ok(Stated {
+        authorizer: Octets::from_slice(alloc, authorizer)?,
+        ceiling,
+        licensees: Some(Formula::Any(parts)),
+    })
+}
+
+/// The policy's level for one requester.
+fn policy_level(
+    alloc: Global,
+    top: u8,
+    requester: &[u8],
+    statements: &[Stated],
+) -> Result<u8, NoMemory> {
+    let requesters = [Octets::from_slice(alloc, requester)?];
+    let table = least_levels(alloc, top, &requesters, statements)?;
+    Ok(level_of(table.as_slice(), b"POLICY"))
+}
+
+#[test]
+fn least_levels_of_small_policies(rt: HostRuntime) -> Result<(), NoMemory> {
+    let alloc = rt.alloc();
+    let direct = [statement(alloc, b"POLICY", 1, &[b"alice"])?];
+    assert_eq!(rt; policy_level(alloc, 1, b"alice", &direct)?, 1);
+    assert_eq!(rt; policy_level(alloc, 1, b"bob", &direct)?, 0);
+    assert_eq!(rt; policy_level(alloc, 1, b"alice", &[])?, 0);
+    let cycle = [
+        statement(alloc, b"POLICY", 1, &[b"a"])?,
+        statement(alloc, b"a", 1, &[b"b"])?,
+        statement(alloc, b"b", 1, &[b"a"])?,
+    ];
+    assert_eq!(rt; policy_level(alloc, 1, b"c", &cycle)?, 0);
+    assert_eq!(rt; policy_level(alloc, 1, b"b", &cycle)?, 1);
+    let lowered = [
+        statement(alloc, b"POLICY", 2, &[b"x", b"y"])?,
+        statement(alloc, b"y", 1, &[b"w"])?,
+    ];
+    assert_eq!(rt; policy_level(alloc, 2, b"w", &lowered)?, 1);
+    assert_eq!(rt; policy_level(alloc, 2, b"x", &lowered)?, 2);
+    Ok(())
+}
+
+#[test]
+fn texts_of_replies(rt: HostRuntime) -> Result<(), NoMemory> {
+    let alloc = rt.alloc();
+    let limit = Refusal::Limit {
+        word: LimitWord::Sessions,
+        count: 16,
+    };
+    assert_eq!(rt; done_text(alloc)?.as_slice(), b"OK\n".as_slice());
+    assert_eq!(rt;
+        started_text(alloc, 1, 2)?.as_slice(),
+        b"OK 1 2\n".as_slice()
+    );
+    assert_eq!(rt;
+        value_text(alloc, 1, b"yes", 1)?.as_slice(),
+        b"VALUE 1 yes 1 0\nEND\n".as_slice()
+    );
+    assert_eq!(rt;
+        refusal_reply_text(alloc, &limit)?.as_slice(),
+        b"NO 13 limit sessions 16\n".as_slice()
+    );
+    assert_eq!(rt;
+        refusal_reply_text(alloc, &Refusal::Syntax)?.as_slice(),
+        b"NO 1 syntax\n".as_slice()
+    );
+    Ok(())
+}
+
+#[test]
+fn values_of_texts(rt: HostRuntime) -> Result<(), NoMemory> {
+    let alloc = rt.alloc();
+    let Some(names) = values(alloc, b"no,yes")? else {
+        assert!(rt; false, "two names");
+        return Ok(());
+    };
+    assert_eq!(rt; names.len(), 2);
+    assert!(rt;
+        names
+            .get(1)
+            .is_some_and(|name| name.as_slice() == b"yes".as_slice())
+    );
+    let refused: [&[u8]; 5] = [b"", b"yes", b"no,no", b"no,", b"no,y s"];
+    for text in &refused {
+        assert!(rt; values(alloc, text)?.is_none());
+    }
+    Ok(())
+}
