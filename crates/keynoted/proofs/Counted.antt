@@ -90,3 +90,7 @@ total_size-drop assertions i a within here =
 pub statements-more : (top : ℕ) (assertions : List Assertion) (i : ℕ) (a : Assertion) → i < length assertions → a ≡ get_or assertions i a → map (statement_of top) (take i assertions) ++ statement_of top a ∷ [] ≡ map (statement_of top) (take (i + 1) assertions)
 statements-more top assertions i a within here =
     sym (map-append (statement_of top) (take i assertions) (a ∷ [])) ∙ ap (map (statement_of top)) (ap (λ x. take i assertions ++ x ∷ []) here ∙ sym (take_more assertions i a within))
+
+pub total_size-longer : (assertions : List Assertion) (a : Assertion) → total_size (assertions ++ a ∷ []) ≡ total_size assertions + size_of a
+total_size-longer [] a = omega arith
+total_size-longer (b ∷ assertions) a = let rest : total_size (assertions ++ a ∷ []) ≡ total_size assertions + size_of a = total_size-longer assertions a in omega arith

@@ -7,6 +7,8 @@ mod real;
 mod real_tests;
 mod replies;
 mod run;
+#[cfg(test)]
+mod run_tests;
 mod script;
 mod stop;
 mod text;

@@ -1,0 +1,220 @@
+use crate::run::run;
+use kn_base::{List, NoMemory, Octets};
+use kn_outside::{FileEntry, MemFiles, MemLink, MemSink};
+use std::alloc::Global;
+use std::test::Fail;
+
+const POLICY: &[u8] = b"Authorizer: \"POLICY\"\nLicensees: \"alice\"\n";
+
+const INPUT: &[u8] = b"OPEN\nAUTH 1 alice\nQUERY 1 no,yes\n";
+
+// What a run left: its status, what the link and the output were written.
+#[derive(Drop)]
+struct Outcome {
+    status: u8,
+    written: Octets,
+    line: Octets,
+}
+
+// The numbers of the calls that fail, of the files, the link and the output; 0 for none.
+#[derive(Clone, Copy)]
+struct Failing {
+    file: u32,
+    link: u32,
+    out: u32,
+}
+
+fn numbers(alloc: Global, number: u32) -> Result<List<u32>, NoMemory> {
+    let mut list = List::new(alloc);
+    match list.push(number) {
+        Ok(()) => Ok(list),
+        Err(_) => Err(NoMemory),
+    }
+}
+
+fn words(alloc: Global, first: &[u8], second: &[u8]) -> Result<List<Octets>, NoMemory> {
+    let mut list = List::new(alloc);
+    match list.push(Octets::from_slice(alloc, first)?) {
+        Ok(()) => {}
+        Err(_) => return Err(NoMemory),
+    }
+    match list.push(Octets::from_slice(alloc, second)?) {
+        Ok(()) => Ok(list),
+        Err(_) => Err(NoMemory),
+    }
+}
+
+// `ask NAME` over one file `p.kn` of this content, each read of the link giving at most 20 bytes.
+fn run_over(
+    alloc: Global,
+    name: &[u8],
+    content: &[u8],
+    input: &[u8],
+    failing: Failing,
+) -> Result<Outcome, NoMemory> {
+    let mut entries = List::new(alloc);
+    let entry = FileEntry {
+        name: Octets::from_slice(alloc, b"p.kn")?,
+        content: Octets::from_slice(alloc, content)?,
+    };
+    match entries.push(entry) {
+        Ok(()) => {}
+        Err(_) => return Err(NoMemory),
+    }
+    let mut files = MemFiles::of(alloc, entries, numbers(alloc, failing.file)?);
+    let input = Octets::from_slice(alloc, input)?;
+    let mut own = MemLink::of(
+        alloc,
+        input,
+        numbers(alloc, 20)?,
+        numbers(alloc, failing.link)?,
+    );
+    let mut out = MemSink::of(alloc, numbers(alloc, failing.out)?);
+    let words = words(alloc, b"ask", name)?;
+    let status = run(alloc, words.as_slice(), &mut files, &mut own, &mut out);
+    Ok(Outcome {
+        status,
+        written: Octets::from_slice(alloc, own.written())?,
+        line: Octets::from_slice(alloc, out.written())?,
+    })
+}
+
+fn none() -> Failing {
+    Failing {
+        file: 0,
+        link: 0,
+        out: 0,
+    }
+}
+
+#[test]
+fn the_reply_is_written(rt: HostRuntime) -> Result<(), Fail> {
+    let left = run_over(rt.alloc(), b"p.kn", POLICY, INPUT, none())?;
+    assert_eq!(rt; left.status, 0);
+    assert!(rt; left.written.as_slice() == b"OK 1 1\nOK\nVALUE 1 yes 1 0\nEND\n".as_slice());
+    assert!(rt; left.line.is_empty());
+    Ok(())
+}
+
+#[test]
+fn a_failed_file_is_told(rt: HostRuntime) -> Result<(), Fail> {
+    let left = run_over(
+        rt.alloc(),
+        b"p.kn",
+        POLICY,
+        INPUT,
+        Failing {
+            file: 1,
+            link: 0,
+            out: 0,
+        },
+    )?;
+    assert_eq!(rt; left.status, 2);
+    assert!(rt; left.line.as_slice() == b"error file p.kn read\n".as_slice());
+    assert!(rt; left.written.is_empty());
+    Ok(())
+}
+
+#[test]
+fn a_missing_file_is_told(rt: HostRuntime) -> Result<(), Fail> {
+    let left = run_over(rt.alloc(), b"q.kn", POLICY, INPUT, none())?;
+    assert_eq!(rt; left.status, 2);
+    assert!(rt; left.line.as_slice() == b"error file q.kn read\n".as_slice());
+    Ok(())
+}
+
+#[test]
+fn another_form_of_policy_is_told(rt: HostRuntime) -> Result<(), Fail> {
+    let left = run_over(
+        rt.alloc(),
+        b"p.kn",
+        b"Authorizer: \"POLICY\"\n",
+        INPUT,
+        none(),
+    )?;
+    assert_eq!(rt; left.status, 3);
+    assert!(rt; left.line.as_slice() == b"error form p.kn\n".as_slice());
+    Ok(())
+}
+
+#[test]
+fn another_form_of_input_is_told(rt: HostRuntime) -> Result<(), Fail> {
+    let left = run_over(rt.alloc(), b"p.kn", POLICY, b"PIN 1\n", none())?;
+    assert_eq!(rt; left.status, 4);
+    assert!(rt; left.line.as_slice() == b"error link form\n".as_slice());
+    assert!(rt; left.written.is_empty());
+    Ok(())
+}
+
+// The input comes in two reads, the third tells its end, and the fourth call writes.
+#[test]
+fn each_failed_read_is_told(rt: HostRuntime) -> Result<(), Fail> {
+    for call in 1..4 {
+        let left = run_over(
+            rt.alloc(),
+            b"p.kn",
+            POLICY,
+            INPUT,
+            Failing {
+                file: 0,
+                link: call,
+                out: 0,
+            },
+        )?;
+        assert_eq!(rt; left.status, 4);
+        assert!(rt; left.line.as_slice() == b"error link read\n".as_slice());
+        assert!(rt; left.written.is_empty());
+    }
+    Ok(())
+}
+
+#[test]
+fn a_failed_write_is_told(rt: HostRuntime) -> Result<(), Fail> {
+    let left = run_over(
+        rt.alloc(),
+        b"p.kn",
+        POLICY,
+        INPUT,
+        Failing {
+            file: 0,
+            link: 4,
+            out: 0,
+        },
+    )?;
+    assert_eq!(rt; left.status, 4);
+    assert!(rt; left.line.as_slice() == b"error link write\n".as_slice());
+    assert!(rt; left.written.is_empty());
+    Ok(())
+}
+
+// The line is written in three parts.
+#[test]
+fn a_front_of_a_line_may_be_written(rt: HostRuntime) -> Result<(), Fail> {
+    let at_once = run_over(
+        rt.alloc(),
+        b"q.kn",
+        POLICY,
+        INPUT,
+        Failing {
+            file: 0,
+            link: 0,
+            out: 1,
+        },
+    )?;
+    assert_eq!(rt; at_once.status, 9);
+    assert!(rt; at_once.line.is_empty());
+    let later = run_over(
+        rt.alloc(),
+        b"q.kn",
+        POLICY,
+        INPUT,
+        Failing {
+            file: 0,
+            link: 0,
+            out: 2,
+        },
+    )?;
+    assert_eq!(rt; later.status, 9);
+    assert!(rt; later.line.as_slice() == b"error file ".as_slice());
+    Ok(())
+}

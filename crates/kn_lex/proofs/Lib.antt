@@ -1,0 +1,10 @@
+pub mod Values
+pub mod Literals
+pub mod Faulty
+pub mod Along
+pub mod Pieces
+pub mod Settled
+pub mod Reaching
+pub mod Scans
+pub mod Spelled
+pub mod Facts

@@ -1,0 +1,35 @@
+-- The value of a literal, item by item.
+use Rattle.std.proofs.Common.{append-nil, eq-eqb, ◌≡◌, ℕ, zero, suc, ◌+◌, ◌<◌, ◌≤◌, List, [], ◌∷◌, ◌++◌, length, drop, get_or, arith, refl, sym, ◌∙◌, ap}
+use Rattle.std.proofs.lemmas.Bool.{ne_eqb}
+use Rattle.std.proofs.lemmas.List.{drop_all}
+use Rattle.std.proofs.Math.Numerals.{add-one}
+use Rattle.kn_lex.specs.Literal.{escape, with_front, value_behind}
+
+-- what belongs to an escape gives nothing more
+pub skipped : (k : ℕ) (xs : List ℕ) → value_behind k xs ≡ value_behind 0 (drop k xs)
+unfolding value_behind
+skipped zero [] = refl
+skipped zero (x ∷ xs) = refl
+skipped (suc k) [] = refl
+skipped (suc k) (x ∷ xs) = skipped k xs
+
+pub value_plain : (xs : List ℕ) → 0 < length xs → (get_or xs 0 0 ≡ 92 → ⊥)
+    → value_behind 0 xs ≡ get_or xs 0 0 ∷ value_behind 0 (drop 1 xs)
+unfolding value_behind
+value_plain [] h n = absurd (omega arith)
+value_plain (x ∷ xs) h n = rw (ne_eqb _ _ n) refl
+
+pub value_escaped : (xs : List ℕ) → 0 < length xs → get_or xs 0 0 ≡ 92
+    → value_behind 0 xs ≡ with_front (escape (drop 1 xs)).0 (value_behind 0 (drop ((escape (drop 1 xs)).1 + 1) xs))
+unfolding value_behind
+value_escaped [] h e = absurd (omega arith)
+value_escaped (x ∷ xs) h e =
+    rw (eq-eqb x 92 e) (ap (with_front (escape xs).0) (skipped (escape xs).1 xs ∙ ap (λ n. value_behind 0 (drop n (x ∷ xs))) (sym (add-one (escape xs).1))))
+
+pub value_end : (xs : List ℕ) (at : ℕ) → length xs ≤ at → value_behind 0 (drop at xs) ≡ []
+unfolding value_behind
+value_end xs at h = ap (value_behind 0) (drop_all at xs h)
+
+pub value_whole : (value xs : List ℕ) (at : ℕ) → length xs ≤ at → value ++ value_behind 0 (drop at xs) ≡ value_behind 0 xs
+    → value ≡ value_behind 0 xs
+value_whole value xs at h e = sym (append-nil value) ∙ ap (λ zs. value ++ zs) (sym (value_end xs at h)) ∙ e

@@ -1,0 +1,36 @@
+use Rattle.std.proofs.Common.{arith, ◌∙◌}
+use Rattle.kn_lex.proofs.Along.{reached_step, reached_fault, has_cause, finished, finished_cuts, finished_faultless, one_list, smaller_step, settled_step}
+use Rattle.kn_lex.proofs.lexer.tokens.Goals as goal
+
+pub returns-in-Err-clause-only : goal.returns-in-Err-clause-only
+returns-in-Err-clause-only c tokens cuts faultless =
+    let fault = rw c.split_at.ensures.back at c.in-Err.ensures.err in
+    absurd (faultless c.in-Err.fault (reached_fault _ _ _ _ _ c.loop-at.invariant.reached fault).has)
+
+pub returns-in-Err-clause-stuck : goal.returns-in-Err-clause-stuck
+returns-in-Err-clause-stuck c =
+    let fault = rw c.split_at.ensures.back at c.in-Err.ensures.err in
+    has_cause _ _ (reached_fault _ _ _ _ _ c.loop-at.invariant.reached fault)
+
+pub loop-at-smaller : goal.loop-at-smaller
+loop-at-smaller c =
+    smaller_step _ _ _ _ _ _ (c.in-Ok.read.piece, c.in-Ok.read.len) c.loop-at.invariant.within c.split_at.ensures.back c.in-Ok.ensures.within
+    c.split_at-in-loop-at.ensures.front c.in-Ok.ensures.piece c.place_after-place.ensures
+
+pub loop-at-preserved : goal.loop-at-preserved
+loop-at-preserved c = record {
+  within = omega (arith, c.in-Ok.ensures.within);
+  reached = reached_step _ _ _ _ _ _ _ _ (c.in-Ok.read.piece, c.in-Ok.read.len) c.loop-at.invariant.reached c.split_at.ensures.back
+      c.split_at-in-loop-at.ensures.front c.in-Ok.ensures.piece c.in-Ok.ensures.clean c.in-Ok-push_token.ensures.ok c.place_after-place.ensures;
+  settled = λ s. settled_step _ _ _ _ (c.in-Ok.read.piece, c.in-Ok.read.len) c.split_at.ensures.back c.in-Ok.ensures.piece (c.in-Ok.ensures.settled s);
+}
+
+pub returns-clause-found : goal.returns-clause-found
+returns-clause-found c = rw c.of.ensures (finished_cuts _ _ (finished _ _ _ _ c.loop-at.invariant.reached c.loop-at-test.false))
+
+pub returns-clause-faultless : goal.returns-clause-faultless
+returns-clause-faultless c = finished_faultless _ _ (finished _ _ _ _ c.loop-at.invariant.reached c.loop-at-test.false)
+
+pub returns-clause-only : goal.returns-clause-only
+returns-clause-only c tokens cuts faultless =
+    c.of.ensures ∙ one_list _ _ _ (finished_cuts _ _ (finished _ _ _ _ c.loop-at.invariant.reached c.loop-at-test.false)) cuts

@@ -1,0 +1,41 @@
+-- The classes of bytes that RFC 2704, section 4, spells its tokens with.
+use Rattle.std.specs.Prelude.{ℕ, Bool, ◌||◌, ◌&&◌, ◌==◌, nat_le, codes}
+use Rattle.std.specs.List.{list_any}
+use Rattle.kn_base.specs.Decimal.{is_digit}
+
+-- white space that ends no line: a space, a tab or, by keynoted's own choice, a carriage return
+abbrev pub is_gap : ℕ → Bool
+is_gap byte = byte == 32 || byte == 9 || byte == 13
+
+-- white space: the newline belongs to it
+abbrev pub is_white : ℕ → Bool
+is_white byte = is_gap byte || byte == 10
+
+abbrev pub is_letter : ℕ → Bool
+is_letter byte = (nat_le 65 byte && nat_le byte 90) || (nat_le 97 byte && nat_le byte 122)
+
+-- what begins a name
+abbrev pub begins_name : ℕ → Bool
+begins_name byte = is_letter byte || byte == 95
+
+-- what a name goes on with
+abbrev pub continues_name : ℕ → Bool
+continues_name byte = begins_name byte || is_digit byte
+
+-- what a label goes on with, before its colon
+abbrev pub continues_label : ℕ → Bool
+continues_label byte = continues_name byte || byte == 45
+
+abbrev pub is_octal_digit : ℕ → Bool
+is_octal_digit byte = nat_le 48 byte && nat_le byte 55
+
+-- a sign of one byte
+abbrev pub is_short_sign : ℕ → Bool
+is_short_sign byte = list_any (λ sign. byte == sign) (codes "(){},;!<>=+-*/%^.$@")
+
+-- a sign of two bytes: && || == != <= >= ->
+abbrev pub is_long_sign : ℕ → ℕ → Bool
+is_long_sign byte next =
+    (byte == next && list_any (λ sign. byte == sign) (codes "&|="))
+    || (next == 61 && list_any (λ sign. byte == sign) (codes "!<>"))
+    || (byte == 45 && next == 62)

@@ -1,0 +1,65 @@
+ghost use Rattle.std.specs.Prelude.{◌≡◌};
+ghost use Rattle.kn_lex.specs.Bytes.{is_gap, is_white, is_letter, begins_name, continues_name, continues_label, is_octal_digit, is_short_sign, is_long_sign};
+ghost use Rattle.kn_base.specs.Decimal.{is_digit};
+
+pub(crate) fn is_gap(byte: u8) -> bool
+    ensures { result ≡ is_gap byte }
+{
+    byte == b' ' || byte == b'\t' || byte == b'\r'
+}
+
+pub(crate) fn is_white(byte: u8) -> bool
+    ensures { result ≡ is_white byte }
+{
+    is_gap(byte) || byte == b'\n'
+}
+
+pub(crate) fn is_letter(byte: u8) -> bool
+    ensures { result ≡ is_letter byte }
+{
+    (b'A' <= byte && byte <= b'Z') || (b'a' <= byte && byte <= b'z')
+}
+
+pub(crate) fn is_digit(byte: u8) -> bool
+    ensures { result ≡ is_digit byte }
+{
+    b'0' <= byte && byte <= b'9'
+}
+
+pub(crate) fn begins_name(byte: u8) -> bool
+    ensures { result ≡ begins_name byte }
+{
+    is_letter(byte) || byte == b'_'
+}
+
+pub(crate) fn continues_name(byte: u8) -> bool
+    ensures { result ≡ continues_name byte }
+{
+    begins_name(byte) || is_digit(byte)
+}
+
+pub(crate) fn continues_label(byte: u8) -> bool
+    ensures { result ≡ continues_label byte }
+{
+    continues_name(byte) || byte == b'-'
+}
+
+pub(crate) fn is_octal_digit(byte: u8) -> bool
+    ensures { result ≡ is_octal_digit byte }
+{
+    b'0' <= byte && byte <= b'7'
+}
+
+pub(crate) fn is_short_sign(byte: u8) -> bool
+    ensures { result ≡ is_short_sign byte }
+{
+    b"(){},;!<>=+-*/%^.$@".contains(&byte)
+}
+
+pub(crate) fn is_long_sign(byte: u8, next: u8) -> bool
+    ensures { result ≡ is_long_sign byte next }
+{
+    (byte == next && b"&|=".contains(&byte))
+        || (next == b'=' && b"!<>".contains(&byte))
+        || (byte == b'-' && next == b'>')
+}

@@ -1,0 +1,191 @@
+ghost use Rattle.std.specs.Prelude.{◌≡◌, ◌+◌, ◌<◌, ◌≤◌, ◌^◌, true, false, nat_lt, ◌==◌, length, take, drop, IfSome, IfOk, IfErr, OnOk};
+ghost use Rattle.kn_base.specs.Decimal.{digits_value};
+ghost use Rattle.kn_lex.specs.Faults.{begins_fraction, begins_match, number_max, goes_on};
+ghost use Rattle.kn_lex.specs.Scanning.{stuck_fault, number_fault, zero_place, piece_fault, fault_by, piece_at, is_bad_blank, fault_at};
+
+use crate::bytes::{is_digit, is_white};
+use crate::fault::LexFault;
+use crate::piece::{Context, Piece, Place, is_line_start, is_number};
+use crate::scan::{is_blank, piece_at};
+use crate::token::Sort;
+
+/// The greatest number, which is that of 32 bits with a sign.
+const NUMBER_MAX: u64 = 2_147_483_647;
+
+/// Whether a byte follows that is neither white space nor in a comment.
+#[tactic(auto, using(crate::proofs::Scans::goes_on_at, crate::proofs::Scans::goes_on_end))]
+pub(crate) fn goes_on(rest: &[u8]) -> bool
+    ensures { result ≡ goes_on false rest.now }
+{
+    let mut commented = false;
+    for byte in rest {
+        if commented {
+            commented = *byte != b'\n';
+        } else if *byte == b'#' {
+            commented = true;
+        } else if !is_white(*byte) {
+            return true;
+        }
+    }
+    false
+}
+
+fn begins_match(rest: &[u8]) -> bool
+    ensures { result ≡ begins_match rest.now }
+{
+    rest.len() > 1 && rest[0] == b'~' && rest[1] == b'='
+}
+
+/// The fault of a place where no piece begins.
+#[tactic(auto, using(crate::proofs::Scans::stuck_fault_at))]
+fn stuck_fault(at: u32, rest: &[u8]) -> LexFault
+    requires { 0 < length rest.now }
+    ensures { stuck_fault at rest.now ≡ Some result }
+{
+    let byte = rest[0];
+    if byte == 0 || byte >= 128 {
+        LexFault::NotText { at }
+    } else if byte == b'"' {
+        LexFault::BadString { at }
+    } else if byte == b'&' {
+        LexFault::Float { at }
+    } else if begins_match(rest) {
+        LexFault::Regex { at }
+    } else {
+        LexFault::BadToken { at }
+    }
+}
+
+fn begins_fraction(rest: &[u8]) -> bool
+    ensures { result ≡ begins_fraction rest.now }
+{
+    rest.len() > 1 && rest[0] == b'.' && is_digit(rest[1])
+}
+
+/// Whether digits spell a number that is too large.
+fn is_too_large(digits: &[u8]) -> bool
+    ensures { result ≡ nat_lt number_max (digits_value digits.now) }
+{
+    let mut value: u64 = 0;
+    for byte in digits {
+        value = value * 10 + u64::from(byte.saturating_sub(b'0'));
+        if value > NUMBER_MAX {
+            return true;
+        }
+    }
+    false
+}
+
+fn number_fault(at: u32, digits: &[u8], rest: &[u8]) -> Option<LexFault>
+    ensures { result ≡ number_fault at digits.now rest.now }
+{
+    if begins_fraction(rest) {
+        Some(LexFault::Float { at })
+    } else if is_too_large(digits) {
+        Some(LexFault::Number { at })
+    } else {
+        None
+    }
+}
+
+/// The place of the first byte 0.
+#[tactic(auto, using(crate::proofs::Scans::zero_place_at, crate::proofs::Scans::zero_place_end, crate::proofs::Scans::more_len_twice, crate::proofs::Scans::more_len_none))]
+fn zero_place(bytes: &[u8]) -> Option<usize>
+    ensures place { result ≡ zero_place bytes.now }
+    ensures within { IfSome result (λ k. k < length bytes.now) }
+{
+    for (i, byte) in bytes.iter().enumerate() {
+        if *byte == 0 {
+            return Some(i);
+        }
+    }
+    None
+}
+
+fn piece_fault(at: u32, piece: Piece, bytes: &[u8], rest: &[u8]) -> Option<LexFault>
+    requires { at + length bytes.now < 2 ^ 32 }
+    ensures { result ≡ piece_fault at piece bytes.now rest.now }
+{
+    if is_number(piece) {
+        return number_fault(at, bytes, rest);
+    }
+    match zero_place(bytes) {
+        Some(k) => Some(LexFault::NotText { at: at + k as u32 }),
+        None => None,
+    }
+}
+
+/// Refuses a blank line between tokens, and tells whether only white space and comments are left, so
+/// far as that is known: `settled` tells it at the piece before, and no text is looked through twice.
+fn check_blank(place: Place, at: u32, rest: &[u8], settled: bool) -> Result<bool, LexFault>
+    requires { settled ≡ true → goes_on false rest.now ≡ false }
+    ensures ok { OnOk result (is_bad_blank place rest.now ≡ false) }
+    ensures known { IfOk result (λ over. over ≡ true → goes_on false rest.now ≡ false) }
+    ensures err { IfErr result (λ fault. (fault ≡ LexFault.Blank at) × (is_bad_blank place rest.now ≡ true)) }
+{
+    if settled || !is_line_start(place.context) || !place.told || !is_blank(rest) {
+        return Ok(settled);
+    }
+    if goes_on(rest) {
+        return Err(LexFault::Blank { at });
+    }
+    Ok(true)
+}
+
+/// The piece that begins here, or the fault that what is left shows, blank lines aside.
+fn clean_piece(context: Context, at: u32, rest: &[u8]) -> Result<(Piece, usize), LexFault>
+    requires some { 0 < length rest.now }
+    requires short { at + length rest.now < 2 ^ 32 }
+    ensures piece { IfOk result (λ p. piece_at context rest.now ≡ Some p) }
+    ensures clean { IfOk result (λ p. fault_by at rest.now (piece_at context rest.now) ≡ None) }
+    ensures within { IfOk result (λ p. p.1 ≤ length rest.now) }
+    ensures err { IfErr result (λ fault. fault_by at rest.now (piece_at context rest.now) ≡ Some fault) }
+{
+    let Some((piece, len)) = piece_at(context, rest) else {
+        return Err(stuck_fault(at, rest));
+    };
+    let (bytes, more) = rest.split_at(len);
+    match piece_fault(at, piece, bytes, more) {
+        Some(fault) => Err(fault),
+        None => Ok((piece, len)),
+    }
+}
+
+/// What was read at a place.
+#[derive(Debug, Clone, Copy)]
+pub(crate) struct Read {
+    pub(crate) piece: Piece,
+    pub(crate) len: usize,
+    /// Whether only white space and comments are left, so far as that is known.
+    pub(crate) settled: bool,
+}
+
+/// The piece that begins here, or the first fault that this place shows.
+pub(crate) fn read_piece(
+    place: Place,
+    at: u32,
+    rest: &[u8],
+    settled: bool,
+) -> Result<Read, LexFault>
+    requires some { 0 < length rest.now }
+    requires short { at + length rest.now < 2 ^ 32 }
+    requires known { settled ≡ true → goes_on false rest.now ≡ false }
+    ensures piece { IfOk result (λ read. piece_at place.context rest.now ≡ Some (read.piece, read.len)) }
+    ensures clean { IfOk result (λ read. fault_at place at rest.now ≡ None) }
+    ensures within { IfOk result (λ read. read.len ≤ length rest.now) }
+    ensures settled { IfOk result (λ read. read.settled ≡ true → goes_on false rest.now ≡ false) }
+    ensures err { IfErr result (λ fault. fault_at place at rest.now ≡ Some fault) }
+{
+    let settled = match check_blank(place, at, rest, settled) {
+        Ok(settled) => settled,
+        Err(fault) => return Err(fault),
+    };
+    match clean_piece(place.context, at, rest) {
+        Ok((piece, len)) => Ok(Read {
+            piece,
+            len,
+            settled,
+        }),
+        Err(fault) => Err(fault),
+    }
+}

@@ -1,0 +1,22 @@
+//! Laws of the definitions, for the crates above: each is the contract of a function that does nothing.
+
+ghost use Rattle.std.specs.Prelude.{◌≡◌, ◌⊎◌, ℕ, List, All};
+ghost use Rattle.kn_lex.specs.Cutting.{Seen, Cuts};
+ghost use Rattle.kn_lex.specs.Faults.{IsFaultless, IsFirstLexicalFault};
+ghost use Rattle.kn_lex.specs.TokenFacts.{IsTokenOf};
+ghost use Rattle.kn_lex.specs.declared.fault.LexFault.{LexFault};
+
+/// Every text has either tokens that cut it and no fault, or a first fault; never both; and at most one
+/// list of tokens cuts it, and it has one first fault at most.
+pub fn tokens_or_first_fault()
+    ensures some { (text : List ℕ) → ((tokens : List Seen) × Cuts text tokens × IsFaultless text) ⊎ ((fault : LexFault) × IsFirstLexicalFault text fault) }
+    ensures not_both { (text : List ℕ) (fault : LexFault) → IsFaultless text → IsFirstLexicalFault text fault → ⊥ }
+    ensures one_list { (text : List ℕ) (tokens other : List Seen) → Cuts text tokens → Cuts text other → tokens ≡ other }
+    ensures one_fault { (text : List ℕ) (fault other : LexFault) → IsFirstLexicalFault text fault → IsFirstLexicalFault text other → fault ≡ other }
+{}
+
+/// The tokens of a text without faults: each has some bytes, which are those of the text at its span and
+/// spell its sort, and no number is too large.
+pub fn token_facts()
+    ensures { (text : List ℕ) (tokens : List Seen) → Cuts text tokens → IsFaultless text → All (IsTokenOf text) tokens }
+{}

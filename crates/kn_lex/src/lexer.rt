@@ -1,0 +1,75 @@
+ghost use Rattle.std.specs.Prelude.{◌≡◌, ◌+◌, ◌≤◌, ◌<◌, ◌^◌, ◌++◌, List, length, map, OnOk, IfOk, IfErr};
+ghost use Rattle.kn_lex.specs.Cutting.{token_of, Seen, Cuts};
+ghost use Rattle.kn_lex.specs.Faults.{IsFaultless};
+ghost use Rattle.kn_lex.specs.Seeing.{seen, GivesTokens, HasCause};
+
+use crate::fault::LexFault;
+use crate::judge::read_piece;
+use crate::piece::{Context, Piece, is_line_start, place_after, start};
+use crate::token::{Token, Tokens};
+use kn_base::limits::ASSERTION_BYTES;
+use kn_base::{List, Span};
+use std::alloc::Global;
+
+/// Adds the token that a piece is. White space, comments and empty bodies are none.
+fn push_token<'a>(
+    list: &mut List<Token<'a>>,
+    context: Context,
+    at: u32,
+    piece: Piece,
+    bytes: &'a [u8],
+) -> Result<(), LexFault>
+    requires { at + length bytes.now < 2 ^ 32 }
+    ensures ok { OnOk result (map seen list.new ≡ map seen list.old ++ token_of context at piece bytes.now) }
+    ensures err { IfErr result (λ fault. fault ≡ LexFault.NoMemory) }
+{
+    let Piece::Token(sort) = piece else {
+        return Ok(());
+    };
+    if bytes.is_empty() {
+        return Ok(());
+    }
+    let token = Token {
+        sort,
+        span: Span {
+            start: at,
+            end: at + bytes.len() as u32,
+        },
+        text: bytes,
+        first: is_line_start(context),
+    };
+    match list.push(token) {
+        Ok(()) => Ok(()),
+        Err(_) => Err(LexFault::NoMemory),
+    }
+}
+
+/// The tokens of a text, or its first lexical fault (RFC 2704, section 4; the faults are keynoted's own).
+pub fn tokens<'a>(alloc: Global, text: &'a [u8]) -> Result<Tokens<'a>, LexFault>
+    requires { length text.now ≤ ASSERTION_BYTES }
+    ensures found { IfOk result (λ tokens. Cuts text.now tokens) }
+    ensures faultless { OnOk result (IsFaultless text.now) }
+    ensures only { (tokens : List Seen) → Cuts text.now tokens → IsFaultless text.now → GivesTokens tokens result }
+    ensures stuck { IfErr result (λ fault. HasCause text.now fault) }
+{
+    let mut list = List::new(alloc);
+    let mut place = start();
+    let mut settled = false;
+    let mut at: usize = 0;
+    while at < text.len() {
+        let rest = text.split_at(at).1;
+        let read = match read_piece(place, at as u32, rest, settled) {
+            Ok(read) => read,
+            Err(fault) => return Err(fault),
+        };
+        let bytes = rest.split_at(read.len).0;
+        match push_token(&mut list, place.context, at as u32, read.piece, bytes) {
+            Ok(()) => {}
+            Err(_) => return Err(LexFault::NoMemory),
+        }
+        place = place_after(place, read.piece, bytes);
+        settled = read.settled;
+        at += read.len;
+    }
+    Ok(Tokens::of(list))
+}

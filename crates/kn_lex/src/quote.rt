@@ -1,0 +1,59 @@
+ghost use Rattle.std.specs.Prelude.{◌≡◌, ◌≤◌, length, IfSome};
+ghost use Rattle.kn_lex.specs.Scanning.{quote_step, quote_len};
+
+/// Where in a literal a byte stands.
+#[derive(Debug, Clone, Copy)]
+pub enum Quote {
+    Opening,
+    Plain,
+    /// Behind a backslash.
+    Escaped,
+    /// Behind a backslash and a carriage return, which wants its newline.
+    Returned,
+    /// In the white space behind an escaped newline.
+    Joined,
+}
+
+/// What a byte does to a literal.
+#[derive(Debug, Clone, Copy)]
+pub enum Step {
+    Fail,
+    Close,
+    Go(Quote),
+}
+
+fn quote_step(quote: Quote, byte: u8) -> Step
+    ensures { result ≡ quote_step quote byte }
+{
+    match (quote, byte) {
+        (Quote::Opening, b'"') => Step::Go(Quote::Plain),
+        (Quote::Opening, _) => Step::Fail,
+        (Quote::Escaped, b'\r') => Step::Go(Quote::Returned),
+        (Quote::Escaped, b'\n') => Step::Go(Quote::Joined),
+        (Quote::Escaped, _) => Step::Go(Quote::Plain),
+        (Quote::Returned, b'\n') => Step::Go(Quote::Joined),
+        (Quote::Returned, _) => Step::Fail,
+        (_, b'"') => Step::Close,
+        (_, b'\\') => Step::Go(Quote::Escaped),
+        (Quote::Joined, b' ' | b'\t' | b'\r' | b'\n') => Step::Go(Quote::Joined),
+        (Quote::Plain, b'\r' | b'\n') => Step::Fail,
+        _ => Step::Go(Quote::Plain),
+    }
+}
+
+/// The bytes of the literal that begins here, or None where it isn't closed.
+#[tactic(auto, using(crate::proofs::Scans::quote_len_at, crate::proofs::Scans::quote_len_end, crate::proofs::Scans::more_len_twice, crate::proofs::Scans::more_len_none))]
+pub(crate) fn quote_len(rest: &[u8]) -> Option<usize>
+    ensures len { result ≡ quote_len Quote.Opening rest.now }
+    ensures within { IfSome result (λ len. len ≤ length rest.now) }
+{
+    let mut quote = Quote::Opening;
+    for (i, byte) in rest.iter().enumerate() {
+        match quote_step(quote, *byte) {
+            Step::Fail => return None,
+            Step::Close => return Some(i + 1),
+            Step::Go(next) => quote = next,
+        }
+    }
+    None
+}

@@ -1,0 +1,202 @@
+ghost use Rattle.std.specs.Prelude.{◌≡◌, ◌≤◌, length, IfSome, if◌then◌else◌};
+ghost use Rattle.std.specs.List.{prefix_len};
+ghost use Rattle.kn_base.specs.Decimal.{is_digit};
+ghost use Rattle.kn_lex.specs.Bytes.{continues_name};
+ghost use Rattle.kn_lex.specs.Spelling.{is_blank, is_continuation};
+ghost use Rattle.kn_lex.specs.Scanning.{white_len, line_len, label_len, colon_len, body_len, sign_len, with_sort, word_piece, plain_piece, piece_at};
+
+use crate::bytes::{
+    begins_name, continues_label, continues_name, is_digit, is_gap, is_letter, is_long_sign,
+    is_short_sign, is_white,
+};
+use crate::piece::{Context, Piece};
+use crate::quote::quote_len;
+use crate::token::Sort;
+
+#[tactic(auto, using(crate::proofs::Scans::white_len_at, crate::proofs::Scans::white_len_end))]
+fn white_len(rest: &[u8]) -> usize
+    ensures len { result ≡ white_len rest.now }
+    ensures within { result ≤ length rest.now }
+{
+    for (i, byte) in rest.iter().enumerate() {
+        if *byte == b'\n' {
+            return i + 1;
+        }
+        if !is_gap(*byte) {
+            return i;
+        }
+    }
+    rest.len()
+}
+
+fn line_len(rest: &[u8]) -> usize
+    ensures len { result ≡ line_len rest.now }
+    ensures within { result ≤ length rest.now }
+{
+    for (i, byte) in rest.iter().enumerate() {
+        if *byte == b'\n' {
+            return i;
+        }
+    }
+    rest.len()
+}
+
+fn name_len(rest: &[u8]) -> usize
+    ensures len { result ≡ prefix_len continues_name rest.now }
+    ensures within { result ≤ length rest.now }
+{
+    for (i, byte) in rest.iter().enumerate() {
+        if !continues_name(*byte) {
+            return i;
+        }
+    }
+    rest.len()
+}
+
+fn digits_len(rest: &[u8]) -> usize
+    ensures len { result ≡ prefix_len is_digit rest.now }
+    ensures within { result ≤ length rest.now }
+{
+    for (i, byte) in rest.iter().enumerate() {
+        if !is_digit(*byte) {
+            return i;
+        }
+    }
+    rest.len()
+}
+
+#[tactic(auto, using(crate::proofs::Scans::colon_len_at, crate::proofs::Scans::colon_len_end, crate::proofs::Scans::more_len_twice, crate::proofs::Scans::more_len_none))]
+fn colon_len(rest: &[u8]) -> Option<usize>
+    ensures len { result ≡ colon_len rest.now }
+    ensures within { IfSome result (λ len. len ≤ length rest.now) }
+{
+    for (i, byte) in rest.iter().enumerate() {
+        if *byte == b':' {
+            return Some(i + 1);
+        }
+        if !continues_label(*byte) {
+            return None;
+        }
+    }
+    None
+}
+
+fn label_len(rest: &[u8]) -> Option<usize>
+    ensures len { result ≡ label_len rest.now }
+    ensures within { IfSome result (λ len. len ≤ length rest.now) }
+{
+    if is_letter(*rest.first()?) {
+        colon_len(rest)
+    } else {
+        None
+    }
+}
+
+/// Whether a blank line begins here.
+#[tactic(auto, using(crate::proofs::Scans::is_blank_at, crate::proofs::Scans::is_blank_end))]
+pub(crate) fn is_blank(rest: &[u8]) -> bool
+    ensures { result ≡ is_blank rest.now }
+{
+    for byte in rest {
+        if *byte == b'\n' {
+            return true;
+        }
+        if !is_white(*byte) {
+            return false;
+        }
+    }
+    true
+}
+
+fn is_continuation(rest: &[u8]) -> bool
+    ensures { result ≡ is_continuation rest.now }
+{
+    match rest.first() {
+        Some(b' ' | b'\t' | b'#') => !is_blank(rest),
+        _ => false,
+    }
+}
+
+#[tactic(auto, using(crate::proofs::Scans::body_len_at, crate::proofs::Scans::body_len_end))]
+fn body_len(rest: &[u8]) -> usize
+    ensures len { result ≡ body_len rest.now }
+    ensures within { result ≤ length rest.now }
+{
+    for (i, byte) in rest.iter().enumerate() {
+        if *byte == b'\n' && !is_continuation(rest.split_at(i + 1).1) {
+            return i;
+        }
+    }
+    rest.len()
+}
+
+fn sign_len(rest: &[u8]) -> Option<usize>
+    ensures len { result ≡ sign_len rest.now }
+    ensures within { IfSome result (λ len. len ≤ length rest.now) }
+{
+    let byte = *rest.first()?;
+    if rest.len() > 1 && is_long_sign(byte, rest[1]) {
+        Some(2)
+    } else if is_short_sign(byte) {
+        Some(1)
+    } else {
+        None
+    }
+}
+
+fn word_piece(first: bool, rest: &[u8]) -> (Piece, usize)
+    ensures piece { Some result ≡ word_piece (if first then label_len rest.now else None) rest.now }
+    ensures within { result.1 ≤ length rest.now }
+{
+    if first {
+        if let Some(len) = label_len(rest) {
+            return (Piece::Token(Sort::Label), len);
+        }
+    }
+    (Piece::Token(Sort::Name), name_len(rest))
+}
+
+fn with_sort(sort: Sort, len: Option<usize>) -> Option<(Piece, usize)>
+    ensures { result ≡ with_sort sort len }
+{
+    match len {
+        Some(len) => Some((Piece::Token(sort), len)),
+        None => None,
+    }
+}
+
+#[tactic(auto, using(crate::proofs::Scans::plain_piece_at, crate::proofs::Scans::plain_piece_end))]
+fn plain_piece(first: bool, rest: &[u8]) -> Option<(Piece, usize)>
+    ensures piece { result ≡ plain_piece first rest.now }
+    ensures within { IfSome result (λ p. p.1 ≤ length rest.now) }
+{
+    if rest.is_empty() {
+        return None;
+    }
+    let byte = rest[0];
+    if is_white(byte) {
+        Some((Piece::White, white_len(rest)))
+    } else if byte == b'#' {
+        Some((Piece::Comment, line_len(rest)))
+    } else if begins_name(byte) {
+        Some(word_piece(first, rest))
+    } else if is_digit(byte) {
+        Some((Piece::Token(Sort::Number), digits_len(rest)))
+    } else if byte == b'"' {
+        with_sort(Sort::Text, quote_len(rest))
+    } else {
+        with_sort(Sort::Sign, sign_len(rest))
+    }
+}
+
+/// The piece that begins here, with its length.
+pub(crate) fn piece_at(context: Context, rest: &[u8]) -> Option<(Piece, usize)>
+    ensures piece { result ≡ piece_at context rest.now }
+    ensures within { IfSome result (λ p. p.1 ≤ length rest.now) }
+{
+    match context {
+        Context::LineStart => plain_piece(true, rest),
+        Context::WithinLine => plain_piece(false, rest),
+        Context::CommentBody => Some((Piece::Token(Sort::Body), body_len(rest))),
+    }
+}
