@@ -1,6 +1,6 @@
 -- Requests that are answered one after another.
-use Rattle.std.proofs.Common.{◌≡◌, ◌≢◌, ℕ, ◌+◌, ◌-◌, ◌≤◌, ◌<◌, Bool, true, false, cond, ◌||◌, ◌⊎◌, length-append, List, [], ◌∷◌, ◌++◌, length, map, take, drop, get_or, suc, drop-cons, refl, sym, ap, ◌∙◌, subst, ⊎_elim, arith, append_assoc, append-nil, Some, None, Option}
-use Rattle.std.specs.Prelude.{flat_map, All, slice_index_or, codes, not, nat_le, ◌&&◌, ◌==◌}
+use Rattle.std.proofs.Common.{◌≡◌, ◌≢◌, ℕ, ◌+◌, ◌-◌, ◌≤◌, ◌<◌, Bool, true, false, cond, ◌||◌, ◌⊎◌, length-append, List, [], ◌∷◌, ◌++◌, length, map, take, drop, get_or, suc, drop-cons, refl, sym, ap, ◌∙◌, subst, ⊎_elim, arith, append_assoc, append-nil, Some, None}
+use Rattle.std.specs.Prelude.{flat_map, slice_index_or, codes, not, nat_le, ◌&&◌, ◌==◌}
 use Rattle.std.specs.List.{list_any, list_all, join_with_byte, AllByRecursion}
 use Rattle.std.specs.Str.{bytes_eq}
 use Rattle.std.proofs.lemmas.Bool.{cases_Bool, and_parts, leb-true}
@@ -24,7 +24,7 @@ use Rattle.kn_meaning.specs.Replies.{Reply, reply_text}
 use Rattle.kn_meaning.specs.Replies as R
 use Rattle.kn_meaning.specs.Daemon.{Grounds, State, first_state, Permits, own_refusal, refusal_of_auth, equations_of}
 use Rattle.kn_meaning.specs.Daemon as D
-use Rattle.kn_meaning.specs.Linearized.{Exchange, Along, requests_in, texts_in}
+use Rattle.kn_meaning.specs.Linearized.{Exchange, Along, texts_in}
 use Rattle.kn_meaning.specs.Asked.{no_grounds, IsAnswered}
 use Rattle.kn_meaning.proofs.Different.{count_different_push, count_different_longer}
 use Rattle.keynoted.specs.Answering.{IsMadeBy, query_of, AreEntered, with_requester, Answers, session_state, AreAnswered}

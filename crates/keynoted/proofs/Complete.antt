@@ -9,7 +9,7 @@ use Rattle.kn_meaning.specs.declared.script.Script.{Script}
 use Rattle.kn_meaning.specs.FirstInput.{IsFirstInput}
 use Rattle.keynoted.specs.declared.stop.Stop.{Stop}
 use Rattle.keynoted.specs.declared.stop.Stop.TheVariants.{Words, FileFailed, FileTooLarge, FileForm, ReadFailed, InputForm, WriteFailed, Memory}
-use Rattle.keynoted.specs.Running.{FilesSeen, LinkSeen, SinkSeen, AskFor, HasContent, IsTooLarge, IsReadWhole, IsWrongInput, IsAnswering, Cause, WordsFit, status_of, line_of, IsTold, IsRun}
+use Rattle.keynoted.specs.Running.{FilesSeen, LinkSeen, SinkSeen, AskFor, HasContent, IsTooLarge, IsWrongInput, IsAnswering, Cause, WordsFit, status_of, line_of, IsTold, IsRun}
 use Rattle.keynoted.proofs.Due.{input-short}
 use Rattle.keynoted.proofs.Ended.{due_or_nine}
 

@@ -1,5 +1,5 @@
 -- How much assertions of the first policy form add.
-use Rattle.std.proofs.Common.{◌≡◌, ℕ, suc, zero, ◌+◌, ◌<◌, ◌≤◌, List, [], ◌∷◌, ◌++◌, All, get_or, take, drop, length, map, Option, Some, None, refl, sym, ap, ◌∙◌, arith, add-one, drop-cons}
+use Rattle.std.proofs.Common.{◌≡◌, ℕ, suc, zero, ◌+◌, ◌<◌, List, [], ◌∷◌, ◌++◌, All, get_or, take, drop, length, map, refl, sym, ap, ◌∙◌, arith, add-one, drop-cons}
 use Rattle.std.proofs.lemmas.List.{length-map, map-append, take_more}
 use Rattle.kn_assert.specs.FirstForm.{assertion_from, formula_of}
 use Rattle.kn_assert.specs.Wording.{Wording}

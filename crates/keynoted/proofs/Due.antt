@@ -1,15 +1,15 @@
 -- The reply that is due to an input that was read, and an input that hasn't the first form.
-use Rattle.std.proofs.Common.{◌≡◌, ℕ, ◌+◌, ◌<◌, ◌≤◌, ◌⊎◌, inl, inr, List, [], length, refl, sym, ap, ◌∙◌, subst, arith, Bool, true, false, ⊎_elim, Option, Some, None}
+use Rattle.std.proofs.Common.{◌≡◌, ℕ, ◌≤◌, inl, inr, List, [], length, sym, ap, ◌∙◌, subst, arith, true, false, ⊎_elim, Option, Some, None}
 use Rattle.std.specs.Prelude.{IfSome, nat_le}
 use Rattle.std.proofs.lemmas.Bool.{cases_Bool, leb-true, leb-false}
-use Rattle.kn_outside.specs.Told.{more, before}
+use Rattle.kn_outside.specs.Told.{before}
 use Rattle.kn_assert.specs.Files.{pieces_of}
 use Rattle.kn_meaning.specs.declared.script.Script.{Script}
 use Rattle.kn_meaning.specs.FirstInput.{IsFirstInput, requests_of}
 use Rattle.kn_meaning.specs.History.{loaded_history}
 use Rattle.kn_meaning.specs.Laws.{InputIsTaken}
 use Rattle.kn_meaning.specs.Asked.{IsAnswered}
-use Rattle.keynoted.specs.Running.{LinkSeen, IsRead, IsReadWhole, IsWrongInput, IsDue}
+use Rattle.keynoted.specs.Running.{LinkSeen, IsRead, IsWrongInput, IsDue}
 
 -- an input of the first form is short
 pub input-short : (input : List ℕ) (script : Option Script) → IsFirstInput input script → length input ≤ 65536

@@ -1,16 +1,11 @@
 -- What each status of a run says.
-use Rattle.std.proofs.Common.{◌≡◌, ◌≢◌, ℕ, ◌+◌, ◌<◌, ◌≤◌, ◌⊎◌, inl, inr, List, [], ◌∷◌, ◌++◌, length, take, refl, sym, ap, ◌∙◌, ⊎_elim, arith, length-append, Option, Some, None}
-use Rattle.std.specs.Prelude.{codes, IfSome, IsSomeAnd}
-use Rattle.kn_base.specs.declared.limits.TheConstants.{FILE_BYTES}
-use Rattle.kn_outside.specs.Told.{more, before}
+use Rattle.std.proofs.Common.{◌≡◌, ℕ, ◌<◌, ◌⊎◌, inl, inr, List, [], ◌∷◌, ◌++◌, length, take, sym, ap, ◌∙◌, ⊎_elim, arith, Option, Some, None}
+use Rattle.std.specs.Prelude.{codes}
+use Rattle.kn_outside.specs.Told.{more}
 use Rattle.kn_outside.specs.Faults.{Rose}
-use Rattle.kn_assert.specs.declared.assertion.Assertion.{Assertion}
-use Rattle.kn_assert.specs.FirstForm.{IsFirstForm}
-use Rattle.kn_meaning.specs.declared.script.Script.{Script}
-use Rattle.kn_meaning.specs.FirstInput.{IsFirstInput}
 use Rattle.keynoted.specs.declared.stop.Stop.{Stop}
 use Rattle.keynoted.specs.declared.stop.Stop.TheVariants.{Words, FileFailed, FileTooLarge, FileForm, ReadFailed, InputForm, WriteFailed, Memory}
-use Rattle.keynoted.specs.Running.{FilesSeen, LinkSeen, SinkSeen, AskFor, HasContent, IsTooLarge, IsRead, IsReadWhole, IsWrongInput, IsPolicy, IsDue, Answering, IsAnswering, Cause, WordsFit, status_of, line_of, IsTold, IsRun, IsDone, IsRefused, IsFileFault, IsNoPolicy, IsLinkFault}
+use Rattle.keynoted.specs.Running.{FilesSeen, LinkSeen, SinkSeen, AskFor, Cause, WordsFit, status_of, line_of, IsTold, IsRun, IsDone, IsRefused, IsFileFault, IsNoPolicy, IsLinkFault}
 
 -- a status below 9 is that of what was due, and its line was written whole
 told-whole : (line : List ℕ) (s s' : SinkSeen) (due status : ℕ) → IsTold line s s' due status → (status ≡ 9 → ⊥) → (status ≡ due) × (s'.written ≡ more line s.written)

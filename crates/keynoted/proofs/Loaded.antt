@@ -1,13 +1,12 @@
 -- The credentials of a history of additions.
-use Rattle.std.proofs.Common.{◌≡◌, ℕ, ◌+◌, Bool, true, false, cond, List, [], ◌∷◌, ◌++◌, length, map, refl, sym, ap, ◌∙◌, Some, Option, arith, suc}
+use Rattle.std.proofs.Common.{◌≡◌, ℕ, ◌+◌, false, List, [], ◌∷◌, length, map, refl, ap, ◌∙◌, Some}
 use Rattle.std.proofs.lemmas.List.{length-map}
-use Rattle.std.specs.Prelude.{flat_map, All, sum_by}
 use Rattle.std.specs.List.{list_any}
 use Rattle.kn_assert.specs.Reading.{assertion_of}
 use Rattle.kn_assert.specs.declared.assertion.Assertion.{Assertion}
 use Rattle.kn_meaning.specs.Equations as E
-use Rattle.kn_meaning.specs.History.{Numbered, Credential, all_changes, live, credentials_of, loaded_after, loaded_history, is_removal_of}
-use Rattle.kn_meaning.specs.Daemon.{statements_of, stated_by}
+use Rattle.kn_meaning.specs.History.{Numbered, Credential, all_changes, live, loaded_after, loaded_history, is_removal_of}
+use Rattle.kn_meaning.specs.Daemon.{statements_of}
 use Rattle.keynoted.specs.Answering.{IsMadeBy}
 
 -- the credentials of additions

@@ -1,5 +1,5 @@
 -- What is written in parts.
-use Rattle.std.proofs.Common.{◌≡◌, ℕ, ◌+◌, ◌-◌, ◌<◌, ◌≤◌, List, [], ◌∷◌, ◌++◌, length, take, refl, sym, ap, ◌∙◌, arith, append_assoc, length-append, Option, Some, None, Ok, Err}
+use Rattle.std.proofs.Common.{◌≡◌, ℕ, ◌+◌, ◌≤◌, List, ◌++◌, length, take, refl, sym, ap, ◌∙◌, append_assoc, Option, Some, None, Ok, Err}
 use Rattle.std.specs.Prelude.{Result, OnErr}
 use Rattle.std.proofs.lemmas.List.{take-append-le}
 use Rattle.std.proofs.Math.Seq.{take-append-add}

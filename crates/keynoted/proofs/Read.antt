@@ -1,5 +1,5 @@
 -- An input that is being read.
-use Rattle.std.proofs.Common.{◌≡◌, ℕ, ◌+◌, ◌≤◌, List, [], ◌∷◌, ◌++◌, refl, sym, ap, ◌∙◌, append_assoc, append-nil, arith, Option, Some, None}
+use Rattle.std.proofs.Common.{◌≡◌, ℕ, ◌≤◌, List, [], ◌++◌, refl, sym, ap, ◌∙◌, append_assoc, append-nil, arith, Option, Some, None}
 use Rattle.kn_outside.specs.Told.{more, before}
 use Rattle.kn_outside.specs.Faults.{Rose}
 use Rattle.keynoted.specs.Running.{LinkSeen, IsRead}

@@ -1,7 +1,6 @@
 -- The assertions of a file are few enough for a system.
-use Rattle.std.proofs.Common.{◌≡◌, ℕ, ◌+◌, ◌*◌, ◌^◌, ◌<◌, ◌≤◌, List, [], ◌∷◌, ◌++◌, length, map, refl, sym, ap, ◌∙◌, arith, length-append, suc}
-use Rattle.std.specs.Prelude.{All, codes, slice_index_or}
-use Rattle.std.specs.List.{join_with_byte}
+use Rattle.std.proofs.Common.{◌≡◌, ℕ, ◌+◌, ◌*◌, ◌^◌, ◌<◌, ◌≤◌, List, [], ◌∷◌, ◌++◌, length, map, refl, arith, length-append}
+use Rattle.std.specs.Prelude.{All, codes}
 use Rattle.std.proofs.lemmas.List.Elements.{All-cons}
 use Rattle.kn_assert.specs.Wording.{Wording, quoted, alternatives, authorizer_line, licensees_line, text_of, file_of}
 use Rattle.kn_assert.specs.FirstForm.{IsFirstForm, assertion_from}

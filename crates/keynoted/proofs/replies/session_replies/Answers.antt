@@ -1,10 +1,9 @@
-use Rattle.std.proofs.Common.{◌≡◌, ◌≤◌, ◌∷◌, ◌++◌, [], length, map, refl, ◌∙◌, true, false, ◌⊎◌, inl, inr}
+use Rattle.std.proofs.Common.{◌≡◌, ◌≤◌, ◌++◌, length, refl, ◌∙◌, true, false, ◌⊎◌, inl, inr}
 use Rattle.std.specs.Prelude.{flat_map, codes}
 use Rattle.std.specs.List.{AllByRecursion}
 use Rattle.std.proofs.lemmas.List.{take_all}
-use Rattle.kn_meaning.specs.FirstInput.{IsAsk, count_different, named_by, request_of, bye_requests}
+use Rattle.kn_meaning.specs.FirstInput.{IsAsk, count_different, named_by}
 use Rattle.kn_meaning.specs.Replies.{reply_text, Started}
-use Rattle.kn_meaning.specs.Requests.{Open}
 use Rattle.keynoted.proofs.Answered.{underway-open, underway-step, requesters-few, answered-ended}
 use Rattle.keynoted.proofs.replies.session_replies.Goals as goal
 use Rattle.keynoted.proofs.replies.session_replies.Goals.{then-script+in_ok-extend, else-script}

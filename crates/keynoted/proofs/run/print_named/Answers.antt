@@ -1,4 +1,4 @@
-use Rattle.std.proofs.Common.{◌≡◌, ◌+◌, ◌<◌, ◌≤◌, ◌++◌, length, take, arith, length-append, refl, ◌∙◌, sym, ap}
+use Rattle.std.proofs.Common.{◌+◌, ◌<◌, ◌≤◌, ◌++◌, length, take, arith, length-append, ◌∙◌, ap}
 use Rattle.kn_outside.specs.Told.{more}
 use Rattle.keynoted.proofs.Printed.{on_err, part-middle, part-last, more-more}
 use Rattle.keynoted.proofs.run.print_named.Goals as goal

@@ -1,5 +1,4 @@
-use Rattle.std.proofs.Common.{◌≡◌, ◌≤◌, ◌-◌, length}
-use Rattle.keynoted.specs.Running.{LinkSeen}
+use Rattle.std.proofs.Common.{◌-◌, length}
 use Rattle.keynoted.proofs.Read.{IsReading}
 use Rattle.keynoted.proofs.run.read_input.Given as goal
 
