@@ -1,17 +1,17 @@
 -- Which statuses a run can end with where its words, its file and its input are known.
-use Rattle.std.proofs.Common.{◌≡◌, ℕ, ◌+◌, ◌<◌, ◌≤◌, ◌⊎◌, inl, inr, List, [], ◌∷◌, ◌++◌, length, refl, sym, ap, ◌∙◌, subst, ⊎_elim, arith, append-nil, length-append, Option, Some, None}
+use Rattle.std.proofs.Common.{◌≡◌, ℕ, ◌+◌, ◌<◌, ◌≤◌, ◌⊎◌, inl, inr, List, [], ◌∷◌, ◌++◌, length, take, refl, sym, ap, ◌∙◌, subst, ⊎_elim, arith, append-nil, length-append, Option, Some, None}
 use Rattle.std.specs.Prelude.{codes, IfSome, IsSomeAnd}
 use Rattle.kn_base.specs.declared.limits.TheConstants.{FILE_BYTES}
-use Rattle.kn_outside.specs.Told.{before}
+use Rattle.kn_outside.specs.Told.{before, more}
 use Rattle.kn_outside.specs.Faults.{Rose}
 use Rattle.kn_assert.specs.FirstForm.{HasFirstForm}
 use Rattle.kn_meaning.specs.declared.script.Script.{Script}
 use Rattle.kn_meaning.specs.FirstInput.{IsFirstInput}
 use Rattle.keynoted.specs.declared.stop.Stop.{Stop}
 use Rattle.keynoted.specs.declared.stop.Stop.TheVariants.{Words, FileFailed, FileTooLarge, FileForm, ReadFailed, InputForm, WriteFailed, Memory}
-use Rattle.keynoted.specs.Running.{FilesSeen, LinkSeen, SinkSeen, AskFor, HasContent, IsTooLarge, IsWrongInput, IsAnswering, Cause, WordsFit, status_of, line_of, IsTold, IsRun}
+use Rattle.keynoted.specs.Running.{FilesSeen, LinkSeen, SinkSeen, AskFor, HasContent, IsTooLarge, IsWrongInput, IsAnswering, Cause, WordsFit, status_of, line_of, IsTold, IsRun, IsFront}
 use Rattle.keynoted.proofs.Due.{input-short}
-use Rattle.keynoted.proofs.Ended.{due_or_nine}
+use Rattle.keynoted.proofs.Ended.{due_or_nine, another, told-whole}
 
 -- the file that the words name
 same_name : (given : List (List ℕ)) (a b : List ℕ) → AskFor given a → AskFor given b → a ≡ b
@@ -65,9 +65,6 @@ module _ (given : List (List ℕ)) (f f' : FilesSeen) (o o' : LinkSeen) (s s' : 
       ⊎_elim (λ (e : status ≡ status_of due). e) (λ (e : (status ≡ 9) × Rose s.faults s'.faults). absurd (calm e.1))
       (due_or_nine (line_of name due) s s' (status_of due) status told)
 
-  two_ways : (line : List ℕ) (k : ℕ) → IsTold line s s' k status → (status ≡ k) ⊎ (status ≡ 9)
-  two_ways line k told = ⊎_elim (λ (e : status ≡ k). inl e) (λ (e : (status ≡ 9) × Rose s.faults s'.faults). inr e.0) (due_or_nine line s s' k status told)
-
   complete : (name : List ℕ) (due : Option Stop) → WordsFit given name due → Cause name f f' o o' due → IsTold (line_of name due) s s' (status_of due) status →
       (file bytes input : List ℕ) (content_of : List ℕ → Option (List ℕ)) (script : Option Script) →
       AskFor given file → f.content ≡ Some content_of → content_of file ≡ Some bytes → length bytes ≤ FILE_BYTES → HasFirstForm bytes →
@@ -107,46 +104,257 @@ module _ (given : List (List ℕ)) (f f' : FilesSeen) (o o' : LinkSeen) (s s' : 
       let same = content_is f content_of file bytes answering.bytes contents here has in
       (subst (λ (b : List ℕ). length b ≤ FILE_BYTES) same has.within, subst HasFirstForm same (answering.policy.assertions, answering.policy.form))
 
-  refused_file : (name : List ℕ) (due : Option Stop) → WordsFit given name due → Cause name f f' o o' due → IsTold (line_of name due) s s' (status_of due) status →
-      (file bytes : List ℕ) (content_of : List ℕ → Option (List ℕ)) → AskFor given file → f.content ≡ Some content_of → content_of file ≡ Some bytes →
-      (length bytes ≤ FILE_BYTES → HasFirstForm bytes → ⊥) → (status ≡ 2) ⊎ ((status ≡ 3) ⊎ ((status ≡ 5) ⊎ (status ≡ 9)))
-  refused_file name None fit cause told file bytes content_of asks contents here none =
-      let p = policy_is name file bytes content_of None fit asks contents here cause in absurd (none p.0 p.1)
-  refused_file name (Some Words) fit cause told file bytes content_of asks contents here none = absurd (fit file asks)
-  refused_file name (Some FileFailed) fit cause told file bytes content_of asks contents here none =
-      ⊎_elim (λ (e : status ≡ 2). inl e) (λ (e : status ≡ 9). inr (inr (inr e))) (two_ways (line_of name (Some FileFailed)) 2 told)
-  refused_file name (Some FileTooLarge) fit cause told file bytes content_of asks contents here none =
-      ⊎_elim (λ (e : status ≡ 2). inl e) (λ (e : status ≡ 9). inr (inr (inr e))) (two_ways (line_of name (Some FileTooLarge)) 2 told)
-  refused_file name (Some FileForm) fit cause told file bytes content_of asks contents here none =
-      ⊎_elim (λ (e : status ≡ 3). inr (inl e)) (λ (e : status ≡ 9). inr (inr (inr e))) (two_ways (line_of name (Some FileForm)) 3 told)
-  refused_file name (Some Memory) fit cause told file bytes content_of asks contents here none =
-      ⊎_elim (λ (e : status ≡ 5). inr (inr (inl e))) (λ (e : status ≡ 9). inr (inr (inr e))) (two_ways (line_of name (Some Memory)) 5 told)
-  refused_file name (Some ReadFailed) fit cause told file bytes content_of asks contents here none =
-      let p = policy_is name file bytes content_of (Some ReadFailed) fit asks contents here cause in absurd (none p.0 p.1)
-  refused_file name (Some InputForm) fit cause told file bytes content_of asks contents here none =
-      let p = policy_is name file bytes content_of (Some InputForm) fit asks contents here cause in absurd (none p.0 p.1)
-  refused_file name (Some WriteFailed) fit cause told file bytes content_of asks contents here none =
-      let p = policy_is name file bytes content_of (Some WriteFailed) fit asks contents here cause in absurd (none p.0 p.1)
+  calm_whole : (line : List ℕ) (k : ℕ) → IsTold line s s' k status → (Rose s.faults s'.faults → ⊥) → (status ≡ k) × (s'.written ≡ more line s.written)
+  calm_whole line k told calm =
+      ⊎_elim (λ (t : (status ≡ k) × (s'.written ≡ more line s.written)). t)
+      (λ (t : (status ≡ 9) × Rose s.faults s'.faults × (n : ℕ) × (n < length line) × (s'.written ≡ more (take n line) s.written)). absurd (calm t.1))
+      told
 
-  pub run-refused_file : IsRun given f f' o o' s s' status →
-      (file bytes : List ℕ) (content_of : List ℕ → Option (List ℕ)) → AskFor given file → f.content ≡ Some content_of → content_of file ≡ Some bytes →
-      (length bytes ≤ FILE_BYTES → HasFirstForm bytes → ⊥) → (status ≡ 2) ⊎ ((status ≡ 3) ⊎ ((status ≡ 5) ⊎ (status ≡ 9)))
-  run-refused_file r = refused_file r.name r.due r.words r.cause r.told
+  -- no line has no front
+  no_line : (line : List ℕ) (k : ℕ) → IsTold line s s' k status → ((n : ℕ) → n < length line → ⊥) → status ≡ k
+  no_line line k told empty =
+      ⊎_elim (λ (t : (status ≡ k) × (s'.written ≡ more line s.written)). t.0)
+      (λ (t : (status ≡ 9) × Rose s.faults s'.faults × (n : ℕ) × (n < length line) × (s'.written ≡ more (take n line) s.written)). absurd (empty t.2 t.3))
+      told
 
-  refused_input : (name : List ℕ) (due : Option Stop) → Cause name f f' o o' due → IsTold (line_of name due) s s' (status_of due) status →
-      (input : List ℕ) → o.left ≡ Some input → ((script : Option Script) → IsFirstInput input script → ⊥) → status ≡ 0 → ⊥
-  refused_input name None cause told input left none at =
+  no_nine : (line : List ℕ) (k : ℕ) → IsTold line s s' k status → status ≡ 9 → ((n : ℕ) → n < length line → ⊥) → (k ≡ 9 → ⊥) → ⊥
+  no_nine line k told at empty other = other (sym (no_line line k told empty) ∙ at)
+
+  elsewhere : (line : List ℕ) (k : ℕ) → IsTold line s s' k status → ((1 ≤ k) × (k ≤ 3) → ⊥) → (1 ≤ status) × (status ≤ 3) → ⊥
+  elsewhere line k told out_of at =
+      ⊎_elim (λ (e : status ≡ k). let low : 1 ≤ k = let h = at.0 in omega arith in let high : k ≤ 3 = let h = at.1 in omega arith in out_of (low, high))
+      (λ (e : (status ≡ 9) × Rose s.faults s'.faults). let h = at.1 in let nine = e.0 in omega arith)
+      (due_or_nine line s s' k status told)
+
+  nine : (line : List ℕ) (k : ℕ) → IsTold line s s' k status → status ≡ 9 → (k ≡ 9 → ⊥) →
+      Rose s.faults s'.faults × (n : ℕ) × (n < length line) × (s'.written ≡ more (take n line) s.written)
+  nine line k told at other =
+      ⊎_elim (λ (t : (status ≡ k) × (s'.written ≡ more line s.written)). absurd (other (sym t.0 ∙ at)))
+      (λ (t : (status ≡ 9) × Rose s.faults s'.faults × (n : ℕ) × (n < length line) × (s'.written ≡ more (take n line) s.written)). (t.1, t.2, t.3, t.4))
+      told
+
+  large : (name : List ℕ) (due : Option Stop) → WordsFit given name due → Cause name f f' o o' due → IsTold (line_of name due) s s' (status_of due) status →
+      (file bytes : List ℕ) (content_of : List ℕ → Option (List ℕ)) → AskFor given file → f.content ≡ Some content_of → content_of file ≡ Some bytes → FILE_BYTES < length bytes → (Rose f.faults f'.faults → ⊥) → (Rose s.faults s'.faults → ⊥) → ((status ≡ 2) × (s'.written ≡ more (codes "error file " ++ file ++ codes " large\n") s.written)) ⊎ (status ≡ 5)
+  large name None fit cause told file bytes content_of asks contents here over calm_files calm_sink =
+      let p = policy_is name file bytes content_of None fit asks contents here cause in
+      let within : length bytes ≤ FILE_BYTES = p.0 in
+      absurd (omega arith)
+  large name (Some Words) fit cause told file bytes content_of asks contents here over calm_files calm_sink =
+      absurd (fit file asks)
+  large name (Some FileFailed) fit cause told file bytes content_of asks contents here over calm_files calm_sink =
+      absurd (calm_files cause.1)
+  large name (Some FileTooLarge) fit cause told file bytes content_of asks contents here over calm_files calm_sink =
+      let whole = calm_whole (line_of name (Some FileTooLarge)) 2 told calm_sink in
+      let same = same_name given name file fit asks in
+      inl (whole.0, subst (λ (n : List ℕ). s'.written ≡ more (codes "error file " ++ n ++ codes " large\n") s.written) same whole.1)
+  large name (Some FileForm) fit cause told file bytes content_of asks contents here over calm_files calm_sink =
+      let has : HasContent f file cause.0 = subst (λ (n : List ℕ). HasContent f n cause.0) (same_name given name file fit asks) cause.2 in
+      let within : length bytes ≤ FILE_BYTES = subst (λ (b : List ℕ). length b ≤ FILE_BYTES) (content_is f content_of file bytes cause.0 contents here has) has.within in
+      absurd (omega arith)
+  large name (Some ReadFailed) fit cause told file bytes content_of asks contents here over calm_files calm_sink =
+      let p = policy_is name file bytes content_of (Some ReadFailed) fit asks contents here cause in
+      let within : length bytes ≤ FILE_BYTES = p.0 in
+      absurd (omega arith)
+  large name (Some InputForm) fit cause told file bytes content_of asks contents here over calm_files calm_sink =
+      let p = policy_is name file bytes content_of (Some InputForm) fit asks contents here cause in
+      let within : length bytes ≤ FILE_BYTES = p.0 in
+      absurd (omega arith)
+  large name (Some WriteFailed) fit cause told file bytes content_of asks contents here over calm_files calm_sink =
+      let p = policy_is name file bytes content_of (Some WriteFailed) fit asks contents here cause in
+      let within : length bytes ≤ FILE_BYTES = p.0 in
+      absurd (omega arith)
+  large name (Some Memory) fit cause told file bytes content_of asks contents here over calm_files calm_sink =
+      inr (due_told name (Some Memory) told calm_sink)
+
+  pub run-large : IsRun given f f' o o' s s' status →
+      (file bytes : List ℕ) (content_of : List ℕ → Option (List ℕ)) → AskFor given file → f.content ≡ Some content_of → content_of file ≡ Some bytes → FILE_BYTES < length bytes → (Rose f.faults f'.faults → ⊥) → (Rose s.faults s'.faults → ⊥) → ((status ≡ 2) × (s'.written ≡ more (codes "error file " ++ file ++ codes " large\n") s.written)) ⊎ (status ≡ 5)
+  run-large r = large r.name r.due r.words r.cause r.told
+
+  no_form : (name : List ℕ) (due : Option Stop) → WordsFit given name due → Cause name f f' o o' due → IsTold (line_of name due) s s' (status_of due) status →
+      (file bytes : List ℕ) (content_of : List ℕ → Option (List ℕ)) → AskFor given file → f.content ≡ Some content_of → content_of file ≡ Some bytes → length bytes ≤ FILE_BYTES → (HasFirstForm bytes → ⊥) → (Rose f.faults f'.faults → ⊥) → (Rose s.faults s'.faults → ⊥) → (status ≡ 3) ⊎ (status ≡ 5)
+  no_form name None fit cause told file bytes content_of asks contents here within none calm_files calm_sink =
+      let p = policy_is name file bytes content_of None fit asks contents here cause in absurd (none p.1)
+  no_form name (Some Words) fit cause told file bytes content_of asks contents here within none calm_files calm_sink =
+      absurd (fit file asks)
+  no_form name (Some FileFailed) fit cause told file bytes content_of asks contents here within none calm_files calm_sink =
+      absurd (calm_files cause.1)
+  no_form name (Some FileTooLarge) fit cause told file bytes content_of asks contents here within none calm_files calm_sink =
+      absurd (not_too_large f content_of file bytes contents here within (subst (IsTooLarge f) (same_name given name file fit asks) cause.1))
+  no_form name (Some FileForm) fit cause told file bytes content_of asks contents here within none calm_files calm_sink =
+      inl (due_told name (Some FileForm) told calm_sink)
+  no_form name (Some ReadFailed) fit cause told file bytes content_of asks contents here within none calm_files calm_sink =
+      let p = policy_is name file bytes content_of (Some ReadFailed) fit asks contents here cause in absurd (none p.1)
+  no_form name (Some InputForm) fit cause told file bytes content_of asks contents here within none calm_files calm_sink =
+      let p = policy_is name file bytes content_of (Some InputForm) fit asks contents here cause in absurd (none p.1)
+  no_form name (Some WriteFailed) fit cause told file bytes content_of asks contents here within none calm_files calm_sink =
+      let p = policy_is name file bytes content_of (Some WriteFailed) fit asks contents here cause in absurd (none p.1)
+  no_form name (Some Memory) fit cause told file bytes content_of asks contents here within none calm_files calm_sink =
+      inr (due_told name (Some Memory) told calm_sink)
+
+  pub run-no_form : IsRun given f f' o o' s s' status →
+      (file bytes : List ℕ) (content_of : List ℕ → Option (List ℕ)) → AskFor given file → f.content ≡ Some content_of → content_of file ≡ Some bytes → length bytes ≤ FILE_BYTES → (HasFirstForm bytes → ⊥) → (Rose f.faults f'.faults → ⊥) → (Rose s.faults s'.faults → ⊥) → (status ≡ 3) ⊎ (status ≡ 5)
+  run-no_form r = no_form r.name r.due r.words r.cause r.told
+
+  wrong_input : (name : List ℕ) (due : Option Stop) → WordsFit given name due → Cause name f f' o o' due → IsTold (line_of name due) s s' (status_of due) status →
+      (file bytes : List ℕ) (content_of : List ℕ → Option (List ℕ)) → AskFor given file → f.content ≡ Some content_of → content_of file ≡ Some bytes → length bytes ≤ FILE_BYTES → HasFirstForm bytes → (input : List ℕ) → o.left ≡ Some input → ((script : Option Script) → IsFirstInput input script → ⊥) →
+      (Rose f.faults f'.faults → ⊥) → (Rose o.faults o'.faults → ⊥) → (Rose s.faults s'.faults → ⊥) → ((status ≡ 4) × (s'.written ≡ more (codes "error link form\n") s.written)) ⊎ (status ≡ 5)
+  wrong_input name None fit cause told file bytes content_of asks contents here within policy input left none calm_files calm_link calm_sink =
       let due = cause.answering.1 in
-      none due.script (subst (λ (i : List ℕ). IsFirstInput i due.script) (sym (read_is o o' input due.input left due.whole.read.left due.whole.ended)) due.form)
-  refused_input name (Some Words) cause told input left none at = ⊎_elim (λ (e : status ≡ 1). omega arith) (λ (e : status ≡ 9). omega arith) (two_ways (line_of name (Some Words)) 1 told)
-  refused_input name (Some FileFailed) cause told input left none at = ⊎_elim (λ (e : status ≡ 2). omega arith) (λ (e : status ≡ 9). omega arith) (two_ways (line_of name (Some FileFailed)) 2 told)
-  refused_input name (Some FileTooLarge) cause told input left none at = ⊎_elim (λ (e : status ≡ 2). omega arith) (λ (e : status ≡ 9). omega arith) (two_ways (line_of name (Some FileTooLarge)) 2 told)
-  refused_input name (Some FileForm) cause told input left none at = ⊎_elim (λ (e : status ≡ 3). omega arith) (λ (e : status ≡ 9). omega arith) (two_ways (line_of name (Some FileForm)) 3 told)
-  refused_input name (Some ReadFailed) cause told input left none at = ⊎_elim (λ (e : status ≡ 4). omega arith) (λ (e : status ≡ 9). omega arith) (two_ways (line_of name (Some ReadFailed)) 4 told)
-  refused_input name (Some InputForm) cause told input left none at = ⊎_elim (λ (e : status ≡ 4). omega arith) (λ (e : status ≡ 9). omega arith) (two_ways (line_of name (Some InputForm)) 4 told)
-  refused_input name (Some WriteFailed) cause told input left none at = ⊎_elim (λ (e : status ≡ 4). omega arith) (λ (e : status ≡ 9). omega arith) (two_ways (line_of name (Some WriteFailed)) 4 told)
-  refused_input name (Some Memory) cause told input left none at = ⊎_elim (λ (e : status ≡ 5). omega arith) (λ (e : status ≡ 9). omega arith) (two_ways (line_of name (Some Memory)) 5 told)
+      absurd (none due.script (subst (λ (i : List ℕ). IsFirstInput i due.script) (sym (read_is o o' input due.input left due.whole.read.left due.whole.ended)) due.form))
+  wrong_input name (Some Words) fit cause told file bytes content_of asks contents here within policy input left none calm_files calm_link calm_sink =
+      absurd (fit file asks)
+  wrong_input name (Some FileFailed) fit cause told file bytes content_of asks contents here within policy input left none calm_files calm_link calm_sink =
+      absurd (calm_files cause.1)
+  wrong_input name (Some FileTooLarge) fit cause told file bytes content_of asks contents here within policy input left none calm_files calm_link calm_sink =
+      absurd (not_too_large f content_of file bytes contents here within (subst (IsTooLarge f) (same_name given name file fit asks) cause.1))
+  wrong_input name (Some FileForm) fit cause told file bytes content_of asks contents here within policy input left none calm_files calm_link calm_sink =
+      let has : HasContent f file cause.0 = subst (λ (n : List ℕ). HasContent f n cause.0) (same_name given name file fit asks) cause.2 in
+      absurd (cause.3 (subst HasFirstForm (sym (content_is f content_of file bytes cause.0 contents here has)) policy))
+  wrong_input name (Some ReadFailed) fit cause told file bytes content_of asks contents here within policy input left none calm_files calm_link calm_sink =
+      absurd (calm_link cause.answering.0)
+  wrong_input name (Some InputForm) fit cause told file bytes content_of asks contents here within policy input left none calm_files calm_link calm_sink =
+      inl (calm_whole (line_of name (Some InputForm)) 4 told calm_sink)
+  wrong_input name (Some WriteFailed) fit cause told file bytes content_of asks contents here within policy input left none calm_files calm_link calm_sink =
+      absurd (calm_link cause.answering.5)
+  wrong_input name (Some Memory) fit cause told file bytes content_of asks contents here within policy input left none calm_files calm_link calm_sink =
+      inr (due_told name (Some Memory) told calm_sink)
 
-  pub run-refused_input : IsRun given f f' o o' s s' status → (input : List ℕ) → o.left ≡ Some input →
-      ((script : Option Script) → IsFirstInput input script → ⊥) → status ≡ 0 → ⊥
-  run-refused_input r = refused_input r.name r.due r.cause r.told
+  pub run-wrong_input : IsRun given f f' o o' s s' status →
+      (file bytes : List ℕ) (content_of : List ℕ → Option (List ℕ)) → AskFor given file → f.content ≡ Some content_of → content_of file ≡ Some bytes → length bytes ≤ FILE_BYTES → HasFirstForm bytes → (input : List ℕ) → o.left ≡ Some input → ((script : Option Script) → IsFirstInput input script → ⊥) →
+      (Rose f.faults f'.faults → ⊥) → (Rose o.faults o'.faults → ⊥) → (Rose s.faults s'.faults → ⊥) → ((status ≡ 4) × (s'.written ≡ more (codes "error link form\n") s.written)) ⊎ (status ≡ 5)
+  run-wrong_input r = wrong_input r.name r.due r.words r.cause r.told
+
+  link_rose : (name : List ℕ) (due : Option Stop) → WordsFit given name due → Cause name f f' o o' due → IsTold (line_of name due) s s' (status_of due) status →
+      (input : List ℕ) (script : Option Script) → o.left ≡ Some input → IsFirstInput input script → status ≡ 4 → Rose o.faults o'.faults
+  link_rose name None fit cause told input script left form at =
+      absurd (another (line_of name None) s s' 0 status 4 told at (λ q. omega arith) (λ q. omega arith))
+  link_rose name (Some Words) fit cause told input script left form at =
+      absurd (another (line_of name (Some Words)) s s' 1 status 4 told at (λ q. omega arith) (λ q. omega arith))
+  link_rose name (Some FileFailed) fit cause told input script left form at =
+      absurd (another (line_of name (Some FileFailed)) s s' 2 status 4 told at (λ q. omega arith) (λ q. omega arith))
+  link_rose name (Some FileTooLarge) fit cause told input script left form at =
+      absurd (another (line_of name (Some FileTooLarge)) s s' 2 status 4 told at (λ q. omega arith) (λ q. omega arith))
+  link_rose name (Some FileForm) fit cause told input script left form at =
+      absurd (another (line_of name (Some FileForm)) s s' 3 status 4 told at (λ q. omega arith) (λ q. omega arith))
+  link_rose name (Some ReadFailed) fit cause told input script left form at =
+      cause.answering.0
+  link_rose name (Some InputForm) fit cause told input script left form at =
+      absurd (not_wrong o o' input cause.answering.0 script left form cause.answering.1)
+  link_rose name (Some WriteFailed) fit cause told input script left form at =
+      cause.answering.5
+  link_rose name (Some Memory) fit cause told input script left form at =
+      absurd (another (line_of name (Some Memory)) s s' 5 status 4 told at (λ q. omega arith) (λ q. omega arith))
+
+  pub run-link_rose : IsRun given f f' o o' s s' status →
+      (input : List ℕ) (script : Option Script) → o.left ≡ Some input → IsFirstInput input script → status ≡ 4 → Rose o.faults o'.faults
+  run-link_rose r = link_rose r.name r.due r.words r.cause r.told
+
+  nothing_written : (name : List ℕ) (due : Option Stop) → WordsFit given name due → Cause name f f' o o' due → IsTold (line_of name due) s s' (status_of due) status →
+      (status ≡ 0 → ⊥) → (Rose o.faults o'.faults → ⊥) → o'.written ≡ o.written
+  nothing_written name None fit cause told other calm_link =
+      absurd (other (no_line (line_of name None) 0 told (λ n h. omega arith)))
+  nothing_written name (Some Words) fit cause told other calm_link =
+      ap (λ (l : LinkSeen). l.written) cause.1
+  nothing_written name (Some FileFailed) fit cause told other calm_link =
+      ap (λ (l : LinkSeen). l.written) cause.2
+  nothing_written name (Some FileTooLarge) fit cause told other calm_link =
+      ap (λ (l : LinkSeen). l.written) cause.2
+  nothing_written name (Some FileForm) fit cause told other calm_link =
+      ap (λ (l : LinkSeen). l.written) cause.4
+  nothing_written name (Some ReadFailed) fit cause told other calm_link =
+      cause.answering.1
+  nothing_written name (Some InputForm) fit cause told other calm_link =
+      cause.answering.2
+  nothing_written name (Some WriteFailed) fit cause told other calm_link =
+      absurd (calm_link cause.answering.5)
+  nothing_written name (Some Memory) fit cause told other calm_link =
+      cause.1
+
+  pub run-nothing_written : IsRun given f f' o o' s s' status →
+      (status ≡ 0 → ⊥) → (Rose o.faults o'.faults → ⊥) → o'.written ≡ o.written
+  run-nothing_written r = nothing_written r.name r.due r.words r.cause r.told
+
+  untouched : (name : List ℕ) (due : Option Stop) → WordsFit given name due → Cause name f f' o o' due → IsTold (line_of name due) s s' (status_of due) status →
+      (1 ≤ status) × (status ≤ 3) → o' ≡ o
+  untouched name None fit cause told at =
+      absurd (elsewhere (line_of name None) 0 told (λ h. omega arith) at)
+  untouched name (Some Words) fit cause told at =
+      cause.1
+  untouched name (Some FileFailed) fit cause told at =
+      cause.2
+  untouched name (Some FileTooLarge) fit cause told at =
+      cause.2
+  untouched name (Some FileForm) fit cause told at =
+      cause.4
+  untouched name (Some ReadFailed) fit cause told at =
+      absurd (elsewhere (line_of name (Some ReadFailed)) 4 told (λ h. omega arith) at)
+  untouched name (Some InputForm) fit cause told at =
+      absurd (elsewhere (line_of name (Some InputForm)) 4 told (λ h. omega arith) at)
+  untouched name (Some WriteFailed) fit cause told at =
+      absurd (elsewhere (line_of name (Some WriteFailed)) 4 told (λ h. omega arith) at)
+  untouched name (Some Memory) fit cause told at =
+      absurd (elsewhere (line_of name (Some Memory)) 5 told (λ h. omega arith) at)
+
+  pub run-untouched : IsRun given f f' o o' s s' status →
+      (1 ≤ status) × (status ≤ 3) → (o'.written ≡ o.written) × (o'.taken ≡ o.taken) × (o'.left ≡ o.left)
+  run-untouched r at =
+      let same : o' ≡ o = untouched r.name r.due r.words r.cause r.told at in
+      (ap (λ (l : LinkSeen). l.written) same, ap (λ (l : LinkSeen). l.taken) same, ap (λ (l : LinkSeen). l.left) same)
+
+  quiet : (name : List ℕ) (due : Option Stop) → WordsFit given name due → Cause name f f' o o' due → IsTold (line_of name due) s s' (status_of due) status →
+      status ≡ 0 → s'.written ≡ more [] s.written
+  quiet name None fit cause told at =
+      (told-whole (line_of name None) s s' 0 status told (λ nine. absurd (omega arith))).1
+  quiet name (Some Words) fit cause told at =
+      absurd (another (line_of name (Some Words)) s s' 1 status 0 told at (λ q. omega arith) (λ q. omega arith))
+  quiet name (Some FileFailed) fit cause told at =
+      absurd (another (line_of name (Some FileFailed)) s s' 2 status 0 told at (λ q. omega arith) (λ q. omega arith))
+  quiet name (Some FileTooLarge) fit cause told at =
+      absurd (another (line_of name (Some FileTooLarge)) s s' 2 status 0 told at (λ q. omega arith) (λ q. omega arith))
+  quiet name (Some FileForm) fit cause told at =
+      absurd (another (line_of name (Some FileForm)) s s' 3 status 0 told at (λ q. omega arith) (λ q. omega arith))
+  quiet name (Some ReadFailed) fit cause told at =
+      absurd (another (line_of name (Some ReadFailed)) s s' 4 status 0 told at (λ q. omega arith) (λ q. omega arith))
+  quiet name (Some InputForm) fit cause told at =
+      absurd (another (line_of name (Some InputForm)) s s' 4 status 0 told at (λ q. omega arith) (λ q. omega arith))
+  quiet name (Some WriteFailed) fit cause told at =
+      absurd (another (line_of name (Some WriteFailed)) s s' 4 status 0 told at (λ q. omega arith) (λ q. omega arith))
+  quiet name (Some Memory) fit cause told at =
+      absurd (another (line_of name (Some Memory)) s s' 5 status 0 told at (λ q. omega arith) (λ q. omega arith))
+
+  pub run-quiet : IsRun given f f' o o' s s' status →
+      status ≡ 0 → s'.written ≡ more [] s.written
+  run-quiet r = quiet r.name r.due r.words r.cause r.told
+
+  front : (name : List ℕ) (due : Option Stop) → WordsFit given name due → Cause name f f' o o' due → IsTold (line_of name due) s s' (status_of due) status →
+      status ≡ 9 → IsFront given f f' o o' s s'
+  front name None fit cause told at =
+      absurd (no_nine (line_of name None) 0 told at (λ n h. omega arith) (λ q. omega arith))
+  front name (Some Words) fit cause told at =
+      let cut = nine (line_of name (Some Words)) 1 told at (λ q. omega arith) in
+      record { name = name; stop = Words; words = fit; cause = cause; n = cut.1; part = cut.2; line = cut.3 }
+  front name (Some FileFailed) fit cause told at =
+      let cut = nine (line_of name (Some FileFailed)) 2 told at (λ q. omega arith) in
+      record { name = name; stop = FileFailed; words = fit; cause = cause; n = cut.1; part = cut.2; line = cut.3 }
+  front name (Some FileTooLarge) fit cause told at =
+      let cut = nine (line_of name (Some FileTooLarge)) 2 told at (λ q. omega arith) in
+      record { name = name; stop = FileTooLarge; words = fit; cause = cause; n = cut.1; part = cut.2; line = cut.3 }
+  front name (Some FileForm) fit cause told at =
+      let cut = nine (line_of name (Some FileForm)) 3 told at (λ q. omega arith) in
+      record { name = name; stop = FileForm; words = fit; cause = cause; n = cut.1; part = cut.2; line = cut.3 }
+  front name (Some ReadFailed) fit cause told at =
+      let cut = nine (line_of name (Some ReadFailed)) 4 told at (λ q. omega arith) in
+      record { name = name; stop = ReadFailed; words = fit; cause = cause; n = cut.1; part = cut.2; line = cut.3 }
+  front name (Some InputForm) fit cause told at =
+      let cut = nine (line_of name (Some InputForm)) 4 told at (λ q. omega arith) in
+      record { name = name; stop = InputForm; words = fit; cause = cause; n = cut.1; part = cut.2; line = cut.3 }
+  front name (Some WriteFailed) fit cause told at =
+      let cut = nine (line_of name (Some WriteFailed)) 4 told at (λ q. omega arith) in
+      record { name = name; stop = WriteFailed; words = fit; cause = cause; n = cut.1; part = cut.2; line = cut.3 }
+  front name (Some Memory) fit cause told at =
+      let cut = nine (line_of name (Some Memory)) 5 told at (λ q. omega arith) in
+      record { name = name; stop = Memory; words = fit; cause = cause; n = cut.1; part = cut.2; line = cut.3 }
+
+  pub run-front : IsRun given f f' o o' s s' status →
+      status ≡ 9 → IsFront given f f' o o' s s'
+  run-front r = front r.name r.due r.words r.cause r.told

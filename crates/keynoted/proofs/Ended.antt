@@ -8,14 +8,14 @@ use Rattle.keynoted.specs.declared.stop.Stop.TheVariants.{Words, FileFailed, Fil
 use Rattle.keynoted.specs.Running.{FilesSeen, LinkSeen, SinkSeen, AskFor, Cause, WordsFit, status_of, line_of, IsTold, IsRun, IsDone, IsRefused, IsFileFault, IsNoPolicy, IsLinkFault}
 
 -- a status below 9 is that of what was due, and its line was written whole
-told-whole : (line : List ℕ) (s s' : SinkSeen) (due status : ℕ) → IsTold line s s' due status → (status ≡ 9 → ⊥) → (status ≡ due) × (s'.written ≡ more line s.written)
+pub told-whole : (line : List ℕ) (s s' : SinkSeen) (due status : ℕ) → IsTold line s s' due status → (status ≡ 9 → ⊥) → (status ≡ due) × (s'.written ≡ more line s.written)
 told-whole line s s' due status told other =
     ⊎_elim (λ (t : (status ≡ due) × (s'.written ≡ more line s.written)). t)
     (λ (t : (status ≡ 9) × Rose s.faults s'.faults × (n : ℕ) × (n < length line) × (s'.written ≡ more (take n line) s.written)). absurd (other t.0))
     told
 
 -- a status is that of what was due, or 9
-another : (line : List ℕ) (s s' : SinkSeen) (due status k : ℕ) → IsTold line s s' due status → status ≡ k → (k ≡ due → ⊥) → (k ≡ 9 → ⊥) → ⊥
+pub another : (line : List ℕ) (s s' : SinkSeen) (due status k : ℕ) → IsTold line s s' due status → status ≡ k → (k ≡ due → ⊥) → (k ≡ 9 → ⊥) → ⊥
 another line s s' due status k told is not_due not_nine =
     let whole = told-whole line s s' due status told (λ e. not_nine (sym is ∙ e)) in
     not_due (sym is ∙ whole.0)

@@ -11,7 +11,7 @@ use Rattle.kn_meaning.specs.Formulas.{Levels, level_step, formula_level}
 use Rattle.kn_system.specs.declared.rows.Piece.{Piece}
 use Rattle.kn_system.specs.declared.rows.Piece.TheVariants as P
 use Rattle.kn_system.specs.Form.{form_levels, form_level}
-use Rattle.kn_system.specs.Simple.{AreLeaves, IsSimple}
+use Rattle.kn_system.specs.Forms.{AreForms, IsFormula, form_depths, greatest_of}
 use Rattle.keynoted.specs.Numbering.{IsNumber, Keeps, HaveLevels, LeavesOf, SpellLicensees}
 
 pub formula_level-Who : (top : ℕ) (at : Levels) (name : List ℕ) → formula_level top at (Who name) ≡ at name
@@ -40,12 +40,25 @@ LeavesOf-length names (m ∷ members) [] are = absurd are
 LeavesOf-length names (m ∷ members) (P.Gate k n ∷ ps) are = absurd are
 LeavesOf-length names (m ∷ members) (P.Who p ∷ ps) are = ap suc (LeavesOf-length names members ps are.1)
 
-pub LeavesOf-leaves : (names members : List (List ℕ)) (ps : List Piece) → LeavesOf names members ps → AreLeaves (length names) ps
-LeavesOf-leaves names [] [] are = tt
-LeavesOf-leaves names [] (p ∷ ps) are = absurd are
-LeavesOf-leaves names (m ∷ members) [] are = absurd are
-LeavesOf-leaves names (m ∷ members) (P.Gate k n ∷ ps) are = absurd are
-LeavesOf-leaves names (m ∷ members) (P.Who p ∷ ps) are = (slice_get_within names p m are.0, LeavesOf-leaves names members ps are.1)
+pub LeavesOf-forms : (names members : List (List ℕ)) (ps : List Piece) → LeavesOf names members ps → AreForms (length names) (length members) ps
+LeavesOf-forms names [] [] are = tt
+LeavesOf-forms names [] (p ∷ ps) are = absurd are
+LeavesOf-forms names (m ∷ members) [] are = absurd are
+LeavesOf-forms names (m ∷ members) (P.Gate k n ∷ ps) are = absurd are
+LeavesOf-forms names (m ∷ members) (P.Who p ∷ ps) are = (slice_get_within names p m are.0, LeavesOf-forms names members ps are.1)
+
+-- leaves are one level deep
+LeavesOf-depth : (names members : List (List ℕ)) (ps : List Piece) → LeavesOf names members ps → (n : ℕ) → greatest_of (take n (form_depths ps)) ≤ 1
+LeavesOf-depth names members ps are zero = omega arith
+LeavesOf-depth names [] [] are (suc n) = omega arith
+LeavesOf-depth names [] (p ∷ ps) are (suc n) = absurd are
+LeavesOf-depth names (m ∷ members) [] are (suc n) = absurd are
+LeavesOf-depth names (m ∷ members) (P.Gate k c ∷ ps) are (suc n) = absurd are
+LeavesOf-depth names (m ∷ members) (P.Who p ∷ ps) are (suc n) = let rest : greatest_of (take n (form_depths ps)) ≤ 1 = LeavesOf-depth names members ps are.1 n in omega arith
+
+-- one principal is a formula
+pub IsFormula-Who : (names : List (List ℕ)) (name : List ℕ) (p : ℕ) → IsNumber names name p → IsFormula (length names) (P.Who p ∷ [])
+IsFormula-Who names name p here = record { one = (slice_get_within names p name here, tt); shallow = omega arith }
 
 pub LeavesOf-keeps : (old new : List (List ℕ)) → Keeps old new → (members : List (List ℕ)) (ps : List Piece) → LeavesOf old members ps → LeavesOf new members ps
 LeavesOf-keeps old new keeps [] [] are = tt
@@ -114,9 +127,15 @@ AreAlternatives-length names count parts pieces (members, leaves, are, is, of) =
     let same : length parts ≡ length members = AreAlternatives-count parts members are in
     omega arith
 
-pub AreAlternatives-simple : (names : List (List ℕ)) (parts : List Formula) (pieces : List Piece) → AreAlternatives names (length parts) parts pieces → IsSimple (length names) pieces
-AreAlternatives-simple names parts pieces (members, leaves, are, is, of) =
-    subst (IsSimple (length names)) (sym is) (refl, AreAlternatives-count parts members are ∙ sym (LeavesOf-length names members leaves of), LeavesOf-leaves names members leaves of)
+pub AreAlternatives-formula : (names : List (List ℕ)) (parts : List Formula) (pieces : List Piece) → AreAlternatives names (length parts) parts pieces → IsFormula (length names) pieces
+AreAlternatives-formula names parts pieces (members, leaves, are, is, of) =
+    let count : length parts ≡ length members = AreAlternatives-count parts members are in
+    let whole : length members ≡ 0 + length parts = omega arith in
+    let low : greatest_of (take (length parts) (form_depths leaves)) ≤ 1 = LeavesOf-depth names members leaves of (length parts) in
+    subst (IsFormula (length names)) (sym is) (record {
+      one = (omega arith, subst (λ n. AreForms (length names) n leaves) whole (LeavesOf-forms names members leaves of));
+      shallow = omega arith;
+    })
 
 -- no part has the level 0
 pub SpellLicensees-none : (top : ℕ) (names : List (List ℕ)) → SpellLicensees top names None (P.Gate 1 0 ∷ [])

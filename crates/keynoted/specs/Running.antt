@@ -184,3 +184,13 @@ pub record IsLinkFault (given : List (List ℕ)) (f f' : FilesSeen) (o o' : Link
   pub fault : (IsAnswering name f f' o o' (Some ReadFailed) × (s'.written ≡ more (codes "error link read\n") s.written))
       ⊎ ((IsAnswering name f f' o o' (Some InputForm) × (s'.written ≡ more (codes "error link form\n") s.written))
       ⊎ (IsAnswering name f f' o o' (Some WriteFailed) × (s'.written ≡ more (codes "error link write\n") s.written)))
+
+-- status 9: the line of the cause could not be written, and a proper front of it stands
+pub record IsFront (given : List (List ℕ)) (f f' : FilesSeen) (o o' : LinkSeen) (s s' : SinkSeen) : Type 0 where
+  pub name : List ℕ
+  pub stop : Stop
+  pub words : WordsFit given name (Some stop)
+  pub cause : Cause name f f' o o' (Some stop)
+  pub n : ℕ
+  pub part : n < length (line_of name (Some stop))
+  pub line : s'.written ≡ more (take n (line_of name (Some stop))) s.written

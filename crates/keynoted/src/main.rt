@@ -15,8 +15,8 @@ mod text;
 mod words;
 
 use crate::real::{RealFiles, StdLink, StdOut};
+use crate::stop::Stop;
 use kn_base::NoMemory;
-use kn_outside::write_all;
 use std::process::ExitCode;
 
 fn main(rt: HostRuntime) -> ExitCode {
@@ -25,10 +25,7 @@ fn main(rt: HostRuntime) -> ExitCode {
     let mut out = StdOut::new(&rt);
     let words = match words::words(&rt) {
         Ok(words) => words,
-        Err(NoMemory) => {
-            let _ = write_all(&mut out, b"error memory\n");
-            return ExitCode::from(5);
-        }
+        Err(NoMemory) => return ExitCode::from(run::end(&mut out, Stop::Memory, b"")),
     };
     ExitCode::from(run::run(rt.alloc(), words.as_slice(), &mut files, &mut own, &mut out))
 }

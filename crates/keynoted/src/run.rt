@@ -8,7 +8,7 @@ ghost use Rattle.kn_assert.specs.Files.{pieces_of};
 ghost use Rattle.kn_meaning.specs.FirstInput.{IsFirstInput, requests_of};
 ghost use Rattle.kn_meaning.specs.History.{loaded_history};
 ghost use Rattle.kn_meaning.specs.Asked.{IsAnswered};
-ghost use Rattle.keynoted.specs.Running.{AskFor, Answering, Cause, line_of, status_of, IsTold, IsRun, IsRead, IsDone, IsRefused, IsFileFault, IsNoPolicy, IsLinkFault};
+ghost use Rattle.keynoted.specs.Running.{AskFor, Answering, Cause, line_of, status_of, IsTold, IsRun, IsRead, IsDone, IsRefused, IsFileFault, IsNoPolicy, IsLinkFault, IsFront};
 ghost use Rattle.kn_meaning.specs.declared.script.Script.{Script};
 ghost use Rattle.keynoted.specs.declared.stop.Stop.TheVariants as S;
 
@@ -133,6 +133,7 @@ fn ask<F: Files, L: Link>(
         (record { written = L.written own.new; taken = L.taken own.new; left = L.left own.new; faults = L.faults own.new })
         (result_err result) }
     ensures words { result ≢ Err S.Words }
+    ensures keeps_content { F.content files.new ≡ F.content files.old }
 {
     let file = match files.read(name) {
         Ok(file) => file,
@@ -177,7 +178,7 @@ fn print_line<O: Sink>(out: &mut O, stop: Stop, name: &[u8]) -> Result<(), Faile
 }
 
 /// Ends with the status and the line of what stopped the program, or with 9 where the line can't be written.
-fn end<O: Sink>(out: &mut O, stop: Stop, name: &[u8]) -> u8
+pub(crate) fn end<O: Sink>(out: &mut O, stop: Stop, name: &[u8]) -> u8
     ensures { IsTold (line_of name.now (Some stop))
         (record { written = O.written out.old; faults = O.faults out.old })
         (record { written = O.written out.new; faults = O.faults out.new })
@@ -197,7 +198,7 @@ fn carry_out<F: Files, L: Link, O: Sink>(
     own: &mut L,
     out: &mut O,
 ) -> u8
-    ensures { IsRun words.now
+    ensures ends { IsRun words.now
         (record { content = F.content files.old; asked = F.asked files.old; faults = F.faults files.old })
         (record { content = F.content files.new; asked = F.asked files.new; faults = F.faults files.new })
         (record { written = L.written own.old; taken = L.taken own.old; left = L.left own.old; faults = L.faults own.old })
@@ -205,6 +206,7 @@ fn carry_out<F: Files, L: Link, O: Sink>(
         (record { written = O.written out.old; faults = O.faults out.old })
         (record { written = O.written out.new; faults = O.faults out.new })
         result }
+    ensures keeps_content { F.content files.new ≡ F.content files.old }
 {
     let Some(name) = policy_name(words) else {
         return end(out, Stop::Words, b"");
@@ -228,7 +230,7 @@ fn carry_out<F: Files, L: Link, O: Sink>(
 /// | 3 | `error form NAME` | the file hasn't the first policy form |
 /// | 4 | `error link read`, `error link form`, `error link write` | the link failed, or its input hasn't the first form |
 /// | 5 | `error memory` | want of memory; nothing was written to `own` |
-/// | 9 | a front of the line | the line couldn't be written |
+/// | 9 | a proper front of the line | the line couldn't be written |
 pub fn run<F: Files, L: Link, O: Sink>(
     alloc: Global,
     words: &[Octets],
@@ -274,13 +276,37 @@ pub fn run<F: Files, L: Link, O: Sink>(
         (record { written = O.written out.new; faults = O.faults out.new }) }
     ensures memory { result ≡ 5 → (L.written own.new ≡ L.written own.old) × (O.written out.new ≡ more (codes "error memory\n") (O.written out.old)) }
     ensures sink { result ≡ 9 → Rose (O.faults out.old) (O.faults out.new) }
+    ensures front { result ≡ 9 → IsFront words.now
+        (record { content = F.content files.old; asked = F.asked files.old; faults = F.faults files.old })
+        (record { content = F.content files.new; asked = F.asked files.new; faults = F.faults files.new })
+        (record { written = L.written own.old; taken = L.taken own.old; left = L.left own.old; faults = L.faults own.old })
+        (record { written = L.written own.new; taken = L.taken own.new; left = L.left own.new; faults = L.faults own.new })
+        (record { written = O.written out.old; faults = O.faults out.old })
+        (record { written = O.written out.new; faults = O.faults out.new }) }
+    ensures quiet { result ≡ 0 → O.written out.new ≡ more [] (O.written out.old) }
+
+    // What is left of the link where no reply is written.
+    ensures untouched { (1 ≤ result) × (result ≤ 3) →
+        (L.written own.new ≡ L.written own.old) × (L.taken own.new ≡ L.taken own.old) × (L.left own.new ≡ L.left own.old) }
+    ensures nothing_written { result ≢ 0 → ¬ Rose (L.faults own.old) (L.faults own.new) → L.written own.new ≡ L.written own.old }
 
     // Which statuses are left where the words, the file or the input are known.
     ensures no_words { ((file : List ℕ) → AskFor words.now file → ⊥) → (result ≡ 1) ⊎ ((result ≡ 9) × Rose (O.faults out.old) (O.faults out.new)) }
-    ensures no_policy { (file bytes : List ℕ) (content_of : List ℕ → Maybe (List ℕ)) → AskFor words.now file →
-        F.content files.old ≡ Some content_of → content_of file ≡ Some bytes → (length bytes ≤ FILE_BYTES → HasFirstForm bytes → ⊥) →
-        (result ≡ 2) ⊎ ((result ≡ 3) ⊎ ((result ≡ 5) ⊎ (result ≡ 9))) }
-    ensures no_input { (input : List ℕ) → L.left own.old ≡ Some input → ((script : Maybe Script) → IsFirstInput input script → ⊥) → result ≢ 0 }
+    ensures large { (file bytes : List ℕ) (content_of : List ℕ → Maybe (List ℕ)) → AskFor words.now file →
+        F.content files.old ≡ Some content_of → content_of file ≡ Some bytes → FILE_BYTES < length bytes →
+        ¬ Rose (F.faults files.old) (F.faults files.new) → ¬ Rose (O.faults out.old) (O.faults out.new) →
+        ((result ≡ 2) × (O.written out.new ≡ more (codes "error file " ++ file ++ codes " large\n") (O.written out.old))) ⊎ (result ≡ 5) }
+    ensures no_form { (file bytes : List ℕ) (content_of : List ℕ → Maybe (List ℕ)) → AskFor words.now file →
+        F.content files.old ≡ Some content_of → content_of file ≡ Some bytes → length bytes ≤ FILE_BYTES → (HasFirstForm bytes → ⊥) →
+        ¬ Rose (F.faults files.old) (F.faults files.new) → ¬ Rose (O.faults out.old) (O.faults out.new) →
+        (result ≡ 3) ⊎ (result ≡ 5) }
+    ensures wrong_input { (file bytes : List ℕ) (content_of : List ℕ → Maybe (List ℕ)) → AskFor words.now file →
+        F.content files.old ≡ Some content_of → content_of file ≡ Some bytes → length bytes ≤ FILE_BYTES → HasFirstForm bytes →
+        (input : List ℕ) → L.left own.old ≡ Some input → ((script : Maybe Script) → IsFirstInput input script → ⊥) →
+        ¬ Rose (F.faults files.old) (F.faults files.new) → ¬ Rose (L.faults own.old) (L.faults own.new) → ¬ Rose (O.faults out.old) (O.faults out.new) →
+        ((result ≡ 4) × (O.written out.new ≡ more (codes "error link form\n") (O.written out.old))) ⊎ (result ≡ 5) }
+    ensures link_rose { (input : List ℕ) (script : Maybe Script) → L.left own.old ≡ Some input → IsFirstInput input script →
+        result ≡ 4 → Rose (L.faults own.old) (L.faults own.new) }
     ensures complete { (file bytes input : List ℕ) (content_of : List ℕ → Maybe (List ℕ)) (script : Maybe Script) → AskFor words.now file →
         F.content files.old ≡ Some content_of → content_of file ≡ Some bytes → length bytes ≤ FILE_BYTES → HasFirstForm bytes →
         L.left own.old ≡ Some input → IsFirstInput input script →
@@ -290,6 +316,7 @@ pub fn run<F: Files, L: Link, O: Sink>(
     // No file but the one that is asked for is asked for, and that at most once.
     ensures asks { (F.asked files.new ≡ F.asked files.old)
         ⊎ ((file : List ℕ) × AskFor words.now file × (F.asked files.new ≡ F.asked files.old ++ file ∷ [])) }
+    ensures keeps_content { F.content files.new ≡ F.content files.old }
 {
     carry_out(alloc, words, files, own, out)
 }

@@ -1,6 +1,10 @@
+ghost use Rattle.std.specs.Prelude.{◌≡◌, ◌<◌, ◌≤◌, Some, take, length, IfOk, OnErr};
+ghost use Rattle.kn_outside.specs.Told.{more};
+ghost use Rattle.kn_outside.specs.Faults.{Rose};
+
 use crate::run::run;
 use kn_base::{List, NoMemory, Octets};
-use kn_outside::{FileEntry, MemFiles, MemLink, MemSink};
+use kn_outside::{Failed, FileEntry, Link, MemFiles, MemLink, MemSink, Sink};
 use std::alloc::Global;
 use std::test::Fail;
 
@@ -8,12 +12,40 @@ const POLICY: &[u8] = b"Authorizer: \"POLICY\"\nLicensees: \"alice\"\n";
 
 const INPUT: &[u8] = b"OPEN\nAUTH 1 alice\nQUERY 1 no,yes\n";
 
+// A link that takes at most seven bytes a write.
+#[derive(Drop)]
+struct NarrowLink {
+    link: MemLink,
+}
+
+impl Sink for NarrowLink {
+    ghost written = { λ n. Some n.link.written };
+
+    ghost taken = { λ n. Some n.link.taken };
+
+    ghost left = { λ n. Some n.link.left };
+
+    ghost faults = { λ n. n.link.faults };
+
+    fn write(&mut self, piece: &[u8]) -> Result<usize, Failed> {
+        let front = piece.split_at(piece.len().min(7)).0;
+        self.link.write(front)
+    }
+}
+
+impl Link for NarrowLink {
+    fn read(&mut self, buf: &mut [u8]) -> Result<usize, Failed> {
+        self.link.read(buf)
+    }
+}
+
 // What a run left: its status, what the link and the output were written.
 #[derive(Drop)]
 struct Outcome {
     status: u8,
     written: Octets,
     line: Octets,
+    asked: u32,
 }
 
 // The numbers of the calls that fail, of the files, the link and the output; 0 for none.
@@ -63,19 +95,21 @@ fn run_over(
     }
     let mut files = MemFiles::of(alloc, entries, numbers(alloc, failing.file)?);
     let input = Octets::from_slice(alloc, input)?;
-    let mut own = MemLink::of(
+    let link = MemLink::of(
         alloc,
         input,
         numbers(alloc, 20)?,
         numbers(alloc, failing.link)?,
     );
+    let mut own = NarrowLink { link };
     let mut out = MemSink::of(alloc, numbers(alloc, failing.out)?);
     let words = words(alloc, b"ask", name)?;
     let status = run(alloc, words.as_slice(), &mut files, &mut own, &mut out);
     Ok(Outcome {
         status,
-        written: Octets::from_slice(alloc, own.written())?,
+        written: Octets::from_slice(alloc, own.link.written())?,
         line: Octets::from_slice(alloc, out.written())?,
+        asked: files.asked().len(),
     })
 }
 
@@ -93,6 +127,7 @@ fn the_reply_is_written(rt: HostRuntime) -> Result<(), Fail> {
     assert_eq!(rt; left.status, 0);
     assert!(rt; left.written.as_slice() == b"OK 1 1\nOK\nVALUE 1 yes 1 0\nEND\n".as_slice());
     assert!(rt; left.line.is_empty());
+    assert_eq!(rt; left.asked, 1);
     Ok(())
 }
 
@@ -168,8 +203,28 @@ fn each_failed_read_is_told(rt: HostRuntime) -> Result<(), Fail> {
     Ok(())
 }
 
+// The reply of 29 bytes is written by calls 4 to 8.
 #[test]
-fn a_failed_write_is_told(rt: HostRuntime) -> Result<(), Fail> {
+fn each_failed_write_is_told(rt: HostRuntime) -> Result<(), Fail> {
+    let reply: &[u8] = b"OK 1 1\nOK\nVALUE 1 yes 1 0\nEND\n";
+    for write in 0..5 {
+        let failing = Failing {
+            file: 0,
+            link: 4 + write,
+            out: 0,
+        };
+        let left = run_over(rt.alloc(), b"p.kn", POLICY, INPUT, failing)?;
+        assert_eq!(rt; left.status, 4);
+        assert!(rt; left.line.as_slice() == b"error link write\n".as_slice());
+        let bytes = 7 * write as usize;
+        assert!(rt; bytes <= reply.len());
+        assert!(rt; left.written.as_slice() == reply.split_at(bytes).0);
+    }
+    Ok(())
+}
+
+#[test]
+fn a_line_that_fails_leaves_what_stopped_the_run(rt: HostRuntime) -> Result<(), Fail> {
     let left = run_over(
         rt.alloc(),
         b"p.kn",
@@ -177,13 +232,13 @@ fn a_failed_write_is_told(rt: HostRuntime) -> Result<(), Fail> {
         INPUT,
         Failing {
             file: 0,
-            link: 4,
-            out: 0,
+            link: 5,
+            out: 1,
         },
     )?;
-    assert_eq!(rt; left.status, 4);
-    assert!(rt; left.line.as_slice() == b"error link write\n".as_slice());
-    assert!(rt; left.written.is_empty());
+    assert_eq!(rt; left.status, 9);
+    assert!(rt; left.line.is_empty());
+    assert!(rt; left.written.as_slice() == b"OK 1 1\n".as_slice());
     Ok(())
 }
 

@@ -4,3 +4,4 @@ pub mod CutsLemmas
 pub mod FilePieces
 pub mod Files
 pub mod Lines
+pub mod NormalForms

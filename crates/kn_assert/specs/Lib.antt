@@ -1,4 +1,5 @@
 pub mod Principals
+pub mod PrincipalFaults
 pub mod Wording
 pub mod Cuts
 pub mod Files

@@ -28,6 +28,11 @@ pub fn normal_forms()
     ensures short { normal_form (codes "HEX:Ab") ≡ codes "hex:Ab" }
 {}
 
+/// A normal form is its own.
+pub fn normal_again()
+    ensures { (text : List ℕ) → normal_form (normal_form text) ≡ normal_form text }
+{}
+
 /// A text spells at most one assertion, and a file one list of them.
 pub fn one_reading()
     ensures text { (text : List ℕ) (a b : Assertion) → IsFirstText text a → IsFirstText text b → a ≡ b }

@@ -6,24 +6,23 @@ use Rattle.kn_system.specs.declared.rows.Piece.TheVariants.{Who, Gate}
 use Rattle.kn_system.specs.declared.rows.Row.{Row}
 use Rattle.kn_system.specs.Equations.{IsRow, IsSystem, node_total, leaf_total}
 use Rattle.kn_system.specs.Form.{leaf_count}
-use Rattle.kn_system.specs.Simple.{AreLeaves, IsSimple}
-use Rattle.kn_system.proofs.Leaves.{leaf_count-le}
+use Rattle.kn_system.specs.Forms.{AreForms, IsFormula}
 
-AreLeaves-more : (n m : ℕ) → n ≤ m → (ps : List Piece) → AreLeaves n ps → AreLeaves m ps
-AreLeaves-more n m l [] h = tt
-AreLeaves-more n m l (Who p ∷ ps) h = (omega (arith, h.0), AreLeaves-more n m l ps h.1)
-AreLeaves-more n m l (Gate k c ∷ ps) h = absurd h
+AreForms-more : (p q : ℕ) → p ≤ q → (n : ℕ) (ps : List Piece) → AreForms p n ps → AreForms q n ps
+AreForms-more p q l zero [] h = tt
+AreForms-more p q l (suc n) [] h = absurd h
+AreForms-more p q l zero (piece ∷ ps) h = absurd h
+AreForms-more p q l (suc n) (Who i ∷ ps) h = (omega (arith, h.0), AreForms-more p q l n ps h.1)
+AreForms-more p q l (suc n) (Gate k m ∷ ps) h = (h.0, AreForms-more p q l (n + m) ps h.1)
 
-IsSimple-more : (n m : ℕ) → n ≤ m → (ps : List Piece) → IsSimple n ps → IsSimple m ps
-IsSimple-more n m l [] h = absurd h
-IsSimple-more n m l (Who p ∷ ps) h = (omega (arith, h.0), h.1)
-IsSimple-more n m l (Gate k c ∷ ps) h = (h.0, h.1, AreLeaves-more n m l ps h.2)
+IsFormula-more : (p q : ℕ) → p ≤ q → (ps : List Piece) → IsFormula p ps → IsFormula q ps
+IsFormula-more p q l ps h = record { one = AreForms-more p q l 1 ps h.one; shallow = h.shallow }
 
 IsRow-more : (levels n m : ℕ) → n ≤ m → (row : Row) → IsRow levels n row → IsRow levels m row
 IsRow-more levels n m l row h = record {
   authorizer = omega (arith, h.authorizer);
   ceiling = h.ceiling;
-  formula = IsSimple-more n m l row.formula h.formula;
+  formula = IsFormula-more n m l row.formula h.formula;
 }
 
 -- with more principals
@@ -43,6 +42,11 @@ node_total-push (first ∷ rows) row = let rest = node_total-push rows row in om
 pub leaf_total-push : (rows : List Row) (row : Row) → leaf_total (rows ++ row ∷ []) ≡ leaf_total rows + leaf_count row.formula
 leaf_total-push [] row = omega arith
 leaf_total-push (first ∷ rows) row = let rest = leaf_total-push rows row in omega arith
+
+leaf_count-le : (ps : List Piece) → leaf_count ps ≤ length ps
+leaf_count-le [] = omega arith
+leaf_count-le (Who p ∷ ps) = let rest = leaf_count-le ps in omega arith
+leaf_count-le (Gate k m ∷ ps) = let rest = leaf_count-le ps in omega arith
 
 pub leaf_total-le : (rows : List Row) → leaf_total rows ≤ node_total rows
 leaf_total-le [] = omega arith

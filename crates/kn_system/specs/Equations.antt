@@ -2,7 +2,7 @@
 use Rattle.std.specs.Prelude.{ℕ, ◌+◌, ◌<◌, ◌≤◌, ◌^◌, Bool, List, [], ◌∷◌, All, length, slice_index_or}
 use Rattle.kn_system.specs.declared.rows.Row.{Row}
 use Rattle.kn_system.specs.Form.{leaf_count}
-use Rattle.kn_system.specs.Simple.{IsSimple}
+use Rattle.kn_system.specs.Forms.{IsFormula}
 
 -- how many levels there are, which principals are requesters, by number, and the rows
 pub record Equations : Type 0 where
@@ -18,7 +18,7 @@ row_at rows i = slice_index_or rows i (record { authorizer = 0; ceiling = 0; for
 pub record IsRow (levels principals : ℕ) (row : Row) : Type 0 where
   pub authorizer : row.authorizer < principals
   pub ceiling : row.ceiling < levels
-  pub formula : IsSimple principals row.formula
+  pub formula : IsFormula principals row.formula
 
 -- how many nodes the formulas have together, principals and gates
 abbrev pub node_total : List Row → ℕ

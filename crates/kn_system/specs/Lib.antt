@@ -1,7 +1,7 @@
 pub use Rattle.kn_base.specs.Threshold
 pub mod Equations
 pub mod Form
-pub mod Simple
+pub mod Forms
 pub mod Least
 pub mod Order
 pub mod Lawful

@@ -1,6 +1,7 @@
-ghost use Rattle.std.specs.Prelude.{◌≡◌, ◌+◌, ◌^◌, ◌<◌, ◌≤◌, All, IfOk, length};
-ghost use Rattle.kn_system.specs.Form.{leaf_count as leaf_count_of};
-ghost use Rattle.kn_system.specs.Simple.{IsNamed, highest_leaf as highest_leaf_of};
+ghost use Rattle.std.specs.Prelude.{◌≡◌, ◌+◌, ◌^◌, ◌<◌, ◌≤◌, ◌∷◌, [], ℕ, All, IfOk, length, drop, List as ListOf};
+ghost use Rattle.kn_base.specs.Threshold.{threshold};
+ghost use Rattle.kn_system.specs.Form.{form_levels, leaf_count as leaf_count_of};
+ghost use Rattle.kn_system.specs.Forms.{AreSpelt, AreTallied};
 
 use crate::rows::Piece;
 use kn_base::{List, NoMemory, Steps};
@@ -33,19 +34,63 @@ pub fn leaf_count(pieces: &[Piece]) -> u32
     leaves
 }
 
-// The highest level among the principals that stand in the pieces, with one tick for each piece.
-pub fn highest_leaf<L>(pieces: &[Piece], values: &[u8], steps: &mut Steps<L>) -> u8
-    requires short { length pieces.now < 2 ^ 32 }
-    requires named { All (IsNamed (length values.now)) pieces.now }
-    ensures level { result ≡ highest_leaf_of values.now pieces.now }
-    ensures ticks { steps.old < 2 ^ 63 → steps.new ≡ steps.old + length pieces.now }
+fn empty_tally() -> [u32; 64]
+    ensures none { AreTallied result [] }
+    ensures size { length result ≡ 64 }
 {
-    let mut level = 0;
-    for piece in pieces {
-        steps.tick();
-        if let Piece::Who(principal) = piece {
-            level = level.max(values[*principal as usize]);
+    [0; 64]
+}
+
+// The greatest level up to the top that `need` of the tallied levels reach, and 0 where there is none.
+fn threshold_of(tally: &[u32; 64], need: u32, top: u8) -> u8
+    requires { top < 64 }
+    ensures exact { (levels : ListOf ℕ) → AreTallied tally.now levels → All (λ level. level ≤ top) levels
+        → result ≡ threshold top need levels }
+    ensures low { result ≤ top }
+{
+    let mut level = top;
+    let mut reaching = 0;
+    while level > 0 {
+        reaching += u64::from(tally[level as usize]);
+        if reaching >= u64::from(need) {
+            return level;
+        }
+        level -= 1;
+    }
+    0
+}
+
+// The level of the formula that begins at a place, and the place behind it. One tick for each of its nodes.
+pub fn level_at<L>(
+    pieces: &[Piece],
+    at: usize,
+    top: u8,
+    values: &[u8],
+    steps: &mut Steps<L>,
+) -> (u8, usize)
+    requires spelt { AreSpelt (length values.now) pieces.now }
+    requires at_in_range { at < length pieces.now }
+    requires top_in_range { top < 64 }
+    requires low { All (λ level. level ≤ top) values.now }
+    ensures level { form_levels top values.now (drop at pieces.now)
+        ≡ result.0 ∷ form_levels top values.now (drop result.1 pieces.now) }
+    ensures low { result.0 ≤ top }
+    ensures further { at < result.1 }
+    ensures inside { result.1 ≤ length pieces.now }
+    ensures ticks { steps.old + length pieces.now < 2 ^ 64 + at → steps.new + at ≡ steps.old + result.1 }
+{
+    steps.tick();
+    match pieces[at] {
+        Piece::Who(principal) => (values[principal as usize], at + 1),
+        Piece::Gate { need, count } => {
+            let mut tally = empty_tally();
+            let mut next = at + 1;
+            for _part in 0..count {
+                let (level, behind) = level_at(pieces, next, top, values, steps);
+                tally[level as usize] += 1;
+                next = behind;
+            }
+            (threshold_of(&tally, need, top), next)
         }
     }
-    level
 }

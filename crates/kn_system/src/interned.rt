@@ -1,6 +1,6 @@
 ghost use Rattle.std.specs.Prelude.{◌≡◌, ◌+◌, ◌-◌, ◌^◌, ◌<◌, ◌≤◌, [], ◌∷◌, ◌++◌, All, IfOk, OnErr, false, length, slice_index_or};
 
-use crate::formula::{copied, highest_leaf, leaf_count};
+use crate::formula::{copied, leaf_count, level_at};
 use crate::rows::{Piece, Row};
 use kn_base::{List, NoMemory, Steps};
 use std::alloc::Global;
@@ -38,7 +38,7 @@ impl<L> Model for System<L> {
 impl<L> System<L> {
     ghost use Rattle.kn_system.specs.Equations.{IsRow, IsSystem, row_at, node_total, leaf_total};
     ghost use Rattle.kn_system.specs.Form.{form_level};
-    ghost use Rattle.kn_system.specs.Simple.{IsSimple};
+    ghost use Rattle.kn_system.specs.Forms.{IsFormula};
 
     /// The system of `POLICY` alone, without rows.
     pub fn start(alloc: Global, mark: L, levels: u8) -> System<L>
@@ -73,8 +73,8 @@ impl<L> System<L> {
         }
     }
 
-    /// Adds a row, and gives its number. A formula is one principal, or a gate of need 1 over principals:
-    /// `||` of n parts is such a gate over n of them, and no formula is one over none.
+    /// Adds a row, and gives its number. `&&` of n parts is a gate of need n, `||` is one of need 1, and no
+    /// formula is a gate of need 1 over none.
     pub fn push_row(
         &mut self,
         authorizer: u32,
@@ -83,7 +83,7 @@ impl<L> System<L> {
     ) -> Result<u32, NoMemory>
         requires authorizer_in_range { authorizer < length self.old.requesters }
         requires ceiling_in_range { ceiling < self.old.levels }
-        requires simple { IsSimple (length self.old.requesters) formula.now }
+        requires one_formula { IsFormula (length self.old.requesters) formula.now }
         requires nodes_fit { node_total self.old.rows + length formula.now < 2 ^ 24 }
         ensures number { IfOk result (λ number. number ≡ length self.old.rows) }
         ensures ok { IfOk result (λ _. self.new ≡ record self.old {
@@ -184,10 +184,7 @@ impl<L> System<L> {
         ensures ticks { steps.old < 2 ^ 63
             → steps.new ≡ steps.old + length (row_at self.now.rows row).formula }
     {
-        highest_leaf(
-            self.rows.as_slice()[row as usize].formula.as_slice(),
-            values,
-            steps,
-        )
+        let formula = self.rows.as_slice()[row as usize].formula.as_slice();
+        level_at(formula, 0, self.levels - 1, values, steps).0
     }
 }

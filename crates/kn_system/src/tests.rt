@@ -89,3 +89,29 @@ fn cycle_grants_nothing(rt: HostRuntime) -> Result<(), Fail> {
     assert_eq!(rt; after_round(&rt, &system, [1; 4], &mut steps), [1; 4]);
     Ok(())
 }
+
+#[test]
+fn two_of_three_parts(rt: HostRuntime) -> Result<(), Fail> {
+    let alloc = rt.alloc();
+    let mut system = System::start(alloc, Mark, 4);
+    let first = system.push_principal(false)?;
+    let second = system.push_principal(false)?;
+    let third = system.push_principal(false)?;
+    // Two of: the first, the second, and both the second and the third.
+    let gate = Piece::Gate { need: 2, count: 3 };
+    let both = Piece::Gate { need: 2, count: 2 };
+    let parts = [
+        gate,
+        Piece::Who(first),
+        Piece::Who(second),
+        both,
+        Piece::Who(second),
+        Piece::Who(third),
+    ];
+    system.push_row(0, 3, &copied(alloc, &parts)?)?;
+    let mut steps = Steps::start(Mark);
+    assert_eq!(rt; system.form_value(0, &[0, 3, 2, 1], &mut steps), 2);
+    assert_eq!(rt; system.form_value(0, &[3, 0, 0, 3], &mut steps), 0);
+    assert_eq!(rt; steps.count(), 12);
+    Ok(())
+}

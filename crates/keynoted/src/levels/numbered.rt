@@ -6,7 +6,7 @@ ghost use Rattle.kn_assert.specs.declared.assertion.Formula.TheVariants.{Any};
 ghost use Rattle.kn_assert.specs.Principals.{policy};
 ghost use Rattle.kn_meaning.specs.Equations.{Equations, statement_of};
 ghost use Rattle.kn_system.specs.Equations.{node_total};
-ghost use Rattle.kn_system.specs.Simple.{IsSimple};
+ghost use Rattle.kn_system.specs.Forms.{IsFormula};
 ghost use Rattle.keynoted.specs.Numbering.{IsNumber, IsAbsent, AreNumbered, HaveNumbers, Extends, AddsRequester, IsSystemOf, SpellLicensees, with_statement, query_of};
 ghost use Rattle.keynoted.specs.Sizes.{IsOfFirstForm, IsFirstField, IsFirstFormula, AreNames, principal_count, licensees_count, size_of, total_size};
 
@@ -170,7 +170,7 @@ impl Numbered {
         requires one_each { length self.old.names ≡ length self.old.system.requesters }
         ensures ok { OnOk result (Extends (licensees_count licensees.now) self.old self.new) }
         ensures level { IfOk result (λ pieces. (top : ℕ) → SpellLicensees top self.new.names licensees.now pieces) }
-        ensures simple { IfOk result (λ pieces. IsSimple (length self.new.names) pieces) }
+        ensures one_formula { IfOk result (λ pieces. IsFormula (length self.new.names) pieces) }
         ensures short { IfOk result (λ pieces. length pieces ≤ 1 + licensees_count licensees.now) }
     {
         match licensees {
@@ -185,7 +185,7 @@ impl Numbered {
         requires one_each { length self.old.names ≡ length self.old.system.requesters }
         ensures ok { OnOk result (Extends (principal_count formula.now) self.old self.new) }
         ensures level { IfOk result (λ pieces. (top : ℕ) → SpellLicensees top self.new.names (Some formula.now) pieces) }
-        ensures simple { IfOk result (λ pieces. IsSimple (length self.new.names) pieces) }
+        ensures one_formula { IfOk result (λ pieces. IsFormula (length self.new.names) pieces) }
         ensures short { IfOk result (λ pieces. length pieces ≤ 1 + principal_count formula.now) }
     {
         match formula {
@@ -207,7 +207,7 @@ impl Numbered {
         requires one_each { length self.old.names ≡ length self.old.system.requesters }
         ensures ok { OnOk result (Extends (length parts.now) self.old self.new) }
         ensures level { IfOk result (λ pieces. (top : ℕ) → SpellLicensees top self.new.names (Some (Any parts.now)) pieces) }
-        ensures simple { IfOk result (λ pieces. IsSimple (length self.new.names) pieces) }
+        ensures one_formula { IfOk result (λ pieces. IsFormula (length self.new.names) pieces) }
         ensures short { IfOk result (λ pieces. length pieces ≡ 1 + length parts.now) }
     {
         let gate = Piece::Gate {

@@ -1,32 +1,24 @@
-use Rattle.std.proofs.Common.{ap, ◌∙◌, subst, arith}
-use Rattle.kn_system.specs.Equations.{Equations, IsSystem}
-use Rattle.kn_system.proofs.Read.{formula_read, pieces_fit, level_read}
+use Rattle.std.proofs.Common.{◌≡◌, length, ap, ◌∙◌, subst, arith}
+use Rattle.kn_system.specs.Equations.{Equations, IsSystem, row_at}
+use Rattle.kn_system.proofs.Read.{formula_read, pieces_read, behind_one}
 use Rattle.kn_system.proofs.interned.System.form_value.Goals as goal
 
-pub highest_leaf-requires-clause-short : goal.highest_leaf-requires-clause-short
-highest_leaf-requires-clause-short g c =
+pub level_at-requires-clause-spelt : goal.level_at-requires-clause-spelt
+level_at-requires-clause-spelt g c =
     let s = c.args.self.now in
     let rows = c.as_slice.ensures ∙ ap (λ (e : Equations). e.rows) c.self.view_is in
-    let read = formula_read s c.as_slice.result.now c.args.row c.index-as_slice-row.result c.as_slice-2.result.now rows c.requires.row_in_range c.as_slice-2.ensures in
-    omega (arith, (pieces_fit s c.args.row c.as_slice-2.result.now c.args.values.now (subst IsSystem c.self.view_is c.self.invariant.0) c.requires.row_in_range c.requires.one_each read).0)
+    let read = formula_read s c.as_slice.result.now c.args.row c.index-as_slice-row.result c.as_slice-formula.result.now rows c.requires.row_in_range c.as_slice-formula.ensures in
+    (pieces_read s c.args.row c.as_slice-formula.result.now c.args.values.now (subst IsSystem c.self.view_is c.self.invariant.0) c.requires.row_in_range c.requires.one_each read).spelt
 
-pub highest_leaf-requires-clause-named : goal.highest_leaf-requires-clause-named
-highest_leaf-requires-clause-named g c =
+pub returns-clause-ticks : goal.returns-clause-ticks
+returns-clause-ticks g c =
     let s = c.args.self.now in
+    let pieces = c.as_slice-formula.result.now in
     let rows = c.as_slice.ensures ∙ ap (λ (e : Equations). e.rows) c.self.view_is in
-    let read = formula_read s c.as_slice.result.now c.args.row c.index-as_slice-row.result c.as_slice-2.result.now rows c.requires.row_in_range c.as_slice-2.ensures in
-    (pieces_fit s c.args.row c.as_slice-2.result.now c.args.values.now (subst IsSystem c.self.view_is c.self.invariant.0) c.requires.row_in_range c.requires.one_each read).1
-
-pub returns-clause-exact : goal.returns-clause-exact
-returns-clause-exact g c =
-    let s = c.args.self.now in
-    let rows = c.as_slice.ensures ∙ ap (λ (e : Equations). e.rows) c.self.view_is in
-    let read = formula_read s c.as_slice.result.now c.args.row c.index-as_slice-row.result c.as_slice-2.result.now rows c.requires.row_in_range c.as_slice-2.ensures in
-    c.highest_leaf.ensures.level ∙ (level_read s c.args.row c.as_slice-2.result.now c.args.values.now (subst IsSystem c.self.view_is c.self.invariant.0) c.requires.row_in_range c.requires.levels_in_range read).0
-
-pub returns-clause-in_range : goal.returns-clause-in_range
-returns-clause-in_range g c =
-    let s = c.args.self.now in
-    let rows = c.as_slice.ensures ∙ ap (λ (e : Equations). e.rows) c.self.view_is in
-    let read = formula_read s c.as_slice.result.now c.args.row c.index-as_slice-row.result c.as_slice-2.result.now rows c.requires.row_in_range c.as_slice-2.ensures in
-    rw c.highest_leaf.ensures.level (level_read s c.args.row c.as_slice-2.result.now c.args.values.now (subst IsSystem c.self.view_is c.self.invariant.0) c.requires.row_in_range c.requires.levels_in_range read).1
+    let read = formula_read s c.as_slice.result.now c.args.row c.index-as_slice-row.result pieces rows c.requires.row_in_range c.as_slice-formula.ensures in
+    let formula = pieces_read s c.args.row pieces c.args.values.now (subst IsSystem c.self.view_is c.self.invariant.0) c.requires.row_in_range c.requires.one_each read in
+    let all : c.level_at.result.1 ≡ length pieces = behind_one _ c.level_at.result.0 c.level_at.result.1 c.args.values.now pieces formula.one c.level_at.ensures.inside c.level_at.ensures.level in
+    let size : length pieces ≡ length (row_at s.rows c.args.row).formula = ap length read in
+    λ low.
+    let counted = c.level_at.ensures.ticks (omega (arith, formula.few)) in
+    omega (arith, counted)

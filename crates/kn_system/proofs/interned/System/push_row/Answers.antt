@@ -18,7 +18,7 @@ invariant_of-self g c =
     let copy : c.in_ok-copied.field-0 ≡ c.args.formula.now = c.in_ok-copied.ensures ∙ c.as_slice-2.ensures in
     let pushed = ap (λ ps. s.rows ++ record row { formula = ps } ∷ []) copy in
     let same : c.push.new.self ≡ s.rows ++ row ∷ [] = c.in-Ok.ensures.ok ∙ pushed in
-    let asked : IsRow c.args.self.now.levels (length c.args.self.now.requesters) row = record { authorizer = c.requires.authorizer_in_range; ceiling = c.requires.ceiling_in_range; formula = c.requires.simple } in
+    let asked : IsRow c.args.self.now.levels (length c.args.self.now.requesters) row = record { authorizer = c.requires.authorizer_in_range; ceiling = c.requires.ceiling_in_range; formula = c.requires.one_formula } in
     let here = subst (λ (e : Equations). IsRow e.levels (length e.requesters) row) (sym c.self.view_is) asked in
     let seen = ap (λ (e : Equations). node_total e.rows) c.self.view_is in
     let fit : node_total s.rows + length row.formula < 2 ^ 24 = omega (arith, seen, c.requires.nodes_fit) in

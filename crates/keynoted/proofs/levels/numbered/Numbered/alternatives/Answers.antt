@@ -5,7 +5,7 @@ use Rattle.kn_system.specs.declared.rows.Piece.TheVariants as P
 use Rattle.keynoted.specs.Numbering.{Extends}
 use Rattle.keynoted.proofs.Counted.{part_is_name}
 use Rattle.keynoted.proofs.Grown.{Extends-then}
-use Rattle.keynoted.proofs.Spelled.{AreAlternatives, AreAlternatives-longer, AreAlternatives-level, AreAlternatives-simple, AreAlternatives-length}
+use Rattle.keynoted.proofs.Spelled.{AreAlternatives, AreAlternatives-longer, AreAlternatives-level, AreAlternatives-formula, AreAlternatives-length}
 use Rattle.keynoted.proofs.levels.numbered.Numbered.alternatives.Goals as goal
 
 pub unreachable-requires : goal.unreachable-requires
@@ -38,8 +38,8 @@ pub returns-clause-level : goal.returns-clause-level
 returns-clause-level c = AreAlternatives-level c.loop-part.self.names c.args.parts.now c.loop-part.pieces
     (subst (λ parts. AreAlternatives c.loop-part.self.names (length c.args.parts.now) parts c.loop-part.pieces) (take_all c.loop-part.part-index c.args.parts.now (omega (arith, ap length c.as_slice-part-items.ensures))) c.loop-part.invariant.pieces)
 
-pub returns-clause-simple : goal.returns-clause-simple
-returns-clause-simple c = AreAlternatives-simple c.loop-part.self.names c.args.parts.now c.loop-part.pieces
+pub returns-clause-one_formula : goal.returns-clause-one_formula
+returns-clause-one_formula c = AreAlternatives-formula c.loop-part.self.names c.args.parts.now c.loop-part.pieces
     (subst (λ parts. AreAlternatives c.loop-part.self.names (length c.args.parts.now) parts c.loop-part.pieces) (take_all c.loop-part.part-index c.args.parts.now (omega (arith, ap length c.as_slice-part-items.ensures))) c.loop-part.invariant.pieces)
 
 pub returns-clause-short : goal.returns-clause-short

@@ -1,12 +1,11 @@
-use Rattle.std.proofs.Common.{◌≡◌, ℕ, ◌+◌, ◌≤◌, length, [], ◌∷◌, ◌++◌, Some, sym, ap, ◌∙◌, subst, refl, arith}
-use Rattle.std.proofs.lemmas.Option.{slice_get_within}
+use Rattle.std.proofs.Common.{◌≡◌, ℕ, ◌+◌, ◌≤◌, length, [], ◌∷◌, ◌++◌, Some, sym, ap, ◌∙◌, subst, arith}
 use Rattle.kn_system.specs.declared.rows.Piece.TheVariants as P
-use Rattle.kn_system.specs.Simple.{IsSimple}
+use Rattle.kn_system.specs.Forms.{IsFormula}
 use Rattle.keynoted.specs.Numbering.{Extends, IsNumber, SpellLicensees}
 use Rattle.keynoted.specs.Sizes.{principal_count}
 use Rattle.keynoted.proofs.Counted.{principal_count-Who, principal_count-parts, formula_parts}
 use Rattle.keynoted.proofs.Grown.{known_on_ok, map_on_ok, map_if_ok}
-use Rattle.keynoted.proofs.Spelled.{SpellLicensees-Who}
+use Rattle.keynoted.proofs.Spelled.{SpellLicensees-Who, IsFormula-Who}
 use Rattle.keynoted.proofs.levels.numbered.Numbered.formula.Goals as goal
 
 pub number-requires-clause-few : goal.number-requires-clause-few
@@ -33,10 +32,10 @@ returns-in_ok-number-in-Who-clause-level c = map_if_ok c.with_piece.result _ (λ
     (SpellLicensees-Who top c.number.new.self.names c.in-Who.name c.in_ok-number-in-Who.number (subst (λ name. IsNumber c.number.new.self.names name c.in_ok-number-in-Who.number) c.as_slice.ensures c.in_ok-number-in-Who.ensures.number))))
     c.with_piece.ensures
 
-pub returns-in_ok-number-in-Who-clause-simple : goal.returns-in_ok-number-in-Who-clause-simple
-returns-in_ok-number-in-Who-clause-simple c = map_if_ok c.with_piece.result _ (λ pieces. IsSimple (length c.number.new.self.names) pieces)
-    (λ pieces is. subst (IsSimple (length c.number.new.self.names)) (sym (is ∙ ap (λ ps. ps ++ P.Who c.in_ok-number-in-Who.number ∷ []) c.new.ensures))
-    (slice_get_within c.number.new.self.names c.in_ok-number-in-Who.number c.as_slice.result.now c.in_ok-number-in-Who.ensures.number, refl))
+pub returns-in_ok-number-in-Who-clause-one_formula : goal.returns-in_ok-number-in-Who-clause-one_formula
+returns-in_ok-number-in-Who-clause-one_formula c = map_if_ok c.with_piece.result _ (λ pieces. IsFormula (length c.number.new.self.names) pieces)
+    (λ pieces is. subst (IsFormula (length c.number.new.self.names)) (sym (is ∙ ap (λ ps. ps ++ P.Who c.in_ok-number-in-Who.number ∷ []) c.new.ensures))
+    (IsFormula-Who c.number.new.self.names c.as_slice.result.now c.in_ok-number-in-Who.number c.in_ok-number-in-Who.ensures.number))
     c.with_piece.ensures
 
 pub returns-in-Any-clause-ok : goal.returns-in-Any-clause-ok

@@ -1,0 +1,17 @@
+use Rattle.std.proofs.Common.{◌≡◌, ◌+◌, ◌-◌, ◌<◌, ◌≤◌, ◌^◌, length, take, drop}
+use Rattle.kn_system.specs.Form.{form_levels}
+use Rattle.kn_system.specs.Forms.{AreTallied}
+use Rattle.kn_system.proofs.formula.+level_at.Given as goal
+
+abbrev pub decreases-level_at : goal.decreases-level_at
+decreases-level_at g l = length l.pieces.now - l.at
+
+abbrev pub invariant-loop-part : goal.invariant-loop-part
+invariant-loop-part g l = record {
+  further : l.at < l.next;
+  inside : l.next ≤ length l.pieces;
+  rest : drop l._part (form_levels l.top l.values (drop (l.at + 1) l.pieces)) ≡ form_levels l.top l.values (drop l.next l.pieces);
+  tallied : AreTallied l.tally (take l._part (form_levels l.top l.values (drop (l.at + 1) l.pieces)));
+  size : length l.tally ≡ 64;
+  ticks : l.fn.steps + length l.pieces < 2 ^ 64 + l.at → l.steps + l.at ≡ l.fn.steps + l.next;
+}
