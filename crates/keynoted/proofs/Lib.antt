@@ -1,9 +1,3 @@
-pub mod Spelled
-pub mod Counted
-pub mod Bridge
-pub mod Grown
-pub mod Keyed
-pub mod Turned
 pub mod Lines
 pub mod Values
 pub mod Session

@@ -5,8 +5,8 @@ use Rattle.std.proofs.lemmas.List.Elements.{All-cons}
 use Rattle.kn_assert.specs.Wording.{Wording, quoted, alternatives, authorizer_line, licensees_line, text_of, file_of}
 use Rattle.kn_assert.specs.FirstForm.{IsFirstForm, assertion_from}
 use Rattle.kn_assert.specs.declared.assertion.Assertion.{Assertion}
-use Rattle.keynoted.specs.Sizes.{IsOfFirstForm, size_of, total_size}
-use Rattle.keynoted.proofs.Counted.{size_of-assertion_from}
+use Rattle.kn_levels.specs.Sizes.{IsOfFirstForm, size_of, total_size}
+use Rattle.kn_levels.proofs.Counted.{size_of-assertion_from}
 
 -- each quoted principal has its quotes
 alternatives-long : (names : List (List ℕ)) → 2 * length names ≤ length (alternatives names)

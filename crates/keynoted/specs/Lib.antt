@@ -1,5 +1,3 @@
-pub mod Sizes
-pub mod Numbering
 pub mod Session
 pub mod Answering
 pub mod Running

@@ -1,7 +1,6 @@
 //! keynoted: may these principals do this?
 #![tactic(auto)]
 
-mod levels;
 mod real;
 #[cfg(test)]
 mod real_tests;

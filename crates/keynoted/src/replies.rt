@@ -9,12 +9,12 @@ ghost use Rattle.kn_meaning.specs.Equations.{IsPolicyLevel};
 ghost use Rattle.kn_meaning.specs.Asked.{IsAnswered};
 ghost use Rattle.kn_meaning.specs.Replies as R;
 ghost use Rattle.keynoted.specs.Answering.{IsMadeBy, query_of, with_requester, Answers};
-ghost use Rattle.keynoted.specs.Sizes.{IsOfFirstForm, total_size};
+ghost use Rattle.kn_levels.specs.Sizes.{IsOfFirstForm, total_size};
 
-use crate::levels::policy_level;
 use crate::text::push_number;
 use kn_assert::Assertion;
 use kn_base::{List, NoMemory, Octets};
+use kn_levels::policy_level;
 use kn_meaning::script::{Ask, Script};
 use std::alloc::Global;
 

@@ -1,9 +1,0 @@
-use Rattle.std.proofs.Common.{◌*◌, ◌≤◌, All}
-use Rattle.keynoted.specs.Sizes.{IsOfFirstForm, total_size}
-use Rattle.keynoted.proofs.levels.tests.assertions.Given as goal
-
-abbrev pub invariant-loop-authorizer : goal.invariant-loop-authorizer
-invariant-loop-authorizer l = record {
-  first : All IsOfFirstForm l.assertions;
-  small : total_size l.assertions ≤ 4 * l.authorizer-index;
-}

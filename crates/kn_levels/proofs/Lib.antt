@@ -1,0 +1,6 @@
+pub mod Spelled
+pub mod Counted
+pub mod Bridge
+pub mod Grown
+pub mod Keyed
+pub mod Turned

@@ -1,0 +1,239 @@
+//! A query over numbered principals.
+ghost use Rattle.std.specs.Prelude.{◌≡◌, ℕ, ◌+◌, ◌-◌, ◌^◌, ◌<◌, ◌≤◌, false, [], ◌∷◌, ◌++◌, All, List, Some, length, IfOk, OnOk};
+ghost use Rattle.std.specs.List.{list_any};
+ghost use Rattle.std.specs.Str.{bytes_eq};
+ghost use Rattle.kn_assert.specs.declared.assertion.Formula.TheVariants.{Any};
+ghost use Rattle.kn_assert.specs.Principals.{policy};
+ghost use Rattle.kn_meaning.specs.Equations.{Equations, statement_of};
+ghost use Rattle.kn_system.specs.Equations.{node_total};
+ghost use Rattle.kn_system.specs.Forms.{IsFormula};
+ghost use Rattle.kn_levels.specs.Numbering.{IsNumber, IsAbsent, AreNumbered, HaveNumbers, Extends, AddsRequester, IsSystemOf, SpellLicensees, with_statement, query_of};
+ghost use Rattle.kn_levels.specs.Sizes.{IsOfFirstForm, IsFirstField, IsFirstFormula, AreNames, principal_count, licensees_count, size_of, total_size};
+
+use super::Tally;
+use super::names::Names;
+use kn_assert::{Assertion, Formula};
+use kn_base::{List, NoMemory, Octets};
+use kn_system::{Piece, System};
+use std::alloc::Global;
+
+/// Principals with their numbers, and a system over these numbers.
+#[derive(Drop)]
+pub(super) struct Numbered {
+    pub(super) names: Names,
+    pub(super) system: System<Tally>,
+}
+
+/// The system of a query: its principals by numbers, and a row for each assertion.
+pub(super) fn numbered_query(
+    alloc: Global,
+    assertions: &List<Assertion>,
+    requesters: &List<Octets>,
+    values: u8,
+) -> Result<Numbered, NoMemory>
+    requires at_least_two { 2 ≤ values }
+    requires at_most { values ≤ 64 }
+    requires first { All IsOfFirstForm assertions.now }
+    requires small { 65 + total_size assertions.now < 2 ^ 24 }
+    requires others { list_any (bytes_eq policy) requesters.now ≡ false }
+    requires few { length requesters.now ≤ 64 }
+    ensures { IfOk result (λ numbered.
+        IsSystemOf (query_of (values - 1) requesters.now assertions.now) numbered.names numbered.system) }
+{
+    let mut numbered = Numbered::of_policy(alloc, values)?;
+    numbered.add_requesters(requesters)?;
+    numbered.add_statements(alloc, assertions)?;
+    Ok(numbered)
+}
+
+// An `Err` of these leaves a value that is of no more use.
+impl Numbered {
+    // The policy alone, which has number 0.
+    fn of_policy(alloc: Global, values: u8) -> Result<Numbered, NoMemory>
+        requires at_least_two { 2 ≤ values }
+        requires at_most { values ≤ 64 }
+        ensures names { IfOk result (λ numbered. numbered.names ≡ policy ∷ []) }
+        ensures system { IfOk result (λ numbered. numbered.system
+            ≡ record { levels = values; requesters = false ∷ []; rows = [] }) }
+    {
+        let mut names = Names::new(alloc);
+        names.push(b"POLICY".as_slice())?;
+        Ok(Numbered {
+            names,
+            system: System::start(alloc, Tally, values),
+        })
+    }
+
+    fn add(&mut self, name: &[u8], requester: bool) -> Result<u32, NoMemory>
+        requires few { length self.old.names < 2 ^ 24 }
+        requires one_each { length self.old.names ≡ length self.old.system.requesters }
+        requires absent { IsAbsent self.old.names name.now }
+        ensures number { IfOk result (λ number. number ≡ length self.old.names) }
+        ensures names { OnOk result (self.new.names ≡ self.old.names ++ name.now ∷ []) }
+        ensures system { OnOk result (self.new.system
+            ≡ record self.old.system { requesters = self.old.system.requesters ++ requester ∷ [] }) }
+    {
+        self.names.push(name)?;
+        self.system.push_principal(requester)
+    }
+
+    // A system can't make a principal a requester later, so requesters get their numbers before others.
+    fn add_requester(&mut self, name: &[u8]) -> Result<(), NoMemory>
+        requires few { length self.old.names < 2 ^ 24 }
+        requires one_each { length self.old.names ≡ length self.old.system.requesters }
+        ensures { OnOk result (AddsRequester name.now self.old self.new) }
+    {
+        match self.names.find(name) {
+            Some(_) => Ok(()),
+            None => {
+                self.add(name, true)?;
+                Ok(())
+            }
+        }
+    }
+
+    // The number of a principal, which gets one here where it has none yet.
+    fn number(&mut self, name: &[u8]) -> Result<u32, NoMemory>
+        requires few { length self.old.names < 2 ^ 24 }
+        requires one_each { length self.old.names ≡ length self.old.system.requesters }
+        ensures number { IfOk result (λ number. IsNumber self.new.names name.now number) }
+        ensures ok { OnOk result (Extends 1 self.old self.new) }
+    {
+        match self.names.find(name) {
+            Some(number) => Ok(number),
+            None => self.add(name, false),
+        }
+    }
+
+    fn add_requesters(&mut self, requesters: &List<Octets>) -> Result<(), NoMemory>
+        requires few { length self.old.names + length requesters.now ≤ 2 ^ 24 }
+        requires numbered { AreNumbered requesters.now self.old.names self.old.system.requesters }
+        ensures names { OnOk result (length self.new.names ≤ length self.old.names + length requesters.now) }
+        ensures numbered { OnOk result (AreNumbered requesters.now self.new.names self.new.system.requesters) }
+        ensures all { OnOk result (HaveNumbers requesters.now self.new.names) }
+        ensures levels { OnOk result (self.new.system.levels ≡ self.old.system.levels) }
+        ensures rows { OnOk result (self.new.system.rows ≡ self.old.system.rows) }
+    {
+        for requester in requesters.as_slice() {
+            self.add_requester(requester.as_slice())?;
+        }
+        Ok(())
+    }
+
+    fn add_statements(
+        &mut self,
+        alloc: Global,
+        assertions: &List<Assertion>,
+    ) -> Result<(), NoMemory>
+        requires first { All IsOfFirstForm assertions.now }
+        requires names_fit { length self.old.names + total_size assertions.now ≤ 2 ^ 24 }
+        requires nodes_fit { node_total self.old.system.rows + total_size assertions.now ≤ 2 ^ 24 }
+        requires one_each { length self.old.names ≡ length self.old.system.requesters }
+        ensures { OnOk result ((top : ℕ) (requesters : List (List ℕ))
+            → IsSystemOf (query_of top requesters []) self.old.names self.old.system
+            → IsSystemOf (query_of top requesters assertions.now) self.new.names self.new.system) }
+    {
+        for assertion in assertions.as_slice() {
+            self.add_statement(alloc, assertion)?;
+        }
+        Ok(())
+    }
+
+    // The conditions of an assertion have the top so far.
+    fn add_statement(&mut self, alloc: Global, assertion: &Assertion) -> Result<(), NoMemory>
+        requires first { IsOfFirstForm assertion.now }
+        requires names_fit { length self.old.names + size_of assertion.now ≤ 2 ^ 24 }
+        requires nodes_fit { node_total self.old.system.rows + size_of assertion.now ≤ 2 ^ 24 }
+        requires one_each { length self.old.names ≡ length self.old.system.requesters }
+        ensures names { OnOk result (length self.new.names ≤ length self.old.names + size_of assertion.now) }
+        ensures nodes { OnOk result (node_total self.new.system.rows
+            ≤ node_total self.old.system.rows + size_of assertion.now) }
+        ensures one_each { OnOk result (length self.new.names ≡ length self.new.system.requesters) }
+        ensures system { OnOk result ((e : Equations) → IsSystemOf e self.old.names self.old.system
+            → IsSystemOf (with_statement e (statement_of e.top assertion.now)) self.new.names self.new.system) }
+    {
+        let authorizer = self.number(assertion.authorizer.as_slice())?;
+        let pieces = self.licensees(alloc, &assertion.licensees)?;
+        let top = self.system.levels() - 1;
+        self.system.push_row(authorizer, top, &pieces)?;
+        Ok(())
+    }
+
+    // The pieces of a Licensees field. A missing one has those of `||` over no parts.
+    fn licensees(
+        &mut self,
+        alloc: Global,
+        licensees: &Option<Formula>,
+    ) -> Result<List<Piece>, NoMemory>
+        requires first { IsFirstField licensees.now }
+        requires few { length self.old.names + licensees_count licensees.now ≤ 2 ^ 24 }
+        requires one_each { length self.old.names ≡ length self.old.system.requesters }
+        ensures ok { OnOk result (Extends (licensees_count licensees.now) self.old self.new) }
+        ensures level { IfOk result (λ pieces. (top : ℕ) → SpellLicensees top self.new.names licensees.now pieces) }
+        ensures one_formula { IfOk result (λ pieces. IsFormula (length self.new.names) pieces) }
+        ensures short { IfOk result (λ pieces. length pieces ≤ 1 + licensees_count licensees.now) }
+    {
+        match licensees {
+            Some(formula) => self.formula(alloc, formula),
+            None => with_piece(List::new(alloc), Piece::Gate { need: 1, count: 0 }),
+        }
+    }
+
+    fn formula(&mut self, alloc: Global, formula: &Formula) -> Result<List<Piece>, NoMemory>
+        requires first { IsFirstFormula formula.now }
+        requires few { length self.old.names + principal_count formula.now ≤ 2 ^ 24 }
+        requires one_each { length self.old.names ≡ length self.old.system.requesters }
+        ensures ok { OnOk result (Extends (principal_count formula.now) self.old self.new) }
+        ensures level { IfOk result (λ pieces. (top : ℕ) → SpellLicensees top self.new.names (Some formula.now) pieces) }
+        ensures one_formula { IfOk result (λ pieces. IsFormula (length self.new.names) pieces) }
+        ensures short { IfOk result (λ pieces. length pieces ≤ 1 + principal_count formula.now) }
+    {
+        match formula {
+            Formula::Who(name) => {
+                let number = self.number(name.as_slice())?;
+                with_piece(List::new(alloc), Piece::Who(number))
+            }
+            Formula::Any(parts) => self.alternatives(alloc, parts),
+        }
+    }
+
+    fn alternatives(
+        &mut self,
+        alloc: Global,
+        parts: &List<Formula>,
+    ) -> Result<List<Piece>, NoMemory>
+        requires first { AreNames parts.now }
+        requires few { length self.old.names + length parts.now ≤ 2 ^ 24 }
+        requires one_each { length self.old.names ≡ length self.old.system.requesters }
+        ensures ok { OnOk result (Extends (length parts.now) self.old self.new) }
+        ensures level { IfOk result (λ pieces. (top : ℕ) → SpellLicensees top self.new.names (Some (Any parts.now)) pieces) }
+        ensures one_formula { IfOk result (λ pieces. IsFormula (length self.new.names) pieces) }
+        ensures short { IfOk result (λ pieces. length pieces ≡ 1 + length parts.now) }
+    {
+        let gate = Piece::Gate {
+            need: 1,
+            count: parts.len(),
+        };
+        let mut pieces = with_piece(List::new(alloc), gate)?;
+        for part in parts.as_slice() {
+            match part {
+                Formula::Who(name) => {
+                    let number = self.number(name.as_slice())?;
+                    pieces = with_piece(pieces, Piece::Who(number))?;
+                }
+                Formula::Any(_) => unreachable!(),
+            }
+        }
+        Ok(pieces)
+    }
+}
+
+fn with_piece(pieces: List<Piece>, piece: Piece) -> Result<List<Piece>, NoMemory>
+    ensures { IfOk result (λ longer. longer ≡ pieces ++ piece ∷ []) }
+{
+    let mut pieces = pieces;
+    match pieces.push(piece) {
+        Ok(()) => Ok(pieces),
+        Err(_) => Err(NoMemory),
+    }
+}
