@@ -1,0 +1,6 @@
+pub mod Between
+pub mod Parts
+pub mod Settings
+pub mod Places
+pub mod Shown
+pub mod Deep

@@ -1,0 +1,358 @@
+-- The first fault that is computed is the first one that the text has.
+use Rattle.std.proofs.Common.{◌≡◌, ℕ, ◌<◌, ◌≤◌, ◌⊎◌, inl, inr, Bool, true, false, Option, Some, None, List, [], arith, length, refl, sym, ◌∙◌, ap, subst}
+use Rattle.std.specs.Prelude.{◌+◌, slice_get, if◌then◌else◌, nat_lt}
+use Rattle.std.proofs.lemmas.Option.{none-some}
+use Rattle.std.proofs.lemmas.Bool.Decides.{Decides-ltb, nat_tests}
+use Rattle.kn_lex.specs.Cutting.{Seen, Cuts}
+use Rattle.kn_lex.specs.Faults.{IsFaultless, IsFirstLexicalFault}
+use Rattle.kn_lex.specs.Seeing.{HasCause as HasLexicalCause}
+use Rattle.kn_lex.specs.declared.fault.LexFault.{LexFault}
+use Rattle.kn_lex.specs.declared.fault.LexFault.TheVariants.{NotText, BadString, BadToken, Float, Regex, Number, Blank, NoMemory as NoLexMemory}
+use Rattle.kn_fields.specs.Fields.{Field, field_with, between, PartIs}
+use Rattle.kn_fields.specs.Constants.{turn_behind, departs}
+use Rattle.kn_fields.specs.Faults.{is_bad_field, is_second, is_late_version, is_behind_signature, is_version, DepartsAt, Shows, TokensShow, HasFault, fault_order, IsFirstFault, IsWellFielded, HasCause}
+use Rattle.kn_fields.specs.Scanning.{start_of, first_place, else_place, order_place, version_by, version_place, end_place, departure, constant_by, constant_place, fault_at, fault_without, fault_in, of_lexical}
+use Rattle.kn_fields.specs.declared.constants.Turn.{Turn}
+use Rattle.kn_fields.specs.declared.constants.Turn.TheVariants.{Setting, Equals, Value}
+use Rattle.kn_fields.specs.declared.part.Part.{Part}
+use Rattle.kn_fields.specs.declared.fault.FieldFault.{FieldFault}
+use Rattle.kn_fields.specs.declared.fault.FieldFault.TheVariants.{TooLong, Lexical, BadField, FieldTwice, FieldOrder, NoAuthorizer, Version, Constant, NoMemory}
+use Rattle.kn_fields.proofs.Places.{some_same, none_shown, first_shown, none_place, shown_place}
+
+-- the one list that cuts a text, and its one first lexical fault
+abbrev pub OneList : Type 0
+OneList = (text : List ℕ) (tokens other : List Seen) → Cuts text tokens → Cuts text other → tokens ≡ other
+
+abbrev pub OneFault : Type 0
+OneFault = (text : List ℕ) (fault other : LexFault) → IsFirstLexicalFault text fault → IsFirstLexicalFault text other → fault ≡ other
+
+-- the place is where the tokens show it
+
+order_shown : (tokens : List Seen) (at : ℕ) → order_place tokens ≡ Some at → Shows tokens (FieldOrder at)
+order_shown tokens at e = by (first_place is_late_version [] tokens) refl e
+  where
+    by : (o : Option ℕ) → first_place is_late_version [] tokens ≡ o → else_place o (first_place is_behind_signature [] tokens) ≡ Some at → Shows tokens (FieldOrder at)
+    by None n h = inr (none_shown is_late_version tokens n, first_shown is_behind_signature tokens at h)
+    by (Some a) n h = inl (first_shown is_late_version tokens at (n ∙ h))
+
+shown_order : (tokens : List Seen) (at : ℕ) → Shows tokens (FieldOrder at) → order_place tokens ≡ Some at
+shown_order tokens at (inl h) = ap (λ (o : Option ℕ). else_place o (first_place is_behind_signature [] tokens)) (shown_place is_late_version tokens at h)
+shown_order tokens at (inr h) =
+    ap (λ (o : Option ℕ). else_place o (first_place is_behind_signature [] tokens)) (none_place is_late_version tokens h.0)
+    ∙ shown_place is_behind_signature tokens at h.1
+
+version_shown : (tokens : List Seen) (at : ℕ) → version_place tokens ≡ Some at → Shows tokens (Version at)
+unfolding version_place
+version_shown tokens at e = by (field_with 4 tokens) refl e
+  where
+    of : (field : Field) → field_with 4 tokens ≡ Some field → (b : Bool) → is_version field.tokens ≡ b → (if b then None else Some field.label.span.start) ≡ Some at
+        → Shows tokens (Version at)
+    of field f true v h = absurd (none-some _ h)
+    of field f false v h = (field, f, (v, sym (some_same _ _ h)))
+
+    by : (o : Option Field) → field_with 4 tokens ≡ o → version_by o ≡ Some at → Shows tokens (Version at)
+    by None f h = absurd (none-some _ h)
+    by (Some field) f h = of field f (is_version field.tokens) refl h
+
+shown_version : (tokens : List Seen) (at : ℕ) → Shows tokens (Version at) → version_place tokens ≡ Some at
+unfolding version_place
+shown_version tokens at h =
+    ap version_by h.1 ∙ ap (λ (b : Bool). if b then None else Some h.0.label.span.start) h.2.0 ∙ ap Some (sym h.2.1)
+
+departs_shown : (field : Field) (at : ℕ) → departure field.tokens (Some field.label.span.start) ≡ Some at → DepartsAt field at
+unfolding departure
+departs_shown field at e = by (first_place departs [] field.tokens) refl e
+  where
+    late : (turn : Turn) → turn_behind Setting field.tokens ≡ turn → end_place (Some field.label.span.start) turn ≡ Some at
+        → (turn_behind Setting field.tokens ≡ Setting → ⊥) × (at ≡ field.label.span.start)
+    late Setting t h = absurd (none-some _ h)
+    late Equals t h = ((λ s. due_other (sym s ∙ t)), sym (some_same _ _ h))
+      where
+        due_other : Setting ≡ Equals → ⊥
+        due_other s = none-some _ (ap (end_place (Some 0)) s)
+    late Value t h = ((λ s. due_other (sym s ∙ t)), sym (some_same _ _ h))
+      where
+        due_other : Setting ≡ Value → ⊥
+        due_other s = none-some _ (ap (end_place (Some 0)) s)
+
+    by : (o : Option ℕ) → first_place departs [] field.tokens ≡ o
+        → else_place o (end_place (Some field.label.span.start) (turn_behind Setting field.tokens)) ≡ Some at → DepartsAt field at
+    by None n h = let l = late (turn_behind Setting field.tokens) refl h in inr (none_shown departs field.tokens n, l.0, l.1)
+    by (Some a) n h = inl (first_shown departs field.tokens at (n ∙ h))
+
+shown_departs : (field : Field) (at : ℕ) → DepartsAt field at → departure field.tokens (Some field.label.span.start) ≡ Some at
+unfolding departure
+shown_departs field at (inl h) =
+    ap (λ (o : Option ℕ). else_place o (end_place (Some field.label.span.start) (turn_behind Setting field.tokens))) (shown_place departs field.tokens at h)
+shown_departs field at (inr h) =
+    ap (λ (o : Option ℕ). else_place o (end_place (Some field.label.span.start) (turn_behind Setting field.tokens))) (none_place departs field.tokens h.0)
+    ∙ late (turn_behind Setting field.tokens) refl ∙ ap Some (sym h.2)
+  where
+    late : (turn : Turn) → turn_behind Setting field.tokens ≡ turn → end_place (Some field.label.span.start) turn ≡ Some field.label.span.start
+    late Setting t = absurd (h.1 t)
+    late Equals t = refl
+    late Value t = refl
+
+constant_shown : (tokens : List Seen) (at : ℕ) → constant_place tokens ≡ Some at → Shows tokens (Constant at)
+unfolding constant_place
+constant_shown tokens at e = by (field_with 6 tokens) refl e
+  where
+    by : (o : Option Field) → field_with 6 tokens ≡ o → constant_by o ≡ Some at → Shows tokens (Constant at)
+    by None f h = absurd (none-some _ h)
+    by (Some field) f h = (field, f, departs_shown field at h)
+
+shown_constant : (tokens : List Seen) (at : ℕ) → Shows tokens (Constant at) → constant_place tokens ≡ Some at
+unfolding constant_place
+shown_constant tokens at h = ap constant_by h.1 ∙ shown_departs h.0 at h.2
+
+-- what is computed is shown
+
+at_shown : (tokens : List Seen) (fault : ℕ → FieldFault) (o : Option ℕ) (others : Option FieldFault) (f : FieldFault)
+    → ((at : ℕ) → o ≡ Some at → Shows tokens (fault at)) → (others ≡ Some f → Shows tokens f) → fault_at fault o others ≡ Some f → Shows tokens f
+unfolding fault_at
+at_shown tokens fault None others f here rest h = rest h
+at_shown tokens fault (Some at) others f here rest h = subst (Shows tokens) (some_same _ _ h) (here at refl)
+
+without_shown : (tokens : List Seen) (others : Option FieldFault) (f : FieldFault) (o : Option Field) → field_with 1 tokens ≡ o
+    → (others ≡ Some f → Shows tokens f) → fault_without NoAuthorizer o others ≡ Some f → Shows tokens f
+unfolding fault_without
+without_shown tokens others f None e rest h = subst (Shows tokens) (some_same _ _ h) e
+without_shown tokens others f (Some field) e rest h = rest h
+
+pub fault_shown : (tokens : List Seen) (f : FieldFault) → fault_in tokens ≡ Some f → Shows tokens f
+unfolding fault_in
+fault_shown tokens f =
+    at_shown tokens BadField _ _ f (first_shown is_bad_field tokens)
+    (at_shown tokens FieldTwice _ _ f (first_shown is_second tokens)
+    (at_shown tokens FieldOrder _ _ f (order_shown tokens)
+    (without_shown tokens _ f (field_with 1 tokens) refl
+    (at_shown tokens Version _ _ f (version_shown tokens)
+    (at_shown tokens Constant _ _ f (constant_shown tokens) (λ h. absurd (none-some _ h)))))))
+
+-- the fault comes in the order behind this one, or is it
+unfoldable pub Least : Option FieldFault → FieldFault → Type 0
+Least None other = ⊥
+Least (Some fault) other = (fault_order fault < fault_order other) ⊎ (fault ≡ other)
+
+later : (fault : ℕ → FieldFault) (o : Option ℕ) (others : Option FieldFault) (other : FieldFault)
+    → ((at : ℕ) → fault_order (fault at) < fault_order other) → Least others other → Least (fault_at fault o others) other
+unfolding Least fault_at
+later fault None others other before rest = rest
+later fault (Some at) others other before rest = inl (before at)
+
+later_without : (o : Option Field) (others : Option FieldFault) (other : FieldFault)
+    → fault_order NoAuthorizer < fault_order other → Least others other → Least (fault_without NoAuthorizer o others) other
+unfolding Least fault_without
+later_without None others other before rest = inl before
+later_without (Some field) others other before rest = rest
+
+this : (fault : ℕ → FieldFault) (o : Option ℕ) (others : Option FieldFault) (at : ℕ) → o ≡ Some at → Least (fault_at fault o others) (fault at)
+unfolding Least fault_at
+this fault o others at e = subst (λ (x : Option ℕ). Least (fault_at fault x others) (fault at)) (sym e) (inr refl)
+
+this_without : (o : Option Field) (others : Option FieldFault) → o ≡ None → Least (fault_without NoAuthorizer o others) NoAuthorizer
+unfolding Least fault_without
+this_without o others e = subst (λ (x : Option Field). Least (fault_without NoAuthorizer x others) NoAuthorizer) (sym e) (inr refl)
+
+pub shown_least : (tokens : List Seen) (other : FieldFault) → Shows tokens other → Least (fault_in tokens) other
+unfolding fault_in
+shown_least tokens (TooLong len) s = absurd s
+shown_least tokens (Lexical fault) s = absurd s
+shown_least tokens (BadField at) s = this BadField _ _ at (shown_place is_bad_field tokens at s)
+shown_least tokens (FieldTwice at) s = later BadField _ _ (FieldTwice at) (λ k. omega arith) (this FieldTwice _ _ at (shown_place is_second tokens at s))
+shown_least tokens (FieldOrder at) s =
+    later BadField _ _ (FieldOrder at) (λ k. omega arith) (later FieldTwice _ _ (FieldOrder at) (λ k. omega arith) (this FieldOrder _ _ at (shown_order tokens at s)))
+shown_least tokens NoAuthorizer s =
+    later BadField _ _ NoAuthorizer (λ k. omega arith) (later FieldTwice _ _ NoAuthorizer (λ k. omega arith) (later FieldOrder _ _ NoAuthorizer (λ k. omega arith)
+    (this_without _ _ s)))
+shown_least tokens (Version at) s =
+    later BadField _ _ (Version at) (λ k. omega arith) (later FieldTwice _ _ (Version at) (λ k. omega arith) (later FieldOrder _ _ (Version at) (λ k. omega arith)
+    (later_without _ _ (Version at) (omega arith) (this Version _ _ at (shown_version tokens at s)))))
+shown_least tokens (Constant at) s =
+    later BadField _ _ (Constant at) (λ k. omega arith) (later FieldTwice _ _ (Constant at) (λ k. omega arith) (later FieldOrder _ _ (Constant at) (λ k. omega arith)
+    (later_without _ _ (Constant at) (omega arith) (later Version _ _ (Constant at) (λ k. omega arith) (this Constant _ _ at (shown_constant tokens at s))))))
+shown_least tokens NoMemory s = absurd s
+
+-- a text whose tokens are known has the faults that they show
+
+raise : (text : List ℕ) (tokens : List Seen) → Cuts text tokens → IsFaultless text → (fault : FieldFault) → Shows tokens fault → HasFault text fault
+raise text tokens c n (TooLong len) s = absurd s
+raise text tokens c n (Lexical fault) s = absurd s
+raise text tokens c n (BadField at) s = record { tokens = tokens; cut = c; faultless = n; shown = s }
+raise text tokens c n (FieldTwice at) s = record { tokens = tokens; cut = c; faultless = n; shown = s }
+raise text tokens c n (FieldOrder at) s = record { tokens = tokens; cut = c; faultless = n; shown = s }
+raise text tokens c n NoAuthorizer s = record { tokens = tokens; cut = c; faultless = n; shown = s }
+raise text tokens c n (Version at) s = record { tokens = tokens; cut = c; faultless = n; shown = s }
+raise text tokens c n (Constant at) s = record { tokens = tokens; cut = c; faultless = n; shown = s }
+raise text tokens c n NoMemory s = absurd s
+
+same_tokens : OneList → (text : List ℕ) (tokens : List Seen) → Cuts text tokens → (fault : FieldFault) → TokensShow text fault → Shows tokens fault
+same_tokens one text tokens c fault h = subst (λ (ts : List Seen). Shows ts fault) (one text h.tokens tokens h.cut c) h.shown
+
+lower : OneList → (text : List ℕ) (tokens : List Seen) → length text ≤ 16384 → Cuts text tokens → IsFaultless text → (fault : FieldFault) → HasFault text fault
+    → Shows tokens fault
+lower one text tokens le c n (TooLong len) h = let long = h.0 in omega (arith, long, le)
+lower one text tokens le c n (Lexical fault) h = n fault h.has
+lower one text tokens le c n (BadField at) h = same_tokens one text tokens c (BadField at) h
+lower one text tokens le c n (FieldTwice at) h = same_tokens one text tokens c (FieldTwice at) h
+lower one text tokens le c n (FieldOrder at) h = same_tokens one text tokens c (FieldOrder at) h
+lower one text tokens le c n NoAuthorizer h = same_tokens one text tokens c NoAuthorizer h
+lower one text tokens le c n (Version at) h = same_tokens one text tokens c (Version at) h
+lower one text tokens le c n (Constant at) h = same_tokens one text tokens c (Constant at) h
+lower one text tokens le c n NoMemory h = absurd h
+
+pub has_cause : (text : List ℕ) (fault : FieldFault) → IsFirstFault text fault → HasCause text fault
+has_cause text (TooLong len) h = h
+has_cause text (Lexical fault) h = h
+has_cause text (BadField at) h = h
+has_cause text (FieldTwice at) h = h
+has_cause text (FieldOrder at) h = h
+has_cause text NoAuthorizer h = h
+has_cause text (Version at) h = h
+has_cause text (Constant at) h = h
+has_cause text NoMemory h = tt
+
+pub first_fault : OneList → (text : List ℕ) (tokens : List Seen) → length text ≤ 16384 → Cuts text tokens → IsFaultless text
+    → (fault : FieldFault) → fault_in tokens ≡ Some fault → IsFirstFault text fault
+unfolding Least
+first_fault one text tokens le c n fault e =
+    record {
+      has = raise text tokens c n fault (fault_shown tokens fault e);
+      least = λ other h. subst (λ (o : Option FieldFault). Least o other) e (shown_least tokens other (lower one text tokens le c n other h));
+    }
+
+pub no_fault : OneList → (text : List ℕ) (tokens : List Seen) → length text ≤ 16384 → Cuts text tokens → IsFaultless text → fault_in tokens ≡ None → IsWellFielded text
+unfolding Least
+no_fault one text tokens le c n e fault h = subst (λ (o : Option FieldFault). Least o fault) e (shown_least tokens fault (lower one text tokens le c n fault h))
+
+-- the faults that come before those of the tokens
+
+pub too_long : (text : List ℕ) → 16384 < length text → IsFirstFault text (TooLong (length text))
+too_long text long = record { has = (long, refl); least = least }
+  where
+    least : (other : FieldFault) → HasFault text other → (0 < fault_order other) ⊎ (TooLong (length text) ≡ other)
+    least (TooLong len) h = inr (ap TooLong (sym h.1))
+    least (Lexical fault) h = inl (omega arith)
+    least (BadField at) h = inl (omega arith)
+    least (FieldTwice at) h = inl (omega arith)
+    least (FieldOrder at) h = inl (omega arith)
+    least NoAuthorizer h = inl (omega arith)
+    least (Version at) h = inl (omega arith)
+    least (Constant at) h = inl (omega arith)
+    least NoMemory h = absurd h
+
+first_lexical : OneFault → (text : List ℕ) (fault : LexFault) → length text ≤ 16384 → IsFirstLexicalFault text fault → IsFirstFault text (Lexical fault)
+first_lexical one text fault le first = record { has = first; least = least }
+  where
+    least : (other : FieldFault) → HasFault text other → (1 < fault_order other) ⊎ (Lexical fault ≡ other)
+    least (TooLong len) h = let long = h.0 in absurd (omega (arith, long, le))
+    least (Lexical another) h = inr (ap Lexical (one text fault another first h))
+    least (BadField at) h = inl (omega arith)
+    least (FieldTwice at) h = inl (omega arith)
+    least (FieldOrder at) h = inl (omega arith)
+    least NoAuthorizer h = inl (omega arith)
+    least (Version at) h = inl (omega arith)
+    least (Constant at) h = inl (omega arith)
+    least NoMemory h = absurd h
+
+pub lexical_cause : OneFault → (text : List ℕ) (fault : LexFault) → length text ≤ 16384 → HasLexicalCause text fault → HasCause text (of_lexical fault)
+lexical_cause one text (NotText at) le h = first_lexical one text (NotText at) le h
+lexical_cause one text (BadString at) le h = first_lexical one text (BadString at) le h
+lexical_cause one text (BadToken at) le h = first_lexical one text (BadToken at) le h
+lexical_cause one text (Float at) le h = first_lexical one text (Float at) le h
+lexical_cause one text (Regex at) le h = first_lexical one text (Regex at) le h
+lexical_cause one text (Number at) le h = first_lexical one text (Number at) le h
+lexical_cause one text (Blank at) le h = first_lexical one text (Blank at) le h
+lexical_cause one text NoLexMemory le h = tt
+
+-- every text has a first fault or none
+pub every_text : OneList → OneFault → (text : List ℕ)
+    → (((tokens : List Seen) × Cuts text tokens × IsFaultless text) ⊎ ((fault : LexFault) × IsFirstLexicalFault text fault))
+    → IsWellFielded text ⊎ ((fault : FieldFault) × IsFirstFault text fault)
+every_text one_list one_fault text known = size (nat_lt 16384 (length text)) refl
+  where
+    tokens_by : length text ≤ 16384 → (tokens : List Seen) → Cuts text tokens → IsFaultless text → (o : Option FieldFault) → fault_in tokens ≡ o
+        → IsWellFielded text ⊎ ((fault : FieldFault) × IsFirstFault text fault)
+    tokens_by le tokens c n None e = inl (no_fault one_list text tokens le c n e)
+    tokens_by le tokens c n (Some fault) e = inr (fault, first_fault one_list text tokens le c n fault e)
+
+    short : length text ≤ 16384 → (((tokens : List Seen) × Cuts text tokens × IsFaultless text) ⊎ ((fault : LexFault) × IsFirstLexicalFault text fault))
+        → IsWellFielded text ⊎ ((fault : FieldFault) × IsFirstFault text fault)
+    short le (inl h) = tokens_by le h.0 h.1 h.2 (fault_in h.0) refl
+    short le (inr h) = inr (Lexical h.0, first_lexical one_fault text h.0 le h.1)
+
+    size : (b : Bool) → nat_lt 16384 (length text) ≡ b → IsWellFielded text ⊎ ((fault : FieldFault) × IsFirstFault text fault)
+    size true b = inr (TooLong (length text), too_long text ((Decides-ltb 16384 (length text)).0 b))
+    size false b = short (grind (arith, nat_tests)) known
+
+-- where no constant is at fault, their list departs nowhere
+pub sound_list : (tokens : List Seen) (field : Field) → field_with 6 tokens ≡ Some field → constant_place tokens ≡ None → first_place departs [] field.tokens ≡ None
+unfolding constant_place departure
+sound_list tokens field f e =
+    by (first_place departs [] field.tokens) (sym (ap constant_by f) ∙ e)
+  where
+    by : (o : Option ℕ) → else_place o (end_place (Some field.label.span.start) (turn_behind Setting field.tokens)) ≡ None → o ≡ None
+    by None h = refl
+    by (Some at) h = absurd (none-some _ (sym h))
+
+-- the readers' answers are what is computed
+
+pub found : (fault : ℕ → FieldFault) (o : Option ℕ) (others : Option FieldFault) (at : ℕ) → Some at ≡ o → Some (fault at) ≡ fault_at fault o others
+unfolding fault_at
+found fault o others at e = ap (λ (x : Option ℕ). fault_at fault x others) e
+
+pub passed : (fault : ℕ → FieldFault) (o : Option ℕ) (others : Option FieldFault) → None ≡ o → others ≡ fault_at fault o others
+unfolding fault_at
+passed fault o others e = ap (λ (x : Option ℕ). fault_at fault x others) e
+
+pub found_without : (fault : FieldFault) (o : Option Field) (others : Option FieldFault) → o ≡ None → Some fault ≡ fault_without fault o others
+unfolding fault_without
+found_without fault o others e = sym (ap (λ (x : Option Field). fault_without fault x others) e)
+
+pub passed_without : (fault : FieldFault) (o : Option Field) (others : Option FieldFault) (field : Field) → o ≡ Some field → others ≡ fault_without fault o others
+unfolding fault_without
+passed_without fault o others field e = sym (ap (λ (x : Option Field). fault_without fault x others) e)
+
+pub version_absent : (tokens : List Seen) → field_with 4 tokens ≡ None → None ≡ version_place tokens
+unfolding version_place
+version_absent tokens e = sym (ap version_by e)
+
+pub version_right : (tokens : List Seen) (part : Part) → PartIs 4 tokens (Some part) → is_version (between (part.label + 1) part.end tokens) ≡ true → None ≡ version_place tokens
+unfolding version_place
+version_right tokens part h v =
+    let right : is_version h.0.tokens ≡ true = ap is_version h.2.own ∙ v in
+    sym (ap version_by h.1 ∙ ap (λ (b : Bool). if b then None else Some h.0.label.span.start) right)
+
+pub version_wrong : (tokens : List Seen) (part : Part) → PartIs 4 tokens (Some part) → is_version (between (part.label + 1) part.end tokens) ≡ false
+    → start_of (slice_get tokens part.label) ≡ version_place tokens
+unfolding version_place
+version_wrong tokens part h v =
+    let wrong : is_version h.0.tokens ≡ false = ap is_version h.2.own ∙ v in
+    ap start_of h.2.label ∙ sym (ap version_by h.1 ∙ ap (λ (b : Bool). if b then None else Some h.0.label.span.start) wrong)
+
+pub constant_absent : (tokens : List Seen) → field_with 6 tokens ≡ None → None ≡ constant_place tokens
+unfolding constant_place
+constant_absent tokens e = sym (ap constant_by e)
+
+pub constant_present : (tokens : List Seen) (part : Part) → PartIs 6 tokens (Some part)
+    → departure (between (part.label + 1) part.end tokens) (start_of (slice_get tokens part.label)) ≡ constant_place tokens
+unfolding constant_place
+constant_present tokens part h =
+    ap (departure (between (part.label + 1) part.end tokens)) (ap start_of h.2.label)
+    ∙ ap (λ (ts : List Seen). departure ts (Some h.0.label.span.start)) (sym h.2.own) ∙ sym (ap constant_by h.1)
+
+pub no_constant_fault : (tokens : List Seen) → fault_in tokens ≡ None → constant_place tokens ≡ None
+unfolding Least
+no_constant_fault tokens e = by (constant_place tokens) refl
+  where
+    by : (o : Option ℕ) → constant_place tokens ≡ o → o ≡ None
+    by None h = refl
+    by (Some at) h = absurd (subst (λ (x : Option FieldFault). Least x (Constant at)) e (shown_least tokens (Constant at) (constant_shown tokens at h)))
+
+pub one_first : (text : List ℕ) (fault other : FieldFault) → IsFirstFault text fault → IsFirstFault text other → fault ≡ other
+one_first text fault other h k = by (h.least other k.has) (k.least fault h.has)
+  where
+    by : (fault_order fault < fault_order other) ⊎ (fault ≡ other) → (fault_order other < fault_order fault) ⊎ (other ≡ fault) → fault ≡ other
+    by (inr same) back = same
+    by (inl less) (inr same) = sym same
+    by (inl less) (inl more) = absurd (omega (arith, less, more))

@@ -1,0 +1,11 @@
+use Rattle.kn_fields.proofs.Shown.{every_text, one_first}
+use Rattle.kn_fields.proofs.laws.no_fault_or_first_fault.Goals as goal
+
+pub returns-clause-some : goal.returns-clause-some
+returns-clause-some c text = every_text c.tokens_or_first_fault.ensures.one_list c.tokens_or_first_fault.ensures.one_fault text (c.tokens_or_first_fault.ensures.some text)
+
+pub returns-clause-not_both : goal.returns-clause-not_both
+returns-clause-not_both c text fault none first = none fault first.has
+
+pub returns-clause-one_fault : goal.returns-clause-one_fault
+returns-clause-one_fault c text fault other h k = one_first text fault other h k

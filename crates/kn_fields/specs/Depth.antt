@@ -1,0 +1,33 @@
+-- How deep the tokens of a field go. Both bounds are keynoted's own.
+use Rattle.std.specs.Prelude.{◌≡◌, ℕ, ◌+◌, ◌-◌, ◌<◌, ◌⊎◌, Bool, ◌&&◌, ◌||◌, List, ◌++◌, fold, codes, if◌then◌else◌}
+use Rattle.std.specs.Str.{bytes_eq}
+use Rattle.kn_lex.specs.Cutting.{Seen}
+use Rattle.kn_fields.specs.Constants.{is_sign_sort}
+
+-- the token is this sign
+abbrev pub is_sign : List ℕ → Seen → Bool
+is_sign text token = is_sign_sort token.sort && bytes_eq token.text text
+
+abbrev pub is_opening : Seen → Bool
+is_opening token = is_sign (codes "(") token || is_sign (codes "{") token
+
+abbrev pub is_closing : Seen → Bool
+is_closing token = is_sign (codes ")") token || is_sign (codes "}") token
+
+abbrev pub is_prefix : Seen → Bool
+is_prefix token = is_sign (codes "!") token || is_sign (codes "-") token || is_sign (codes "@") token || is_sign (codes "$") token
+
+-- the brackets that are open behind a token; a closing one lowers the count, not below 0
+unfoldable pub depth_behind : ℕ → Seen → ℕ
+depth_behind depth token = if is_opening token then depth + 1 else if is_closing token then depth - 1 else depth
+
+-- the prefix signs that stand in a row up to a token
+unfoldable pub run_behind : ℕ → Seen → ℕ
+run_behind run token = if is_prefix token then run + 1 else 0
+
+-- behind some of these tokens more than 64 brackets are open, or more than 8 prefix signs stand in a row
+pub record IsTooDeep (tokens : List Seen) : Type 0 where
+  pub front : List Seen
+  pub rest : List Seen
+  pub split : tokens ≡ front ++ rest
+  pub deep : (64 < fold depth_behind 0 front) ⊎ (8 < fold run_behind 0 front)

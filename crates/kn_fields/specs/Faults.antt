@@ -1,0 +1,148 @@
+-- The faults of a text by its fields, each with its place, in the one order in which they are answered. The
+-- faults and their order are keynoted's own.
+use Rattle.std.specs.Prelude.{◌≡◌, ℕ, ◌<◌, ◌==◌, ◌⊎◌, Bool, true, false, ◌&&◌, ◌||◌, is_none, List, [], ◌∷◌, ◌++◌, length, codes, Option, Some, None}
+use Rattle.std.specs.List.{list_any}
+use Rattle.std.specs.Str.{bytes_eq}
+use Rattle.kn_env.specs.declared.constant.Constant.{Constant as Set}
+use Rattle.kn_lex.specs.Cutting.{Seen, Cuts}
+use Rattle.kn_lex.specs.Faults.{IsFaultless, IsFirstLexicalFault}
+use Rattle.kn_lex.specs.Literal.{literal_value}
+use Rattle.kn_lex.specs.declared.token.Sort.{Sort}
+use Rattle.kn_lex.specs.declared.token.Sort.TheVariants.{Label, Body, Name, Number, Text, Sign}
+use Rattle.kn_fields.specs.Fields.{is_label, field_of, is_label_of, Field, field_with}
+use Rattle.kn_fields.specs.Constants.{turn_behind, departs, constants_of}
+use Rattle.kn_fields.specs.declared.constants.Turn.TheVariants.{Setting}
+use Rattle.kn_fields.specs.declared.fault.FieldFault.{FieldFault}
+use Rattle.kn_fields.specs.declared.fault.FieldFault.TheVariants.{TooLong, Lexical, BadField, FieldTwice, FieldOrder, NoAuthorizer, Version, Constant, NoMemory}
+
+-- no token is bad behind those before it
+abbrev pub HasNone : (List Seen → Seen → Bool) → List Seen → Type 0
+HasNone is_bad tokens =
+    (before : List Seen) (token : Seen) (behind : List Seen) → tokens ≡ before ++ token ∷ behind → is_bad before token ≡ false
+
+-- the first token that is bad behind those before it stands at this place
+pub record HasFirst (is_bad : List Seen → Seen → Bool) (tokens : List Seen) (at : ℕ) : Type 0 where
+  pub before : List Seen
+  pub token : Seen
+  pub behind : List Seen
+  pub here : tokens ≡ before ++ token ∷ behind
+  pub bad : is_bad before token ≡ true
+  pub first : HasNone is_bad before
+  pub place : at ≡ token.span.start
+
+-- a token that is the text's first, or stands at the beginning of a line, and is no label of a field
+abbrev pub is_bad_field : List Seen → Seen → Bool
+is_bad_field before token = (length before == 0 || token.first) && is_none (field_of token)
+
+abbrev pub is_repeat : List Seen → Option ℕ → Bool
+is_repeat before None = false
+is_repeat before (Some number) = list_any (is_label_of number) before
+
+-- a label whose field stood before
+abbrev pub is_second : List Seen → Seen → Bool
+is_second before token = is_repeat before (field_of token)
+
+-- the label of a version that isn't the first label
+abbrev pub is_late_version : List Seen → Seen → Bool
+is_late_version before token = is_label_of 4 token && list_any is_label before
+
+-- a label behind that of a signature
+abbrev pub is_behind_signature : List Seen → Seen → Bool
+is_behind_signature before token = is_label token && list_any (is_label_of 7) before
+
+-- the text is the digit 2
+abbrev pub is_two : List ℕ → Bool
+is_two text = bytes_eq text (codes "2")
+
+abbrev pub is_two_by : Sort → List ℕ → Bool
+is_two_by Label text = false
+is_two_by Body text = false
+is_two_by Name text = false
+is_two_by Number text = is_two text
+is_two_by Text text = is_two (literal_value text)
+is_two_by Sign text = false
+
+-- one number spelled `2`, or one literal of value `2`
+abbrev pub is_version : List Seen → Bool
+is_version [] = false
+is_version (token ∷ []) = is_two_by token.sort token.text
+is_version (token ∷ next ∷ tokens) = false
+
+-- the list of constants departs at this place, or breaks off at its end, which is told by the label's place
+abbrev pub DepartsAt : Field → ℕ → Type 0
+DepartsAt field at =
+    HasFirst departs field.tokens at
+    ⊎ (HasNone departs field.tokens × (turn_behind Setting field.tokens ≡ Setting → ⊥) × (at ≡ field.label.span.start))
+
+-- there is a field of this number, and it is so
+abbrev pub HasField : ℕ → List Seen → (Field → Type 0) → Type 0
+HasField number tokens IsSo = (field : Field) × (field_with number tokens ≡ Some field) × IsSo field
+
+-- the tokens show this fault
+abbrev pub Shows : List Seen → FieldFault → Type 0
+Shows tokens (TooLong len) = ⊥
+Shows tokens (Lexical fault) = ⊥
+Shows tokens (BadField at) = HasFirst is_bad_field tokens at
+Shows tokens (FieldTwice at) = HasFirst is_second tokens at
+Shows tokens (FieldOrder at) =
+    HasFirst is_late_version tokens at ⊎ (HasNone is_late_version tokens × HasFirst is_behind_signature tokens at)
+Shows tokens NoAuthorizer = field_with 1 tokens ≡ None
+Shows tokens (Version at) = HasField 4 tokens (λ field. (is_version field.tokens ≡ false) × (at ≡ field.label.span.start))
+Shows tokens (Constant at) = HasField 6 tokens (λ field. DepartsAt field at)
+Shows tokens NoMemory = ⊥
+
+-- the text has no lexical fault, and its tokens show this one
+pub record TokensShow (text : List ℕ) (fault : FieldFault) : Type 0 where
+  pub tokens : List Seen
+  pub cut : Cuts text tokens
+  pub faultless : IsFaultless text
+  pub shown : Shows tokens fault
+
+-- the text has this fault
+abbrev pub HasFault : List ℕ → FieldFault → Type 0
+HasFault text (TooLong len) = (16384 < length text) × (len ≡ length text)
+HasFault text (Lexical fault) = IsFirstLexicalFault text fault
+HasFault text (BadField at) = TokensShow text (BadField at)
+HasFault text (FieldTwice at) = TokensShow text (FieldTwice at)
+HasFault text (FieldOrder at) = TokensShow text (FieldOrder at)
+HasFault text NoAuthorizer = TokensShow text NoAuthorizer
+HasFault text (Version at) = TokensShow text (Version at)
+HasFault text (Constant at) = TokensShow text (Constant at)
+HasFault text NoMemory = ⊥
+
+-- the one order of faults
+abbrev pub fault_order : FieldFault → ℕ
+fault_order (TooLong len) = 0
+fault_order (Lexical fault) = 1
+fault_order (BadField at) = 2
+fault_order (FieldTwice at) = 3
+fault_order (FieldOrder at) = 4
+fault_order NoAuthorizer = 5
+fault_order (Version at) = 6
+fault_order (Constant at) = 7
+fault_order NoMemory = 8
+
+-- the text has this fault, and any other one comes later in the order
+pub record IsFirstFault (text : List ℕ) (fault : FieldFault) : Type 0 where
+  pub has : HasFault text fault
+  pub least : (other : FieldFault) → HasFault text other → (fault_order fault < fault_order other) ⊎ (fault ≡ other)
+
+-- the text has none of these faults
+abbrev pub IsWellFielded : List ℕ → Type 0
+IsWellFielded text = (fault : FieldFault) → HasFault text fault → ⊥
+
+abbrev pub constants_in : Option Field → List Set
+constants_in None = []
+constants_in (Some field) = constants_of field.tokens
+
+-- the fault is the first of the text, or there is no memory
+abbrev pub HasCause : List ℕ → FieldFault → Type 0
+HasCause text (TooLong len) = IsFirstFault text (TooLong len)
+HasCause text (Lexical fault) = IsFirstFault text (Lexical fault)
+HasCause text (BadField at) = IsFirstFault text (BadField at)
+HasCause text (FieldTwice at) = IsFirstFault text (FieldTwice at)
+HasCause text (FieldOrder at) = IsFirstFault text (FieldOrder at)
+HasCause text NoAuthorizer = IsFirstFault text NoAuthorizer
+HasCause text (Version at) = IsFirstFault text (Version at)
+HasCause text (Constant at) = IsFirstFault text (Constant at)
+HasCause text NoMemory = Unit {0}

@@ -1,0 +1,5 @@
+pub mod Fields
+pub mod Constants
+pub mod Faults
+pub mod Depth
+pub mod Scanning

@@ -1,0 +1,99 @@
+-- What the private readers give: the first fault, computed.
+use Rattle.std.specs.Prelude.{ℕ, Bool, List, [], ◌∷◌, ◌++◌, Option, Some, None, if◌then◌else◌, ◌||◌, nat_lt, false}
+use Rattle.kn_lex.specs.Cutting.{Seen}
+use Rattle.kn_lex.specs.declared.fault.LexFault.{LexFault}
+use Rattle.kn_lex.specs.declared.fault.LexFault.TheVariants.{NotText, BadString, BadToken, Float, Regex, Number, Blank, NoMemory as NoLexMemory}
+use Rattle.kn_fields.specs.Fields.{Field, field_with}
+use Rattle.kn_fields.specs.Constants.{turn_behind, departs}
+use Rattle.kn_fields.specs.Depth.{depth_behind, run_behind}
+use Rattle.kn_fields.specs.Faults.{is_bad_field, is_second, is_late_version, is_behind_signature, is_version}
+use Rattle.kn_fields.specs.declared.constants.Turn.{Turn}
+use Rattle.kn_fields.specs.declared.constants.Turn.TheVariants.{Setting, Equals, Value}
+use Rattle.kn_fields.specs.declared.labels.Wrong.{Wrong}
+use Rattle.kn_fields.specs.declared.labels.Wrong.TheVariants.{NoField, Second, LateVersion, BehindSignature}
+use Rattle.kn_fields.specs.declared.fault.FieldFault.{FieldFault}
+use Rattle.kn_fields.specs.declared.fault.FieldFault.TheVariants.{Lexical, BadField, FieldTwice, FieldOrder, NoAuthorizer, Version, Constant, NoMemory}
+
+-- the place of the first bad token among these, which stand behind others
+unfoldable pub first_place : (List Seen → Seen → Bool) → List Seen → List Seen → Option ℕ
+first_place is_bad before [] = None
+first_place is_bad before (token ∷ tokens) =
+    if is_bad before token then Some token.span.start else first_place is_bad (before ++ token ∷ []) tokens
+
+abbrev pub else_place : Option ℕ → Option ℕ → Option ℕ
+else_place None other = other
+else_place (Some at) other = Some at
+
+abbrev pub is_wrong : Wrong → List Seen → Seen → Bool
+is_wrong NoField = is_bad_field
+is_wrong Second = is_second
+is_wrong LateVersion = is_late_version
+is_wrong BehindSignature = is_behind_signature
+
+abbrev pub order_place : List Seen → Option ℕ
+order_place tokens = else_place (first_place is_late_version [] tokens) (first_place is_behind_signature [] tokens)
+
+abbrev pub start_of : Option Seen → Option ℕ
+start_of None = None
+start_of (Some token) = Some token.span.start
+
+abbrev pub version_by : Option Field → Option ℕ
+version_by None = None
+version_by (Some field) = if is_version field.tokens then None else Some field.label.span.start
+
+unfoldable pub version_place : List Seen → Option ℕ
+version_place tokens = version_by (field_with 4 tokens)
+
+abbrev pub end_place : Option ℕ → Turn → Option ℕ
+end_place label Setting = None
+end_place label Equals = label
+end_place label Value = label
+
+-- where a list of constants departs, or the label's place where it breaks off
+unfoldable pub departure : List Seen → Option ℕ → Option ℕ
+departure tokens label = else_place (first_place departs [] tokens) (end_place label (turn_behind Setting tokens))
+
+abbrev pub constant_by : Option Field → Option ℕ
+constant_by None = None
+constant_by (Some field) = departure field.tokens (Some field.label.span.start)
+
+unfoldable pub constant_place : List Seen → Option ℕ
+constant_place tokens = constant_by (field_with 6 tokens)
+
+unfoldable pub fault_at : (ℕ → FieldFault) → Option ℕ → Option FieldFault → Option FieldFault
+fault_at fault None others = others
+fault_at fault (Some at) others = Some (fault at)
+
+unfoldable pub fault_without : FieldFault → Option Field → Option FieldFault → Option FieldFault
+fault_without fault None others = Some fault
+fault_without fault (Some field) others = others
+
+-- the first fault that the tokens show
+unfoldable pub fault_in : List Seen → Option FieldFault
+fault_in tokens =
+    fault_at BadField (first_place is_bad_field [] tokens)
+    (fault_at FieldTwice (first_place is_second [] tokens)
+    (fault_at FieldOrder (order_place tokens)
+    (fault_without NoAuthorizer (field_with 1 tokens)
+    (fault_at Version (version_place tokens)
+    (fault_at Constant (constant_place tokens) None)))))
+
+-- what is told of a text whose tokens couldn't be had
+abbrev pub of_lexical : LexFault → FieldFault
+of_lexical (NotText at) = Lexical (NotText at)
+of_lexical (BadString at) = Lexical (BadString at)
+of_lexical (BadToken at) = Lexical (BadToken at)
+of_lexical (Float at) = Lexical (Float at)
+of_lexical (Regex at) = Lexical (Regex at)
+of_lexical (Number at) = Lexical (Number at)
+of_lexical (Blank at) = Lexical (Blank at)
+of_lexical NoLexMemory = NoMemory
+
+abbrev pub is_past : ℕ → ℕ → Bool
+is_past depth run = nat_lt 64 depth || nat_lt 8 run
+
+-- the tokens go too deep, where so many brackets are open and so many signs stand before them
+unfoldable pub goes_deep : ℕ → ℕ → List Seen → Bool
+goes_deep depth run [] = false
+goes_deep depth run (token ∷ tokens) =
+    is_past (depth_behind depth token) (run_behind run token) || goes_deep (depth_behind depth token) (run_behind run token) tokens

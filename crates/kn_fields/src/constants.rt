@@ -1,0 +1,199 @@
+ghost use Rattle.std.specs.Prelude.{◌≡◌, ◌+◌, ◌<◌, ◌≤◌, ◌^◌, Some, None, [], ◌∷◌, ◌++◌, length, slice_get, slice_index, IfOk, OnOk};
+ghost use Rattle.std.specs.List.{list_any};
+ghost use Rattle.kn_lex.specs.Cutting.{Seen};
+ghost use Rattle.kn_lex.specs.Seeing.{seen};
+ghost use Rattle.kn_fields.specs.Fields.{between, field_with};
+ghost use Rattle.kn_fields.specs.Constants.{is_name, next_turn, turn_behind, fits, departs, constant_of, constants_of};
+ghost use Rattle.kn_fields.specs.Faults.{constants_in};
+ghost use Rattle.kn_fields.specs.Scanning.{first_place, end_place, departure, constant_place};
+
+use crate::label::LOCAL_CONSTANTS;
+use crate::part::{Part, label_start, part_of};
+use kn_base::{List, NoMemory, Octets};
+use kn_env::Constant;
+use kn_lex::{Sort, Token, Tokens, literal};
+use std::alloc::Global;
+
+/// What is due next in a list of constants.
+#[derive(Debug, Clone, Copy)]
+pub enum Turn {
+    /// The name of a further constant.
+    Setting,
+    /// The sign `=`.
+    Equals,
+    /// The literal of its value.
+    Value,
+}
+
+fn next_turn(turn: Turn) -> Turn
+    ensures { result ≡ next_turn turn }
+{
+    match turn {
+        Turn::Setting => Turn::Equals,
+        Turn::Equals => Turn::Value,
+        Turn::Value => Turn::Setting,
+    }
+}
+
+fn is_name(token: &Token<'_>, name: &[u8]) -> bool
+    ensures { result ≡ is_name name.now (seen token.now) }
+{
+    match token.sort {
+        Sort::Name => token.text == name,
+        _ => false,
+    }
+}
+
+/// Whether a name stands among the tokens from one place up to another.
+fn stands_among(tokens: &Tokens<'_>, from: u32, to: u32, name: &[u8]) -> bool
+    requires ordered { from ≤ to }
+    requires within { to ≤ length tokens.now }
+    ensures { result ≡ list_any (is_name name.now) (between from to tokens.now) }
+{
+    for i in from..to {
+        if let Some(token) = tokens.get(i) {
+            if is_name(token, name) {
+                return true;
+            }
+        }
+    }
+    false
+}
+
+/// Whether a token may be set: a name that doesn't begin with `_` and stands nowhere before, from one
+/// place up to another.
+fn is_new_name(tokens: &Tokens<'_>, from: u32, to: u32, token: &Token<'_>) -> bool
+    requires ordered { from ≤ to }
+    requires within { to ≤ length tokens.now }
+    ensures { result ≡ fits Turn.Setting (between from to tokens.now) (seen token.now) }
+{
+    match token.sort {
+        Sort::Name => {
+            first_byte(token.text) != b'_' && !stands_among(tokens, from, to, token.text)
+        }
+        _ => false,
+    }
+}
+
+fn first_byte(text: &[u8]) -> u8
+    ensures { result ≡ slice_index text.now 0 }
+{
+    if text.is_empty() { 0 } else { text[0] }
+}
+
+/// Whether a token is what is due at its place, in a list that began at another.
+fn fits(tokens: &Tokens<'_>, from: u32, to: u32, turn: Turn, token: &Token<'_>) -> bool
+    requires ordered { from ≤ to }
+    requires within { to ≤ length tokens.now }
+    ensures { result ≡ fits turn (between from to tokens.now) (seen token.now) }
+{
+    match turn {
+        Turn::Setting => is_new_name(tokens, from, to, token),
+        Turn::Equals => match token.sort {
+            Sort::Sign => token.text == b"=".as_slice(),
+            _ => false,
+        },
+        Turn::Value => match token.sort {
+            Sort::Text => true,
+            _ => false,
+        },
+    }
+}
+
+/// Where a list breaks off at whose end this is due.
+fn end_place(label: Option<u32>, turn: Turn) -> Option<u32>
+    ensures { result ≡ end_place label turn }
+{
+    match turn {
+        Turn::Setting => None,
+        Turn::Equals => label,
+        Turn::Value => label,
+    }
+}
+
+/// Where a list of constants departs, or `label` where it breaks off at its end.
+fn departure(tokens: &Tokens<'_>, from: u32, to: u32, label: Option<u32>) -> Option<u32>
+    requires ordered { from ≤ to }
+    requires within { to ≤ length tokens.now }
+    ensures { result ≡ departure (between from to tokens.now) label }
+{
+    let mut turn = Turn::Setting;
+    for i in from..to {
+        if let Some(token) = tokens.get(i) {
+            if !fits(tokens, from, i, turn, token) {
+                return Some(token.span.start);
+            }
+        }
+        turn = next_turn(turn);
+    }
+    end_place(label, turn)
+}
+
+/// Adds the constant whose name, sign and literal stand from this place on.
+fn push_constant(
+    alloc: Global,
+    list: &mut List<Constant>,
+    tokens: &Tokens<'_>,
+    at: u32,
+) -> Result<(), NoMemory>
+    requires fits { at + 2 < 2 ^ 32 }
+    requires literal { (value : Seen) → slice_get tokens.now (at + 2) ≡ Some value → value.sort ≡ Sort.Text }
+    ensures { (name value : Seen) → slice_get tokens.now at ≡ Some name → slice_get tokens.now (at + 2) ≡ Some value → OnOk result (list.new ≡ list.old ++ constant_of name value ∷ []) }
+{
+    let Some(name) = tokens.get(at) else {
+        return Ok(());
+    };
+    let Some(value) = tokens.get(at + 2) else {
+        return Ok(());
+    };
+    let constant = Constant {
+        name: Octets::from_slice(alloc, name.text)?,
+        value: literal(alloc, value)?,
+    };
+    match list.push(constant) {
+        Ok(()) => Ok(()),
+        Err(_) => Err(NoMemory),
+    }
+}
+
+/// The constants of a list that is known to be right.
+fn constants_between(
+    alloc: Global,
+    tokens: &Tokens<'_>,
+    from: u32,
+    to: u32,
+) -> Result<List<Constant>, NoMemory>
+    requires ordered { from ≤ to }
+    requires within { to ≤ length tokens.now }
+    requires sound { first_place departs [] (between from to tokens.now) ≡ None }
+    ensures { IfOk result (λ list. list ≡ constants_of (between from to tokens.now)) }
+{
+    let mut list = List::new(alloc);
+    let mut i = from;
+    while to - i > 2 {
+        push_constant(alloc, &mut list, tokens, i)?;
+        i += 3;
+    }
+    Ok(list)
+}
+
+/// The place of the first fault of the local constants, if there are any.
+pub(crate) fn constant_place(tokens: &Tokens<'_>) -> Option<u32>
+    ensures { result ≡ constant_place tokens.now }
+{
+    let Some(part) = part_of(tokens, LOCAL_CONSTANTS) else {
+        return None;
+    };
+    departure(tokens, part.label + 1, part.end, label_start(tokens, part))
+}
+
+/// The local constants of a text.
+pub(crate) fn constants(alloc: Global, tokens: &Tokens<'_>) -> Result<List<Constant>, NoMemory>
+    requires { constant_place tokens.now ≡ None }
+    ensures { IfOk result (λ list. list ≡ constants_in (field_with 6 tokens.now)) }
+{
+    match part_of(tokens, LOCAL_CONSTANTS) {
+        Some(part) => constants_between(alloc, tokens, part.label + 1, part.end),
+        None => Ok(List::new(alloc)),
+    }
+}

@@ -1,0 +1,72 @@
+ghost use Rattle.std.specs.Prelude.{◌≡◌};
+ghost use Rattle.kn_lex.specs.Seeing.{seen};
+ghost use Rattle.kn_fields.specs.Fields.{field_number, is_label, field_of, is_label_of};
+
+use kn_lex::{Sort, Token};
+
+pub(crate) const AUTHORIZER: u8 = 1;
+
+pub(crate) const COMMENT: u8 = 2;
+
+pub(crate) const CONDITIONS: u8 = 3;
+
+pub(crate) const VERSION: u8 = 4;
+
+pub(crate) const LICENSEES: u8 = 5;
+
+pub(crate) const LOCAL_CONSTANTS: u8 = 6;
+
+pub(crate) const SIGNATURE: u8 = 7;
+
+/// The number of the field that a label names.
+fn field_number(label: &[u8]) -> Option<u8>
+    ensures { result ≡ field_number label.now }
+{
+    if label.eq_ignore_ascii_case(b"Authorizer:".as_slice()) {
+        Some(AUTHORIZER)
+    } else if label.eq_ignore_ascii_case(b"Comment:".as_slice()) {
+        Some(COMMENT)
+    } else if label.eq_ignore_ascii_case(b"Conditions:".as_slice()) {
+        Some(CONDITIONS)
+    } else if label.eq_ignore_ascii_case(b"KeyNote-Version:".as_slice()) {
+        Some(VERSION)
+    } else if label.eq_ignore_ascii_case(b"Licensees:".as_slice()) {
+        Some(LICENSEES)
+    } else if label.eq_ignore_ascii_case(b"Local-Constants:".as_slice()) {
+        Some(LOCAL_CONSTANTS)
+    } else if label.eq_ignore_ascii_case(b"Signature:".as_slice()) {
+        Some(SIGNATURE)
+    } else {
+        None
+    }
+}
+
+pub(crate) fn is_label(token: &Token<'_>) -> bool
+    ensures { result ≡ is_label (seen token.now) }
+{
+    match token.sort {
+        Sort::Label => true,
+        _ => false,
+    }
+}
+
+/// The number of the field whose label a token is.
+#[tactic(auto, unfolding(crate::specs::Fields::field_of))]
+pub(crate) fn field_of(token: &Token<'_>) -> Option<u8>
+    ensures { result ≡ field_of (seen token.now) }
+{
+    if is_label(token) {
+        field_number(token.text)
+    } else {
+        None
+    }
+}
+
+pub(crate) fn is_label_of(token: &Token<'_>, number: u8) -> bool
+    ensures { result ≡ is_label_of number (seen token.now) }
+{
+    match field_of(token) {
+        Some(other) => other == number,
+        None => false,
+    }
+}

@@ -1,0 +1,109 @@
+ghost use Rattle.std.specs.Prelude.{◌≡◌, ◌≤◌, ◌||◌, ◌==◌, [], length};
+ghost use Rattle.std.specs.List.{list_any};
+ghost use Rattle.kn_lex.specs.Seeing.{seen};
+ghost use Rattle.kn_fields.specs.Fields.{is_label, is_label_of, between};
+ghost use Rattle.kn_fields.specs.Faults.{is_repeat};
+ghost use Rattle.kn_fields.specs.Scanning.{is_wrong, first_place, order_place};
+
+use crate::label::{SIGNATURE, VERSION, field_of, is_label, is_label_of};
+use kn_lex::{Token, Tokens};
+
+/// Whether the label of this field stands before a place.
+fn stands_before(tokens: &Tokens<'_>, at: u32, number: u8) -> bool
+    requires { at ≤ length tokens.now }
+    ensures { result ≡ list_any (is_label_of number) (between 0 at tokens.now) }
+{
+    for i in 0..at {
+        if let Some(token) = tokens.get(i) {
+            if is_label_of(token, number) {
+                return true;
+            }
+        }
+    }
+    false
+}
+
+/// Whether any label stands before a place.
+fn label_before(tokens: &Tokens<'_>, at: u32) -> bool
+    requires { at ≤ length tokens.now }
+    ensures { result ≡ list_any is_label (between 0 at tokens.now) }
+{
+    for i in 0..at {
+        if let Some(token) = tokens.get(i) {
+            if is_label(token) {
+                return true;
+            }
+        }
+    }
+    false
+}
+
+/// Whether this field, if any, stands before a place.
+fn is_repeat(tokens: &Tokens<'_>, at: u32, field: Option<u8>) -> bool
+    requires { at ≤ length tokens.now }
+    ensures { result ≡ is_repeat (between 0 at tokens.now) field }
+{
+    match field {
+        Some(number) => stands_before(tokens, at, number),
+        None => false,
+    }
+}
+
+/// How a token can be wrong by those before it.
+#[derive(Debug, Clone, Copy)]
+pub enum Wrong {
+    /// It stands where a label must, and is none of a field.
+    NoField,
+    /// The label of a field that stood before.
+    Second,
+    /// The label of a version that isn't the first field.
+    LateVersion,
+    /// A label behind that of a signature.
+    BehindSignature,
+}
+
+#[tactic(auto, using(crate::proofs::Between::between_length))]
+/// Whether a label must stand at a place: it is the first one, or begins a line.
+fn is_label_due(tokens: &Tokens<'_>, at: u32, token: &Token<'_>) -> bool
+    requires { at ≤ length tokens.now }
+    ensures { result ≡ (length (between 0 at tokens.now) == 0 || token.now.first) }
+{
+    at == 0 || token.first
+}
+
+/// Whether a token is wrong at its place.
+fn is_wrong(wrong: Wrong, tokens: &Tokens<'_>, at: u32, token: &Token<'_>) -> bool
+    requires { at ≤ length tokens.now }
+    ensures { result ≡ is_wrong wrong (between 0 at tokens.now) (seen token.now) }
+{
+    match wrong {
+        Wrong::NoField => is_label_due(tokens, at, token) && field_of(token).is_none(),
+        Wrong::Second => is_repeat(tokens, at, field_of(token)),
+        Wrong::LateVersion => is_label_of(token, VERSION) && label_before(tokens, at),
+        Wrong::BehindSignature => is_label(token) && stands_before(tokens, at, SIGNATURE),
+    }
+}
+
+/// The place of the first token that is wrong.
+pub(crate) fn wrong_place(wrong: Wrong, tokens: &Tokens<'_>) -> Option<u32>
+    ensures { result ≡ first_place (is_wrong wrong) [] tokens.now }
+{
+    for i in 0..tokens.len() {
+        if let Some(token) = tokens.get(i) {
+            if is_wrong(wrong, tokens, i, token) {
+                return Some(token.span.start);
+            }
+        }
+    }
+    None
+}
+
+/// The place of the first label that stands out of order.
+pub(crate) fn order_place(tokens: &Tokens<'_>) -> Option<u32>
+    ensures { result ≡ order_place tokens.now }
+{
+    match wrong_place(Wrong::LateVersion, tokens) {
+        Some(at) => Some(at),
+        None => wrong_place(Wrong::BehindSignature, tokens),
+    }
+}

@@ -1,0 +1,43 @@
+ghost use Rattle.std.specs.Prelude.{◌≡◌, true, false};
+ghost use Rattle.kn_fields.specs.Depth.{IsTooDeep};
+ghost use Rattle.kn_fields.specs.Faults.{HasField};
+ghost use Rattle.kn_fields.specs.Fields.{PartIs};
+
+use crate::depth::goes_deep;
+use crate::part::{Part, part_of};
+use kn_base::List;
+use kn_env::Constant;
+use kn_lex::Tokens;
+
+/// An assertion's text, cut into its fields.
+#[derive(Debug, Drop)]
+pub struct Fields<'a> {
+    /// The tokens of the whole text.
+    pub tokens: Tokens<'a>,
+    /// The local constants, which hold in all fields.
+    pub constants: List<Constant>,
+    /// How many bytes of the text a signature covers: up to its label, or all.
+    pub signed_to: u32,
+}
+
+impl<'a> Fields<'a> {
+    /// Where the field of this number stands among the tokens, or None where there is none: 1 is Authorizer,
+    /// 2 Comment, 3 Conditions, 4 KeyNote-Version, 5 Licensees, 6 Local-Constants and 7 Signature.
+    pub fn part(&self, number: u8) -> Option<Part>
+        ensures { PartIs number self.now.tokens result }
+    {
+        part_of(&self.tokens, number)
+    }
+
+    /// Whether the field of this number goes too deep: fault 15. At some token more than 64 brackets `(` and
+    /// `{` are open, or more than 8 of the signs `!`, `-`, `@` and `$` stand in a row.
+    pub fn is_too_deep(&self, number: u8) -> bool
+        ensures deep { result ≡ true → HasField number self.now.tokens (λ field. IsTooDeep field.tokens) }
+        ensures not_deep { result ≡ false → HasField number self.now.tokens (λ field. IsTooDeep field.tokens) → ⊥ }
+    {
+        match part_of(&self.tokens, number) {
+            Some(part) => goes_deep(&self.tokens, part.label + 1, part.end),
+            None => false,
+        }
+    }
+}

@@ -1,0 +1,109 @@
+ghost use Rattle.std.specs.Prelude.{◌≡◌, ◌≤◌, ℕ, List, length, IfOk, IfErr, OnOk};
+ghost use Rattle.kn_lex.specs.Cutting.{Cuts};
+ghost use Rattle.kn_lex.specs.Faults.{IsFaultless};
+ghost use Rattle.kn_fields.specs.Fields.{field_with, signed_to};
+ghost use Rattle.kn_fields.specs.Faults.{IsWellFielded, HasCause, constants_in};
+ghost use Rattle.kn_fields.specs.Scanning.{of_lexical, fault_in};
+
+use crate::constants::{constant_place, constants};
+use crate::fault::FieldFault;
+use crate::label::{AUTHORIZER, SIGNATURE};
+use crate::labels::{Wrong, order_place, wrong_place};
+use crate::outline::Fields;
+use crate::part::{label_start, part_of};
+use crate::version::version_place;
+use kn_base::NoMemory;
+use kn_base::limits::ASSERTION_BYTES;
+use kn_lex::{LexFault, Tokens, laws, tokens};
+use std::alloc::Global;
+
+fn of_lexical(fault: LexFault) -> FieldFault
+    ensures { result ≡ of_lexical fault }
+{
+    match fault {
+        LexFault::NoMemory => FieldFault::NoMemory,
+        other => FieldFault::Lexical(other),
+    }
+}
+
+fn read_tokens<'a>(alloc: Global, text: &'a [u8]) -> Result<Tokens<'a>, FieldFault>
+    ensures ok { IfOk result (λ tokens. Cuts text.now tokens) }
+    ensures faultless { OnOk result (IsFaultless text.now) }
+    ensures within { OnOk result (length text.now ≤ 16384) }
+    ensures err { IfErr result (λ fault. HasCause text.now fault) }
+{
+    laws::tokens_or_first_fault();
+    if text.len() > ASSERTION_BYTES {
+        return Err(FieldFault::TooLong { len: text.len() });
+    }
+    match tokens(alloc, text) {
+        Ok(tokens) => Ok(tokens),
+        Err(fault) => Err(of_lexical(fault)),
+    }
+}
+
+/// The first fault that tokens show, if there is one.
+fn fault_in(alloc: Global, tokens: &Tokens<'_>) -> Result<Option<FieldFault>, NoMemory>
+    ensures { IfOk result (λ fault. fault ≡ fault_in tokens.now) }
+{
+    if let Some(at) = wrong_place(Wrong::NoField, tokens) {
+        return Ok(Some(FieldFault::BadField { at }));
+    }
+    if let Some(at) = wrong_place(Wrong::Second, tokens) {
+        return Ok(Some(FieldFault::FieldTwice { at }));
+    }
+    if let Some(at) = order_place(tokens) {
+        return Ok(Some(FieldFault::FieldOrder { at }));
+    }
+    let Some(_authorizer) = part_of(tokens, AUTHORIZER) else {
+        return Ok(Some(FieldFault::NoAuthorizer));
+    };
+    if let Some(at) = version_place(alloc, tokens)? {
+        return Ok(Some(FieldFault::Version { at }));
+    }
+    match constant_place(tokens) {
+        Some(at) => Ok(Some(FieldFault::Constant { at })),
+        None => Ok(None),
+    }
+}
+
+/// The place of the label of a signature, or the length of the text.
+fn signed_to(tokens: &Tokens<'_>, end: u32) -> u32
+    ensures { (text : List ℕ) → length text ≡ end → result ≡ signed_to text tokens.now }
+{
+    match part_of(tokens, SIGNATURE) {
+        Some(part) => label_start(tokens, part).unwrap_or(end),
+        None => end,
+    }
+}
+
+/// The fields of an assertion's text, or its first fault up to those of its local constants (RFC 2704,
+/// section 4; the faults and their order are keynoted's own).
+pub fn fields<'a>(alloc: Global, text: &'a [u8]) -> Result<Fields<'a>, FieldFault>
+    ensures tokens { IfOk result (λ fields. Cuts text.now fields.tokens) }
+    ensures constants { IfOk result (λ fields. fields.constants ≡ constants_in (field_with 6 fields.tokens)) }
+    ensures signed_to { IfOk result (λ fields. fields.signed_to ≡ signed_to text.now fields.tokens) }
+    ensures faultless { OnOk result (IsWellFielded text.now) }
+    ensures fault { IfErr result (λ fault. HasCause text.now fault) }
+{
+    laws::tokens_or_first_fault();
+    let tokens = match read_tokens(alloc, text) {
+        Ok(tokens) => tokens,
+        Err(fault) => return Err(fault),
+    };
+    match fault_in(alloc, &tokens) {
+        Ok(None) => {}
+        Ok(Some(fault)) => return Err(fault),
+        Err(_) => return Err(FieldFault::NoMemory),
+    }
+    let constants = match constants(alloc, &tokens) {
+        Ok(constants) => constants,
+        Err(_) => return Err(FieldFault::NoMemory),
+    };
+    let signed_to = signed_to(&tokens, text.len() as u32);
+    Ok(Fields {
+        tokens,
+        constants,
+        signed_to,
+    })
+}
