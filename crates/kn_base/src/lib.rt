@@ -1,6 +1,7 @@
 //! What every crate of keynoted stands on: lists, octets, spans, counted steps and the limits.
 #![tactic(auto)]
 
+mod boxed;
 pub mod limits;
 mod list;
 mod memory;
@@ -12,6 +13,7 @@ mod steps;
 #[cfg(test)]
 mod tests;
 
+pub use boxed::Boxed;
 pub use list::List;
 pub use memory::NoMemory;
 pub use number::decimal;

@@ -1,0 +1,10 @@
+/// What an expression gives, by its form alone.
+#[derive(Debug, Clone, Copy, PartialEq, Eq)]
+pub enum Kind {
+    /// True or false.
+    Truth,
+    /// A whole number.
+    Whole,
+    /// A text.
+    Text,
+}

@@ -1,0 +1,14 @@
+//! The trees of assertions (RFC 2704, section 4): what the fields of an assertion state.
+#![tactic(auto)]
+
+mod assertion;
+mod formula;
+mod kinds;
+mod program;
+mod typing;
+
+pub use assertion::Assertion;
+pub use formula::Formula;
+pub use kinds::Kind;
+pub use program::{Clause, Comparison, Expr, Link2, Operation, Program, Then};
+pub use typing::{is_well_kinded, kind};
