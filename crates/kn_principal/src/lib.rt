@@ -1,0 +1,9 @@
+//! Principals (RFC 2704, section 5): their normal form, by which they are compared.
+#![tactic(auto)]
+
+pub mod laws;
+mod principal;
+#[cfg(test)]
+mod tests;
+
+pub use principal::{PrincipalFault, normal, same};
