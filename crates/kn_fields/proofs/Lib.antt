@@ -4,3 +4,4 @@ pub mod Settings
 pub mod Places
 pub mod Shown
 pub mod Deep
+pub mod Told

@@ -241,7 +241,7 @@ too_long text long = record { has = (long, refl); least = least }
     least (Constant at) h = inl (omega arith)
     least NoMemory h = absurd h
 
-first_lexical : OneFault → (text : List ℕ) (fault : LexFault) → length text ≤ 16384 → IsFirstLexicalFault text fault → IsFirstFault text (Lexical fault)
+pub first_lexical : OneFault → (text : List ℕ) (fault : LexFault) → length text ≤ 16384 → IsFirstLexicalFault text fault → IsFirstFault text (Lexical fault)
 first_lexical one text fault le first = record { has = first; least = least }
   where
     least : (other : FieldFault) → HasFault text other → (1 < fault_order other) ⊎ (Lexical fault ≡ other)

@@ -3,3 +3,4 @@ pub mod Constants
 pub mod Faults
 pub mod Depth
 pub mod Scanning
+pub mod Computed

@@ -1,7 +1,13 @@
 //! Laws of the definitions, for the crates above: each is the contract of a function that does nothing.
 
-ghost use Rattle.std.specs.Prelude.{◌≡◌, ◌⊎◌, ℕ, List};
+ghost use Rattle.std.specs.Prelude.{◌≡◌, ◌↔◌, ◌⊎◌, ℕ, true, false, List, ◌∷◌, ◌++◌, Some, None, Ok, Err};
+ghost use Rattle.kn_lex.specs.Cutting.{Seen, Cuts};
+ghost use Rattle.kn_lex.specs.Faults.{IsFaultless};
+ghost use Rattle.kn_fields.specs.Fields.{Field, fields_of, field_of, field_with};
 ghost use Rattle.kn_fields.specs.Faults.{IsWellFielded, IsFirstFault};
+ghost use Rattle.kn_fields.specs.Depth.{IsTooDeep};
+ghost use Rattle.kn_fields.specs.Scanning.{goes_deep};
+ghost use Rattle.kn_fields.specs.Computed.{fields_or_fault};
 ghost use Rattle.kn_fields.specs.declared.fault.FieldFault.{FieldFault};
 
 /// Every text has either none of the faults of its fields or a first one, never both, and at most one first
@@ -10,6 +16,30 @@ pub fn no_fault_or_first_fault()
     ensures some { (text : List ℕ) → IsWellFielded text ⊎ ((fault : FieldFault) × IsFirstFault text fault) }
     ensures not_both { (text : List ℕ) (fault : FieldFault) → IsWellFielded text → IsFirstFault text fault → ⊥ }
     ensures one_fault { (text : List ℕ) (fault other : FieldFault) → IsFirstFault text fault → IsFirstFault text other → fault ≡ other }
+{
+    kn_lex::laws::tokens_or_first_fault();
+}
+
+/// What is computed of a text is the list of its tokens where it has none of the faults, and else its first
+/// fault.
+pub fn fields_are_computed()
+    ensures tokens { (text : List ℕ) (tokens : List Seen) → (fields_or_fault text ≡ Ok tokens) ↔ (Cuts text tokens × IsWellFielded text) }
+    ensures fault { (text : List ℕ) (fault : FieldFault) → (fields_or_fault text ≡ Err fault) ↔ IsFirstFault text fault }
+{
+    kn_lex::laws::tokens_or_first_fault();
+    kn_lex::laws::tokens_are_computed();
+}
+
+/// The test of a field's depth is what it is to go too deep.
+pub fn depth_is_computed()
+    ensures deep { (tokens : List Seen) → goes_deep 0 0 tokens ≡ true → IsTooDeep tokens }
+    ensures not_deep { (tokens : List Seen) → goes_deep 0 0 tokens ≡ false → IsTooDeep tokens → ⊥ }
+{}
+
+/// In a text without these faults each field is the one of its number, and there is an Authorizer.
+pub fn one_field_of_each_number()
+    ensures one { (text : List ℕ) (tokens : List Seen) → Cuts text tokens → IsWellFielded text → (before : List Field) (field : Field) (behind : List Field) → fields_of tokens ≡ before ++ field ∷ behind → (number : ℕ) → field_of field.label ≡ Some number → field_with number tokens ≡ Some field }
+    ensures authorizer { (text : List ℕ) (tokens : List Seen) → Cuts text tokens → IsWellFielded text → field_with 1 tokens ≡ None → ⊥ }
 {
     kn_lex::laws::tokens_or_first_fault();
 }

@@ -1,9 +1,10 @@
-ghost use Rattle.std.specs.Prelude.{◌≡◌, true, false};
+ghost use Rattle.std.specs.Prelude.{◌≡◌, true, false, slice_get, option_and_then};
 ghost use Rattle.kn_fields.specs.Depth.{IsTooDeep};
 ghost use Rattle.kn_fields.specs.Faults.{HasField};
-ghost use Rattle.kn_fields.specs.Fields.{PartIs};
+ghost use Rattle.kn_fields.specs.Fields.{field_of, PartIs};
 
 use crate::depth::goes_deep;
+use crate::label::field_of;
 use crate::part::{Part, part_of};
 use kn_base::List;
 use kn_env::Constant;
@@ -27,6 +28,17 @@ impl<'a> Fields<'a> {
         ensures { PartIs number self.now.tokens result }
     {
         part_of(&self.tokens, number)
+    }
+
+    /// The number of the field whose label is the token at place `i`, counted from 0, or None where no such
+    /// label stands there.
+    pub fn number_at(&self, i: u32) -> Option<u8>
+        ensures { result ≡ option_and_then field_of (slice_get self.now.tokens i) }
+    {
+        match self.tokens.get(i) {
+            Some(token) => field_of(token),
+            None => None,
+        }
     }
 
     /// Whether the field of this number goes too deep: fault 15. At some token more than 64 brackets `(` and

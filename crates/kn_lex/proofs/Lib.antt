@@ -8,3 +8,4 @@ pub mod Reaching
 pub mod Scans
 pub mod Spelled
 pub mod Facts
+pub mod Told

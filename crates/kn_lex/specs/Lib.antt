@@ -6,3 +6,4 @@ pub mod Literal
 pub mod Scanning
 pub mod Seeing
 pub mod TokenFacts
+pub mod Computed

@@ -12,9 +12,9 @@ use crate::token::Sort;
 /// The greatest number, which is that of 32 bits with a sign.
 const NUMBER_MAX: u64 = 2_147_483_647;
 
-/// Whether a byte follows that is neither white space nor in a comment.
+/// Whether a byte stands in a text, from outside comments on, that is neither white space nor in a comment.
 #[tactic(auto, using(crate::proofs::Scans::goes_on_at, crate::proofs::Scans::goes_on_end))]
-pub(crate) fn goes_on(rest: &[u8]) -> bool
+pub fn goes_on(rest: &[u8]) -> bool
     ensures { result ≡ goes_on false rest.now }
 {
     let mut commented = false;

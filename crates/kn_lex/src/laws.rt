@@ -1,9 +1,10 @@
 //! Laws of the definitions, for the crates above: each is the contract of a function that does nothing.
 
-ghost use Rattle.std.specs.Prelude.{◌≡◌, ◌⊎◌, ℕ, List, All};
+ghost use Rattle.std.specs.Prelude.{◌≡◌, ◌≤◌, ◌↔◌, ◌⊎◌, ℕ, List, length, Ok, Err, All};
 ghost use Rattle.kn_lex.specs.Cutting.{Seen, Cuts};
 ghost use Rattle.kn_lex.specs.Faults.{IsFaultless, IsFirstLexicalFault};
 ghost use Rattle.kn_lex.specs.TokenFacts.{IsTokenOf};
+ghost use Rattle.kn_lex.specs.Computed.{tokens_or_fault};
 ghost use Rattle.kn_lex.specs.declared.fault.LexFault.{LexFault};
 
 /// Every text has either tokens that cut it and no fault, or a first fault; never both; and at most one
@@ -19,4 +20,16 @@ pub fn tokens_or_first_fault()
 /// spell its sort, and no number is too large.
 pub fn token_facts()
     ensures { (text : List ℕ) (tokens : List Seen) → Cuts text tokens → IsFaultless text → All (IsTokenOf text) tokens }
+{}
+
+/// What is computed of a text is the list of tokens that cuts it where it has no fault, and else its first
+/// fault.
+pub fn tokens_are_computed()
+    ensures tokens { (text : List ℕ) (tokens : List Seen) → (tokens_or_fault text ≡ Ok tokens) ↔ (Cuts text tokens × IsFaultless text) }
+    ensures fault { (text : List ℕ) (fault : LexFault) → (tokens_or_fault text ≡ Err fault) ↔ IsFirstLexicalFault text fault }
+{}
+
+/// A text has at most as many tokens as bytes.
+pub fn no_more_tokens_than_bytes()
+    ensures { (text : List ℕ) (tokens : List Seen) → Cuts text tokens → length tokens ≤ length text }
 {}

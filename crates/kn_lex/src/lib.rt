@@ -14,7 +14,11 @@ mod token;
 
 pub use escapes::literal;
 pub use fault::LexFault;
+pub use judge::goes_on;
 pub use lexer::tokens;
+pub use piece::is_comment_label;
+pub use quote::{Quote, Step, quote_step};
+pub use scan::{is_blank, is_continuation};
 pub use token::{Sort, Token, Tokens};
 
 #[cfg(test)]

@@ -66,7 +66,8 @@ pub(crate) fn ends_line(bytes: &[u8]) -> bool
     !bytes.is_empty() && bytes[bytes.len() - 1] == b'\n'
 }
 
-pub(crate) fn is_comment_label(bytes: &[u8]) -> bool
+/// Whether this is the label `Comment:`, in any case of letters.
+pub fn is_comment_label(bytes: &[u8]) -> bool
     ensures { result ≡ is_comment_label bytes.now }
 {
     bytes.eq_ignore_ascii_case(b"Comment:".as_slice())

@@ -4,7 +4,9 @@ ghost use Rattle.kn_lex.specs.Scanning.{quote_step, quote_len};
 /// Where in a literal a byte stands.
 #[derive(Debug, Clone, Copy)]
 pub enum Quote {
+    /// Before the opening quote.
     Opening,
+    /// Behind a byte that begins no escape.
     Plain,
     /// Behind a backslash.
     Escaped,
@@ -17,12 +19,15 @@ pub enum Quote {
 /// What a byte does to a literal.
 #[derive(Debug, Clone, Copy)]
 pub enum Step {
+    /// No literal goes on with the byte.
     Fail,
+    /// The byte is the closing quote.
     Close,
     Go(Quote),
 }
 
-fn quote_step(quote: Quote, byte: u8) -> Step
+/// One byte of a literal. It is closed by its second quote, and fails at a bare end of a line.
+pub fn quote_step(quote: Quote, byte: u8) -> Step
     ensures { result ≡ quote_step quote byte }
 {
     match (quote, byte) {

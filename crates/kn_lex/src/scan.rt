@@ -94,7 +94,7 @@ fn label_len(rest: &[u8]) -> Option<usize>
 
 /// Whether a blank line begins here.
 #[tactic(auto, using(crate::proofs::Scans::is_blank_at, crate::proofs::Scans::is_blank_end))]
-pub(crate) fn is_blank(rest: &[u8]) -> bool
+pub fn is_blank(rest: &[u8]) -> bool
     ensures { result ≡ is_blank rest.now }
 {
     for byte in rest {
@@ -108,7 +108,8 @@ pub(crate) fn is_blank(rest: &[u8]) -> bool
     true
 }
 
-fn is_continuation(rest: &[u8]) -> bool
+/// Whether a line begins here that goes on with the body of a comment.
+pub fn is_continuation(rest: &[u8]) -> bool
     ensures { result ≡ is_continuation rest.now }
 {
     match rest.first() {
