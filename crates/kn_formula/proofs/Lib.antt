@@ -1,0 +1,11 @@
+pub mod Parting
+pub mod Sound
+pub mod Complete
+pub mod Licenses
+pub mod WordLemmas
+pub mod TreeLemmas
+pub mod Steps
+pub mod Judged
+pub mod Sizes
+pub mod Nesting
+pub mod Readable

@@ -1,0 +1,121 @@
+-- What the tokens of a field state is what is read of them.
+use Rattle.std.proofs.Common.{◌≡◌, ◌*◌, Bool, true, false, List, [], ◌∷◌, length, Option, Some, None, Result, Ok, Err, refl, sym, ap, subst, ◌∙◌, arith, append-nil}
+use Rattle.std.proofs.lemmas.Bool.{cond-true, cond-false}
+use Rattle.kn_env.specs.declared.constant.Constant.{Constant}
+use Rattle.kn_lex.specs.Cutting.{Seen}
+use Rattle.kn_trees.specs.declared.formula.Formula.{Formula}
+use Rattle.kn_formula.specs.Words.{Word, words_of}
+use Rattle.kn_formula.specs.Trees.{joined, has_bad_threshold, has_bad_name, formula_of}
+use Rattle.kn_formula.specs.Grammar.{form_words, Spells}
+use Rattle.kn_formula.specs.Reading.{Part, join_read, ors_at, whole, read_words}
+use Rattle.kn_formula.specs.Licensing.{AreLicensees, HasNoForm, Shows, named, judged, judged_read, licensees_of}
+use Rattle.kn_formula.specs.declared.fault.FormulaFault.{FormulaFault}
+use Rattle.kn_formula.specs.declared.fault.FormulaFault.TheVariants.{Syntax, Threshold, Name, NoMemory}
+use Rattle.kn_formula.specs.declared.written.Rule.TheVariants.{Any}
+use Rattle.kn_formula.specs.declared.written.Written.{Written}
+use Rattle.kn_formula.proofs.Parting.{join_parts}
+use Rattle.kn_formula.proofs.Sound.{sound_ors}
+use Rattle.kn_formula.proofs.Complete.{complete_ors, ends_nil, form_some}
+
+whole_part : (part : Part) (written : Written) → whole part ≡ Some written → part ≡ Some (written, [])
+whole_part None written e = absurd (cc)
+whole_part (Some (part, [])) written e = let same : part ≡ written = cc in ap (λ (part : Written). Some (part, [])) same
+whole_part (Some (part, word ∷ words)) written e = absurd (cc)
+
+-- what is read of all the words is spelled by them
+pub read_spelled : (tokens : List Seen) (written : Written) → read_words (words_of tokens) ≡ Some written → Spells tokens written
+unfolding read_words
+read_spelled tokens written e =
+    let words : List Word = words_of tokens in
+    let whole = whole_part (join_read Any (ors_at (3 * length words) words)) written e in
+    let j = join_parts Any (ors_at (3 * length words) words) written [] whole in
+    let f = sound_ors (3 * length words) words j.list [] j.read in
+    record { form = f.form; words = sym (append-nil (form_words f.form)) ∙ f.spelled; tree = ap (joined Any) f.means ∙ sym j.part_is }
+
+-- what is spelled is read
+pub spelled_read : (tokens : List Seen) (written : Written) → Spells tokens written → read_words (words_of tokens) ≡ Some written
+unfolding read_words
+spelled_read tokens written s =
+    let all = complete_ors (3 * length (form_words s.form)) s.form [] (omega arith) ends_nil in
+    let words = append-nil (form_words s.form) in
+    let read = sym (ap (ors_at (3 * length (form_words s.form))) words) ∙ all in
+    ap (λ words. whole (join_read Any (ors_at (3 * length words) words))) (sym s.words)
+    ∙ ap (λ read. whole (join_read Any read)) read
+    ∙ ap (λ (part : Written). Some part) s.tree
+
+-- tokens spell at most one formula
+pub spelled_once : (tokens : List Seen) (a b : Written) → Spells tokens a → Spells tokens b → a ≡ b
+spelled_once tokens a b s t = let first = spelled_read tokens a s in let second = spelled_read tokens b t in cc
+
+-- no tokens spell nothing
+nothing_spelled : (written : Written) → Spells [] written → ⊥
+unfolding words_of
+nothing_spelled written s = let none : length (form_words s.form) ≡ 0 = ap length s.words in absurd (omega (arith, form_some s.form))
+
+judged_name : (constants : List Constant) (w : Written) → has_bad_threshold w ≡ false → has_bad_name constants w ≡ true → judged constants w ≡ Err Name
+judged_name constants w t n = cond-false (has_bad_threshold w) _ _ t ∙ cond-true (has_bad_name constants w) _ _ n
+
+judged_formula : (constants : List Constant) (w : Written) → has_bad_threshold w ≡ false → has_bad_name constants w ≡ false → judged constants w ≡ Ok (Some (formula_of constants w))
+judged_formula constants w t n = cond-false (has_bad_threshold w) _ _ t ∙ cond-false (has_bad_name constants w) _ _ n
+
+-- what is found of tokens, by what is spelled
+of_spelled : (constants : List Constant) (tokens : List Seen) (w : Written) → Spells tokens w → licensees_of constants tokens ≡ judged constants w
+unfolding licensees_of
+of_spelled constants [] w s = absurd (nothing_spelled w s)
+of_spelled constants (token ∷ tokens) w s = ap (judged_read constants) (spelled_read (token ∷ tokens) w s)
+
+-- the formula, if there is one, is what is found
+pub formula_found : (constants : List Constant) (tokens : List Seen) (f : Option Formula) → AreLicensees constants tokens f → licensees_of constants tokens ≡ Ok f
+unfolding licensees_of
+formula_found constants tokens None none = ap (licensees_of constants) none
+formula_found constants tokens (Some formula) is =
+    of_spelled constants tokens is.written is.spelled
+    ∙ judged_formula constants is.written is.thresholds is.names
+    ∙ ap (λ (formula : Formula). Ok (Some formula)) is.means
+
+-- so is the fault
+pub fault_found : (constants : List Constant) (tokens : List Seen) (fault : FormulaFault) → Shows constants tokens fault → licensees_of constants tokens ≡ Err fault
+unfolding licensees_of
+fault_found constants tokens Syntax h = no_form constants tokens h
+  where
+    unread : (tokens : List Seen) (read : Option Written) → read_words (words_of tokens) ≡ read → ((w : Written) → Spells tokens w → ⊥) → read ≡ None
+    unread tokens None e none = refl
+    unread tokens (Some w) e none = absurd (none w (read_spelled tokens w e))
+
+    no_form : (constants : List Constant) (tokens : List Seen) → HasNoForm tokens → licensees_of constants tokens ≡ Err Syntax
+    no_form constants [] h = absurd (h.some refl)
+    no_form constants (token ∷ tokens) h = ap (judged_read constants) (unread (token ∷ tokens) (read_words (words_of (token ∷ tokens))) refl h.none)
+fault_found constants tokens Threshold h = of_spelled constants tokens h.written h.spelled ∙ cond-true (has_bad_threshold h.written) _ _ h.bad
+fault_found constants tokens Name h = of_spelled constants tokens h.written h.spelled ∙ judged_name constants h.written h.thresholds h.bad
+fault_found constants tokens NoMemory h = absurd h
+
+-- what a finding says of the tokens
+abbrev Says : List Constant → List Seen → Result (Option Formula) FormulaFault → Type 0
+Says constants tokens (Ok formula) = AreLicensees constants tokens formula
+Says constants tokens (Err fault) = Shows constants tokens fault
+
+judged_says : (constants : List Constant) (tokens : List Seen) (w : Written) (t n : Bool) → Spells tokens w → has_bad_threshold w ≡ t → has_bad_name constants w ≡ n → Says constants tokens (judged constants w)
+judged_says constants tokens w true n s t_is n_is =
+    subst (Says constants tokens) (sym (cond-true (has_bad_threshold w) (Err Threshold) (named constants w) t_is)) (record { written = w; spelled = s; bad = t_is })
+judged_says constants tokens w false true s t_is n_is =
+    subst (Says constants tokens) (sym (judged_name constants w t_is n_is)) (record { written = w; spelled = s; thresholds = t_is; bad = n_is })
+judged_says constants tokens w false false s t_is n_is =
+    subst (Says constants tokens) (sym (judged_formula constants w t_is n_is)) (record { written = w; spelled = s; thresholds = t_is; names = n_is; means = refl })
+
+found_says : (constants : List Constant) (tokens : List Seen) → Says constants tokens (licensees_of constants tokens)
+unfolding licensees_of
+found_says constants [] = refl
+found_says constants (token ∷ tokens) = by (read_words (words_of (token ∷ tokens))) refl
+  where
+    by : (read : Option Written) → read_words (words_of (token ∷ tokens)) ≡ read → Says constants (token ∷ tokens) (judged_read constants read)
+    by None none = record {
+      some = λ e. absurd (cc);
+      none = λ w s. let read = spelled_read (token ∷ tokens) w s in absurd (cc);
+    }
+    by (Some w) some = judged_says constants (token ∷ tokens) w (has_bad_threshold w) (has_bad_name constants w) (read_spelled (token ∷ tokens) w some) refl refl
+
+pub formula_stands : (constants : List Constant) (tokens : List Seen) (f : Option Formula) → licensees_of constants tokens ≡ Ok f → AreLicensees constants tokens f
+formula_stands constants tokens f e = subst (Says constants tokens) e (found_says constants tokens)
+
+pub fault_stands : (constants : List Constant) (tokens : List Seen) (fault : FormulaFault) → licensees_of constants tokens ≡ Err fault → Shows constants tokens fault
+fault_stands constants tokens fault e = subst (Says constants tokens) e (found_says constants tokens)

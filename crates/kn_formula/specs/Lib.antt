@@ -1,0 +1,6 @@
+pub mod Words
+pub mod Trees
+pub mod Grammar
+pub mod Reading
+pub mod Naming
+pub mod Licensing

@@ -1,0 +1,17 @@
+//! The Licensees field (RFC 2704, section 4): the formula that its tokens spell, or its first fault.
+#![tactic(auto)]
+
+mod fault;
+mod grammar;
+pub mod laws;
+mod named;
+mod reader;
+#[cfg(test)]
+mod tests;
+mod threshold;
+mod unread;
+mod word;
+mod written;
+
+pub use fault::FormulaFault;
+pub use reader::licensees;

@@ -1,0 +1,48 @@
+ghost use Rattle.std.specs.Prelude.{◌≡◌, ◌+◌, ◌≤◌, ◌<◌, IfOk, IfSome, length, false, All};
+ghost use Rattle.kn_trees.specs.Formulas.{IsReadable};
+ghost use Rattle.kn_fields.specs.Fields.{between};
+ghost use Rattle.kn_fields.specs.Depth.{IsTooDeep};
+ghost use Rattle.kn_formula.specs.Licensing.{licensees_of, Gives};
+
+use crate::fault::FormulaFault;
+use crate::grammar::written;
+use crate::named::formula;
+use crate::threshold::has_bad_threshold;
+use kn_base::List;
+use kn_env::Constant;
+use kn_fields::Part;
+use kn_lex::Tokens;
+use kn_trees::Formula;
+use std::alloc::Global;
+
+/// The formula of a Licensees field, or None where the field has no token. Principals are in normal form.
+///
+/// `part` says where the field stands among the tokens, and `constants` are those of the assertion.
+pub fn licensees(
+    alloc: Global,
+    tokens: &Tokens<'_>,
+    part: Part,
+    constants: &List<Constant>,
+) -> Result<Option<Formula>, FormulaFault>
+    requires before { part.label < part.end }
+    requires within { part.end ≤ length tokens.now }
+    requires shallow { IsTooDeep (between (part.label + 1) part.end tokens.now) → ⊥ }
+    ensures given { Gives result (licensees_of constants.now (between (part.label + 1) part.end tokens.now)) }
+    ensures readable { IfOk result (λ licensees. IfSome licensees (λ formula. IsReadable (length tokens.now) formula)) }
+{
+    let from = part.label + 1;
+    if from == part.end {
+        return Ok(None);
+    }
+    let written = match written(alloc, tokens, from, part.end) {
+        Ok(written) => written,
+        Err(unread) => return Err(FormulaFault::from(unread)),
+    };
+    if has_bad_threshold(&written) {
+        return Err(FormulaFault::Threshold);
+    }
+    match formula(alloc, constants.as_slice(), &written) {
+        Ok(formula) => Ok(Some(formula)),
+        Err(fault) => Err(fault),
+    }
+}
