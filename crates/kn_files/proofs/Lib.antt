@@ -1,0 +1,9 @@
+pub mod Cutting
+pub mod Splitting
+pub mod Tokens
+pub mod Whole
+pub mod Literals
+pub mod Machine
+pub mod Places
+pub mod Quiet
+pub mod Reading

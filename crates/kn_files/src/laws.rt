@@ -1,0 +1,51 @@
+//! Laws of the definitions, for the crates above: each is the contract of a function that does nothing.
+
+ghost use Rattle.std.specs.Prelude.{◌≡◌, ◌⊎◌, ℕ, List, [], ◌∷◌, ◌++◌, length, All, fold, true, false, not, ◌||◌, ◌==◌};
+ghost use Rattle.std.specs.List.{list_all};
+ghost use Rattle.kn_lex.specs.Spelling.{Item, is_item, items_bytes, IsLiteral};
+ghost use Rattle.kn_lex.specs.Cutting.{Seen, Cuts};
+ghost use Rattle.kn_lex.specs.Faults.{IsFaultless};
+ghost use Rattle.kn_files.specs.Lines.{lines_of, are_lines, joined, after_byte, is_literal};
+ghost use Rattle.kn_files.specs.Literals.{leaves_out};
+ghost use Rattle.kn_files.specs.Pieces.{is_assertion, spans_of, IsWithin, StandApart, HasWholeLines};
+ghost use Rattle.kn_files.specs.declared.within.Within.{Within};
+
+/// The lines of a file are those that make it up, and there is one way only to cut it into lines.
+pub fn lines_of_file()
+    ensures joined { (file : List ℕ) → joined (lines_of file) ≡ file }
+    ensures lines { (file : List ℕ) → are_lines (lines_of file) ≡ true }
+    ensures only { (lines : List (List ℕ)) → are_lines lines ≡ true → lines_of (joined lines) ≡ lines }
+{}
+
+/// How literals and comments go on in a line. A literal of an assertion ends with its closing quote; behind
+/// its opening quote and items it is open; it ends before a bare end of a line, and before a carriage return
+/// that follows a backslash and that no newline follows. Other bytes than quotes and `#` open nothing, and a
+/// comment takes the rest of its line.
+pub fn literals_in_lines()
+    ensures whole { (bytes : List ℕ) → IsLiteral bytes → fold after_byte Within.Plain bytes ≡ Within.Plain }
+    ensures open_behind { (items : List Item) → list_all is_item items ≡ true → is_literal (fold after_byte Within.Plain (34 ∷ items_bytes items)) ≡ true }
+    ensures bare { (items : List Item) (end : ℕ) → list_all is_item items ≡ true → fold leaves_out false items ≡ false → (end ≡ 10) ⊎ (end ≡ 13) → fold after_byte Within.Plain (34 ∷ items_bytes items ++ end ∷ []) ≡ Within.Plain }
+    ensures returned { (items : List Item) (next : ℕ) → list_all is_item items ≡ true → (next ≡ 10 → ⊥) → fold after_byte Within.Plain (34 ∷ items_bytes items ++ 92 ∷ 13 ∷ next ∷ []) ≡ after_byte Within.Plain next }
+    ensures other { (bytes : List ℕ) → list_all (λ byte. not (byte == 34 || byte == 35)) bytes ≡ true → fold after_byte Within.Plain bytes ≡ Within.Plain }
+    ensures comment { (bytes : List ℕ) → fold after_byte Within.Plain (35 ∷ bytes) ≡ Within.Comment }
+{}
+
+/// The spans of a file are in it and in their order, with something between each two, and have whole lines.
+pub fn spans_of_file()
+    ensures within { (file : List ℕ) → All (IsWithin file) (spans_of file) }
+    ensures apart { (file : List ℕ) → StandApart 0 (spans_of file) }
+    ensures lines { (file : List ℕ) → All (HasWholeLines file) (spans_of file) }
+{}
+
+/// What is left out has neither a token nor a lexical fault, and all else has one.
+pub fn left_out()
+    ensures neither { (text : List ℕ) → is_assertion text ≡ false → Cuts text [] × IsFaultless text }
+    ensures either { (text : List ℕ) → is_assertion text ≡ true → Cuts text [] → IsFaultless text → ⊥ }
+{}
+
+/// A text without lexical faults isn't cut between its tokens: as a file it is one assertion where it has
+/// tokens, and none where it has none.
+pub fn faultless_text()
+    ensures none { (text : List ℕ) → Cuts text [] → IsFaultless text → spans_of text ≡ [] }
+    ensures one { (text : List ℕ) (token : Seen) (tokens : List Seen) → Cuts text (token ∷ tokens) → IsFaultless text → length (spans_of text) ≡ 1 }
+{}

@@ -1,0 +1,100 @@
+ghost use Rattle.std.specs.Prelude.{◌≡◌, take, fold};
+ghost use Rattle.kn_lex.specs.Cutting.{is_comment_label};
+ghost use Rattle.kn_files.specs.Lines.{after_plain, after_byte, at_line_start, is_of_comment, after_line, is_literal};
+
+use kn_lex::{Quote, Step, is_comment_label, is_continuation, quote_step};
+
+/// What a byte of a file stands in.
+#[derive(Debug, Clone, Copy)]
+pub enum Within {
+    /// In no comment and no literal.
+    Plain,
+    /// In a comment, which ends with its line.
+    Comment,
+    /// In a line with the label of a comment, or one that goes on with its body.
+    Body,
+    /// In a literal.
+    Literal(Quote),
+}
+
+fn after_plain(byte: u8) -> Within
+    ensures { result ≡ after_plain byte }
+{
+    match byte {
+        b'"' => Within::Literal(Quote::Plain),
+        b'#' => Within::Comment,
+        _ => Within::Plain,
+    }
+}
+
+fn after_byte(within: Within, byte: u8) -> Within
+    ensures { result ≡ after_byte within byte }
+{
+    match within {
+        Within::Plain => after_plain(byte),
+        Within::Comment => Within::Comment,
+        Within::Body => Within::Body,
+        Within::Literal(quote) => match quote_step(quote, byte) {
+            Step::Fail => after_plain(byte),
+            Step::Close => Within::Plain,
+            Step::Go(next) => Within::Literal(next),
+        },
+    }
+}
+
+fn at_line_start(within: Within) -> Within
+    ensures { result ≡ at_line_start within }
+{
+    match within {
+        Within::Literal(quote) => Within::Literal(quote),
+        _ => Within::Plain,
+    }
+}
+
+fn has_comment_label(line: &[u8]) -> bool
+    ensures { result ≡ is_comment_label (take 8 line.now) }
+{
+    let len = if line.len() < 8 { line.len() } else { 8 };
+    is_comment_label(line.split_at(len).0)
+}
+
+fn is_of_comment(within: Within, line: &[u8]) -> bool
+    ensures { result ≡ is_of_comment within line.now }
+{
+    match within {
+        Within::Literal(_) => false,
+        Within::Body => has_comment_label(line) || is_continuation(line),
+        _ => has_comment_label(line),
+    }
+}
+
+fn after_bytes(within: Within, bytes: &[u8]) -> Within
+    ensures { result ≡ fold after_byte within bytes.now }
+{
+    let mut within = within;
+    for byte in bytes {
+        within = after_byte(within, *byte);
+    }
+    within
+}
+
+/// What the next line begins in.
+#[tactic(auto, unfolding(crate::specs::Lines::after_line))]
+pub(crate) fn after_line(within: Within, line: &[u8]) -> Within
+    ensures { result ≡ after_line within line.now }
+{
+    if is_of_comment(within, line) {
+        Within::Body
+    } else {
+        after_bytes(at_line_start(within), line)
+    }
+}
+
+pub(crate) fn is_literal(within: Within) -> bool
+    ensures { result ≡ is_literal within }
+{
+    match within {
+        Within::Literal(_) => true,
+        _ => false,
+    }
+}
