@@ -1,7 +1,5 @@
-pub mod AssertionsLemmas
-pub mod Bytes
-pub mod CutsLemmas
-pub mod FilePieces
-pub mod Files
-pub mod Lines
-pub mod NormalForms
+pub mod FieldLemmas
+pub mod Orders
+pub mod Stated
+pub mod Readings
+pub mod Answered

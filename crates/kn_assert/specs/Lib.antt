@@ -1,8 +1,4 @@
-pub mod Principals
-pub mod PrincipalFaults
-pub mod Wording
-pub mod Cuts
-pub mod Files
-pub mod FirstForm
+pub mod Faults
+pub mod Parts
 pub mod Reading
-pub mod Readers
+pub mod Spelled

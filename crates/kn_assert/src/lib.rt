@@ -1,16 +1,16 @@
-//! Assertions of KeyNote V2 (RFC 2704, section 4): their types, the reader of policy files, and the normal form of principals.
+//! Assertions of KeyNote V2 (RFC 2704, section 4): the reader of their texts, and the normal form of principals.
 #![tactic(auto)]
 
-mod assertion;
 mod fault;
 pub mod laws;
+mod order;
 mod parts;
-mod principal;
 mod reader;
 #[cfg(test)]
 mod tests;
 
-pub use assertion::{Assertion, Formula};
-pub use fault::FirstFault;
-pub use principal::{PrincipalFault, normal, same};
-pub use reader::first_form;
+pub use fault::ReadFault;
+pub use kn_env::Constant;
+pub use kn_principal::{PrincipalFault, normal, same};
+pub use kn_trees::{Assertion, Clause, Comparison, Expr, Formula, Link2, Operation, Program, Then};
+pub use reader::read;

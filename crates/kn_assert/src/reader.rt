@@ -1,196 +1,110 @@
-ghost use Rattle.std.specs.Prelude.{◌≡◌, ℕ, IfOk, ◌∷◌, ◌++◌, [], map};
-ghost use Rattle.std.specs.List.{list_all};
-ghost use Rattle.std.specs.Result.{IsErrOf};
-ghost use Rattle.std.specs.Option.{option_map, option_and_then};
-ghost use Rattle.kn_assert.specs.Cuts.{cut_at, principal_of, authorizer_of, licensees_of, labelled_licensees, wording_by, at_most_2048};
-ghost use Rattle.kn_assert.specs.FirstForm.{IsFirstForm, HasFirstForm, any_of, formula_of, assertion_from};
-ghost use Rattle.kn_assert.specs.Readers.{Reads, parts_left, assertions_of, assertions_in};
-ghost use Rattle.kn_assert.specs.Wording.{is_principal, is_principal_byte};
+ghost use Rattle.std.specs.Prelude.{◌≡◌, ◌≤◌, ◌⊎◌, ℕ, List, length, Some, Ok, IfOk, IfErr, IfSome};
+ghost use Rattle.kn_trees.specs.Formulas.{IsReadable};
+ghost use Rattle.kn_fields.specs.Fields.{signed_to};
+ghost use Rattle.kn_assert.specs.Reading.{of_lexical, of_fields, assembled, reading_with, assertion_of, fault_of, IsSound};
+ghost use Rattle.kn_assert.specs.Spelled.{IsReading, IsFirstReadFault};
+ghost use Rattle.kn_assert.specs.declared.fault.ReadFault.TheVariants.{NoMemory};
 
-use crate::assertion::{Assertion, Formula};
-use crate::fault::FirstFault;
-use crate::parts::Parts;
-use kn_base::limits::{ASSERTION_BYTES, LIVE_CREDENTIALS, PRINCIPAL_BYTES};
-use kn_base::{List, Octets};
+use crate::fault::ReadFault;
+use crate::laws;
+use crate::order::{Faults, fault_of_part, first_fault};
+use crate::parts::{authorizer, conditions, licensees, signature};
+use kn_base::{NoMemory as NoRoom, Octets};
+use kn_fields::{FieldFault, Fields, fields};
+use kn_lex::LexFault;
+use kn_trees::{Assertion, Formula, Program};
 use std::alloc::Global;
 
-/// The bytes of an assertion's two lines without their newlines.
-const LINES_BYTES: usize = ASSERTION_BYTES - 2;
-
-/// The assertions of a policy file of the first policy form, in their order.
-///
-/// The form is keynoted's own. The file is empty, or it is one or more assertions with one empty line
-/// between each two. An assertion is the lines `Authorizer: "A"` and `Licensees: "B"`, where several
-/// quoted principals with ` || ` between each two may stand in place of `"B"`. A principal has 1 to
-/// 4,096 bytes from 32 to 126 without a quote, a colon or a backslash. An assertion has at most 16,384
-/// bytes with its newlines, and there are at most 2,048.
-///
-/// `Form` says that the file hasn't the form, `NoMemory` that there was no memory for the assertions.
-pub fn first_form(alloc: Global, file: &[u8]) -> Result<List<Assertion>, FirstFault>
-    ensures ok { IfOk result (λ assertions. IsFirstForm file.now assertions) }
-    // The file spells no list of assertions.
-    ensures form { IsErrOf result FirstFault.Form → ¬ HasFirstForm file.now }
+fn of_lexical(fault: LexFault) -> ReadFault
+    ensures { result ≡ of_lexical fault }
 {
-    assertions_in(alloc, file)
+    match fault {
+        LexFault::NotText { at } => ReadFault::NotText { at },
+        LexFault::BadString { at } => ReadFault::BadString { at },
+        LexFault::BadToken { at } => ReadFault::BadToken { at },
+        LexFault::Float { at } => ReadFault::Float { at },
+        LexFault::Regex { at } => ReadFault::Regex { at },
+        LexFault::Number { at } => ReadFault::Number { at },
+        LexFault::Blank { at } => ReadFault::Blank { at },
+        LexFault::NoMemory => ReadFault::NoMemory,
+    }
 }
 
-fn assertions_in(alloc: Global, file: &[u8]) -> Result<List<Assertion>, FirstFault>
-    ensures { Reads result (assertions_in file.now) }
+fn of_fields(fault: FieldFault) -> ReadFault
+    ensures { result ≡ of_fields fault }
 {
-    if file.is_empty() {
-        return Ok(List::new(alloc));
+    match fault {
+        FieldFault::TooLong { len } => ReadFault::TooLong { len },
+        FieldFault::Lexical(fault) => of_lexical(fault),
+        FieldFault::BadField { at } => ReadFault::BadField { at },
+        FieldFault::FieldTwice { at } => ReadFault::FieldTwice { at },
+        FieldFault::FieldOrder { at } => ReadFault::FieldOrder { at },
+        FieldFault::NoAuthorizer => ReadFault::NoAuthorizer,
+        FieldFault::Version { at } => ReadFault::Version { at },
+        FieldFault::Constant { at } => ReadFault::Constant { at },
+        FieldFault::NoMemory => ReadFault::NoMemory,
     }
-    let mut lines = Parts::new(file, b'\n');
-    assertions_of(alloc, &mut lines)
 }
 
-/// The assertions of the lines of a file, three lines for each.
-fn assertions_of(alloc: Global, lines: &mut Parts) -> Result<List<Assertion>, FirstFault>
-    ensures { Reads result (option_and_then at_most_2048 (assertions_of (parts_left lines.old))) }
+/// The assertion of what its fields state, where none of these has a fault.
+fn assembled(
+    fields: Fields<'_>,
+    authorizer: Result<Octets, ReadFault>,
+    licensees: Result<Option<Formula>, ReadFault>,
+    conditions: Result<Option<Program>, ReadFault>,
+    signature: Result<Option<Octets>, ReadFault>,
+) -> Result<Assertion, ReadFault>
+    ensures { result ≡ assembled fields.entry.constants fields.entry.signed_to authorizer licensees conditions signature }
 {
-    let mut assertions = List::new(alloc);
-    while let Some(first) = lines.next() {
-        let Some(second) = lines.next() else {
-            return Err(FirstFault::Form);
-        };
-        let Some(end) = lines.next() else {
-            return Err(FirstFault::Form);
-        };
-        if assertions.len() >= LIVE_CREDENTIALS {
-            return Err(FirstFault::Form);
-        }
-        let assertion = assertion_by(alloc, first, second, end)?;
-        match assertions.push(assertion) {
-            Ok(()) => {}
-            Err(_) => return Err(FirstFault::NoMemory),
-        }
-    }
-    Ok(assertions)
-}
-
-/// The assertion of two lines, and what follows their newlines, which must be empty.
-fn assertion_by(
-    alloc: Global,
-    first: &[u8],
-    second: &[u8],
-    end: &[u8],
-) -> Result<Assertion, FirstFault>
-    ensures { Reads result (option_map assertion_from (wording_by first.now second.now end.now)) }
-{
-    if !end.is_empty() || first.len() + second.len() > LINES_BYTES {
-        return Err(FirstFault::Form);
-    }
-    let authorizer = authorizer(alloc, first)?;
-    let formula = licensees(alloc, second)?;
     Ok(Assertion {
-        authorizer,
-        licensees: Some(formula),
+        authorizer: authorizer?,
+        licensees: licensees?,
+        conditions: conditions?,
+        signature: signature?,
+        constants: fields.constants,
+        signed_to: fields.signed_to,
     })
 }
 
-/// The principal of an Authorizer line.
-fn authorizer(alloc: Global, line: &[u8]) -> Result<Octets, FirstFault>
-    ensures { Reads result (authorizer_of (cut_at 34 line.now)) }
+/// The assertion that the fields state, or the first fault of what they state.
+fn assertion(alloc: Global, fields: Fields<'_>) -> Result<Result<Assertion, ReadFault>, NoRoom>
+    ensures given { IfOk result (λ read. (text : List ℕ) → fields.entry.signed_to ≡ signed_to text fields.entry.tokens → read ≡ reading_with text fields.entry.tokens fields.entry.constants) }
+    ensures readable { IfOk result (λ read. IfOk read (λ assertion. IfSome assertion.licensees (λ formula. IsReadable (length fields.entry.tokens) formula))) }
 {
-    let mut parts = Parts::new(line, b'"');
-    let Some(label) = parts.next() else {
-        return Err(FirstFault::Form);
+    let authorizer = authorizer(alloc, &fields)?;
+    let licensees = licensees(alloc, &fields)?;
+    let conditions = conditions(alloc, &fields)?;
+    let signature = signature(alloc, &fields)?;
+    let faults = Faults {
+        authorizer: fault_of_part(&authorizer),
+        conditions: fault_of_part(&conditions),
+        licensees: fault_of_part(&licensees),
+        signature: fault_of_part(&signature),
     };
-    let Some(name) = parts.next() else {
-        return Err(FirstFault::Form);
+    match first_fault(&fields, &faults) {
+        Some(fault) => Ok(Err(fault)),
+        None => Ok(assembled(fields, authorizer, licensees, conditions, signature)),
+    }
+}
+
+/// The assertion of a text (RFC 2704, section 4), or its first fault in the one order of faults.
+pub fn read(alloc: Global, text: &[u8]) -> Result<Assertion, ReadFault>
+    ensures ok { IfOk result (λ assertion. assertion_of text.now ≡ Some assertion) }
+    ensures err { IfErr result (λ fault. (fault ≡ NoMemory) ⊎ (fault_of text.now ≡ Some fault)) }
+    ensures reading { IfOk result (λ assertion. IsReading text.now assertion) }
+    ensures first { IfErr result (λ fault. (fault ≡ NoMemory) ⊎ IsFirstReadFault text.now fault) }
+    ensures sound { IfOk result (λ assertion. IsSound (length text.now) assertion) }
+    ensures short { IfOk result (λ assertion. length text.now ≤ 16384) }
+{
+    kn_lex::laws::no_more_tokens_than_bytes();
+    kn_fields::laws::fields_are_computed();
+    laws::readings_are_computed();
+    let fields = match fields(alloc, text) {
+        Ok(fields) => fields,
+        Err(fault) => return Err(of_fields(fault)),
     };
-    let Some(end) = parts.next() else {
-        return Err(FirstFault::Form);
-    };
-    if label != b"Authorizer: ".as_slice() || !end.is_empty() || !parts.is_empty() {
-        return Err(FirstFault::Form);
+    match assertion(alloc, fields) {
+        Ok(read) => read,
+        Err(_) => Err(ReadFault::NoMemory),
     }
-    principal(alloc, name)
-}
-
-/// The formula of a Licensees line.
-fn licensees(alloc: Global, line: &[u8]) -> Result<Formula, FirstFault>
-    ensures { Reads result (option_map formula_of (labelled_licensees (cut_at 34 line.now))) }
-{
-    let mut parts = Parts::new(line, b'"');
-    let Some(label) = parts.next() else {
-        return Err(FirstFault::Form);
-    };
-    if label != b"Licensees: ".as_slice() {
-        return Err(FirstFault::Form);
-    }
-    Ok(formula(alternatives(alloc, &mut parts)?))
-}
-
-/// The principals behind the label of a Licensees line.
-fn alternatives(alloc: Global, parts: &mut Parts) -> Result<List<Formula>, FirstFault>
-    ensures { Reads result (option_map (map Formula.Who) (licensees_of (parts_left parts.old))) }
-{
-    let mut list = List::new(alloc);
-    while let Some(name) = parts.next() {
-        let Some(between) = parts.next() else {
-            return Err(FirstFault::Form);
-        };
-        let name = principal(alloc, name)?;
-        match list.push(Formula::Who(name)) {
-            Ok(()) => {}
-            Err(_) => return Err(FirstFault::NoMemory),
-        }
-        if parts.is_empty() {
-            return if between.is_empty() {
-                Ok(list)
-            } else {
-                Err(FirstFault::Form)
-            };
-        }
-        if between != b" || ".as_slice() {
-            return Err(FirstFault::Form);
-        }
-    }
-    Err(FirstFault::Form)
-}
-
-/// One principal, or any of several.
-fn formula(list: List<Formula>) -> Formula
-    ensures { result ≡ any_of list }
-{
-    let mut list = list;
-    if list.len() == 1 {
-        if let Some(only) = list.pop() {
-            return only;
-        }
-    }
-    Formula::Any(list)
-}
-
-/// The principal of this text.
-fn principal(alloc: Global, text: &[u8]) -> Result<Octets, FirstFault>
-    ensures { Reads result (principal_of text.now) }
-{
-    if is_principal(text) {
-        Ok(Octets::from_slice(alloc, text)?)
-    } else {
-        Err(FirstFault::Form)
-    }
-}
-
-fn is_principal(text: &[u8]) -> bool
-    ensures { result ≡ is_principal text.now }
-{
-    match text.len() {
-        1..=PRINCIPAL_BYTES => has_principal_bytes(text),
-        _ => false,
-    }
-}
-
-fn has_principal_bytes(text: &[u8]) -> bool
-    ensures { result ≡ list_all is_principal_byte text.now }
-{
-    text.iter().all(|byte| is_principal_byte(*byte))
-}
-
-fn is_principal_byte(byte: u8) -> bool
-    ensures { result ≡ is_principal_byte byte }
-{
-    matches!(byte, b' '..=b'~') && byte != b'"' && byte != b':' && byte != b'\\'
 }

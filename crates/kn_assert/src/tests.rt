@@ -1,201 +1,465 @@
-use crate::{Assertion, FirstFault, Formula, PrincipalFault, first_form, normal, same};
-use std::alloc::{AllocError, Global};
+use super::*;
+use kn_base::Octets;
+use std::alloc::Global;
 use std::process::Abort;
-use std::test::Fail;
 
-/// The principal of a formula that is one.
-fn only(formula: &Formula) -> &[u8] {
-    match formula {
-        Formula::Who(name) => name.as_slice(),
-        Formula::Any(_) => b"",
+const NO_FAULT: (u8, usize) = (0, 0);
+
+/// The number and the place of the fault that a text is answered with, or 0 and 0 where it is read.
+fn fault_in(alloc: Global, text: &[u8]) -> (u8, usize) {
+    match read(alloc, text) {
+        Ok(_assertion) => NO_FAULT,
+        Err(fault) => (fault.number().unwrap_or(255), fault.place()),
     }
 }
 
-/// The principal at place `i` of a formula that is a list.
-fn part(formula: &Formula, i: u32) -> &[u8] {
-    match formula {
-        Formula::Who(_) => b"",
-        Formula::Any(list) => match list.get(i) {
-            Some(part) => only(part),
-            None => b"",
-        },
+/// Asserts the fault of each text.
+fn check_faults(rt: &impl Abort, alloc: Global, cases: &[(&[u8], (u8, usize))]) {
+    for (text, wanted) in cases {
+        assert_eq!(rt; fault_in(alloc, text), *wanted, "in {:?}", *text);
     }
 }
 
-fn licensees(assertion: &Assertion) -> Result<&Formula, Fail> {
-    Ok(assertion.licensees.as_ref().ok_or("licensees")?)
-}
-
-fn refuses(rt: &impl Abort, alloc: Global, file: &[u8]) {
-    match first_form(alloc, file) {
-        Ok(_) => panic!(rt; "accepted"),
-        Err(fault) => assert!(rt; fault == FirstFault::Form),
+/// Asserts the authorizer of each text.
+fn check_authorizers(rt: &impl Abort, alloc: Global, cases: &[(&[u8], &[u8])]) {
+    for (text, wanted) in cases {
+        match read(alloc, text) {
+            Ok(assertion) => {
+                assert_eq!(rt; assertion.authorizer.as_slice(), *wanted, "in {:?}", *text);
+            }
+            Err(fault) => assert!(rt; false, "fault {:?} in {:?}", fault, *text),
+        }
     }
 }
 
 #[test]
-fn the_policy_licenses_one(rt: HostRuntime) -> Result<(), Fail> {
-    let file = b"Authorizer: \"POLICY\"\nLicensees: \"alice\"\n";
-    assert_eq!(rt; file.len(), 40);
-    let list = first_form(rt.alloc(), file)?;
-    assert_eq!(rt; list.len(), 1);
-    let assertion = list.get(0).ok_or("assertion")?;
-    assert_eq!(rt; assertion.authorizer.as_slice(), b"POLICY".as_slice());
-    assert_eq!(rt; only(licensees(assertion)?), b"alice".as_slice());
-    Ok(())
+fn faults_before_the_fields(rt: HostRuntime) {
+    check_faults(
+        &rt,
+        rt.alloc(),
+        [
+            (b"".as_slice(), (12, 0)),
+            (b" \n\t\n".as_slice(), (12, 0)),
+            (b"Authorizer: \"a\"\0".as_slice(), (1, 15)),
+            (b"Authorizer: \"a\" \x80\n".as_slice(), (1, 16)),
+            (b"Authorizer: \"a\n".as_slice(), (2, 12)),
+            (b" Authorizer: \"a\"".as_slice(), (3, 11)),
+            (b"Authorizer: \"a\" & \"b\"\n".as_slice(), (4, 16)),
+            (b"Authorizer: 1.5\n".as_slice(), (4, 12)),
+            (b"Authorizer: a ~= \"b\"\n".as_slice(), (5, 14)),
+            (b"Authorizer: 2147483648\n".as_slice(), (6, 12)),
+            (
+                b"Authorizer: \"a\"\n\nLicensees: \"b\"\n".as_slice(),
+                (7, 16),
+            ),
+        ]
+        .as_slice(),
+    );
 }
 
 #[test]
-fn an_empty_line_between_two(rt: HostRuntime) -> Result<(), Fail> {
-    let file =
-        b"Authorizer: \"POLICY\"\nLicensees: \"alice\"\n\nAuthorizer: \"alice\"\nLicensees: \"b o b\" || \"carol\" || \"~\"\n";
-    let list = first_form(rt.alloc(), file)?;
-    assert_eq!(rt; list.len(), 2);
-    let first = list.get(0).ok_or("first")?;
-    assert_eq!(rt; first.authorizer.as_slice(), b"POLICY".as_slice());
-    assert_eq!(rt; only(licensees(first)?), b"alice".as_slice());
-    let second = list.get(1).ok_or("second")?;
-    assert_eq!(rt; second.authorizer.as_slice(), b"alice".as_slice());
-    let formula = licensees(second)?;
-    assert_eq!(rt; part(formula, 0), b"b o b".as_slice());
-    assert_eq!(rt; part(formula, 1), b"carol".as_slice());
-    assert_eq!(rt; part(formula, 2), b"~".as_slice());
-    assert_eq!(rt; part(formula, 3), b"".as_slice());
-    Ok(())
-}
-
-#[test]
-fn an_empty_file_has_no_assertion(rt: HostRuntime) -> Result<(), Fail> {
-    let list = first_form(rt.alloc(), b"")?;
-    assert_eq!(rt; list.len(), 0);
-    Ok(())
-}
-
-#[test]
-fn other_lines_are_refused(rt: HostRuntime) {
-    let alloc = rt.alloc();
-    refuses(
+fn faults_of_the_fields(rt: HostRuntime) {
+    check_faults(
         &rt,
-        alloc,
-        b"Authorizer: \"POLICY\"\nLicensees: \"alice\"\nConditions: true;\n",
-    );
-    refuses(
-        &rt,
-        alloc,
-        b"Authorizer: \"POLICY\"\nLicensees: \"alice\"\n\n\nAuthorizer: \"a\"\nLicensees: \"b\"\n",
-    );
-    refuses(
-        &rt,
-        alloc,
-        b"Authorizer: \"POLICY\"\nLicensees: \"alice\"\n\n",
-    );
-    refuses(&rt, alloc, b"Authorizer: \"POLICY\"\nLicensees: \"alice\"");
-    refuses(
-        &rt,
-        alloc,
-        b"\nAuthorizer: \"POLICY\"\nLicensees: \"alice\"\n",
-    );
-    refuses(
-        &rt,
-        alloc,
-        b"Authorizer: \"POLICY\"\nLicensees: \"a\" ||\"b\"\n",
-    );
-    refuses(&rt, alloc, b"authorizer: \"POLICY\"\nLicensees: \"a\"\n");
-}
-
-#[test]
-fn other_principals_are_refused(rt: HostRuntime) {
-    let alloc = rt.alloc();
-    refuses(
-        &rt,
-        alloc,
-        b"Authorizer: \"POLICY\"\nLicensees: \"rsa:ab\"\n",
-    );
-    refuses(&rt, alloc, b"Authorizer: \"POLICY\"\nLicensees: \"\"\n");
-    refuses(&rt, alloc, b"Authorizer: \"PO\\LICY\"\nLicensees: \"a\"\n");
-    refuses(&rt, alloc, b"Authorizer: \"POLICY\"\nLicensees: \"a\tb\"\n");
-    refuses(
-        &rt,
-        alloc,
-        b"Authorizer: \"POLICY\"\nLicensees: \"a\" || \"\"\n",
+        rt.alloc(),
+        [
+            (b"Authorizer: \"a\"\nFoo: \"b\"\n".as_slice(), (9, 16)),
+            (b"a\nAuthorizer: \"a\"\n".as_slice(), (9, 0)),
+            (
+                b"Authorizer: \"a\"\nAuthorizer: \"a\"\n".as_slice(),
+                (10, 16),
+            ),
+            (
+                b"Authorizer: \"a\"\nLICENSEES: \"b\"\nlicensees: \"b\"\n".as_slice(),
+                (10, 31),
+            ),
+            (
+                b"Authorizer: \"a\"\nSignature: \"s\"\nComment: c\n".as_slice(),
+                (11, 31),
+            ),
+            (
+                b"Authorizer: \"a\"\nKeyNote-Version: 2\n".as_slice(),
+                (11, 16),
+            ),
+            (b"Licensees: \"a\"\n".as_slice(), (12, 0)),
+            (
+                b"KeyNote-Version: 02\nAuthorizer: \"a\"\n".as_slice(),
+                (13, 0),
+            ),
+            (
+                b"KeyNote-Version: 2\nAuthorizer: \"a\"\n".as_slice(),
+                NO_FAULT,
+            ),
+            (
+                b"keynote-version: \"2\"\nAuthorizer: \"a\"\n".as_slice(),
+                NO_FAULT,
+            ),
+            (
+                b"Authorizer: \"a\"\nLocal-Constants: A=\"x\" _B=\"y\"\n".as_slice(),
+                (14, 39),
+            ),
+            (
+                b"Authorizer: \"a\"\nLocal-Constants: A=\"x\" A=\"y\"\n".as_slice(),
+                (14, 39),
+            ),
+            (
+                b"Authorizer: \"a\"\nLocal-Constants: A=\n".as_slice(),
+                (14, 16),
+            ),
+        ]
+        .as_slice(),
     );
 }
 
-/// A file whose authorizer has so many bytes.
-fn long_authorizer(alloc: Global, count: usize) -> Result<Vec<u8>, AllocError> {
-    let mut file = Vec::new(alloc);
-    file.extend_from_slice(b"Authorizer: \"")?;
+/// A text of `count` bytes `byte` between two others.
+fn repeated(alloc: Global, front: &[u8], byte: u8, count: u32, back: &[u8]) -> Option<Octets> {
+    let mut text = match Octets::from_slice(alloc, front) {
+        Ok(text) => text,
+        Err(_) => return None,
+    };
     for _ in 0..count {
-        file.push(b'a')?;
+        if text.push(byte).is_err() {
+            return None;
+        }
     }
-    file.extend_from_slice(b"\"\nLicensees: \"b\"\n")?;
-    Ok(file)
+    match text.extend(back) {
+        Ok(()) => Some(text),
+        Err(_) => None,
+    }
 }
 
-#[test]
-fn a_principal_has_at_most_4096_bytes(rt: HostRuntime) -> Result<(), Fail> {
-    let alloc = rt.alloc();
-    let longest = long_authorizer(alloc, 4096)?;
-    let list = first_form(alloc, longest.as_slice())?;
-    assert_eq!(rt; list.len(), 1);
-    let longer = long_authorizer(alloc, 4097)?;
-    refuses(&rt, alloc, longer.as_slice());
-    Ok(())
-}
-
-fn has_form(
+/// Asserts the fault of a text of so many bytes between two others.
+fn check_repeated(
     rt: &impl Abort,
     alloc: Global,
-    principal: &[u8],
-    form: &[u8],
-) -> Result<(), PrincipalFault> {
-    let octets = normal(alloc, principal)?;
-    assert_eq!(rt; octets.as_slice(), form);
-    assert!(rt; same(principal, form));
-    assert!(rt; same(form, form));
-    Ok(())
+    front: &[u8],
+    byte: u8,
+    count: u32,
+    back: &[u8],
+    wanted: (u8, usize),
+) {
+    let text = repeated(alloc, front, byte, count, back);
+    let found = text.map(|text| fault_in(alloc, text.as_slice()));
+    assert_eq!(rt;
+        found,
+        Some(wanted),
+        "{} bytes {} behind {:?}",
+        count,
+        byte,
+        front
+    );
 }
 
 #[test]
-fn letters_without_case_are_lowered(rt: HostRuntime) -> Result<(), PrincipalFault> {
+fn long_texts_and_principals(rt: HostRuntime) {
     let alloc = rt.alloc();
-    has_form(&rt, alloc, b"RSA-HEX:1023ABCD", b"rsa-hex:1023abcd")?;
-    has_form(&rt, alloc, b"DSA:Ab", b"dsa:Ab")?;
-    has_form(&rt, alloc, b"Alice", b"Alice")?;
-    has_form(&rt, alloc, b"A:-HEX:Ab", b"a:-HEX:Ab")?;
-    has_form(&rt, alloc, b"-Hex:@AZ[", b"-hex:@az[")?;
-    has_form(&rt, alloc, b"HEX:Ab", b"hex:Ab")?;
-    has_form(&rt, alloc, b":Ab", b":Ab")
+    let none = b"".as_slice();
+    check_repeated(&rt, alloc, none, b' ', 16_384, none, (12, 0));
+    check_repeated(&rt, alloc, none, b' ', 16_385, none, (8, 16_385));
+    check_repeated(&rt, alloc, none, 0, 16_385, none, (8, 16_385));
+    let front = b"Authorizer: \"".as_slice();
+    let quote = b"\"\n".as_slice();
+    check_repeated(&rt, alloc, front, b'a', 4_096, quote, NO_FAULT);
+    check_repeated(&rt, alloc, front, b'a', 4_097, quote, (19, 1));
+    check_repeated(&rt, alloc, front, b'a', 0, quote, (19, 1));
+    let constant = b"Authorizer: A\nLocal-Constants: A=\"".as_slice();
+    check_repeated(&rt, alloc, constant, b'a', 4_096, quote, NO_FAULT);
+    check_repeated(&rt, alloc, constant, b'a', 4_097, quote, (19, 1));
+    check_repeated(&rt, alloc, constant, b'a', 0, quote, (19, 1));
 }
 
 #[test]
-fn other_forms_are_not_the_same(rt: HostRuntime) {
-    assert!(rt; !same(b"DSA:Ab", b"dsa:ab"));
-    assert!(rt; !same(b"dsa:Ab", b"DSA:Ab"));
-    assert!(rt; !same(b"rsa-hex:ab", b"rsa-hex:AB"));
-    assert!(rt; !same(b"rsa-hex:ab", b"rsa-hex:a"));
-    assert!(rt; !same(b"alice", b"alice2"));
-    assert!(rt; !same(b"alice", b""));
-    assert!(rt; same(b"", b""));
+fn deep_fields(rt: HostRuntime) {
+    let alloc = rt.alloc();
+    let line = b"\n".as_slice();
+    let authorizer = b"Authorizer: ".as_slice();
+    check_repeated(&rt, alloc, authorizer, b'(', 64, line, (16, 1));
+    check_repeated(&rt, alloc, authorizer, b'(', 65, line, (15, 1));
+    check_repeated(&rt, alloc, authorizer, b'!', 8, line, (16, 1));
+    check_repeated(&rt, alloc, authorizer, b'!', 9, line, (15, 1));
+    let conditions = b"Authorizer: \"a\"\nConditions: ".as_slice();
+    check_repeated(&rt, alloc, conditions, b'{', 64, line, (16, 3));
+    check_repeated(&rt, alloc, conditions, b'{', 65, line, (15, 3));
+    check_repeated(&rt, alloc, conditions, b'@', 9, line, (15, 3));
+    let licensees = b"Authorizer: \"a\"\nLicensees: ".as_slice();
+    check_repeated(&rt, alloc, licensees, b'(', 65, line, (15, 5));
+    let signature = b"Authorizer: \"a\"\nSignature: ".as_slice();
+    check_repeated(&rt, alloc, signature, b'(', 64, line, (16, 7));
+    check_repeated(&rt, alloc, signature, b'(', 65, line, (15, 7));
+    check_repeated(&rt, alloc, signature, b'-', 9, line, (15, 7));
+    let comment = b"Authorizer: \"a\"\nComment: ".as_slice();
+    check_repeated(&rt, alloc, comment, b'(', 65, line, NO_FAULT);
+    let version = b"KeyNote-Version: ".as_slice();
+    check_repeated(&rt, alloc, version, b'(', 65, line, (12, 0));
 }
 
-fn has_fault(rt: &impl Abort, alloc: Global, principal: &[u8], fault: PrincipalFault) {
-    match normal(alloc, principal) {
-        Ok(_) => panic!(rt; "accepted"),
-        Err(other) => assert!(rt; other == fault),
+#[test]
+fn faults_of_what_fields_state(rt: HostRuntime) {
+    check_faults(
+        &rt,
+        rt.alloc(),
+        [
+            (b"Authorizer:\n".as_slice(), (16, 1)),
+            (b"Authorizer: 2\n".as_slice(), (16, 1)),
+            (b"Authorizer: \"a\" \"b\"\n".as_slice(), (16, 1)),
+            (b"Authorizer: (\"a\")\n".as_slice(), (16, 1)),
+            (b"Authorizer: A\n".as_slice(), (19, 1)),
+            (
+                b"Authorizer: A\nLocal-Constants: a=\"x\"\n".as_slice(),
+                (19, 1),
+            ),
+            (b"Authorizer: policy\n".as_slice(), (19, 1)),
+            (b"Authorizer: \"\"\n".as_slice(), (19, 1)),
+            (
+                b"Authorizer: \"a\"\nConditions: true;\n".as_slice(),
+                (16, 3),
+            ),
+            (b"Authorizer: \"a\"\nConditions:\n".as_slice(), NO_FAULT),
+            (b"Authorizer: \"a\"\nSignature:\n".as_slice(), (16, 7)),
+            (b"Authorizer: \"a\"\nSignature: s\n".as_slice(), (16, 7)),
+            (
+                b"Authorizer: \"a\"\nSignature: \"s\" \"t\"\n".as_slice(),
+                (16, 7),
+            ),
+            (b"Authorizer: \"a\"\nSignature: \"\"\n".as_slice(), NO_FAULT),
+            (
+                b"Local-Constants: POLICY=\"x\"\nAuthorizer: POLICY\n".as_slice(),
+                NO_FAULT,
+            ),
+        ]
+        .as_slice(),
+    );
+}
+
+#[test]
+fn first_of_two_faults(rt: HostRuntime) {
+    check_faults(
+        &rt,
+        rt.alloc(),
+        [
+            (b"Authorizer: A\nConditions: true;\n".as_slice(), (19, 1)),
+            (b"Conditions: true;\nAuthorizer: A\n".as_slice(), (16, 3)),
+            (b"Authorizer: A\nSignature: s\n".as_slice(), (19, 1)),
+            (
+                b"Authorizer: \"a\"\nConditions: true;\nSignature: s\n".as_slice(),
+                (16, 3),
+            ),
+            (
+                b"Comment: c\nConditions: !!!!!!!!!true;\nAuthorizer:\n".as_slice(),
+                (15, 3),
+            ),
+            (
+                b"Authorizer:\nConditions: !!!!!!!!!true;\n".as_slice(),
+                (16, 1),
+            ),
+            (
+                b"Conditions: true;\nAuthorizer: \"a\"\nFoo: b\n".as_slice(),
+                (9, 34),
+            ),
+            (b"Authorizer: A\nLocal-Constants: A\n".as_slice(), (14, 14)),
+            (
+                b"Authorizer: A\nConditions: 2147483648\n".as_slice(),
+                (6, 26),
+            ),
+            (b"Conditions: true;\n".as_slice(), (12, 0)),
+            (
+                b"KeyNote-Version: 3\nConditions: true;\nAuthorizer:\n".as_slice(),
+                (13, 0),
+            ),
+        ]
+        .as_slice(),
+    );
+}
+
+#[test]
+fn authorizers(rt: HostRuntime) {
+    check_authorizers(
+        &rt,
+        rt.alloc(),
+        [
+            (b"Authorizer: POLICY\n".as_slice(), b"POLICY".as_slice()),
+            (b"AUTHORIZER: \"POLICY\"\n".as_slice(), b"POLICY".as_slice()),
+            (
+                b"Local-Constants: POLICY=\"x\"\nauthorizer: POLICY\n".as_slice(),
+                b"POLICY".as_slice(),
+            ),
+            (
+                b"Authorizer: \"RSA-HEX:1023ABCD\"\n".as_slice(),
+                b"rsa-hex:1023abcd".as_slice(),
+            ),
+            (
+                b"Authorizer: \"rsa-hex:1023abcd\"\n".as_slice(),
+                b"rsa-hex:1023abcd".as_slice(),
+            ),
+            (
+                b"Authorizer: \"Foo:BAR\"\n".as_slice(),
+                b"foo:BAR".as_slice(),
+            ),
+            (b"Authorizer: \"\\141\\n\"\n".as_slice(), b"a\n".as_slice()),
+            (
+                b"Authorizer: B\nLocal-Constants: A=\"x\" B=\"Y:Z\"\n".as_slice(),
+                b"y:Z".as_slice(),
+            ),
+            (
+                b"Local-Constants: A=\"x\"\nAuthorizer: A\n".as_slice(),
+                b"x".as_slice(),
+            ),
+        ]
+        .as_slice(),
+    );
+}
+
+/// Asserts the constant at place `i`.
+fn check_constant(rt: &impl Abort, assertion: &Assertion, i: u32, name: &[u8], value: &[u8]) {
+    match assertion.constants.get(i) {
+        Some(constant) => {
+            assert_eq!(rt; constant.name.as_slice(), name);
+            assert_eq!(rt; constant.value.as_slice(), value);
+        }
+        None => assert!(rt; false, "there is no constant {}", i),
+    }
+}
+
+/// Asserts the value of the signature, and the bytes that it covers.
+fn check_signature(rt: &impl Abort, assertion: &Assertion, wanted: Option<&[u8]>, signed_to: u32) {
+    let signature = assertion.signature.as_ref().map(|value| value.as_slice());
+    assert_eq!(rt; signature, wanted);
+    assert_eq!(rt; assertion.signed_to, signed_to);
+}
+
+#[test]
+fn all_that_a_text_states(rt: HostRuntime) {
+    let text =
+        b"KeyNote-Version: 2\nComment: it's \"free: text & more\nLocal-Constants: A=\"x\" B=\"\"\nAuthorizer: A\nConditions:\nSignature: \"s\\t\"\n# end\n";
+    match read(rt.alloc(), text.as_slice()) {
+        Ok(assertion) => {
+            assert_eq!(&rt; assertion.authorizer.as_slice(), b"x".as_slice());
+            assert_eq!(&rt; assertion.constants.len(), 2);
+            check_constant(&rt, &assertion, 0, b"A", b"x");
+            check_constant(&rt, &assertion, 1, b"B", b"");
+            assert!(&rt; assertion.licensees.is_none());
+            assert!(&rt; assertion.conditions.is_none());
+            check_signature(&rt, &assertion, Some(b"s\t".as_slice()), 106);
+        }
+        Err(fault) => assert!(&rt; false, "fault {:?}", fault),
     }
 }
 
 #[test]
-fn a_normal_form_has_1_to_4096_bytes(rt: HostRuntime) -> Result<(), PrincipalFault> {
-    let alloc = rt.alloc();
-    let longer = [b'a'; 4097];
-    let longest = normal(alloc, &longer[1..])?;
-    assert_eq!(rt; longest.len(), 4096);
-    let too_long = PrincipalFault::TooLong { len: 4097 };
-    has_fault(&rt, alloc, &longer, too_long);
-    has_fault(&rt, alloc, b"", PrincipalFault::Empty);
-    assert!(rt; too_long.number() == Some(2));
-    assert!(rt; PrincipalFault::Empty.number() == Some(1));
-    Ok(())
+fn text_without_a_signature(rt: HostRuntime) {
+    match read(rt.alloc(), b"Authorizer: \"a\"\n\n") {
+        Ok(assertion) => check_signature(&rt, &assertion, None, 17),
+        Err(fault) => assert!(&rt; false, "fault {:?}", fault),
+    }
+}
+
+#[test]
+fn text_without_an_authorizer(rt: HostRuntime) {
+    check_faults(
+        &rt,
+        rt.alloc(),
+        [(
+            b"Comment: it's \"free: text & more\nSignature: \"s\"\n".as_slice(),
+            (12, 0),
+        )]
+        .as_slice(),
+    );
+}
+
+/// The one principal of a formula that is no list.
+fn alone(formula: &Option<Formula>) -> Option<&[u8]> {
+    match formula {
+        Some(Formula::Who(principal)) => Some(principal.as_slice()),
+        _ => None,
+    }
+}
+
+/// Asserts that each text licenses one principal, and which.
+fn check_licensees(rt: &impl Abort, alloc: Global, cases: &[(&[u8], &[u8])]) {
+    for (text, wanted) in cases {
+        match read(alloc, text) {
+            Ok(assertion) => {
+                assert_eq!(rt;
+                    alone(&assertion.licensees),
+                    Some(*wanted),
+                    "in {:?}",
+                    *text
+                );
+            }
+            Err(fault) => assert!(rt; false, "fault {:?} in {:?}", fault, *text),
+        }
+    }
+}
+
+#[test]
+fn licensees(rt: HostRuntime) {
+    check_licensees(
+        &rt,
+        rt.alloc(),
+        [
+            (
+                b"Authorizer: POLICY\nLicensees: \"RSA-HEX:1023ABCD\"\n".as_slice(),
+                b"rsa-hex:1023abcd".as_slice(),
+            ),
+            (
+                b"Comment: it's \"free: text & more\nLicensees: K\nAuthorizer: \"a\"\nLocal-Constants: K=\"b\"\n".as_slice(),
+                b"b".as_slice(),
+            ),
+            (
+                b"Authorizer: \"a\"\nLICENSEES: (POLICY)\n".as_slice(),
+                b"POLICY".as_slice(),
+            ),
+        ]
+        .as_slice(),
+    );
+}
+
+#[test]
+fn faults_of_licensees(rt: HostRuntime) {
+    check_faults(
+        &rt,
+        rt.alloc(),
+        [
+            (b"Authorizer: \"a\"\nLicensees:\n".as_slice(), NO_FAULT),
+            (
+                b"Authorizer: \"a\"\nLicensees: \"b\" \"c\"\n".as_slice(),
+                (16, 5),
+            ),
+            (
+                b"Authorizer: \"a\"\nLicensees: 0-of(\"x\")\n".as_slice(),
+                (18, 5),
+            ),
+            (
+                b"Authorizer: \"a\"\nLicensees: 2-of(\"x\")\n".as_slice(),
+                (18, 5),
+            ),
+            (b"Authorizer: \"a\"\nLicensees: Q\n".as_slice(), (19, 5)),
+            (b"Authorizer: \"a\"\nLicensees: \"\"\n".as_slice(), (19, 5)),
+            (
+                b"Authorizer: \"a\"\nLicensees: Q || 2-of(\"x\")\n".as_slice(),
+                (18, 5),
+            ),
+            (
+                b"Authorizer: \"a\"\nLicensees: 2-of(\"x\") Q\n".as_slice(),
+                (16, 5),
+            ),
+            (
+                b"Authorizer: A\nLicensees: 2-of(\"x\")\n".as_slice(),
+                (19, 1),
+            ),
+            (
+                b"Licensees: 2-of(\"x\")\nAuthorizer: A\n".as_slice(),
+                (18, 5),
+            ),
+            (
+                b"Licensees: Q\nConditions: true;\nAuthorizer: \"a\"\n".as_slice(),
+                (19, 5),
+            ),
+            (
+                b"Conditions: true;\nLicensees: Q\nAuthorizer: \"a\"\n".as_slice(),
+                (16, 3),
+            ),
+        ]
+        .as_slice(),
+    );
 }

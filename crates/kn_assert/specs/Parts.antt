@@ -1,0 +1,90 @@
+-- What the fields of an assertion state, each by its own tokens (RFC 2704, section 4). What isn't said there is
+-- keynoted's own choice: that an Authorizer is one principal and a Signature one literal, which principals there
+-- are, and the faults.
+use Rattle.std.specs.Prelude.{ℕ, Bool, ◌&&◌, ◌||◌, nat_lt, nat_le, bytes_eq, List, [], ◌∷◌, length, find, Option, Some, None, Result, Ok, Err, if◌then◌else◌}
+use Rattle.kn_env.specs.declared.constant.Constant.{Constant}
+use Rattle.kn_lex.specs.Cutting.{Seen}
+use Rattle.kn_lex.specs.Literal.{literal_value}
+use Rattle.kn_lex.specs.declared.token.Sort.{Sort}
+use Rattle.kn_lex.specs.declared.token.Sort.TheVariants.{Label, Body, Name as NameSort, Number, Text, Sign}
+use Rattle.kn_fields.specs.Constants.{is_name_sort, is_text_sort}
+use Rattle.kn_trees.specs.declared.formula.Formula.{Formula}
+use Rattle.kn_trees.specs.declared.program.Program.{Program}
+use Rattle.kn_formula.specs.declared.fault.FormulaFault.{FormulaFault}
+use Rattle.kn_formula.specs.declared.fault.FormulaFault.TheVariants.{Syntax as NoFormula, Threshold as WrongThreshold, Name as NoName, NoMemory as NoFormulaMemory}
+use Rattle.kn_principal.specs.Principals.{policy, normal_form}
+use Rattle.kn_assert.specs.declared.fault.ReadFault.{ReadFault}
+use Rattle.kn_assert.specs.declared.fault.ReadFault.TheVariants.{Syntax, Threshold, Name, NoMemory}
+
+abbrev pub is_named : List ℕ → Constant → Bool
+is_named name constant = bytes_eq constant.name name
+
+abbrev pub value_in : Option Constant → Option (List ℕ)
+value_in None = None
+value_in (Some constant) = Some constant.value
+
+-- the text that a name without quotes stands for: always the local policy, or the value of a local constant
+abbrev pub name_text : List Constant → List ℕ → Option (List ℕ)
+name_text constants name = if bytes_eq name policy then Some policy else value_in (find (is_named name) constants)
+
+abbrev pub text_by : List Constant → Sort → List ℕ → Option (List ℕ)
+text_by constants Label bytes = None
+text_by constants Body bytes = None
+text_by constants NameSort bytes = name_text constants bytes
+text_by constants Number bytes = None
+text_by constants Text bytes = Some (literal_value bytes)
+text_by constants Sign bytes = None
+
+abbrev pub normal_in : Option (List ℕ) → Option (List ℕ)
+normal_in None = None
+normal_in (Some text) = if nat_lt 0 (length text) && nat_le (length text) 4096 then Some (normal_form text) else None
+
+-- the principal that a token states, in normal form: its text has 1 to 4,096 bytes
+unfoldable pub principal_of : List Constant → Seen → Option (List ℕ)
+principal_of constants token = normal_in (text_by constants token.sort token.text)
+
+-- the token is a name or a literal
+abbrev pub is_principal_token : Seen → Bool
+is_principal_token token = is_name_sort token.sort || is_text_sort token.sort
+
+-- the one token, where there is one alone
+abbrev pub only_of : List Seen → Option Seen
+only_of [] = None
+only_of (token ∷ []) = Some token
+only_of (token ∷ next ∷ tokens) = None
+
+abbrev pub named : Option (List ℕ) → Result (List ℕ) ReadFault
+named None = Err (Name 1)
+named (Some principal) = Ok principal
+
+abbrev pub authorizer_by : List Constant → Option Seen → Result (List ℕ) ReadFault
+authorizer_by constants None = Err (Syntax 1)
+authorizer_by constants (Some token) = if is_principal_token token then named (principal_of constants token) else Err (Syntax 1)
+
+-- the principal of an Authorizer field
+unfoldable pub authorizer_of : List Constant → List Seen → Result (List ℕ) ReadFault
+authorizer_of constants tokens = authorizer_by constants (only_of tokens)
+
+-- the program of a Conditions field; so far an empty field alone has one, which is none
+unfoldable pub conditions_of : List Seen → Result (Option Program) ReadFault
+conditions_of [] = Ok None
+conditions_of (token ∷ tokens) = Err (Syntax 3)
+
+-- the fault of a formula as one of the text; a formula's reading is never want of memory
+abbrev pub formula_fault : FormulaFault → ReadFault
+formula_fault NoFormula = Syntax 5
+formula_fault WrongThreshold = Threshold 5
+formula_fault NoName = Name 5
+formula_fault NoFormulaMemory = NoMemory
+
+abbrev pub licensees_by : Result (Option Formula) FormulaFault → Result (Option Formula) ReadFault
+licensees_by (Ok licensees) = Ok licensees
+licensees_by (Err fault) = Err (formula_fault fault)
+
+abbrev pub signature_by : Option Seen → Result (Option (List ℕ)) ReadFault
+signature_by None = Err (Syntax 7)
+signature_by (Some token) = if is_text_sort token.sort then Ok (Some (literal_value token.text)) else Err (Syntax 7)
+
+-- the value of a Signature field
+unfoldable pub signature_of : List Seen → Result (Option (List ℕ)) ReadFault
+signature_of tokens = signature_by (only_of tokens)
