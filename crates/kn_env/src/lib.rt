@@ -1,8 +1,14 @@
 //! The environment in which names have values.
 #![tactic(auto)]
 
+mod attributes;
 mod constant;
+mod environment;
 #[cfg(test)]
 mod tests;
+mod values;
 
+pub use attributes::{Absent, Attributes, EnvFault, is_attribute_name};
 pub use constant::Constant;
+pub use environment::{Env, Query};
+pub use values::{Values, ValuesFault};

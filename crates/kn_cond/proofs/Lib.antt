@@ -1,0 +1,4 @@
+pub mod Orders
+pub mod Digits
+pub mod Meanings
+pub mod Valued

@@ -1,0 +1,4 @@
+pub mod Meaning
+pub mod Programs
+pub mod Kept
+pub mod Results

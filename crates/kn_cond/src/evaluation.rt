@@ -1,0 +1,240 @@
+//! The value of an expression.
+ghost use Rattle.std.specs.Prelude.{◌≡◌, map, ◌++◌, IfOk};
+ghost use Rattle.kn_cond.specs.Meaning.{Meaning, whole, text, text_in_range, negated, minus, number_of, value_named, conjunction, disjunction, comparison, holds_of_texts, operation, operation_of_texts, chained, links_of, meaning_of};
+ghost use Rattle.kn_cond.specs.Results.{meant, or_fault};
+
+use crate::numbers;
+use crate::results::Outcome;
+use crate::texts::{Text, is_before};
+use kn_base::limits::TEXT_BYTES;
+use kn_base::{List, NoMemory};
+use kn_env::{Env, is_attribute_name};
+use kn_trees::{Comparison, Expr, Link2, Operation};
+use std::alloc::Global;
+
+/// What an expression gives in an environment. `Err` says that there was no memory for a joined text.
+#[cycle(outcomes)]
+#[tactic(auto, using(crate::proofs::Meanings::meanings))]
+pub(crate) fn outcome<'e>(
+    alloc: Global,
+    expr: &'e Expr,
+    env: &'e Env<'e>,
+) -> Result<Outcome<'e>, NoMemory>
+    ensures { IfOk result (λ outcome. meant outcome ≡ meaning_of env.now expr.now) }
+{
+    match expr {
+        Expr::Truth(value) => Ok(Outcome::Truth(*value)),
+        Expr::Whole(value) => Ok(Outcome::Whole(*value)),
+        Expr::Text(value) => Ok(Outcome::Text(Text::lent(value.as_slice()))),
+        Expr::Name(name) => Ok(in_range(env.value(name.as_slice()))),
+        Expr::Not(part) => Ok(negated(outcome(alloc, part.get(), env)?)),
+        Expr::Minus(part) => Ok(minus(outcome(alloc, part.get(), env)?)),
+        Expr::Number(part) => Ok(number_of(outcome(alloc, part.get(), env)?)),
+        Expr::Deref(part) => Ok(value_named(env, outcome(alloc, part.get(), env)?)),
+        Expr::And(parts) => conjunction(alloc, parts, env),
+        Expr::Or(parts) => disjunction(alloc, parts, env),
+        Expr::Compare { sign, left, right } => {
+            let first = outcome(alloc, left.get(), env)?;
+            let second = outcome(alloc, right.get(), env)?;
+            Ok(comparison(*sign, first, second))
+        }
+        Expr::Chain { first, rest } => {
+            let left = outcome(alloc, first.get(), env)?;
+            chained(alloc, left, rest, env)
+        }
+    }
+}
+
+// `&&` stops at the first part that decides.
+#[cycle(outcomes)]
+fn conjunction<'e>(
+    alloc: Global,
+    parts: &'e List<Expr>,
+    env: &'e Env<'e>,
+) -> Result<Outcome<'e>, NoMemory>
+    ensures { IfOk result (λ outcome. meant outcome ≡ conjunction (map (meaning_of env.now) parts.now)) }
+{
+    for part in parts.as_slice() {
+        match outcome(alloc, part, env)? {
+            Outcome::Truth(true) => {}
+            Outcome::Truth(false) => return Ok(Outcome::Truth(false)),
+            _ => return Ok(Outcome::Fault),
+        }
+    }
+    Ok(Outcome::Truth(true))
+}
+
+// `||` stops at the first part that decides.
+#[cycle(outcomes)]
+fn disjunction<'e>(
+    alloc: Global,
+    parts: &'e List<Expr>,
+    env: &'e Env<'e>,
+) -> Result<Outcome<'e>, NoMemory>
+    ensures { IfOk result (λ outcome. meant outcome ≡ disjunction (map (meaning_of env.now) parts.now)) }
+{
+    for choice in parts.as_slice() {
+        match outcome(alloc, choice, env)? {
+            Outcome::Truth(false) => {}
+            Outcome::Truth(true) => return Ok(Outcome::Truth(true)),
+            _ => return Ok(Outcome::Fault),
+        }
+    }
+    Ok(Outcome::Truth(false))
+}
+
+// What a chain gives whose first part gives this.
+#[cycle(outcomes)]
+fn chained<'e>(
+    alloc: Global,
+    first: Outcome<'e>,
+    links: &'e List<Link2>,
+    env: &'e Env<'e>,
+) -> Result<Outcome<'e>, NoMemory>
+    ensures { IfOk result (λ outcome. meant outcome ≡ chained (meant first.entry) (links_of env.now links.now)) }
+{
+    let mut left = first;
+    for link in links.as_slice() {
+        let right = outcome(alloc, &link.right, env)?;
+        left = operation(alloc, link.sign, left, right)?;
+    }
+    Ok(left)
+}
+
+fn in_range<'e>(bytes: &'e [u8]) -> Outcome<'e>
+    ensures { meant result ≡ text_in_range bytes.now }
+{
+    if bytes.len() > TEXT_BYTES {
+        Outcome::Fault
+    } else {
+        Outcome::Text(Text::lent(bytes))
+    }
+}
+
+fn whole_or_fault<'e>(number: Option<i32>) -> Outcome<'e>
+    ensures { meant result ≡ or_fault number }
+{
+    match number {
+        Some(n) => Outcome::Whole(n),
+        None => Outcome::Fault,
+    }
+}
+
+fn negated(part: Outcome) -> Outcome
+    ensures { meant result ≡ negated (meant part.entry) }
+{
+    match part {
+        Outcome::Truth(value) => Outcome::Truth(!value),
+        _ => Outcome::Fault,
+    }
+}
+
+fn minus(part: Outcome) -> Outcome
+    ensures { meant result ≡ minus (meant part.entry) }
+{
+    match part {
+        Outcome::Whole(number) => whole_or_fault(numbers::negative(number)),
+        _ => Outcome::Fault,
+    }
+}
+
+fn number_of(part: Outcome) -> Outcome
+    ensures { meant result ≡ number_of (meant part.entry) }
+{
+    match part {
+        Outcome::Text(text) => whole_or_fault(numbers::front_number(text.as_slice())),
+        _ => Outcome::Fault,
+    }
+}
+
+fn value_named<'e>(env: &'e Env<'e>, part: Outcome<'e>) -> Outcome<'e>
+    ensures { meant result ≡ value_named env.now (meant part.entry) }
+{
+    match part {
+        Outcome::Text(name) => {
+            if is_attribute_name(name.as_slice()) {
+                in_range(env.value(name.as_slice()))
+            } else {
+                Outcome::Text(Text::lent(b""))
+            }
+        }
+        _ => Outcome::Fault,
+    }
+}
+
+fn comparison<'e>(sign: Comparison, left: Outcome<'e>, right: Outcome<'e>) -> Outcome<'e>
+    ensures { meant result ≡ comparison sign (meant left.entry) (meant right.entry) }
+{
+    match left {
+        Outcome::Whole(a) => match right {
+            Outcome::Whole(b) => Outcome::Truth(numbers::holds(sign, a, b)),
+            _ => Outcome::Fault,
+        },
+        Outcome::Text(a) => match right {
+            Outcome::Text(b) => Outcome::Truth(holds(sign, a.as_slice(), b.as_slice())),
+            _ => Outcome::Fault,
+        },
+        _ => Outcome::Fault,
+    }
+}
+
+fn holds(sign: Comparison, a: &[u8], b: &[u8]) -> bool
+    ensures { result ≡ holds_of_texts sign a.now b.now }
+{
+    match sign {
+        Comparison::Eq => a == b,
+        Comparison::Ne => a != b,
+        Comparison::Lt => is_before(a, b),
+        Comparison::Gt => is_before(b, a),
+        Comparison::Le => !is_before(b, a),
+        Comparison::Ge => !is_before(a, b),
+    }
+}
+
+fn operation<'e>(
+    alloc: Global,
+    sign: Operation,
+    left: Outcome<'e>,
+    right: Outcome<'e>,
+) -> Result<Outcome<'e>, NoMemory>
+    ensures { IfOk result (λ outcome. meant outcome ≡ operation sign (meant left.entry) (meant right.entry)) }
+{
+    match left {
+        Outcome::Whole(a) => match right {
+            Outcome::Whole(b) => Ok(whole_or_fault(numbers::operation(sign, a, b))),
+            _ => Ok(Outcome::Fault),
+        },
+        Outcome::Text(a) => match right {
+            Outcome::Text(b) => operation_of_texts(alloc, sign, a, b),
+            _ => Ok(Outcome::Fault),
+        },
+        _ => Ok(Outcome::Fault),
+    }
+}
+
+fn operation_of_texts<'e>(
+    alloc: Global,
+    sign: Operation,
+    left: Text<'e>,
+    right: Text<'e>,
+) -> Result<Outcome<'e>, NoMemory>
+    ensures { IfOk result (λ outcome. meant outcome ≡ operation_of_texts sign left.entry right.entry) }
+{
+    match sign {
+        Operation::Join => joined(alloc, left, right.as_slice()),
+        _ => Ok(Outcome::Fault),
+    }
+}
+
+fn joined<'e>(alloc: Global, left: Text<'e>, more: &[u8]) -> Result<Outcome<'e>, NoMemory>
+    ensures { IfOk result (λ outcome. meant outcome ≡ text_in_range (left.entry ++ more.now)) }
+{
+    let len = left.as_slice().len();
+    if len > TEXT_BYTES || more.len() > TEXT_BYTES - len {
+        return Ok(Outcome::Fault);
+    }
+    match left.joined(alloc, more) {
+        Ok(text) => Ok(Outcome::Text(text)),
+        Err(NoMemory) => Err(NoMemory),
+    }
+}

@@ -1,0 +1,91 @@
+-- Attributes that are the entries of a map.
+use Rattle.std.proofs.Common.{◌≡◌, ℕ, suc, ◌+◌, ◌<◌, ◌≤◌, Bool, true, false, ◌||◌, ◌&&◌, not, cond, nat_le, nat_lt, List, [], ◌∷◌, length, find, map, Option, Some, None, Vec, Bor, refl, sym, ap, ◌∙◌, arith, if◌then◌else◌}
+use Rattle.std.specs.List.{list_any}
+use Rattle.std.specs.Option.{option_map, option_copied}
+use Rattle.std.specs.Prelude.{is_some}
+use Rattle.std.specs.Str.{bytes_eq}
+use Rattle.std.specs.Map.{lookup, remove_entry}
+use Rattle.std.specs.declared.alloc.Global.{Global}
+use Rattle.indexmap.specs.IndexMap.{insert_entry}
+use Rattle.std.proofs.lemmas.Bool.{leb-false}
+use Rattle.std.proofs.lemmas.List.{length-map}
+use Rattle.kn_env.specs.declared.attributes.EnvFault.TheVariants.{BadName, BadValue, Full}
+use Rattle.kn_env.specs.Attributes.{Attribute, is_settable, has_attribute, attribute_value, with_attribute, without_attribute, attribute_fault}
+use Rattle.kn_env.specs.Entries.{attribute_of}
+
+abbrev pub Bytes : Type 0
+Bytes = Vec ℕ Global
+
+abbrev pub is_key : List ℕ → Bytes → Bool
+is_key name key = bytes_eq name key.items
+
+pub value_found : (name : List ℕ) (entries : List (Bytes × Bytes)) → option_map (λ v. v.items) (lookup (is_key name) entries) ≡ attribute_value name (map attribute_of entries)
+value_found name [] = refl
+value_found name (e ∷ entries) =
+    let rest = value_found name entries in
+    elim (bytes_eq name e.0.items) as (λ b. option_map (λ v. v.items) (cond b (Some e.1) (lookup (is_key name) entries)) ≡ option_map (λ a. a.value) (cond b (Some (attribute_of e)) (find (λ a. bytes_eq name a.name) (map attribute_of entries))))
+    [ true ↦ refl | false ↦ rest ]
+
+pub has_found : (name : List ℕ) (entries : List (Bytes × Bytes)) → is_some (lookup (is_key name) entries) ≡ has_attribute name (map attribute_of entries)
+has_found name [] = refl
+has_found name (e ∷ entries) =
+    let rest = has_found name entries in
+    elim (bytes_eq name e.0.items) as (λ b. is_some (cond b (Some e.1) (lookup (is_key name) entries)) ≡ (b || has_attribute name (map attribute_of entries)))
+    [ true ↦ refl | false ↦ rest ]
+
+pub rest_without : (name : List ℕ) (entries : List (Bytes × Bytes)) → map attribute_of (remove_entry (is_key name) entries) ≡ without_attribute name (map attribute_of entries)
+rest_without name [] = refl
+rest_without name (e ∷ entries) =
+    let rest = rest_without name entries in
+    elim (bytes_eq name e.0.items) as (λ b. map attribute_of (cond b entries (e ∷ remove_entry (is_key name) entries)) ≡ cond b (map attribute_of entries) (attribute_of e ∷ without_attribute name (map attribute_of entries)))
+    [ true ↦ refl | false ↦ ap (λ others. attribute_of e ∷ others) rest ]
+
+abbrev pub same_key : Bytes → Bytes → Bool
+same_key key other = bytes_eq key.items other.items
+
+pub with_inserted : (key value : Bytes) (entries : List (Bytes × Bytes)) → map attribute_of (insert_entry same_key entries key value) ≡ with_attribute key.items value.items (map attribute_of entries)
+with_inserted key value [] = refl
+with_inserted key value (e ∷ entries) =
+    let rest = with_inserted key value entries in
+    elim (bytes_eq key.items e.0.items) as (λ b. map attribute_of (cond b ((e.0, value) ∷ entries) (e ∷ insert_entry same_key entries key value)) ≡ cond b (record (attribute_of e) { value = value.items } ∷ map attribute_of entries) (attribute_of e ∷ with_attribute key.items value.items (map attribute_of entries)))
+    [ true ↦ refl | false ↦ ap (λ others. attribute_of e ∷ others) rest ]
+
+length-with_attribute : (name value : List ℕ) (attributes : List Attribute) → length (with_attribute name value attributes) ≡ (if has_attribute name attributes then length attributes else length attributes + 1)
+length-with_attribute name value [] = refl
+length-with_attribute name value (a ∷ attributes) =
+    let rest = length-with_attribute name value attributes in
+    elim (bytes_eq name a.name) as (λ b. length (cond b (record a { value = value } ∷ attributes) (a ∷ with_attribute name value attributes)) ≡ (if b || has_attribute name attributes then length (a ∷ attributes) else length (a ∷ attributes) + 1))
+    [ true ↦ refl | false ↦ one_more (has_attribute name attributes) (length (with_attribute name value attributes)) (length attributes) rest ]
+  where
+    one_more : (b : Bool) (m n : ℕ) → m ≡ (if b then n else n + 1) → suc m ≡ (if b then suc n else suc n + 1)
+    one_more true m n e = ap suc e
+    one_more false m n e = omega arith
+
+not_full : (a b c : Bool) (n : ℕ) → (if a then Some BadName else if b then Some BadValue else if c then Some (Full n) else None) ≡ None → c ≡ false
+not_full true b c n e = cc
+not_full false true c n e = cc
+not_full false false true n e = cc
+not_full false false false n e = refl
+
+room_by : (b : Bool) (n m : ℕ) → (not b && nat_le 256 n) ≡ false → n ≤ 256 → m ≡ (if b then n else n + 1) → m ≤ 256
+room_by true n m e few is = omega arith
+room_by false n m e few is = let below : n < 256 = leb-false 256 n e in omega arith
+
+-- there is room for an attribute with which there is no fault
+pub room_for : (name value : List ℕ) (attributes : List Attribute) → attribute_fault name value attributes ≡ None → length attributes ≤ 256 → length (with_attribute name value attributes) ≤ 256
+room_for name value attributes e few =
+    room_by (has_attribute name attributes) (length attributes) (length (with_attribute name value attributes))
+    (not_full (not (is_settable name)) (nat_lt 4096 (length value)) (not (has_attribute name attributes) && nat_le 256 (length attributes)) (length attributes) e) few (length-with_attribute name value attributes)
+
+pub is_some-copied : {T : Type 0} (o : Option (Bor T)) → is_some o ≡ is_some (option_copied o)
+is_some-copied None = refl
+is_some-copied (Some x) = refl
+
+-- the entries of the map stay few
+pub few_inserted : (old new : List (Bytes × Bytes)) (key value : Bytes) → new ≡ insert_entry same_key old key value → length old ≤ 256 → attribute_fault key.items value.items (map attribute_of old) ≡ None → length new ≤ 256
+few_inserted old new key value is few none =
+    let before : length (map attribute_of old) ≡ length old = simp length-map in
+    let after : length (map attribute_of new) ≡ length new = simp length-map in
+    let room : length (with_attribute key.items value.items (map attribute_of old)) ≤ 256 = room_for key.items value.items (map attribute_of old) none (omega arith) in
+    let same : length (map attribute_of new) ≡ length (with_attribute key.items value.items (map attribute_of old)) = ap (λ entries. length (map attribute_of entries)) is ∙ ap length (with_inserted key value old) in
+    omega arith
