@@ -1,0 +1,13 @@
+pub mod Parting
+pub mod Levels
+pub mod SignLemmas
+pub mod Lists
+pub mod Sound
+pub mod Fronts
+pub mod Complete
+pub mod Programs
+pub mod Stated
+pub mod Numbers
+pub mod WordLemmas
+pub mod TreeLemmas
+pub mod Steps

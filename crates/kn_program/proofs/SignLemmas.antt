@@ -1,0 +1,161 @@
+-- Signs and what they stand for, forwards and backwards.
+use Rattle.std.proofs.Common.{◌≡◌, ℕ, Bool, true, false, List, [], ◌∷◌, codes, Option, Some, None, if◌then◌else◌, refl, ap, ◌∙◌}
+use Rattle.std.specs.Str.{bytes_eq}
+use Rattle.std.proofs.lemmas.Slice.Eq.{bytes_eq-Decides}
+use Rattle.std.proofs.lemmas.Bool.{cond-true}
+use Rattle.kn_trees.specs.declared.program.Comparison.{Comparison}
+use Rattle.kn_trees.specs.declared.program.Comparison.TheVariants.{Eq, Ne, Lt, Gt, Le, Ge}
+use Rattle.kn_trees.specs.declared.program.Operation.{Operation}
+use Rattle.kn_trees.specs.declared.program.Operation.TheVariants.{Plus, Less, Join, Times, Divide, Rest, Power as Powered}
+use Rattle.kn_program.specs.Words.{Word, Mark, with_rest, taken, itself, marked}
+use Rattle.kn_program.specs.Words.Word.{literal, truth, name, number, sign, other}
+use Rattle.kn_program.specs.Signs.{operation_text, operation_of, is_at, comparison_text, comparison_of, prefix_text, prefix_of}
+use Rattle.kn_program.specs.declared.signs.Level.{Level}
+use Rattle.kn_program.specs.declared.signs.Level.TheVariants.{Sum, Product, Power}
+use Rattle.kn_program.specs.declared.signs.Prefix.{Prefix}
+use Rattle.kn_program.specs.declared.signs.Prefix.TheVariants.{Minus, Number, Deref}
+use Rattle.kn_program.proofs.Parting.{read_parts}
+
+same_bytes : (xs ys : List ℕ) → bytes_eq xs ys ≡ true → xs ≡ ys
+same_bytes xs ys = (bytes_eq-Decides xs ys).0
+
+-- a text is itself
+pub bytes_itself : (xs : List ℕ) → bytes_eq xs xs ≡ true
+bytes_itself xs = (bytes_eq-Decides xs xs).1 refl
+
+-- a row of a table: where a text is this one it stands for this, and else the further rows decide
+row : {S : Type 0} (P : S → Type 0) (text wanted : List ℕ) (s found : S) (further : Option S) → (text ≡ wanted → P s) → (further ≡ Some found → P found)
+    → (if bytes_eq text wanted then Some s else further) ≡ Some found → P found
+row {S} P text wanted s found further here there e = by (bytes_eq text wanted) refl e
+  where
+    at : {A : Type 0} (Q : A → Type 0) (a b : A) → ◌≡◌ {A = Option A} (Some a) (Some b) → Q a → Q b
+    at Q a b same q = let is : a ≡ b = cc in rw (← is) q
+
+    by : (b : Bool) → bytes_eq text wanted ≡ b → (if b then Some s else further) ≡ Some found → P found
+    by true same is = at P s found is (here (same_bytes text wanted same))
+    by false same is = there is
+
+abbrev IsOperation : Level → List ℕ → Operation → Type 0
+IsOperation level text operation = (text ≡ operation_text operation) × (is_at level operation ≡ true)
+
+nothing : {S : Type 0} (P : S → Type 0) (found : S) → ◌≡◌ {A = Option S} None (Some found) → P found
+nothing P found e = absurd (cc)
+
+pub operation_before : (level : Level) (text : List ℕ) (found : Operation) → operation_of level text ≡ Some found → IsOperation level text found
+unfolding operation_of
+operation_before Sum text found e =
+    row (IsOperation Sum text) text (codes "+") Plus found _ (λ is. (is, refl))
+    (row (IsOperation Sum text) text (codes "-") Less found _ (λ is. (is, refl))
+    (row (IsOperation Sum text) text (codes ".") Join found _ (λ is. (is, refl)) (nothing (IsOperation Sum text) found))) e
+operation_before Product text found e =
+    row (IsOperation Product text) text (codes "*") Times found _ (λ is. (is, refl))
+    (row (IsOperation Product text) text (codes "/") Divide found _ (λ is. (is, refl))
+    (row (IsOperation Product text) text (codes "%") Rest found _ (λ is. (is, refl)) (nothing (IsOperation Product text) found))) e
+operation_before Power text found e =
+    row (IsOperation Power text) text (codes "^") Powered found _ (λ is. (is, refl)) (nothing (IsOperation Power text) found) e
+
+not_at : {A : Type 0} → false ≡ true → A
+not_at e = absurd (cc)
+
+pub operation_there : (level : Level) (found : Operation) → is_at level found ≡ true → operation_of level (operation_text found) ≡ Some found
+unfolding operation_of
+operation_there Sum Plus e = refl
+operation_there Sum Less e = refl
+operation_there Sum Join e = refl
+operation_there Sum Times e = not_at e
+operation_there Sum Divide e = not_at e
+operation_there Sum Rest e = not_at e
+operation_there Sum Powered e = not_at e
+operation_there Product Plus e = not_at e
+operation_there Product Less e = not_at e
+operation_there Product Join e = not_at e
+operation_there Product Times e = refl
+operation_there Product Divide e = refl
+operation_there Product Rest e = refl
+operation_there Product Powered e = not_at e
+operation_there Power Plus e = not_at e
+operation_there Power Less e = not_at e
+operation_there Power Join e = not_at e
+operation_there Power Times e = not_at e
+operation_there Power Divide e = not_at e
+operation_there Power Rest e = not_at e
+operation_there Power Powered e = refl
+
+abbrev IsComparison : List ℕ → Comparison → Type 0
+IsComparison text found = text ≡ comparison_text found
+
+pub comparison_before : (text : List ℕ) (found : Comparison) → comparison_of text ≡ Some found → IsComparison text found
+unfolding comparison_of
+comparison_before text found e =
+    row (IsComparison text) text (codes "==") Eq found _ (λ is. is)
+    (row (IsComparison text) text (codes "!=") Ne found _ (λ is. is)
+    (row (IsComparison text) text (codes "<") Lt found _ (λ is. is)
+    (row (IsComparison text) text (codes ">") Gt found _ (λ is. is)
+    (row (IsComparison text) text (codes "<=") Le found _ (λ is. is)
+    (row (IsComparison text) text (codes ">=") Ge found _ (λ is. is) (nothing (IsComparison text) found)))))) e
+
+pub comparison_there : (found : Comparison) → comparison_of (comparison_text found) ≡ Some found
+unfolding comparison_of
+comparison_there Eq = refl
+comparison_there Ne = refl
+comparison_there Lt = refl
+comparison_there Gt = refl
+comparison_there Le = refl
+comparison_there Ge = refl
+
+abbrev IsPrefix : List ℕ → Prefix → Type 0
+IsPrefix text found = text ≡ prefix_text found
+
+pub prefix_before : (text : List ℕ) (found : Prefix) → prefix_of text ≡ Some found → IsPrefix text found
+unfolding prefix_of
+prefix_before text found e =
+    row (IsPrefix text) text (codes "-") Minus found _ (λ is. is)
+    (row (IsPrefix text) text (codes "@") Number found _ (λ is. is)
+    (row (IsPrefix text) text (codes "$") Deref found _ (λ is. is) (nothing (IsPrefix text) found))) e
+
+pub prefix_there : (found : Prefix) → prefix_of (prefix_text found) ≡ Some found
+unfolding prefix_of
+prefix_there Minus = refl
+prefix_there Number = refl
+prefix_there Deref = refl
+
+-- a sign is taken from the front
+pub record Taken {S : Type 0} (which : List ℕ → Option S) (words rest : List Word) (found : S) : Type 0 where
+  pub text : List ℕ
+  pub words_are : words ≡ sign text ∷ rest
+  pub stands_for : which text ≡ Some found
+
+pub taken_before : {S : Type 0} (which : List ℕ → Option S) (words rest : List Word) (found : S) → taken which words ≡ Some (found, rest) → Taken which words rest found
+unfolding taken
+taken_before which [] rest found e = absurd (cc)
+taken_before which (literal value ∷ words) rest found e = absurd (cc)
+taken_before which (truth value ∷ words) rest found e = absurd (cc)
+taken_before which (name text ∷ words) rest found e = absurd (cc)
+taken_before which (number value ∷ words) rest found e = absurd (cc)
+taken_before {S} which (sign text ∷ words) rest found e = by (which text) refl e
+  where
+    by : (o : Option S) → which text ≡ o → with_rest o words ≡ Some (found, rest) → Taken which (sign text ∷ words) rest found
+    by None none is = absurd (cc)
+    by (Some s) some is =
+        let same = read_parts s found words rest is in
+        record { text = text; words_are = ap (λ (words : List Word). sign text ∷ words) same.1; stands_for = some ∙ ap (λ (s : S). Some s) same.0 }
+taken_before which (other ∷ words) rest found e = absurd (cc)
+
+pub taken_there : {S : Type 0} (which : List ℕ → Option S) (text : List ℕ) (rest : List Word) (found : S) → which text ≡ Some found → taken which (sign text ∷ rest) ≡ Some (found, rest)
+unfolding taken
+taken_there which text rest found e = ap (λ o. with_rest o rest) e
+
+-- so is a sign that stands for itself
+pub marked_before : (text : List ℕ) (words rest : List Word) (mark : Mark) → marked text words ≡ Some (mark, rest) → words ≡ sign text ∷ rest
+unfolding itself
+marked_before text words rest mark e =
+    let t = taken_before (itself text) words rest mark e in
+    t.words_are ∙ ap (λ (text : List ℕ). sign text ∷ rest) (by t.text (bytes_eq t.text text) refl t.stands_for)
+  where
+    by : (spelled : List ℕ) (b : Bool) → bytes_eq spelled text ≡ b → (if b then Some tt else None) ≡ Some mark → spelled ≡ text
+    by spelled true same is = same_bytes spelled text same
+    by spelled false same is = absurd (cc)
+
+pub marked_there : (text : List ℕ) (rest : List Word) → marked text (sign text ∷ rest) ≡ Some (tt, rest)
+unfolding itself
+marked_there text rest = taken_there (itself text) text rest tt (cond-true (bytes_eq text text) _ _ (bytes_itself text))

@@ -1,0 +1,155 @@
+-- What the tokens of a field state is what is read of them.
+use Rattle.std.proofs.Common.{◌≡◌, ℕ, ◌+◌, ◌*◌, ◌<◌, ◌≤◌, Bool, true, false, List, [], ◌∷◌, length, Option, Some, None, Result, Ok, Err, refl, sym, ap, subst, ◌∙◌, arith, append-nil}
+use Rattle.std.proofs.lemmas.Bool.{cond-true, cond-false}
+use Rattle.kn_lex.specs.Cutting.{Seen}
+use Rattle.kn_fields.specs.Fields.{between}
+use Rattle.kn_fields.proofs.Between.{between_none, between_length}
+use Rattle.kn_trees.specs.Kinds.{is_well_kinded}
+use Rattle.kn_trees.specs.declared.program.Program.{Program as ProgramTree}
+use Rattle.kn_trees.specs.declared.program.Clause.{Clause as ClauseTree}
+use Rattle.kn_program.specs.Words.{Word, taken, words_of, words_between}
+use Rattle.kn_program.specs.Grammar.{program_words, program_with, IsProgram}
+use Rattle.kn_program.specs.Reading.{map_read, program_at, whole, read_program, ReadsWhole}
+use Rattle.kn_program.specs.Conditions.{IsConditions, HasNoProgram, Shows, judged, judged_read, program_of, Gives, of_unread}
+use Rattle.kn_program.specs.declared.fault.ProgramFault.{ProgramFault}
+use Rattle.kn_program.specs.declared.fault.ProgramFault.TheVariants.{Syntax, Kind, NoMemory}
+use Rattle.kn_program.specs.declared.unread.Unread.{Unread}
+use Rattle.kn_program.specs.declared.unread.Unread.TheVariants.{Syntax as unread_Syntax, NoMemory as unread_NoMemory}
+use Rattle.kn_program.proofs.Parting.{mapped}
+use Rattle.kn_program.proofs.Complete.{nil_stops}
+use Rattle.kn_program.proofs.Programs.{StopsEntry, sound_program, complete_program}
+
+whole_read : {X : Type 0} (read : Option (X × List Word)) (x : X) → whole read ≡ Some x → read ≡ Some (x, [])
+whole_read None x e = absurd (cc)
+whole_read {X} (Some (y, [])) x e = let same : y ≡ x = cc in ap (λ (x : X). Some (x, [])) same
+whole_read (Some (y, word ∷ words)) x e = absurd (cc)
+
+-- what is read of all the words is spelled by them
+pub read_spelled : (tokens : List Seen) (program : ProgramTree) → read_program (words_of tokens) ≡ Some program → IsProgram tokens program
+unfolding read_program
+read_spelled tokens program e =
+    let words : List Word = words_of tokens in
+    let n : ℕ = 12 * length words + 1 in
+    let all = whole_read (map_read program_with (program_at n words)) program e in
+    let m = mapped program_with (program_at n words) program [] all in
+    let s = sound_program n words m.from [] m.is in
+    record { form = s.form; words = sym (append-nil (program_words s.form)) ∙ s.spelled; tree = ap program_with s.means ∙ m.made }
+
+nothing_stops : StopsEntry []
+unfolding taken
+nothing_stops = ((nil_stops, refl), refl)
+
+-- what is spelled is read
+pub spelled_read : (tokens : List Seen) (program : ProgramTree) → IsProgram tokens program → read_program (words_of tokens) ≡ Some program
+unfolding read_program taken
+spelled_read tokens program s =
+    let n : ℕ = 12 * length (program_words s.form) + 1 in
+    let all = complete_program n s.form [] (omega arith) nothing_stops refl in
+    let read = sym (ap (program_at n) (append-nil (program_words s.form))) ∙ all in
+    ap (λ (words : List Word). whole (map_read program_with (program_at (12 * length words + 1) words))) (sym s.words)
+    ∙ ap (λ (read : Option (List ClauseTree × List Word)). whole (map_read program_with read)) read
+    ∙ ap (λ (program : ProgramTree). Some program) s.tree
+
+-- tokens spell at most one program
+pub spelled_once : (tokens : List Seen) (a b : ProgramTree) → IsProgram tokens a → IsProgram tokens b → a ≡ b
+spelled_once tokens a b s t = let first = spelled_read tokens a s in let second = spelled_read tokens b t in cc
+
+-- what is found of tokens, by what is spelled
+of_spelled : (tokens : List Seen) (program : ProgramTree) → (tokens ≡ [] → ⊥) → IsProgram tokens program → program_of tokens ≡ judged program
+unfolding program_of
+of_spelled [] program some s = absurd (some refl)
+of_spelled (token ∷ tokens) program some s = ap judged_read (spelled_read (token ∷ tokens) program s)
+
+judged_well : (program : ProgramTree) → is_well_kinded program ≡ true → judged program ≡ Ok (Some program)
+judged_well program well = cond-true (is_well_kinded program) _ _ well
+
+judged_bad : (program : ProgramTree) → is_well_kinded program ≡ false → judged program ≡ Err Kind
+judged_bad program bad = cond-false (is_well_kinded program) _ _ bad
+
+-- the program, if there is one, is what is found
+pub program_is_found : (tokens : List Seen) (p : Option ProgramTree) → IsConditions tokens p → program_of tokens ≡ Ok p
+unfolding program_of
+program_is_found tokens None none = ap program_of none
+program_is_found tokens (Some program) is = of_spelled tokens program is.some is.spelled ∙ judged_well program is.kinds
+
+-- so is the fault
+pub fault_is_found : (tokens : List Seen) (fault : ProgramFault) → Shows tokens fault → program_of tokens ≡ Err fault
+unfolding program_of
+fault_is_found tokens Syntax h = no_program tokens h
+  where
+    unread : (tokens : List Seen) (read : Option ProgramTree) → read_program (words_of tokens) ≡ read → ((program : ProgramTree) → IsProgram tokens program → ⊥) → read ≡ None
+    unread tokens None e none = refl
+    unread tokens (Some program) e none = absurd (none program (read_spelled tokens program e))
+
+    no_program : (tokens : List Seen) → HasNoProgram tokens → program_of tokens ≡ Err Syntax
+    no_program [] h = absurd (h.some refl)
+    no_program (token ∷ tokens) h = ap judged_read (unread (token ∷ tokens) (read_program (words_of (token ∷ tokens))) refl h.none)
+fault_is_found tokens Kind h = of_spelled tokens h.program h.some h.spelled ∙ judged_bad h.program h.bad
+fault_is_found tokens NoMemory h = absurd h
+
+-- what a finding says of the tokens
+abbrev Says : List Seen → Result (Option ProgramTree) ProgramFault → Type 0
+Says tokens (Ok program) = IsConditions tokens program
+Says tokens (Err fault) = Shows tokens fault
+
+some_token : (token : Seen) (tokens : List Seen) → token ∷ tokens ≡ [] → ⊥
+some_token token tokens e = absurd (cc)
+
+judged_says : (token : Seen) (tokens : List Seen) (program : ProgramTree) (well : Bool) → is_well_kinded program ≡ well → IsProgram (token ∷ tokens) program → Says (token ∷ tokens) (judged program)
+judged_says token tokens program true well s =
+    subst (Says (token ∷ tokens)) (sym (judged_well program well)) (record { some = some_token token tokens; spelled = s; kinds = well })
+judged_says token tokens program false bad s =
+    subst (Says (token ∷ tokens)) (sym (judged_bad program bad)) (record { some = some_token token tokens; program = program; spelled = s; bad = bad })
+
+found_says : (tokens : List Seen) → Says tokens (program_of tokens)
+unfolding program_of
+found_says [] = refl
+found_says (token ∷ tokens) = by (read_program (words_of (token ∷ tokens))) refl
+  where
+    by : (read : Option ProgramTree) → read_program (words_of (token ∷ tokens)) ≡ read → Says (token ∷ tokens) (judged_read read)
+    by None none = record {
+      some = some_token token tokens;
+      none = λ program s. let read = spelled_read (token ∷ tokens) program s in absurd (cc);
+    }
+    by (Some program) some = judged_says token tokens program (is_well_kinded program) refl (read_spelled (token ∷ tokens) program some)
+
+pub program_stands : (tokens : List Seen) (p : Option ProgramTree) → program_of tokens ≡ Ok p → IsConditions tokens p
+program_stands tokens p e = subst (Says tokens) e (found_says tokens)
+
+pub fault_stands : (tokens : List Seen) (fault : ProgramFault) → program_of tokens ≡ Err fault → Shows tokens fault
+fault_stands tokens fault e = subst (Says tokens) e (found_says tokens)
+
+-- what the code gives of a field
+
+pub nothing_given : (tokens : List Seen) (from end : ℕ) → from ≡ end → program_of (between from end tokens) ≡ Ok None
+unfolding program_of
+nothing_given tokens from end none = ap program_of (between_none tokens from end (omega arith))
+
+judged_some : (tokens : List Seen) → 0 < length tokens → program_of tokens ≡ judged_read (read_program (words_of tokens))
+unfolding program_of
+judged_some [] some = absurd (omega arith)
+judged_some (token ∷ tokens) some = refl
+
+-- a field with tokens is judged by what is read of them
+judged_between : (tokens : List Seen) (from end : ℕ) → from < end → end ≤ length tokens → program_of (between from end tokens) ≡ judged_read (read_program (words_between from end tokens))
+unfolding words_between
+judged_between tokens from end some within =
+    let size = between_length tokens from end (omega arith) within in
+    judged_some (between from end tokens) (omega (arith, size, some))
+
+pub unread_given : (tokens : List Seen) (from end : ℕ) (unread : Unread) (fault : ProgramFault) → from < end → end ≤ length tokens
+    → ReadsWhole (Err unread) (read_program (words_between from end tokens)) → fault ≡ of_unread unread
+    → Gives {X = Option ProgramTree} (Err fault) (program_of (between from end tokens))
+unread_given tokens from end unread_Syntax fault some within read is =
+    subst (λ fault. Gives {X = Option ProgramTree} (Err fault) (program_of (between from end tokens))) (sym is)
+    (judged_between tokens from end some within ∙ ap judged_read read)
+unread_given tokens from end unread_NoMemory fault some within read is =
+    subst (λ fault. Gives {X = Option ProgramTree} (Err fault) (program_of (between from end tokens))) (sym is) tt
+
+pub program_given : (tokens : List Seen) (from end : ℕ) (program : ProgramTree) → from < end → end ≤ length tokens → read_program (words_between from end tokens) ≡ Some program
+    → is_well_kinded program ≡ true → program_of (between from end tokens) ≡ Ok (Some program)
+program_given tokens from end program some within read well = judged_between tokens from end some within ∙ ap judged_read read ∙ judged_well program well
+
+pub kind_given : (tokens : List Seen) (from end : ℕ) (program : ProgramTree) → from < end → end ≤ length tokens → read_program (words_between from end tokens) ≡ Some program
+    → is_well_kinded program ≡ false → program_of (between from end tokens) ≡ Err Kind
+kind_given tokens from end program some within read bad = judged_between tokens from end some within ∙ ap judged_read read ∙ judged_bad program bad

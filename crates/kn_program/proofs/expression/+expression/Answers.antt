@@ -1,0 +1,185 @@
+use Rattle.std.proofs.Common.{◌-◌, List, [], ◌∷◌, ◌++◌, ap, ◌∙◌}
+use Rattle.kn_lex.specs.Seeing.{seen}
+use Rattle.kn_trees.specs.declared.program.Expr.{Expr}
+use Rattle.kn_trees.specs.declared.program.Expr.TheVariants as E
+use Rattle.kn_program.specs.Words.{word_of, words_between, taken, marked}
+use Rattle.kn_program.specs.Signs.{joint_text, operation_of}
+use Rattle.kn_program.specs.Trees.{joined, prefixed}
+use Rattle.kn_program.specs.Reading.{with_front, tail_at, one_part, one_link, test_at, negation_at, chain_at, side_at, operand_at}
+use Rattle.kn_program.specs.declared.signs.Level.TheVariants.{Sum}
+use Rattle.kn_program.proofs.WordLemmas.{at_mark}
+use Rattle.kn_program.proofs.Steps.{tail_more, tail_last, tail_unread, tail_over, fault_of_part, tests_over, tests_start, tests_unread, chain_over, chain_start, chain_unread, made_of, none_of, made_along, negation_over, negation_none, negation_some, mapped_some, mapped_none, reads_along, comparison_over, comparison_unread, comparison_alone, comparison_two, operand_over, operand_none, operand_some, atom_over, atom_end, atom_constant, atom_group}
+use Rattle.kn_program.proofs.expression.+expression.Goals as goal
+
+pub tests-returns-then-budget-eq0 : goal.tests-returns-then-budget-eq0
+tests-returns-then-budget-eq0 t c = tests_over c.args.budget c.args.joint _ c.if-budget-eq0.true
+
+pub tests-returns-in-Err : goal.tests-returns-in-Err
+tests-returns-in-Err t c =
+    fault_of_part {X = Expr} {Y = Expr} c.in-Err.unread (test_at (c.args.budget - 1) c.args.joint (words_between c.args.at c.args.end c.args.tokens.now)) _ _ c.in-Err.ensures
+    (tests_unread c.args.budget c.args.joint _ c.if-budget-eq0.false)
+
+pub tests-loop-left-init : goal.tests-loop-left-init
+tests-loop-left-init t c =
+    tests_start c.args.budget c.args.joint _ _ c.in-Ok.read.0 c.push.new.self c.if-budget-eq0.false c.in-Ok.ensures
+    (c.in-Ok-push.ensures.ok ∙ ap (λ (list : List Expr). list ++ c.in-Ok.read.0 ∷ []) c.new-parts.ensures)
+
+pub tests-returns-in_default : goal.tests-returns-in_default
+tests-returns-in_default t c =
+    made_of (joined c.args.joint)
+    (with_front c.loop-left.parts (tail_at (marked (joint_text c.args.joint)) one_part (test_at (c.args.budget - 1) c.args.joint) c.loop-left.left (words_between c.loop-left.next c.args.end c.args.tokens.now)))
+    _ c.loop-left.parts _ c.joined.result
+    (tail_last (marked (joint_text c.args.joint)) one_part (test_at (c.args.budget - 1) c.args.joint) c.loop-left.left _ c.loop-left.parts c.loop-left-test.true
+    (at_mark _ _ _ _ c.joint_text.ensures c.in_default.ensures))
+    c.loop-left.invariant c.joined.ensures
+
+pub tests-returns-in-Err-test : goal.tests-returns-in-Err-test
+tests-returns-in-Err-test t c =
+    fault_of_part {X = Expr} {Y = Expr} c.in-Err-test.unread (test_at (c.args.budget - 1) c.args.joint (words_between c.in-Some.start c.args.end c.args.tokens.now)) _ _ c.in-Err-test.ensures
+    (λ none. none_of (joined c.args.joint)
+    (with_front c.loop-left.parts (tail_at (marked (joint_text c.args.joint)) one_part (test_at (c.args.budget - 1) c.args.joint) c.loop-left.left (words_between c.loop-left.next c.args.end c.args.tokens.now)))
+    _
+    (tail_unread (marked (joint_text c.args.joint)) one_part (test_at (c.args.budget - 1) c.args.joint) c.loop-left.left _ (words_between c.in-Some.start c.args.end c.args.tokens.now) tt c.loop-left.parts c.loop-left-test.true
+    (at_mark _ _ _ _ c.joint_text.ensures c.in-Some.ensures) none)
+    c.loop-left.invariant)
+
+pub tests-loop-left-preserved : goal.tests-loop-left-preserved
+tests-loop-left-preserved t c =
+    made_along (joined c.args.joint)
+    (with_front c.loop-left.parts (tail_at (marked (joint_text c.args.joint)) one_part (test_at (c.args.budget - 1) c.args.joint) c.loop-left.left (words_between c.loop-left.next c.args.end c.args.tokens.now)))
+    _ _
+    (tail_more (marked (joint_text c.args.joint)) one_part (test_at (c.args.budget - 1) c.args.joint) c.loop-left.left _ (words_between c.in-Some.start c.args.end c.args.tokens.now) _ tt c.in-Ok-test.read.0 c.loop-left.parts c.push-in-loop-left.new.self c.loop-left-test.true
+    (at_mark _ _ _ _ c.joint_text.ensures c.in-Some.ensures) c.in-Ok-test.ensures c.in-Ok-push-2.ensures.ok)
+    c.loop-left.invariant
+
+pub tests-returns : goal.tests-returns
+tests-returns t c =
+    none_of (joined c.args.joint)
+    (with_front c.loop-left.parts (tail_at (marked (joint_text c.args.joint)) one_part (test_at (c.args.budget - 1) c.args.joint) c.loop-left.left (words_between c.loop-left.next c.args.end c.args.tokens.now)))
+    _
+    (tail_over (marked (joint_text c.args.joint)) one_part (test_at (c.args.budget - 1) c.args.joint) c.loop-left.left _ c.loop-left.parts c.loop-left-test.false)
+    c.loop-left.invariant
+
+pub negation-returns-then-budget-eq0 : goal.negation-returns-then-budget-eq0
+negation-returns-then-budget-eq0 t c = negation_over c.args.budget _ c.if-budget-eq0.true
+
+pub negation-returns-in_default : goal.negation-returns-in_default
+negation-returns-in_default t c =
+    reads_along {X = Expr} c.comparison.result _ _ _
+    (negation_none c.args.budget (words_between c.args.at c.args.end c.args.tokens.now) c.if-budget-eq0.false (at_mark _ _ _ _ c.as_slice.ensures c.in_default.ensures)) c.comparison.ensures
+
+pub negation-returns-in-Err : goal.negation-returns-in-Err
+negation-returns-in-Err t c =
+    fault_of_part {X = Expr} {Y = Expr} c.in-Err.unread (negation_at (c.args.budget - 1) (words_between c.in-Some.inner c.args.end c.args.tokens.now)) _ _ c.in-Err.ensures
+    (mapped_none E.Not (negation_at (c.args.budget - 1) (words_between c.in-Some.inner c.args.end c.args.tokens.now)) _
+    (negation_some c.args.budget _ (words_between c.in-Some.inner c.args.end c.args.tokens.now) c.if-budget-eq0.false (at_mark _ _ _ _ c.as_slice.ensures c.in-Some.ensures)))
+
+pub negation-returns-in-Ok-negated : goal.negation-returns-in-Ok-negated
+negation-returns-in-Ok-negated t c =
+    mapped_some E.Not (negation_at (c.args.budget - 1) (words_between c.in-Some.inner c.args.end c.args.tokens.now)) _ c.in-Ok.read.0 _ c.in-Ok-negated.whole
+    (negation_some c.args.budget _ (words_between c.in-Some.inner c.args.end c.args.tokens.now) c.if-budget-eq0.false (at_mark _ _ _ _ c.as_slice.ensures c.in-Some.ensures))
+    c.in-Ok.ensures c.in-Ok-negated.ensures
+
+pub comparison-returns-then-budget-eq0 : goal.comparison-returns-then-budget-eq0
+comparison-returns-then-budget-eq0 t c = comparison_over c.args.budget _ c.if-budget-eq0.true
+
+pub comparison-returns-in-Err : goal.comparison-returns-in-Err
+comparison-returns-in-Err t c =
+    fault_of_part {X = Expr} {Y = Expr} c.in-Err.unread (chain_at (c.args.budget - 1) Sum (words_between c.args.at c.args.end c.args.tokens.now)) _ _ c.in-Err.ensures
+    (comparison_unread c.args.budget _ c.if-budget-eq0.false)
+
+pub comparison-returns-in_default : goal.comparison-returns-in_default
+comparison-returns-in_default t c = comparison_alone c.args.budget _ _ c.in-Ok.read.0 c.if-budget-eq0.false c.in-Ok.ensures c.in_default.ensures
+
+pub comparison-returns-in-Err-chain : goal.comparison-returns-in-Err-chain
+comparison-returns-in-Err-chain t c =
+    fault_of_part {X = Expr} {Y = Expr} c.in-Err-chain.unread (chain_at (c.args.budget - 1) Sum (words_between c.in-Some.start c.args.end c.args.tokens.now)) _ _ c.in-Err-chain.ensures
+    (mapped_none (E.Compare c.in-Some.sign c.in-Ok.read.0) (chain_at (c.args.budget - 1) Sum (words_between c.in-Some.start c.args.end c.args.tokens.now)) _
+    (comparison_two c.args.budget _ _ (words_between c.in-Some.start c.args.end c.args.tokens.now) c.in-Ok.read.0 c.in-Some.sign c.if-budget-eq0.false c.in-Ok.ensures c.in-Some.ensures))
+
+pub comparison-returns-in-Ok-compared : goal.comparison-returns-in-Ok-compared
+comparison-returns-in-Ok-compared t c =
+    mapped_some (E.Compare c.in-Some.sign c.in-Ok.read.0) (chain_at (c.args.budget - 1) Sum (words_between c.in-Some.start c.args.end c.args.tokens.now)) _ c.in-Ok-chain.read.0 _ c.in-Ok-compared.whole
+    (comparison_two c.args.budget _ _ (words_between c.in-Some.start c.args.end c.args.tokens.now) c.in-Ok.read.0 c.in-Some.sign c.if-budget-eq0.false c.in-Ok.ensures c.in-Some.ensures)
+    c.in-Ok-chain.ensures c.in-Ok-compared.ensures
+
+pub chain-returns-then-budget-eq0 : goal.chain-returns-then-budget-eq0
+chain-returns-then-budget-eq0 t c = chain_over c.args.budget c.args.level _ c.if-budget-eq0.true
+
+pub chain-returns-in-Err : goal.chain-returns-in-Err
+chain-returns-in-Err t c =
+    fault_of_part {X = Expr} {Y = Expr} c.in-Err.unread (side_at (c.args.budget - 1) c.args.level (words_between c.args.at c.args.end c.args.tokens.now)) _ _ c.in-Err.ensures
+    (chain_unread c.args.budget c.args.level _ c.if-budget-eq0.false)
+
+pub chain-loop-left-init : goal.chain-loop-left-init
+chain-loop-left-init t c = chain_start c.args.budget c.args.level _ _ c.in-Ok.read.0 c.new-links.result c.if-budget-eq0.false c.in-Ok.ensures c.new-links.ensures
+
+pub chain-returns-in-Ok-chained : goal.chain-returns-in-Ok-chained
+chain-returns-in-Ok-chained t c =
+    made_of _
+    (with_front c.loop-left.links (tail_at (taken (operation_of c.args.level)) one_link (side_at (c.args.budget - 1) c.args.level) c.loop-left.left (words_between c.loop-left.next c.args.end c.args.tokens.now)))
+    _ c.loop-left.links _ c.in-Ok-chained.whole
+    (tail_last (taken (operation_of c.args.level)) one_link (side_at (c.args.budget - 1) c.args.level) c.loop-left.left _ c.loop-left.links c.loop-left-test.true c.in_default.ensures)
+    c.loop-left.invariant c.in-Ok-chained.ensures
+
+pub chain-returns-in-Err-side : goal.chain-returns-in-Err-side
+chain-returns-in-Err-side t c =
+    fault_of_part {X = Expr} {Y = Expr} c.in-Err-side.unread (side_at (c.args.budget - 1) c.args.level (words_between c.in-Some.start c.args.end c.args.tokens.now)) _ _ c.in-Err-side.ensures
+    (λ none. none_of _
+    (with_front c.loop-left.links (tail_at (taken (operation_of c.args.level)) one_link (side_at (c.args.budget - 1) c.args.level) c.loop-left.left (words_between c.loop-left.next c.args.end c.args.tokens.now)))
+    _
+    (tail_unread (taken (operation_of c.args.level)) one_link (side_at (c.args.budget - 1) c.args.level) c.loop-left.left _ (words_between c.in-Some.start c.args.end c.args.tokens.now) c.in-Some.sign c.loop-left.links c.loop-left-test.true
+    c.in-Some.ensures none)
+    c.loop-left.invariant)
+
+pub chain-loop-left-preserved : goal.chain-loop-left-preserved
+chain-loop-left-preserved t c =
+    made_along _
+    (with_front c.loop-left.links (tail_at (taken (operation_of c.args.level)) one_link (side_at (c.args.budget - 1) c.args.level) c.loop-left.left (words_between c.loop-left.next c.args.end c.args.tokens.now)))
+    _ _
+    (tail_more (taken (operation_of c.args.level)) one_link (side_at (c.args.budget - 1) c.args.level) c.loop-left.left _ (words_between c.in-Some.start c.args.end c.args.tokens.now) _ c.in-Some.sign c.in-Ok-side.read.0 c.loop-left.links c.push.new.self c.loop-left-test.true
+    c.in-Some.ensures c.in-Ok-side.ensures c.in-Ok-push.ensures.ok)
+    c.loop-left.invariant
+
+pub chain-returns : goal.chain-returns
+chain-returns t c =
+    none_of _
+    (with_front c.loop-left.links (tail_at (taken (operation_of c.args.level)) one_link (side_at (c.args.budget - 1) c.args.level) c.loop-left.left (words_between c.loop-left.next c.args.end c.args.tokens.now)))
+    _
+    (tail_over (taken (operation_of c.args.level)) one_link (side_at (c.args.budget - 1) c.args.level) c.loop-left.left _ c.loop-left.links c.loop-left-test.false)
+    c.loop-left.invariant
+
+pub operand-returns-then-budget-eq0 : goal.operand-returns-then-budget-eq0
+operand-returns-then-budget-eq0 t c = operand_over c.args.budget _ c.if-budget-eq0.true
+
+pub operand-returns-in_default : goal.operand-returns-in_default
+operand-returns-in_default t c =
+    reads_along {X = Expr} c.atom.result _ _ _ (operand_none c.args.budget (words_between c.args.at c.args.end c.args.tokens.now) c.if-budget-eq0.false c.in_default.ensures) c.atom.ensures
+
+pub operand-returns-in-Err : goal.operand-returns-in-Err
+operand-returns-in-Err t c =
+    fault_of_part {X = Expr} {Y = Expr} c.in-Err.unread (operand_at (c.args.budget - 1) (words_between c.in-Some.inner c.args.end c.args.tokens.now)) _ _ c.in-Err.ensures
+    (mapped_none (prefixed c.in-Some.prefix) (operand_at (c.args.budget - 1) (words_between c.in-Some.inner c.args.end c.args.tokens.now)) _
+    (operand_some c.args.budget _ (words_between c.in-Some.inner c.args.end c.args.tokens.now) c.in-Some.prefix c.if-budget-eq0.false c.in-Some.ensures))
+
+pub operand-returns-in-Ok-prefixed : goal.operand-returns-in-Ok-prefixed
+operand-returns-in-Ok-prefixed t c =
+    mapped_some (prefixed c.in-Some.prefix) (operand_at (c.args.budget - 1) (words_between c.in-Some.inner c.args.end c.args.tokens.now)) _ c.in-Ok.read.0 _ c.in-Ok-prefixed.whole
+    (operand_some c.args.budget _ (words_between c.in-Some.inner c.args.end c.args.tokens.now) c.in-Some.prefix c.if-budget-eq0.false c.in-Some.ensures)
+    c.in-Ok.ensures c.in-Ok-prefixed.ensures
+
+pub atom-returns-then-budget-eq0 : goal.atom-returns-then-budget-eq0
+atom-returns-then-budget-eq0 t c = atom_over c.args.budget _ c.if-budget-eq0.true
+
+pub atom-returns-in_default : goal.atom-returns-in_default
+atom-returns-in_default t c = atom_end c.args.budget _ c.if-budget-eq0.false c.in_default.ensures.words
+
+pub atom-returns-in-Ok-Some : goal.atom-returns-in-Ok-Some
+atom-returns-in-Ok-Some t c =
+    atom_constant c.args.budget _ _ (word_of (seen c.in-Some.token.now)) c.in-Ok-Some.whole c.if-budget-eq0.false c.in-Some.ensures.words (c.in-Ok-Some.ensures ∙ c.in-Ok-Some.field-0-is)
+
+pub atom-returns-in-Ok-None : goal.atom-returns-in-Ok-None
+atom-returns-in-Ok-None t c =
+    reads_along {X = Expr} c.group.result _ _ _
+    (atom_group c.args.budget (words_between c.args.at c.args.end c.args.tokens.now) _ (word_of (seen c.in-Some.token.now)) c.if-budget-eq0.false c.in-Some.ensures.words
+    (c.in-Ok-None.ensures ∙ c.in-Ok-None.field-0-is)) c.group.ensures

@@ -1,0 +1,64 @@
+-- What the tokens of a Conditions field state (RFC 2704, section 4). The faults and their order are keynoted's own.
+use Rattle.std.specs.Prelude.{◌≡◌, true, false, List, [], ◌∷◌, Option, Some, None, Result, Ok, Err, if◌then◌else◌}
+use Rattle.kn_lex.specs.Cutting.{Seen}
+use Rattle.kn_trees.specs.Kinds.{is_well_kinded}
+use Rattle.kn_trees.specs.declared.program.Program.{Program}
+use Rattle.kn_program.specs.Words.{words_of}
+use Rattle.kn_program.specs.Grammar.{IsProgram}
+use Rattle.kn_program.specs.Reading.{read_program}
+use Rattle.kn_program.specs.declared.unread.Unread.{Unread}
+use Rattle.kn_program.specs.declared.unread.Unread.TheVariants.{Syntax as unread_Syntax, NoMemory as unread_NoMemory}
+use Rattle.kn_program.specs.declared.fault.ProgramFault.{ProgramFault}
+use Rattle.kn_program.specs.declared.fault.ProgramFault.TheVariants.{Syntax, Kind, NoMemory}
+
+-- there are tokens, and they spell this program, which is well kinded
+pub record States (tokens : List Seen) (program : Program) : Type 0 where
+  pub some : tokens ≡ [] → ⊥
+  pub spelled : IsProgram tokens program
+  pub kinds : is_well_kinded program ≡ true
+
+-- the tokens state this program, or, being none, no program
+abbrev pub IsConditions : List Seen → Option Program → Type 0
+IsConditions tokens None = tokens ≡ []
+IsConditions tokens (Some program) = States tokens program
+
+-- there are tokens, and they spell nothing
+pub record HasNoProgram (tokens : List Seen) : Type 0 where
+  pub some : tokens ≡ [] → ⊥
+  pub none : (program : Program) → IsProgram tokens program → ⊥
+
+-- there are tokens, and they spell a program that isn't well kinded
+pub record HasBadKinds (tokens : List Seen) : Type 0 where
+  pub some : tokens ≡ [] → ⊥
+  pub program : Program
+  pub spelled : IsProgram tokens program
+  pub bad : is_well_kinded program ≡ false
+
+-- the tokens show this fault first
+abbrev pub Shows : List Seen → ProgramFault → Type 0
+Shows tokens Syntax = HasNoProgram tokens
+Shows tokens Kind = HasBadKinds tokens
+Shows tokens NoMemory = ⊥
+
+abbrev pub judged : Program → Result (Option Program) ProgramFault
+judged program = if is_well_kinded program then Ok (Some program) else Err Kind
+
+abbrev pub judged_read : Option Program → Result (Option Program) ProgramFault
+judged_read None = Err Syntax
+judged_read (Some program) = judged program
+
+-- the program of these tokens, or its first fault
+unfoldable pub program_of : List Seen → Result (Option Program) ProgramFault
+program_of [] = Ok None
+program_of (token ∷ tokens) = judged_read (read_program (words_of (token ∷ tokens)))
+
+-- this is given, or there was no memory for it
+abbrev pub Gives : {X : Type 0} → Result X ProgramFault → Result X ProgramFault → Type 0
+Gives (Ok x) read = read ≡ Ok x
+Gives (Err Syntax) read = read ≡ Err Syntax
+Gives (Err Kind) read = read ≡ Err Kind
+Gives (Err NoMemory) read = Unit {0}
+
+abbrev pub of_unread : Unread → ProgramFault
+of_unread unread_Syntax = Syntax
+of_unread unread_NoMemory = NoMemory

@@ -1,0 +1,6 @@
+pub mod Signs
+pub mod Words
+pub mod Trees
+pub mod Grammar
+pub mod Reading
+pub mod Conditions

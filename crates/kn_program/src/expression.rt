@@ -1,0 +1,305 @@
+//! The grammar of expressions, with one token of look-ahead.
+//!
+//! The budget bounds the steps of a reading: each step down the grammar takes one, and a list of parts or of
+//! operations has fewer than it. Ten for each token are enough.
+ghost use Rattle.std.specs.Prelude.{◌≡◌, ◌≤◌, length};
+ghost use Rattle.kn_lex.specs.Seeing.{seen};
+ghost use Rattle.kn_program.specs.Words.{word_of, words_between};
+ghost use Rattle.kn_program.specs.Reading.{Reads, ReadsWord, tests_at, test_at, negation_at, comparison_at, chain_at, side_at, operand_at, atom_at, group_at};
+
+use crate::signs::{Joint, Level, joint_text, number_of, truth_of};
+use crate::tree::{chained, compared, joined, negated, prefixed};
+use crate::unread::Unread;
+use crate::word::{behind_sign, comparison_at, operation_at, prefix_at, token_at};
+use kn_base::{List, Octets};
+use kn_lex::{Sort, Token, Tokens, literal};
+use kn_trees::{Expr, Link2};
+use std::alloc::Global;
+
+/// The tests with `||` or `&&` between them, and the place behind them.
+#[cycle(expression)]
+pub(crate) fn tests(
+    alloc: Global,
+    tokens: &Tokens<'_>,
+    joint: Joint,
+    at: u32,
+    end: u32,
+    budget: u64,
+) -> Result<(Expr, u32), Unread>
+    requires within { end ≤ length tokens.now }
+    ensures { Reads result (tests_at budget joint (words_between at end tokens.now)) (λ next. words_between next end tokens.now) }
+{
+    if budget == 0 {
+        return Err(Unread::Syntax);
+    }
+    let (first, mut next) = match test(alloc, tokens, joint, at, end, budget - 1) {
+        Ok(read) => read,
+        Err(unread) => return Err(unread),
+    };
+    let mut parts = List::new(alloc);
+    match parts.push(first) {
+        Ok(()) => {}
+        Err(_) => return Err(Unread::NoMemory),
+    }
+    let mut left = budget;
+    while left > 0 {
+        left -= 1;
+        let Some(start) = behind_sign(tokens, next, end, joint_text(joint)) else {
+            return Ok((joined(joint, parts), next));
+        };
+        let (part, rest) = match test(alloc, tokens, joint, start, end, budget - 1) {
+            Ok(read) => read,
+            Err(unread) => return Err(unread),
+        };
+        match parts.push(part) {
+            Ok(()) => {}
+            Err(_) => return Err(Unread::NoMemory),
+        }
+        next = rest;
+    }
+    Err(Unread::Syntax)
+}
+
+/// One of the tests that stand between joints of this sort, and the place behind it.
+#[cycle(expression)]
+fn test(
+    alloc: Global,
+    tokens: &Tokens<'_>,
+    joint: Joint,
+    at: u32,
+    end: u32,
+    budget: u64,
+) -> Result<(Expr, u32), Unread>
+    requires within { end ≤ length tokens.now }
+    ensures { Reads result (test_at budget joint (words_between at end tokens.now)) (λ next. words_between next end tokens.now) }
+{
+    match joint {
+        Joint::Or => tests(alloc, tokens, Joint::And, at, end, budget),
+        Joint::And => negation(alloc, tokens, at, end, budget),
+    }
+}
+
+/// A comparison, or `!` and what it stands before, and the place behind it.
+#[cycle(expression)]
+fn negation(
+    alloc: Global,
+    tokens: &Tokens<'_>,
+    at: u32,
+    end: u32,
+    budget: u64,
+) -> Result<(Expr, u32), Unread>
+    requires within { end ≤ length tokens.now }
+    ensures { Reads result (negation_at budget (words_between at end tokens.now)) (λ next. words_between next end tokens.now) }
+{
+    if budget == 0 {
+        return Err(Unread::Syntax);
+    }
+    let Some(inner) = behind_sign(tokens, at, end, b"!".as_slice()) else {
+        return comparison(alloc, tokens, at, end, budget - 1);
+    };
+    let (part, next) = match negation(alloc, tokens, inner, end, budget - 1) {
+        Ok(read) => read,
+        Err(unread) => return Err(unread),
+    };
+    match negated(alloc, part) {
+        Ok(whole) => Ok((whole, next)),
+        Err(_) => Err(Unread::NoMemory),
+    }
+}
+
+/// A sum, or two with a comparison between them, and the place behind it.
+#[cycle(expression)]
+fn comparison(
+    alloc: Global,
+    tokens: &Tokens<'_>,
+    at: u32,
+    end: u32,
+    budget: u64,
+) -> Result<(Expr, u32), Unread>
+    requires within { end ≤ length tokens.now }
+    ensures { Reads result (comparison_at budget (words_between at end tokens.now)) (λ next. words_between next end tokens.now) }
+{
+    if budget == 0 {
+        return Err(Unread::Syntax);
+    }
+    let (left, rest) = match chain(alloc, tokens, Level::Sum, at, end, budget - 1) {
+        Ok(read) => read,
+        Err(unread) => return Err(unread),
+    };
+    let Some((sign, start)) = comparison_at(tokens, rest, end) else {
+        return Ok((left, rest));
+    };
+    let (right, next) = match chain(alloc, tokens, Level::Sum, start, end, budget - 1) {
+        Ok(read) => read,
+        Err(unread) => return Err(unread),
+    };
+    match compared(alloc, sign, left, right) {
+        Ok(whole) => Ok((whole, next)),
+        Err(_) => Err(Unread::NoMemory),
+    }
+}
+
+/// The operands with operations of a level between them, and the place behind them.
+#[cycle(expression)]
+fn chain(
+    alloc: Global,
+    tokens: &Tokens<'_>,
+    level: Level,
+    at: u32,
+    end: u32,
+    budget: u64,
+) -> Result<(Expr, u32), Unread>
+    requires within { end ≤ length tokens.now }
+    ensures { Reads result (chain_at budget level (words_between at end tokens.now)) (λ next. words_between next end tokens.now) }
+{
+    if budget == 0 {
+        return Err(Unread::Syntax);
+    }
+    let (first, mut next) = match side(alloc, tokens, level, at, end, budget - 1) {
+        Ok(read) => read,
+        Err(unread) => return Err(unread),
+    };
+    let mut links = List::new(alloc);
+    let mut left = budget;
+    while left > 0 {
+        left -= 1;
+        let Some((sign, start)) = operation_at(tokens, next, end, level) else {
+            return match chained(alloc, first, links) {
+                Ok(whole) => Ok((whole, next)),
+                Err(_) => Err(Unread::NoMemory),
+            };
+        };
+        let (right, rest) = match side(alloc, tokens, level, start, end, budget - 1) {
+            Ok(read) => read,
+            Err(unread) => return Err(unread),
+        };
+        match links.push(Link2 { sign, right }) {
+            Ok(()) => {}
+            Err(_) => return Err(Unread::NoMemory),
+        }
+        next = rest;
+    }
+    Err(Unread::Syntax)
+}
+
+/// A side of the operations of a level, and the place behind it.
+#[cycle(expression)]
+fn side(
+    alloc: Global,
+    tokens: &Tokens<'_>,
+    level: Level,
+    at: u32,
+    end: u32,
+    budget: u64,
+) -> Result<(Expr, u32), Unread>
+    requires within { end ≤ length tokens.now }
+    ensures { Reads result (side_at budget level (words_between at end tokens.now)) (λ next. words_between next end tokens.now) }
+{
+    match level {
+        Level::Sum => chain(alloc, tokens, Level::Product, at, end, budget),
+        Level::Product => chain(alloc, tokens, Level::Power, at, end, budget),
+        Level::Power => operand(alloc, tokens, at, end, budget),
+    }
+}
+
+/// An atom, or a sign and the operand behind it, and the place behind it.
+#[cycle(expression)]
+fn operand(
+    alloc: Global,
+    tokens: &Tokens<'_>,
+    at: u32,
+    end: u32,
+    budget: u64,
+) -> Result<(Expr, u32), Unread>
+    requires within { end ≤ length tokens.now }
+    ensures { Reads result (operand_at budget (words_between at end tokens.now)) (λ next. words_between next end tokens.now) }
+{
+    if budget == 0 {
+        return Err(Unread::Syntax);
+    }
+    let Some((prefix, inner)) = prefix_at(tokens, at, end) else {
+        return atom(alloc, tokens, at, end, budget - 1);
+    };
+    let (part, next) = match operand(alloc, tokens, inner, end, budget - 1) {
+        Ok(read) => read,
+        Err(unread) => return Err(unread),
+    };
+    match prefixed(alloc, prefix, part) {
+        Ok(whole) => Ok((whole, next)),
+        Err(_) => Err(Unread::NoMemory),
+    }
+}
+
+/// An expression of one token, or None for a sign and for a token that stands in no expression.
+fn constant(alloc: Global, token: &Token<'_>) -> Result<Option<Expr>, Unread>
+    ensures { ReadsWord result (word_of (seen token.now)) }
+{
+    match token.sort {
+        Sort::Text => {
+            let value = literal(alloc, token)?;
+            Ok(Some(Expr::Text(value)))
+        }
+        Sort::Name => match truth_of(token.text) {
+            Some(value) => Ok(Some(Expr::Truth(value))),
+            None => {
+                let name = Octets::from_slice(alloc, token.text)?;
+                Ok(Some(Expr::Name(name)))
+            }
+        },
+        Sort::Number => match number_of(token.text) {
+            Some(value) => Ok(Some(Expr::Whole(value as i32))),
+            None => Ok(None),
+        },
+        _ => Ok(None),
+    }
+}
+
+/// An expression of one token or in brackets, and the place behind it.
+#[cycle(expression)]
+fn atom(
+    alloc: Global,
+    tokens: &Tokens<'_>,
+    at: u32,
+    end: u32,
+    budget: u64,
+) -> Result<(Expr, u32), Unread>
+    requires within { end ≤ length tokens.now }
+    ensures { Reads result (atom_at budget (words_between at end tokens.now)) (λ next. words_between next end tokens.now) }
+{
+    if budget == 0 {
+        return Err(Unread::Syntax);
+    }
+    let Some(token) = token_at(tokens, at, end) else {
+        return Err(Unread::Syntax);
+    };
+    match constant(alloc, token) {
+        Ok(Some(whole)) => Ok((whole, at + 1)),
+        Ok(None) => group(alloc, tokens, at, end, budget - 1),
+        Err(unread) => Err(unread),
+    }
+}
+
+/// Tests in brackets, and the place behind them.
+#[cycle(expression)]
+fn group(
+    alloc: Global,
+    tokens: &Tokens<'_>,
+    at: u32,
+    end: u32,
+    budget: u64,
+) -> Result<(Expr, u32), Unread>
+    requires within { end ≤ length tokens.now }
+    ensures { Reads result (group_at (words_between at end tokens.now) (tests_at budget Joint.Or)) (λ next. words_between next end tokens.now) }
+{
+    let Some(inner) = behind_sign(tokens, at, end, b"(".as_slice()) else {
+        return Err(Unread::Syntax);
+    };
+    let (whole, rest) = match tests(alloc, tokens, Joint::Or, inner, end, budget) {
+        Ok(read) => read,
+        Err(unread) => return Err(unread),
+    };
+    match behind_sign(tokens, rest, end, b")".as_slice()) {
+        Some(next) => Ok((whole, next)),
+        None => Err(Unread::Syntax),
+    }
+}

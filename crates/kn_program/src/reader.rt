@@ -1,0 +1,42 @@
+ghost use Rattle.std.specs.Prelude.{◌≡◌, ◌+◌, ◌≤◌, ◌<◌, IfOk, IfSome, length, true};
+ghost use Rattle.kn_trees.specs.Kinds.{is_well_kinded};
+ghost use Rattle.kn_fields.specs.Fields.{between};
+ghost use Rattle.kn_fields.specs.Depth.{IsTooDeep};
+ghost use Rattle.kn_program.specs.Conditions.{program_of, Gives};
+
+use crate::clauses::program;
+use crate::fault::ProgramFault;
+use kn_fields::Part;
+use kn_lex::Tokens;
+use kn_trees::{Program, is_well_kinded};
+use std::alloc::Global;
+
+/// The program of a Conditions field, or None where the field has no token.
+///
+/// `part` says where the field stands among the tokens. As many levels of the grammar are open at once as the
+/// field's brackets and prefix signs ask for, so a field that goes too deep isn't passed.
+pub fn conditions(
+    alloc: Global,
+    tokens: &Tokens<'_>,
+    part: Part,
+) -> Result<Option<Program>, ProgramFault>
+    requires before { part.label < part.end }
+    requires within { part.end ≤ length tokens.now }
+    requires shallow { IsTooDeep (between (part.label + 1) part.end tokens.now) → ⊥ }
+    ensures given { Gives result (program_of (between (part.label + 1) part.end tokens.now)) }
+    ensures well_kinded { IfOk result (λ conditions. IfSome conditions (λ program. is_well_kinded program ≡ true)) }
+{
+    let from = part.label + 1;
+    if from == part.end {
+        return Ok(None);
+    }
+    let program = match program(alloc, tokens, from, part.end) {
+        Ok(program) => program,
+        Err(unread) => return Err(ProgramFault::from(unread)),
+    };
+    if is_well_kinded(&program) {
+        Ok(Some(program))
+    } else {
+        Err(ProgramFault::Kind)
+    }
+}

@@ -1,0 +1,163 @@
+//! The signs of the grammar of conditions, and the words that are no names.
+ghost use Rattle.std.specs.Prelude.{◌≡◌, ◌≤◌, IfSome};
+ghost use Rattle.kn_program.specs.Signs.{joint_text, operation_of, comparison_of, prefix_of, truth_of, number_of};
+
+use kn_trees::{Comparison, Operation};
+
+/// What stands between tests.
+#[derive(Debug, Clone, Copy, PartialEq, Eq)]
+pub enum Joint {
+    /// `||`
+    Or,
+    /// `&&`
+    And,
+}
+
+/// A level of the grammar whose operations group to the left, the loosest first.
+#[derive(Debug, Clone, Copy, PartialEq, Eq)]
+pub enum Level {
+    /// `+`, `-` and `.`
+    Sum,
+    /// `*`, `/` and `%`
+    Product,
+    /// `^`
+    Power,
+}
+
+/// A sign before an operand.
+#[derive(Debug, Clone, Copy, PartialEq, Eq)]
+pub enum Prefix {
+    /// `-`
+    Minus,
+    /// `@`
+    Number,
+    /// `$`
+    Deref,
+}
+
+/// The greatest number that an expression holds.
+const WHOLE_MAX: u64 = 2_147_483_647;
+
+pub(crate) fn joint_text(joint: Joint) -> &'static [u8]
+    ensures { result.now ≡ joint_text joint }
+{
+    match joint {
+        Joint::Or => b"||".as_slice(),
+        Joint::And => b"&&".as_slice(),
+    }
+}
+
+#[tactic(auto, unfolding(crate::specs::Signs::operation_of))]
+fn sum_of(text: &[u8]) -> Option<Operation>
+    ensures { result ≡ operation_of Level.Sum text.now }
+{
+    if text == b"+".as_slice() {
+        Some(Operation::Plus)
+    } else if text == b"-".as_slice() {
+        Some(Operation::Less)
+    } else if text == b".".as_slice() {
+        Some(Operation::Join)
+    } else {
+        None
+    }
+}
+
+#[tactic(auto, unfolding(crate::specs::Signs::operation_of))]
+fn product_of(text: &[u8]) -> Option<Operation>
+    ensures { result ≡ operation_of Level.Product text.now }
+{
+    if text == b"*".as_slice() {
+        Some(Operation::Times)
+    } else if text == b"/".as_slice() {
+        Some(Operation::Divide)
+    } else if text == b"%".as_slice() {
+        Some(Operation::Rest)
+    } else {
+        None
+    }
+}
+
+/// The operation of a level that a sign stands for.
+#[tactic(auto, unfolding(crate::specs::Signs::operation_of))]
+pub(crate) fn operation_of(level: Level, text: &[u8]) -> Option<Operation>
+    ensures { result ≡ operation_of level text.now }
+{
+    match level {
+        Level::Sum => sum_of(text),
+        Level::Product => product_of(text),
+        Level::Power => {
+            if text == b"^".as_slice() {
+                Some(Operation::Power)
+            } else {
+                None
+            }
+        }
+    }
+}
+
+/// The comparison that a sign stands for.
+#[tactic(auto, unfolding(crate::specs::Signs::comparison_of))]
+pub(crate) fn comparison_of(text: &[u8]) -> Option<Comparison>
+    ensures { result ≡ comparison_of text.now }
+{
+    if text == b"==".as_slice() {
+        Some(Comparison::Eq)
+    } else if text == b"!=".as_slice() {
+        Some(Comparison::Ne)
+    } else if text == b"<".as_slice() {
+        Some(Comparison::Lt)
+    } else if text == b">".as_slice() {
+        Some(Comparison::Gt)
+    } else if text == b"<=".as_slice() {
+        Some(Comparison::Le)
+    } else if text == b">=".as_slice() {
+        Some(Comparison::Ge)
+    } else {
+        None
+    }
+}
+
+/// What a sign is before an operand.
+#[tactic(auto, unfolding(crate::specs::Signs::prefix_of))]
+pub(crate) fn prefix_of(text: &[u8]) -> Option<Prefix>
+    ensures { result ≡ prefix_of text.now }
+{
+    if text == b"-".as_slice() {
+        Some(Prefix::Minus)
+    } else if text == b"@".as_slice() {
+        Some(Prefix::Number)
+    } else if text == b"$".as_slice() {
+        Some(Prefix::Deref)
+    } else {
+        None
+    }
+}
+
+/// The truth value that a name stands for, in any case of letters.
+#[tactic(auto, unfolding(crate::specs::Signs::truth_of))]
+pub(crate) fn truth_of(name: &[u8]) -> Option<bool>
+    ensures { result ≡ truth_of name.now }
+{
+    if name.eq_ignore_ascii_case(b"true".as_slice()) {
+        Some(true)
+    } else if name.eq_ignore_ascii_case(b"false".as_slice()) {
+        Some(false)
+    } else {
+        None
+    }
+}
+
+/// The number of digits, or None where it is above 2147483647, which no token is.
+pub(crate) fn number_of(digits: &[u8]) -> Option<u32>
+    ensures value { result ≡ number_of digits.now }
+    ensures small { IfSome result (λ value. value ≤ 2147483647) }
+{
+    let mut value: u64 = 0;
+    for byte in digits {
+        value = value * 10 + u64::from(byte.saturating_sub(b'0'));
+        if value > WHOLE_MAX {
+            return None;
+        }
+    }
+    Some(value as u32)
+}

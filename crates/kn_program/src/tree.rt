@@ -1,0 +1,73 @@
+//! Expressions by their parts.
+ghost use Rattle.std.specs.Prelude.{◌≡◌, IfOk};
+ghost use Rattle.kn_program.specs.Trees.{several, joined, chained, prefixed};
+
+use crate::signs::{Joint, Prefix};
+use kn_base::{Boxed, List, NoMemory};
+use kn_trees::{Comparison, Expr, Link2};
+use std::alloc::Global;
+
+fn several(joint: Joint, parts: List<Expr>) -> Expr
+    ensures { result ≡ several joint parts }
+{
+    match joint {
+        Joint::Or => Expr::Or(parts),
+        Joint::And => Expr::And(parts),
+    }
+}
+
+/// Several tests with this between them; one part alone is itself.
+pub(crate) fn joined(joint: Joint, list: List<Expr>) -> Expr
+    ensures { result ≡ joined joint list }
+{
+    let mut parts = list;
+    if parts.len() != 1 {
+        return several(joint, parts);
+    }
+    match parts.pop() {
+        Some(only) => only,
+        None => several(joint, parts),
+    }
+}
+
+/// A first part with operations behind it; alone it is itself.
+pub(crate) fn chained(alloc: Global, first: Expr, links: List<Link2>) -> Result<Expr, NoMemory>
+    ensures { IfOk result (λ chain. chain ≡ chained first links) }
+{
+    if links.len() == 0 {
+        return Ok(first);
+    }
+    let first = Boxed::new(alloc, first)?;
+    Ok(Expr::Chain { first, rest: links })
+}
+
+pub(crate) fn compared(
+    alloc: Global,
+    sign: Comparison,
+    left: Expr,
+    right: Expr,
+) -> Result<Expr, NoMemory>
+    ensures { IfOk result (λ whole. whole ≡ Expr.Compare sign left right) }
+{
+    let left = Boxed::new(alloc, left)?;
+    let right = Boxed::new(alloc, right)?;
+    Ok(Expr::Compare { sign, left, right })
+}
+
+pub(crate) fn negated(alloc: Global, part: Expr) -> Result<Expr, NoMemory>
+    ensures { IfOk result (λ whole. whole ≡ Expr.Not part) }
+{
+    let part = Boxed::new(alloc, part)?;
+    Ok(Expr::Not(part))
+}
+
+pub(crate) fn prefixed(alloc: Global, prefix: Prefix, part: Expr) -> Result<Expr, NoMemory>
+    ensures { IfOk result (λ whole. whole ≡ prefixed prefix part) }
+{
+    let part = Boxed::new(alloc, part)?;
+    match prefix {
+        Prefix::Minus => Ok(Expr::Minus(part)),
+        Prefix::Number => Ok(Expr::Number(part)),
+        Prefix::Deref => Ok(Expr::Deref(part)),
+    }
+}
