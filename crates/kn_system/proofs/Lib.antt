@@ -6,3 +6,7 @@ pub mod Stacked
 pub mod Tallied
 pub mod Grown
 pub mod Read
+pub mod Proven
+pub mod Granted
+pub mod Exists
+pub mod Counted

@@ -1,8 +1,11 @@
 -- The laws of the rounds and of the least levels.
-use Rattle.std.specs.Prelude.{ℕ, ◌≡◌, ◌<◌, ◌-◌, Bool, List, All, length, slice_index, slice_index_or, if◌then◌else◌}
-use Rattle.kn_system.specs.Equations.{Equations, IsSystem}
+use Rattle.std.specs.Prelude.{ℕ, ◌≡◌, ◌<◌, ◌-◌, Bool, List, [], ◌∷◌, ◌++◌, All, length, slice_index, slice_index_or, slice_set, if◌then◌else◌}
+use Rattle.kn_proof.specs.declared.row.Row.{Row as ProofRow}
+use Rattle.kn_system.specs.Equations.{Equations, IsSystem, row_at}
 use Rattle.kn_system.specs.Least.{round_at, round, at_first, rounds, least_levels}
 use Rattle.kn_system.specs.Order.{Below}
+use Rattle.kn_system.specs.Proofs.{levels_after, AreSteps, HasOneRowEach, IsProof, IsStep}
+use Rattle.kn_system.specs.Settled.{IsSettled, IsGrant, HasNoneBefore, unsettled}
 
 -- a round leaves these levels, and they are at or below all levels that no round raises
 pub record IsLeast (s : Equations) (levels : List ℕ) : Type 0 where
@@ -57,3 +60,57 @@ pub record KeepsLevels (s : Equations) : Type 0 where
 
 abbrev pub RoundsKeepLevels : Type 0
 RoundsKeepLevels = (s : Equations) → IsSystem s → KeepsLevels s
+
+-- a proof's rows give each principal its least level, and the level that they prove is the policy's
+pub record IsDetermined (s : Equations) (rows : List ProofRow) (claimed : ℕ) : Type 0 where
+  pub levels : levels_after (at_first s) rows ≡ least_levels s
+  pub claim : claimed ≡ slice_index (least_levels s) 0
+
+abbrev pub ProofDeterminesLevel : Type 0
+ProofDeterminesLevel = (s : Equations) (rows : List ProofRow) (claimed : ℕ) → IsProof s rows claimed → IsDetermined s rows claimed
+
+-- a proof has one row for each principal that has its least level by a row
+abbrev pub ProofsHaveOneRowEach : Type 0
+ProofsHaveOneRowEach =
+    (s : Equations) (rows : List ProofRow) (claimed : ℕ) → IsProof s rows claimed → HasOneRowEach s (least_levels s) rows
+
+-- the policy's least level has a proof
+abbrev pub ProofExists : Type 0
+ProofExists = (s : Equations) → IsSystem s → (rows : List ProofRow) × IsProof s rows (slice_index (least_levels s) 0)
+
+-- one more row of a proof gives its principal its level
+pub record GoesOn (s : Equations) (levels : List ℕ) (rows : List ProofRow) (row : ProofRow) : Type 0 where
+  pub steps : AreSteps s levels (rows ++ row ∷ [])
+  pub after : levels_after levels (rows ++ row ∷ []) ≡ slice_set (levels_after levels rows) row.principal row.value
+
+-- a row that may stand after rows may follow them
+abbrev pub ProofsGoOn : Type 0
+ProofsGoOn =
+    (s : Equations) (levels : List ℕ) (rows : List ProofRow) (row : ProofRow) → AreSteps s levels rows → IsStep s (levels_after levels rows) row
+    → GoesOn s levels rows row
+
+-- before any row nothing above the top is open
+abbrev pub SettlingStarts : Type 0
+SettlingStarts = (s : Equations) → IsSystem s → IsSettled s (s.levels - 1) (at_first s) []
+
+-- after a row gives its authorizer the level, and a row of the proof says so
+pub record IsGranted (s : Equations) (v : ℕ) (levels : List ℕ) (rows : List ProofRow) (i : ℕ) : Type 0 where
+  pub settled : IsSettled s v (slice_set levels (row_at s.rows i).authorizer v) (rows ++ (record { principal = (row_at s.rows i).authorizer; value = v; by = i }) ∷ [])
+  pub fewer : unsettled (slice_set levels (row_at s.rows i).authorizer v) < unsettled levels
+
+-- a row that gives its authorizer the level may do so
+abbrev pub SettlingGrants : Type 0
+SettlingGrants =
+    (s : Equations) (v : ℕ) (levels : List ℕ) (rows : List ProofRow) (i : ℕ) → IsSystem s → 0 < v → IsSettled s v levels rows → IsGrant s v levels i
+    → IsGranted s v levels rows i
+
+-- where no row gives the level, the next lower one may be settled
+abbrev pub SettlingGoesDown : Type 0
+SettlingGoesDown =
+    (s : Equations) (v : ℕ) (levels : List ℕ) (rows : List ProofRow) → IsSettled s v levels rows → HasNoneBefore s v levels (length s.rows)
+    → IsSettled s (v - 1) levels rows
+
+-- above the lowest level all is settled: the rows are a proof
+abbrev pub SettlingEnds : Type 0
+SettlingEnds =
+    (s : Equations) (levels : List ℕ) (rows : List ProofRow) → IsSettled s 0 levels rows → IsProof s rows (slice_index levels 0)

@@ -5,3 +5,5 @@ pub mod Forms
 pub mod Least
 pub mod Order
 pub mod Lawful
+pub mod Proofs
+pub mod Settled

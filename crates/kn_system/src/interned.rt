@@ -39,6 +39,8 @@ impl<L> System<L> {
     ghost use Rattle.kn_system.specs.Equations.{IsRow, IsSystem, row_at, node_total, leaf_total};
     ghost use Rattle.kn_system.specs.Form.{form_level};
     ghost use Rattle.kn_system.specs.Forms.{IsFormula};
+    ghost use Rattle.kn_system.specs.Lawful.{AreLevels};
+    ghost use Rattle.kn_system.specs.Least.{at_first};
 
     /// The system of `POLICY` alone, without rows.
     pub fn start(alloc: Global, mark: L, levels: u8) -> System<L>
@@ -152,6 +154,22 @@ impl<L> System<L> {
     {
         let others = self.others.as_slice();
         principal > 0 && others[principal as usize - 1]
+    }
+
+    /// Puts the levels before any row into `values`: requesters have the top, and all others 0.
+    pub fn first_levels(&self, values: &mut [u8])
+        requires one_each { length values.old ≡ length self.now.requesters }
+        ensures exact { values.new ≡ at_first self.now }
+        ensures fit { AreLevels self.now values.new }
+        ensures well_formed { IsSystem self.now }
+    {
+        for principal in 0..self.principals() {
+            values[principal as usize] = if self.is_requester(principal) {
+                self.levels - 1
+            } else {
+                0
+            };
+        }
     }
 
     /// The principal whose row this is.

@@ -59,6 +59,9 @@ fn chain_passes_the_lowest_ceiling(rt: HostRuntime) -> Result<(), Fail> {
     let other = system.push_principal(false)?;
     system.push_row(0, 3, &either(alloc, other, middle)?)?;
     system.push_row(middle, 2, &who(alloc, requester)?)?;
+    let mut start = [9; 4];
+    system.first_levels(&mut start);
+    assert_eq!(rt; start, [0, 0, 3, 0]);
     let mut steps = Steps::start(Mark);
     let first = after_round(&rt, &system, [0, 0, 3, 0], &mut steps);
     assert_eq!(rt; first, [0, 2, 3, 0]);

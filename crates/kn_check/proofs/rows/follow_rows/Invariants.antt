@@ -1,0 +1,12 @@
+use Rattle.std.proofs.Common.{◌≡◌, take}
+use Rattle.kn_system.specs.Least.{at_first}
+use Rattle.kn_system.specs.Lawful.{AreLevels}
+use Rattle.kn_system.specs.Proofs.{AreSteps, levels_after}
+use Rattle.kn_check.proofs.rows.follow_rows.Given as goal
+
+abbrev pub invariant-loop-number : goal.invariant-loop-number
+invariant-loop-number g l = record {
+  steps : AreSteps l.system (at_first l.system) (take l.number l.rows);
+  after : l.levels ≡ levels_after (at_first l.system) (take l.number l.rows);
+  fit : AreLevels l.system l.levels;
+}

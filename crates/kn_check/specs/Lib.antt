@@ -1,0 +1,4 @@
+pub use Rattle.kn_system.specs.Equations
+pub use Rattle.kn_system.specs.Least
+pub use Rattle.kn_system.specs.Proofs
+pub mod Rejects

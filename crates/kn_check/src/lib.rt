@@ -1,0 +1,10 @@
+//! Checking a proof of a level: whether its rows stand, in order, and prove the level that is claimed.
+#![tactic(auto)]
+
+mod reject;
+mod rows;
+#[cfg(test)]
+mod tests;
+
+pub use reject::Reject;
+pub use rows::check;

@@ -1,0 +1,5 @@
+use Rattle.kn_system.proofs.Granted.{ends}
+use Rattle.kn_system.proofs.laws.settling_ends.Goals as goal
+
+pub returns : goal.returns
+returns c = ends

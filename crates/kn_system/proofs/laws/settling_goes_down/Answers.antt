@@ -1,0 +1,5 @@
+use Rattle.kn_system.proofs.Granted.{goes_down}
+use Rattle.kn_system.proofs.laws.settling_goes_down.Goals as goal
+
+pub returns : goal.returns
+returns c = goes_down

@@ -1,0 +1,5 @@
+use Rattle.kn_system.proofs.Granted.{grants}
+use Rattle.kn_system.proofs.laws.settling_grants.Goals as goal
+
+pub returns : goal.returns
+returns c = grants
