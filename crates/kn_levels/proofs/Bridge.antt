@@ -7,7 +7,7 @@ use Rattle.std.specs.Bool.{one_answer}
 use Rattle.std.specs.Option.{option_map}
 use Rattle.std.proofs.lemmas.List.{length-map}
 use Rattle.std.proofs.lemmas.Option.{slice_get_within, get_or_from_slice_get, slice_get-map, slice_get-get_or}
-use Rattle.kn_assert.specs.Principals.{policy}
+use Rattle.kn_principal.specs.Principals.{policy}
 use Rattle.kn_meaning.specs.Formulas.{Levels}
 use Rattle.kn_meaning.specs.Equations.{Equations, Statement, is_requester, licensees_level, IsPolicyLevel}
 use Rattle.kn_meaning.specs.Equations as named

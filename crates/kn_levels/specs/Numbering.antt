@@ -2,13 +2,12 @@
 use Rattle.std.specs.Prelude.{ℕ, ◌≡◌, ◌+◌, ◌≤◌, Bool, true, List, [], ◌∷◌, ◌++◌, length, map, slice_get, slice_index, Option, Some}
 use Rattle.std.specs.List.{list_any}
 use Rattle.std.specs.Str.{bytes_eq}
-use Rattle.kn_assert.specs.Principals.{policy}
-use Rattle.kn_assert.specs.declared.assertion.Formula.{Formula}
-use Rattle.kn_assert.specs.declared.assertion.Assertion.{Assertion}
+use Rattle.kn_principal.specs.Principals.{policy}
+use Rattle.kn_trees.specs.declared.formula.Formula.{Formula}
+use Rattle.kn_trees.specs.declared.assertion.Assertion.{Assertion}
 use Rattle.kn_meaning.specs.Formulas.{Levels}
 use Rattle.kn_meaning.specs.Equations.{Equations, Statement, statement_of, licensees_level}
 use Rattle.kn_system.specs.declared.rows.Piece.{Piece}
-use Rattle.kn_system.specs.declared.rows.Piece.TheVariants.{Who, Gate}
 use Rattle.kn_system.specs.declared.rows.Row.{Row}
 use Rattle.kn_system.specs.Equations.{Equations as System}
 use Rattle.kn_system.specs.Form.{form_level}
@@ -33,14 +32,6 @@ Keeps old new = (p : ℕ) (name : List ℕ) → IsNumber old name p → IsNumber
 -- each principal has by its number the level that it has by its name
 abbrev pub HaveLevels : List (List ℕ) → Levels → List ℕ → Type 0
 HaveLevels names at levels = (p : ℕ) (name : List ℕ) → IsNumber names name p → slice_index levels p ≡ at name
-
--- leaf pieces that name these principals, in their order
-abbrev pub LeavesOf : List (List ℕ) → List (List ℕ) → List Piece → Type 0
-LeavesOf names [] [] = Unit {0}
-LeavesOf names [] (p ∷ ps) = ⊥
-LeavesOf names (member ∷ members) [] = ⊥
-LeavesOf names (member ∷ members) (Gate k n ∷ ps) = ⊥
-LeavesOf names (member ∷ members) (Who p ∷ ps) = IsNumber names member p × LeavesOf names members ps
 
 -- pieces have the level of a Licensees field wherever the principals have the same levels
 abbrev pub SpellLicensees : ℕ → List (List ℕ) → Option Formula → List Piece → Type 0

@@ -1,51 +1,16 @@
--- How much assertions add to a system.
-use Rattle.std.specs.Prelude.{ℕ, ◌≡◌, ◌+◌, List, [], ◌∷◌, map, Option, Some, None}
-use Rattle.kn_assert.specs.FirstForm.{assertion_from, formula_of}
-use Rattle.kn_assert.specs.Wording.{Wording}
-use Rattle.kn_assert.specs.declared.assertion.Assertion.{Assertion}
-use Rattle.kn_assert.specs.declared.assertion.Formula.{Formula}
-use Rattle.kn_assert.specs.declared.assertion.Formula.TheVariants as V
-use Rattle.kn_assert.specs.declared.assertion.Formula.TheOpen.{Formula-F}
-use Rattle.kn_assert.specs.declared.assertion.Formula.TheOpen.Formula-F.{Who, Any}
-use Rattle.kn_assert.specs.declared.assertion.Formula.TheFolds.{fold-Formula}
+-- Which assertions a query takes, and how much they add to a system.
+use Rattle.std.specs.Prelude.{ℕ, ◌+◌, List, [], ◌∷◌, IfSome}
+use Rattle.kn_trees.specs.Formulas.{IsReadable, field_nodes}
+use Rattle.kn_trees.specs.declared.assertion.Assertion.{Assertion}
 
--- an assertion of the first policy form
-abbrev pub IsOfFirstForm : Assertion → Type 0
-IsOfFirstForm assertion = (wording : Wording) × (assertion ≡ assertion_from wording)
+-- the formula, where there is one, is one that a reader gives for some text
+abbrev pub IsReadableAssertion : Assertion → Type 0
+IsReadableAssertion a = IfSome a.licensees (λ formula. (bytes : ℕ) × IsReadable bytes formula)
 
-abbrev pub total : List ℕ → ℕ
-total [] = 0
-total (n ∷ ns) = n + total ns
-
-abbrev pub count_step : Formula-F ℕ → ℕ
-count_step (Who name) = 1
-count_step (Any counts) = total counts
-
--- in how many places a formula names a principal
-unfoldable pub principal_count : Formula → ℕ
-principal_count = fold-Formula ℕ count_step
-
-abbrev pub licensees_count : Option Formula → ℕ
-licensees_count None = 0
-licensees_count (Some formula) = principal_count formula
-
--- An assertion adds at most so many principals and nodes: its authorizer and the principals of its formula, and a gate.
+-- An assertion adds at most so many principals and nodes: its authorizer, the nodes of its formula, and a gate where it has none.
 abbrev pub size_of : Assertion → ℕ
-size_of a = 2 + licensees_count a.licensees
+size_of a = 2 + field_nodes a.licensees
 
 abbrev pub total_size : List Assertion → ℕ
 total_size [] = 0
 total_size (a ∷ assertions) = size_of a + total_size assertions
-
--- a formula of the first policy form
-abbrev pub IsFirstFormula : Formula → Type 0
-IsFirstFormula formula = (names : List (List ℕ)) × (formula ≡ formula_of names)
-
--- a Licensees field of the first policy form, or none
-abbrev pub IsFirstField : Option Formula → Type 0
-IsFirstField None = Unit {0}
-IsFirstField (Some formula) = IsFirstFormula formula
-
--- parts that each are one principal
-abbrev pub AreNames : List Formula → Type 0
-AreNames parts = (names : List (List ℕ)) × (parts ≡ map V.Who names)

@@ -4,9 +4,9 @@
 ghost use Rattle.std.specs.Prelude.{◌≡◌, ◌+◌, ◌-◌, ◌^◌, ◌<◌, ◌≤◌, false, All, length, map, IfOk};
 ghost use Rattle.std.specs.List.{list_any};
 ghost use Rattle.std.specs.Str.{bytes_eq};
-ghost use Rattle.kn_assert.specs.Principals.{policy};
+ghost use Rattle.kn_principal.specs.Principals.{policy};
 ghost use Rattle.kn_meaning.specs.Equations.{IsPolicyLevel, statement_of};
-ghost use Rattle.kn_levels.specs.Sizes.{IsOfFirstForm, total_size};
+ghost use Rattle.kn_levels.specs.Sizes.{IsReadableAssertion, total_size};
 
 mod names;
 mod numbered;
@@ -37,7 +37,7 @@ pub fn policy_level(
 ) -> Result<u8, NoMemory>
     requires at_least_two { 2 ≤ values }
     requires at_most { values ≤ 64 }
-    requires first { All IsOfFirstForm assertions.now }
+    requires readable { All IsReadableAssertion assertions.now }
     requires small { 65 + total_size assertions.now < 2 ^ 24 }
     requires others { list_any (bytes_eq policy) requesters.now ≡ false }
     requires few { length requesters.now ≤ 64 }

@@ -1,14 +1,15 @@
 //! A query over numbered principals.
-ghost use Rattle.std.specs.Prelude.{◌≡◌, ℕ, ◌+◌, ◌-◌, ◌^◌, ◌<◌, ◌≤◌, false, [], ◌∷◌, ◌++◌, All, List, Some, length, IfOk, OnOk};
+ghost use Rattle.std.specs.Prelude.{◌≡◌, ℕ, ◌+◌, ◌-◌, ◌^◌, ◌<◌, ◌≤◌, false, true, [], ◌∷◌, ◌++◌, All, List, length, map, IfOk, IfSome, OnOk};
 ghost use Rattle.std.specs.List.{list_any};
 ghost use Rattle.std.specs.Str.{bytes_eq};
-ghost use Rattle.kn_assert.specs.declared.assertion.Formula.TheVariants.{Any};
-ghost use Rattle.kn_assert.specs.Principals.{policy};
+ghost use Rattle.kn_principal.specs.Principals.{policy};
 ghost use Rattle.kn_meaning.specs.Equations.{Equations, statement_of};
 ghost use Rattle.kn_system.specs.Equations.{node_total};
 ghost use Rattle.kn_system.specs.Forms.{IsFormula};
 ghost use Rattle.kn_levels.specs.Numbering.{IsNumber, IsAbsent, AreNumbered, HaveNumbers, Extends, AddsRequester, IsSystemOf, SpellLicensees, with_statement, query_of};
-ghost use Rattle.kn_levels.specs.Sizes.{IsOfFirstForm, IsFirstField, IsFirstFormula, AreNames, principal_count, licensees_count, size_of, total_size};
+ghost use Rattle.kn_levels.specs.Spelling.{AddsSpelled, AddsGate};
+ghost use Rattle.kn_levels.specs.Sizes.{IsReadableAssertion, size_of, total_size};
+ghost use Rattle.kn_trees.specs.Formulas.{IsReadable, field_nodes, formula_nodes, is_sound, total};
 
 use super::Tally;
 use super::names::Names;
@@ -33,7 +34,7 @@ pub(super) fn numbered_query(
 ) -> Result<Numbered, NoMemory>
     requires at_least_two { 2 ≤ values }
     requires at_most { values ≤ 64 }
-    requires first { All IsOfFirstForm assertions.now }
+    requires readable { All IsReadableAssertion assertions.now }
     requires small { 65 + total_size assertions.now < 2 ^ 24 }
     requires others { list_any (bytes_eq policy) requesters.now ≡ false }
     requires few { length requesters.now ≤ 64 }
@@ -125,7 +126,7 @@ impl Numbered {
         alloc: Global,
         assertions: &List<Assertion>,
     ) -> Result<(), NoMemory>
-        requires first { All IsOfFirstForm assertions.now }
+        requires readable { All IsReadableAssertion assertions.now }
         requires names_fit { length self.old.names + total_size assertions.now ≤ 2 ^ 24 }
         requires nodes_fit { node_total self.old.system.rows + total_size assertions.now ≤ 2 ^ 24 }
         requires one_each { length self.old.names ≡ length self.old.system.requesters }
@@ -141,7 +142,7 @@ impl Numbered {
 
     // The conditions of an assertion have the top so far.
     fn add_statement(&mut self, alloc: Global, assertion: &Assertion) -> Result<(), NoMemory>
-        requires first { IsOfFirstForm assertion.now }
+        requires readable { IsReadableAssertion assertion.now }
         requires names_fit { length self.old.names + size_of assertion.now ≤ 2 ^ 24 }
         requires nodes_fit { node_total self.old.system.rows + size_of assertion.now ≤ 2 ^ 24 }
         requires one_each { length self.old.names ≡ length self.old.system.requesters }
@@ -165,75 +166,71 @@ impl Numbered {
         alloc: Global,
         licensees: &Option<Formula>,
     ) -> Result<List<Piece>, NoMemory>
-        requires first { IsFirstField licensees.now }
-        requires few { length self.old.names + licensees_count licensees.now ≤ 2 ^ 24 }
+        requires readable { IfSome licensees.now (λ formula. (bytes : ℕ) × IsReadable bytes formula) }
+        requires few { length self.old.names + field_nodes licensees.now ≤ 2 ^ 24 }
         requires one_each { length self.old.names ≡ length self.old.system.requesters }
-        ensures ok { OnOk result (Extends (licensees_count licensees.now) self.old self.new) }
+        ensures ok { OnOk result (Extends (field_nodes licensees.now) self.old self.new) }
         ensures level { IfOk result (λ pieces. (top : ℕ) → SpellLicensees top self.new.names licensees.now pieces) }
         ensures one_formula { IfOk result (λ pieces. IsFormula (length self.new.names) pieces) }
-        ensures short { IfOk result (λ pieces. length pieces ≤ 1 + licensees_count licensees.now) }
+        ensures short { IfOk result (λ pieces. length pieces ≤ 1 + field_nodes licensees.now) }
     {
+        let mut pieces = List::new(alloc);
         match licensees {
-            Some(formula) => self.formula(alloc, formula),
-            None => with_piece(List::new(alloc), Piece::Gate { need: 1, count: 0 }),
+            Some(formula) => self.add_formula(formula, &mut pieces)?,
+            None => add_piece(&mut pieces, Piece::Gate { need: 1, count: 0 })?,
         }
+        Ok(pieces)
     }
 
-    fn formula(&mut self, alloc: Global, formula: &Formula) -> Result<List<Piece>, NoMemory>
-        requires first { IsFirstFormula formula.now }
-        requires few { length self.old.names + principal_count formula.now ≤ 2 ^ 24 }
+    // Adds the pieces of a formula behind others.
+    #[cycle(formula)]
+    fn add_formula(&mut self, formula: &Formula, pieces: &mut List<Piece>) -> Result<(), NoMemory>
+        requires sound { is_sound formula.now ≡ true }
+        requires few { length self.old.names + formula_nodes formula.now ≤ 2 ^ 24 }
         requires one_each { length self.old.names ≡ length self.old.system.requesters }
-        ensures ok { OnOk result (Extends (principal_count formula.now) self.old self.new) }
-        ensures level { IfOk result (λ pieces. (top : ℕ) → SpellLicensees top self.new.names (Some formula.now) pieces) }
-        ensures one_formula { IfOk result (λ pieces. IsFormula (length self.new.names) pieces) }
-        ensures short { IfOk result (λ pieces. length pieces ≤ 1 + principal_count formula.now) }
+        ensures grown { OnOk result (Extends (formula_nodes formula.now) self.old self.new) }
+        ensures spelled { OnOk result (AddsSpelled self.new.names (formula.now ∷ []) pieces.old pieces.new) }
     {
         match formula {
             Formula::Who(name) => {
                 let number = self.number(name.as_slice())?;
-                with_piece(List::new(alloc), Piece::Who(number))
+                add_piece(pieces, Piece::Who(number))
             }
-            Formula::Any(parts) => self.alternatives(alloc, parts),
+            Formula::All(parts) => self.add_gate(parts.len(), parts, pieces),
+            Formula::Any(parts) => self.add_gate(1, parts, pieces),
+            Formula::Threshold { need, list } => self.add_gate(*need, list, pieces),
         }
     }
 
-    fn alternatives(
+    // Adds a gate and the pieces of its parts behind others.
+    #[cycle(formula)]
+    fn add_gate(
         &mut self,
-        alloc: Global,
+        need: u32,
         parts: &List<Formula>,
-    ) -> Result<List<Piece>, NoMemory>
-        requires first { AreNames parts.now }
-        requires few { length self.old.names + length parts.now ≤ 2 ^ 24 }
+        pieces: &mut List<Piece>,
+    ) -> Result<(), NoMemory>
+        requires need { 1 ≤ need }
+        requires sound { All (λ part. is_sound part ≡ true) parts.now }
+        requires few { length self.old.names + total (map formula_nodes parts.now) ≤ 2 ^ 24 }
         requires one_each { length self.old.names ≡ length self.old.system.requesters }
-        ensures ok { OnOk result (Extends (length parts.now) self.old self.new) }
-        ensures level { IfOk result (λ pieces. (top : ℕ) → SpellLicensees top self.new.names (Some (Any parts.now)) pieces) }
-        ensures one_formula { IfOk result (λ pieces. IsFormula (length self.new.names) pieces) }
-        ensures short { IfOk result (λ pieces. length pieces ≡ 1 + length parts.now) }
+        ensures grown { OnOk result (Extends (total (map formula_nodes parts.now)) self.old self.new) }
+        ensures spelled { OnOk result (AddsGate self.new.names need parts.now pieces.old pieces.new) }
     {
-        let gate = Piece::Gate {
-            need: 1,
-            count: parts.len(),
-        };
-        let mut pieces = with_piece(List::new(alloc), gate)?;
+        let count = parts.len();
+        add_piece(pieces, Piece::Gate { need, count })?;
         for part in parts.as_slice() {
-            match part {
-                Formula::Who(name) => {
-                    let number = self.number(name.as_slice())?;
-                    pieces = with_piece(pieces, Piece::Who(number))?;
-                }
-                Formula::Any(_) => unreachable!(),
-            }
+            self.add_formula(part, pieces)?;
         }
-        Ok(pieces)
+        Ok(())
     }
 }
 
-fn with_piece(pieces: List<Piece>, piece: Piece) -> Result<List<Piece>, NoMemory>
-    ensures { IfOk result (λ longer. longer ≡ pieces ++ piece ∷ []) }
+fn add_piece(pieces: &mut List<Piece>, piece: Piece) -> Result<(), NoMemory>
+    ensures { OnOk result (pieces.new ≡ pieces.old ++ piece ∷ []) }
 {
-    let mut pieces = pieces;
     match pieces.push(piece) {
-        Ok(()) => Ok(pieces),
+        Ok(()) => Ok(()),
         Err(_) => Err(NoMemory),
     }
 }

@@ -1,7 +1,7 @@
 ghost use Rattle.std.specs.Prelude.{◌≡◌, ◌+◌, ◌*◌, ◌≤◌, ◌∷◌, ◌++◌, [], All, false, length, IfOk};
 ghost use Rattle.std.specs.Str.{bytes_eq};
-ghost use Rattle.kn_assert.specs.Principals.{policy};
-ghost use Rattle.kn_levels.specs.Sizes.{IsOfFirstForm, IsFirstFormula, principal_count, total_size};
+ghost use Rattle.kn_principal.specs.Principals.{policy};
+ghost use Rattle.kn_levels.specs.Sizes.{IsReadableAssertion, size_of, total_size};
 
 use crate::policy_level;
 use kn_assert::{Assertion, Formula};
@@ -9,8 +9,8 @@ use kn_base::{List, NoMemory, Octets};
 use std::alloc::Global;
 use std::test::Fail;
 
-// An authorizer, and the one or two names that it licenses.
-type Stated<'a> = (&'a [u8], &'a [u8], Option<&'a [u8]>);
+// An authorizer, and the one name that it licenses.
+type Stated<'a> = (&'a [u8], &'a [u8]);
 
 fn with_item<T: Drop>(items: List<T>, item: T) -> Result<List<T>, NoMemory>
     ensures { IfOk result (λ longer. longer ≡ items ++ item ∷ []) }
@@ -22,30 +22,27 @@ fn with_item<T: Drop>(items: List<T>, item: T) -> Result<List<T>, NoMemory>
     }
 }
 
-fn formula(alloc: Global, name: &[u8], next: Option<&[u8]>) -> Result<Formula, NoMemory>
-    ensures first { IfOk result (λ formula. IsFirstFormula formula) }
-    ensures small { IfOk result (λ formula. principal_count formula ≤ 2) }
+fn assertion(alloc: Global, authorizer: &[u8], name: &[u8]) -> Result<Assertion, NoMemory>
+    ensures readable { IfOk result (λ assertion. IsReadableAssertion assertion) }
+    ensures small { IfOk result (λ assertion. size_of assertion ≤ 3) }
 {
-    let name = Octets::from_slice(alloc, name)?;
-    let Some(next) = next else {
-        return Ok(Formula::Who(name));
-    };
-    let next = Octets::from_slice(alloc, next)?;
-    let parts = with_item(List::new(alloc), Formula::Who(name))?;
-    let parts = with_item(parts, Formula::Who(next))?;
-    Ok(Formula::Any(parts))
+    Ok(Assertion {
+        authorizer: Octets::from_slice(alloc, authorizer)?,
+        constants: List::new(alloc),
+        licensees: Some(Formula::Who(Octets::from_slice(alloc, name)?)),
+        conditions: None,
+        signature: None,
+        signed_to: 0,
+    })
 }
 
 fn assertions(alloc: Global, stated: &[Stated]) -> Result<List<Assertion>, NoMemory>
-    ensures first { IfOk result (λ assertions. All IsOfFirstForm assertions) }
-    ensures small { IfOk result (λ assertions. total_size assertions ≤ 4 * length stated.now) }
+    ensures readable { IfOk result (λ assertions. All IsReadableAssertion assertions) }
+    ensures small { IfOk result (λ assertions. total_size assertions ≤ 3 * length stated.now) }
 {
     let mut assertions = List::new(alloc);
-    for (authorizer, name, next) in stated {
-        let assertion = Assertion {
-            authorizer: Octets::from_slice(alloc, *authorizer)?,
-            licensees: Some(formula(alloc, *name, *next)?),
-        };
+    for (authorizer, name) in stated {
+        let assertion = assertion(alloc, *authorizer, *name)?;
         assertions = with_item(assertions, assertion)?;
     }
     Ok(assertions)
@@ -63,7 +60,7 @@ fn level(alloc: Global, stated: &[Stated], requester: &[u8]) -> Result<u8, NoMem
 
 #[test]
 fn chain_of_two_delegations(rt: HostRuntime) -> Result<(), Fail> {
-    let stated: [Stated; 2] = [(b"a", b"b", None), (b"POLICY", b"a", None)];
+    let stated: [Stated; 2] = [(b"a", b"b"), (b"POLICY", b"a")];
     assert_eq!(rt; level(rt.alloc(), &stated, b"b")?, 3);
     assert_eq!(rt; level(rt.alloc(), &stated, b"c")?, 0);
     Ok(())
@@ -71,21 +68,8 @@ fn chain_of_two_delegations(rt: HostRuntime) -> Result<(), Fail> {
 
 #[test]
 fn cycle_grants_nothing(rt: HostRuntime) -> Result<(), Fail> {
-    let stated: [Stated; 3] = [
-        (b"POLICY", b"a", None),
-        (b"a", b"b", None),
-        (b"b", b"a", None),
-    ];
+    let stated: [Stated; 3] = [(b"POLICY", b"a"), (b"a", b"b"), (b"b", b"a")];
     assert_eq!(rt; level(rt.alloc(), &stated, b"c")?, 0);
     assert_eq!(rt; level(rt.alloc(), &stated, b"b")?, 3);
-    Ok(())
-}
-
-#[test]
-fn one_of_several(rt: HostRuntime) -> Result<(), Fail> {
-    let stated: [Stated; 2] = [(b"POLICY", b"a", Some(b"c")), (b"c", b"d", None)];
-    assert_eq!(rt; level(rt.alloc(), &stated, b"d")?, 3);
-    assert_eq!(rt; level(rt.alloc(), &stated, b"a")?, 3);
-    assert_eq!(rt; level(rt.alloc(), &stated, b"e")?, 0);
     Ok(())
 }

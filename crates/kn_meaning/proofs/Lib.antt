@@ -5,3 +5,5 @@ pub mod LineLengths
 pub mod Pieces
 pub mod Tables
 pub mod Walks
+pub mod Loading
+pub mod Valid

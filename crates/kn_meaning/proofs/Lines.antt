@@ -1,38 +1,18 @@
 -- The first line of a text.
-use Rattle.std.proofs.Common.{◌≡◌, ℕ, ◌+◌, ◌≤◌, ◌<◌, Bool, true, false, eqb, suc, ne_eqb, List, [], ◌∷◌, ◌++◌, length, take, drop, refl, ap, ◌∙◌, ⊎_elim, arith, length-append}
-use Rattle.std.specs.Prelude.{nat_le, nat_lt}
-use Rattle.std.specs.List.{list_all, before_first, after_first}
-use Rattle.std.proofs.lemmas.Bool.{cases_Bool, and_parts, cond-true, cond-false, leb-true, le-ltb, lt-ltb}
+use Rattle.std.proofs.Common.{◌≡◌, ℕ, ◌+◌, ◌≤◌, ◌<◌, true, false, suc, List, [], ◌∷◌, ◌++◌, length, take, drop, refl, ap, ◌∙◌, ⊎_elim, arith, length-append}
+use Rattle.std.specs.Prelude.{nat_lt}
+use Rattle.std.specs.List.{before_first, after_first, list_any}
+use Rattle.std.proofs.lemmas.Bool.{cases_Bool, or_parts, cond-true, cond-false, le-ltb, lt-ltb}
 use Rattle.std.proofs.Math.Seq.{take-append_seam, drop-append-add}
+use Rattle.kn_meaning.specs.FirstInput.{is_return}
 use Rattle.kn_meaning.specs.Requests.{is_newline, line_length, without_return, first_of, first_of_line, line_of}
 
--- a printing character, or a byte above them
-abbrev pub is_plain : ℕ → Bool
-is_plain b = nat_le 32 b
-
-pub list_all-weaker : {X : Type 0} (p q : X → Bool) → ((x : X) → p x ≡ true → q x ≡ true) → (xs : List X) → list_all p xs ≡ true → list_all q xs ≡ true
-list_all-weaker p q weaker [] h = refl
-list_all-weaker p q weaker (x ∷ xs) h =
-    let parts = and_parts (p x) (list_all p xs) h in
-    rw (weaker x parts.0, list_all-weaker p q weaker xs parts.1)
-
-pub plain_newline : (b : ℕ) → is_plain b ≡ true → is_newline b ≡ false
-plain_newline b h = ne_eqb b 10 (λ e. let low : 32 ≤ b = leb-true 32 b h in omega arith)
-
-pub line_length-plain : (xs : List ℕ) → list_all is_plain xs ≡ true → line_length xs ≡ length xs
-line_length-plain [] h = refl
-line_length-plain (x ∷ xs) h =
-    let parts = and_parts (is_plain x) (list_all is_plain xs) h in
-    rw (plain_newline x parts.0, line_length-plain xs parts.1) (omega arith)
-
-pub without_return-plain : (xs : List ℕ) → list_all is_plain xs ≡ true → without_return xs ≡ xs
-without_return-plain [] h = refl
-without_return-plain (x ∷ []) h =
-    let low : 32 ≤ x = leb-true 32 x (and_parts (is_plain x) true h).0 in
-    cond-false (eqb x 13) [] (x ∷ []) (ne_eqb x 13 (λ e. omega arith))
-without_return-plain (x ∷ y ∷ xs) h =
-    let parts = and_parts (is_plain x) (list_all is_plain (y ∷ xs)) h in
-    rw (without_return-plain (y ∷ xs) parts.1)
+-- a line without a carriage return
+pub without_return-none : (xs : List ℕ) → list_any is_return xs ≡ false → without_return xs ≡ xs
+without_return-none [] h = refl
+without_return-none (b ∷ []) h = rw (or_parts (is_return b) false h).0 refl
+without_return-none (b ∷ c ∷ bs) h =
+    ap (λ (l : List ℕ). b ∷ l) (without_return-none (c ∷ bs) (or_parts (is_return b) (list_any is_return (c ∷ bs)) h).1)
 
 pub line_length-newline : (line rest : List ℕ) → line_length line ≡ length line → line_length (line ++ 10 ∷ rest) ≡ length line
 line_length-newline [] rest h = refl

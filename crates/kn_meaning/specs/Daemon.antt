@@ -3,9 +3,9 @@
 use Rattle.std.specs.Prelude.{ℕ, ◌≡◌, ◌+◌, ◌-◌, Bool, true, false, ◌==◌, ◌&&◌, not, nat_le, List, [], ◌∷◌, ◌++◌, length, map, find, flat_map, slice_index_or, Option, Some, None, is_none, if◌then◌else◌}
 use Rattle.std.specs.List.{list_any}
 use Rattle.std.specs.Str.{bytes_eq}
-use Rattle.kn_assert.specs.Principals.{policy, normal_form}
+use Rattle.kn_principal.specs.Principals.{policy, normal_form}
 use Rattle.kn_assert.specs.Reading.{assertion_of}
-use Rattle.kn_assert.specs.declared.assertion.Assertion.{Assertion}
+use Rattle.kn_trees.specs.declared.assertion.Assertion.{Assertion}
 use Rattle.kn_meaning.specs.declared.fault.WireFault.{WireFault}
 use Rattle.kn_meaning.specs.declared.fault.WireFault.TheVariants as F
 use Rattle.kn_meaning.specs.declared.refusal.Refusal.{Refusal}

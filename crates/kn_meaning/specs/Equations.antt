@@ -2,9 +2,9 @@
 use Rattle.std.specs.Prelude.{ℕ, ◌≡◌, ◌≤◌, List, [], ◌∷◌, Bool, min, max, Option, Some, None, if◌then◌else◌}
 use Rattle.std.specs.List.{list_any}
 use Rattle.std.specs.Str.{bytes_eq}
-use Rattle.kn_assert.specs.Principals.{policy}
-use Rattle.kn_assert.specs.declared.assertion.Formula.{Formula}
-use Rattle.kn_assert.specs.declared.assertion.Assertion.{Assertion}
+use Rattle.kn_principal.specs.Principals.{policy}
+use Rattle.kn_trees.specs.declared.formula.Formula.{Formula}
+use Rattle.kn_trees.specs.declared.assertion.Assertion.{Assertion}
 use Rattle.kn_meaning.specs.Formulas.{Levels, formula_level}
 
 -- an assertion in a query, with the compliance value of its conditions there
@@ -13,7 +13,7 @@ pub record Statement : Type 0 where
   pub ceiling : ℕ
   pub licensees : Option Formula
 
--- what an assertion states; the value of its conditions is the top, since an assertion has none yet
+-- what an assertion states; the value of its conditions is the top, since a text with conditions is no assertion yet
 abbrev pub statement_of : ℕ → Assertion → Statement
 statement_of top a = record { authorizer = a.authorizer; ceiling = top; licensees = a.licensees }
 

@@ -1,6 +1,6 @@
 -- Small policies.
 use Rattle.std.specs.Prelude.{ℕ, List, [], ◌∷◌, Some, codes}
-use Rattle.kn_assert.specs.declared.assertion.Formula.TheVariants.{Who}
+use Rattle.kn_trees.specs.declared.formula.Formula.TheVariants.{Who}
 use Rattle.kn_meaning.specs.Equations.{Equations, Statement}
 
 -- one principal licenses another

@@ -2,6 +2,7 @@ pub mod Names
 pub mod Formulas
 pub mod Equations
 pub mod History
+pub mod Loading
 pub mod Requests
 pub mod Replies
 pub mod Daemon

@@ -3,13 +3,14 @@
 ghost use Rattle.std.specs.Prelude.{◌≡◌, ◌≤◌, ◌++◌, ◌∷◌, [], length, map, decimal, eqb, OnOk, IfOk};
 ghost use Rattle.std.specs.List.{list_any, position_or_len};
 ghost use Rattle.std.specs.Str.{bytes_eq};
+ghost use Rattle.kn_base.specs.Threshold as T;
 ghost use Rattle.kn_meaning.specs.Names as N;
 ghost use Rattle.kn_meaning.specs.Formulas as L;
 ghost use Rattle.kn_meaning.specs.Equations as E;
 ghost use Rattle.kn_meaning.specs.Tables.{level_in, statement_of, equations_in, next_table, entry_of, first_table, last_table};
-ghost use Rattle.kn_meaning.specs.Replies.{reply_text, Done, Started, Value, No, refusal_text, word_text};
+ghost use Rattle.kn_meaning.specs.Replies.{reply_text, Done, Started, Value, No, refusal_text};
 
-use crate::refusal::{LimitWord, Refusal};
+use crate::refusal::Refusal;
 use itoa::Buffer;
 use kn_assert::Formula;
 use kn_base::{List, NoMemory, Octets};
@@ -43,47 +44,114 @@ pub fn level_of(table: &[Level], name: &[u8]) -> u8
     0
 }
 
+/// How many of these levels reach `level`.
+/// Slow, and only there to be compared with.
+pub fn reaching(level: u8, levels: &[u8]) -> usize
+    ensures { result ≡ T.reaching level levels.now }
+{
+    let mut count = 0;
+    for other in levels {
+        if level <= *other {
+            count += 1;
+        }
+    }
+    count
+}
+
+/// The greatest level up to `top` that at least `need` of these reach, and 0 where there is none.
+/// Slow, and only there to be compared with.
+pub fn gate_level(top: u8, need: usize, levels: &[u8]) -> u8
+    ensures { result ≡ T.threshold top need levels.now }
+{
+    let mut level = top;
+    while level > 0 {
+        if need <= reaching(level, levels) {
+            return level;
+        }
+        level -= 1;
+    }
+    0
+}
+
 /// The level of a formula by a walk over it.
 /// Slow, and only there to be compared with.
-#[tactic(auto, using(crate::proofs::Walks::formula_level_who, crate::proofs::Walks::formula_level_any, crate::proofs::Walks::threshold_push))]
-pub fn formula_level(top: u8, table: &[Level], formula: &Formula) -> u8
-    ensures { result ≡ L.formula_level top (level_in table.now) formula.now }
+#[cycle(formula)]
+#[tactic(auto, using(crate::proofs::Walks::formula_level_who, crate::proofs::Walks::formula_level_all, crate::proofs::Walks::formula_level_any, crate::proofs::Walks::formula_level_threshold))]
+pub fn formula_level(
+    alloc: Global,
+    top: u8,
+    table: &[Level],
+    formula: &Formula,
+) -> Result<u8, NoMemory>
+    ensures { IfOk result (λ level. level ≡ L.formula_level top (level_in table.now) formula.now) }
 {
     match formula {
-        Formula::Who(name) => level_of(table, name.as_slice()),
+        Formula::Who(name) => Ok(level_of(table, name.as_slice())),
+        Formula::All(parts) => {
+            let levels = part_levels(alloc, top, table, parts.as_slice())?;
+            Ok(gate_level(top, levels.len(), levels.as_slice()))
+        }
         Formula::Any(parts) => {
-            let mut best = 0;
-            for part in parts.as_slice() {
-                best = formula_level(top, table, part).min(top).max(best);
-            }
-            best
+            let levels = part_levels(alloc, top, table, parts.as_slice())?;
+            Ok(gate_level(top, 1, levels.as_slice()))
+        }
+        Formula::Threshold { need, list } => {
+            let levels = part_levels(alloc, top, table, list.as_slice())?;
+            Ok(gate_level(top, *need as usize, levels.as_slice()))
         }
     }
 }
 
+/// The levels of these formulas, in their order.
+/// Slow, and only there to be compared with.
+#[cycle(formula)]
+pub fn part_levels(
+    alloc: Global,
+    top: u8,
+    table: &[Level],
+    parts: &[Formula],
+) -> Result<Octets, NoMemory>
+    ensures { IfOk result (λ levels. levels ≡ map (L.formula_level top (level_in table.now)) parts.now) }
+{
+    let mut levels = Octets::new(alloc);
+    for part in parts {
+        levels.push(formula_level(alloc, top, table, part)?)?;
+    }
+    Ok(levels)
+}
+
 /// What an assertion is worth under these levels.
 /// Slow, and only there to be compared with.
-pub fn worth(top: u8, table: &[Level], stated: &Stated) -> u8
-    ensures { result ≡ E.worth top (level_in table.now) (statement_of stated.now) }
+pub fn worth(alloc: Global, top: u8, table: &[Level], stated: &Stated) -> Result<u8, NoMemory>
+    ensures { IfOk result (λ worth. worth ≡ E.worth top (level_in table.now) (statement_of stated.now)) }
 {
     match &stated.licensees {
-        None => 0,
-        Some(formula) => formula_level(top, table, formula).min(stated.ceiling),
+        None => Ok(0),
+        Some(formula) => {
+            let level = formula_level(alloc, top, table, formula)?;
+            Ok(level.min(stated.ceiling))
+        }
     }
 }
 
 /// The highest worth among the assertions of which `name` is authorizer, and 0 where there is none.
 /// Slow, and only there to be compared with.
-pub fn highest_worth(top: u8, table: &[Level], name: &[u8], statements: &[Stated]) -> u8
-    ensures { result ≡ E.highest_worth top (level_in table.now) name.now (map statement_of statements.now) }
+pub fn highest_worth(
+    alloc: Global,
+    top: u8,
+    table: &[Level],
+    name: &[u8],
+    statements: &[Stated],
+) -> Result<u8, NoMemory>
+    ensures { IfOk result (λ worth. worth ≡ E.highest_worth top (level_in table.now) name.now (map statement_of statements.now)) }
 {
     let mut best = 0;
     for stated in statements {
         if stated.authorizer.as_slice() == name {
-            best = worth(top, table, stated).max(best);
+            best = worth(alloc, top, table, stated)?.max(best);
         }
     }
-    best
+    Ok(best)
 }
 
 /// Whether a name is one of these.
@@ -102,18 +170,19 @@ pub fn is_among(name: &[u8], names: &[Octets]) -> bool
 /// A principal's level after one more round of the equations.
 /// Slow, and only there to be compared with.
 pub fn round_level(
+    alloc: Global,
     top: u8,
     requesters: &[Octets],
     table: &[Level],
     name: &[u8],
     statements: &[Stated],
-) -> u8
-    ensures { result ≡ E.round (equations_in top requesters.now statements.now) (level_in table.now) name.now }
+) -> Result<u8, NoMemory>
+    ensures { IfOk result (λ level. level ≡ E.round (equations_in top requesters.now statements.now) (level_in table.now) name.now) }
 {
     if is_among(name, requesters) {
-        return top;
+        return Ok(top);
     }
-    highest_worth(top, table, name, statements)
+    highest_worth(alloc, top, table, name, statements)
 }
 
 /// The levels of a table after one more round of the equations.
@@ -129,7 +198,14 @@ pub fn next_levels(
 {
     let mut next = List::new(alloc);
     for entry in table {
-        let level = round_level(top, requesters, table, entry.name.as_slice(), statements);
+        let level = round_level(
+            alloc,
+            top,
+            requesters,
+            table,
+            entry.name.as_slice(),
+            statements,
+        )?;
         let name = Octets::from_slice(alloc, entry.name.as_slice())?;
         match next.push(Level { name, level }) {
             Ok(()) => {}
@@ -240,23 +316,6 @@ pub fn value_text(alloc: Global, index: u8, name: &[u8], version: u32) -> Result
     Ok(text)
 }
 
-/// The word of what is counted against a limit.
-fn limit_word(word: LimitWord) -> &'static [u8]
-    ensures { result.now ≡ word_text word }
-{
-    match word {
-        LimitWord::Sessions => b"sessions",
-        LimitWord::Private => b"private",
-        LimitWord::PrivateBytes => b"private-bytes",
-        LimitWord::Requesters => b"requesters",
-        LimitWord::Attributes => b"attributes",
-        LimitWord::Live => b"live",
-        LimitWord::LiveBytes => b"live-bytes",
-        LimitWord::Updates => b"updates",
-        LimitWord::LogBytes => b"log-bytes",
-    }
-}
-
 /// Adds the text of a refusal.
 fn push_refusal(text: &mut Octets, refusal: &Refusal) -> Result<(), NoMemory>
     ensures { OnOk result (text.new ≡ text.old ++ refusal_text refusal.now) }
@@ -284,7 +343,7 @@ fn push_refusal(text: &mut Octets, refusal: &Refusal) -> Result<(), NoMemory>
         Refusal::Unknown => text.extend(b"12 unknown"),
         Refusal::Limit { word, count } => {
             text.extend(b"13 limit ")?;
-            text.extend(limit_word(*word))?;
+            text.extend(word.text())?;
             text.push(b' ')?;
             push_number(text, *count)
         }

@@ -14,6 +14,28 @@ pub enum LimitWord {
     LogBytes,
 }
 
+impl LimitWord {
+    ghost use Rattle.std.specs.Prelude.{◌≡◌};
+    ghost use Rattle.kn_meaning.specs.Replies.{word_text};
+
+    /// The word as it is told.
+    pub fn text(&self) -> &[u8]
+        ensures { result.now ≡ word_text self.now }
+    {
+        match self {
+            LimitWord::Sessions => b"sessions",
+            LimitWord::Private => b"private",
+            LimitWord::PrivateBytes => b"private-bytes",
+            LimitWord::Requesters => b"requesters",
+            LimitWord::Attributes => b"attributes",
+            LimitWord::Live => b"live",
+            LimitWord::LiveBytes => b"live-bytes",
+            LimitWord::Updates => b"updates",
+            LimitWord::LogBytes => b"log-bytes",
+        }
+    }
+}
+
 /// Why a request is refused, in the order of the protocol's codes 1 to 15 (keynoted's own protocol).
 #[derive(Debug, Clone, Copy, PartialEq, Eq, Drop)]
 pub enum Refusal {

@@ -1,5 +1,6 @@
 use crate::plain::{
-    Stated, done_text, least_levels, level_of, refusal_reply_text, started_text, value_text, values,
+    Level, Stated, done_text, formula_level, least_levels, level_of, refusal_reply_text,
+    started_text, value_text, values,
 };
 use crate::refusal::{LimitWord, Refusal};
 use kn_assert::Formula;
@@ -27,6 +28,18 @@ fn statement(
     })
 }
 
+/// The principals of these names.
+fn principals(alloc: Global, names: &[&[u8]]) -> Result<List<Formula>, NoMemory> {
+    let mut parts = List::new(alloc);
+    for name in names {
+        match parts.push(Formula::Who(Octets::from_slice(alloc, *name)?)) {
+            Ok(()) => {}
+            Err(_) => return Err(NoMemory),
+        }
+    }
+    Ok(parts)
+}
+
 /// The policy's level for one requester.
 fn policy_level(
     alloc: Global,
@@ -37,6 +50,40 @@ fn policy_level(
     let requesters = [Octets::from_slice(alloc, requester)?];
     let table = least_levels(alloc, top, &requesters, statements)?;
     Ok(level_of(table.as_slice(), b"POLICY"))
+}
+
+/// The level of a formula where x has the level 3, y 2 and z 1.
+fn level(alloc: Global, formula: &Formula) -> Result<u8, NoMemory> {
+    let mut table = List::new(alloc);
+    for (name, level) in [(b"x", 3), (b"y", 2), (b"z", 1)] {
+        let name = Octets::from_slice(alloc, name)?;
+        match table.push(Level { name, level }) {
+            Ok(()) => {}
+            Err(_) => return Err(NoMemory),
+        }
+    }
+    formula_level(alloc, 3, table.as_slice(), formula)
+}
+
+#[test]
+fn levels_of_formulas(rt: HostRuntime) -> Result<(), NoMemory> {
+    let alloc = rt.alloc();
+    let all = Formula::All(principals(alloc, &[b"x", b"y"])?);
+    assert_eq!(rt; level(alloc, &all)?, 2);
+    let any = Formula::Any(principals(alloc, &[b"y", b"z", b"w"])?);
+    assert_eq!(rt; level(alloc, &any)?, 2);
+    for (need, want) in [(1, 3), (2, 2), (3, 1), (4, 0)] {
+        let list = principals(alloc, &[b"z", b"x", b"w", b"y"])?;
+        let threshold = Formula::Threshold { need, list };
+        assert_eq!(rt; level(alloc, &threshold)?, want);
+    }
+    let mut parts = principals(alloc, &[b"z"])?;
+    match parts.push(all) {
+        Ok(()) => {}
+        Err(_) => return Err(NoMemory),
+    }
+    assert_eq!(rt; level(alloc, &Formula::Any(parts))?, 2);
+    Ok(())
 }
 
 #[test]

@@ -4,7 +4,7 @@ use Rattle.kn_meaning.specs.Equations.{IsPolicyLevel}
 use Rattle.kn_system.specs.Lawful.{IsLeast}
 use Rattle.kn_levels.specs.Numbering.{query_of}
 use Rattle.std.proofs.lemmas.Option.{slice_get_within}
-use Rattle.kn_assert.specs.Principals.{policy}
+use Rattle.kn_principal.specs.Principals.{policy}
 use Rattle.kn_levels.proofs.Grown.{AreNumbered-length}
 use Rattle.kn_levels.proofs.Bridge.{IsPolicyLevel-by_name}
 use Rattle.kn_levels.proofs.policy_level.Goals as goal

@@ -1,16 +1,16 @@
 use Rattle.std.proofs.Common.{◌≡◌, ℕ, ◌+◌, ◌<◌, length, List, take, drop, get_or, sym, ap, ◌∙◌, subst, arith}
 use Rattle.std.proofs.lemmas.List.{take_all}
-use Rattle.kn_assert.specs.declared.assertion.Assertion.{Assertion}
+use Rattle.kn_trees.specs.declared.assertion.Assertion.{Assertion}
 use Rattle.kn_levels.specs.Numbering.{IsSystemOf, query_of}
-use Rattle.kn_levels.specs.Sizes.{IsOfFirstForm, total_size, size_of}
+use Rattle.kn_levels.specs.Sizes.{IsReadableAssertion, total_size, size_of}
 use Rattle.kn_levels.proofs.Counted.{total_size-drop, statements-more}
 use Rattle.kn_levels.proofs.numbered.Numbered.add_statements.Goals as goal
 
-pub add_statement-requires-clause-first : goal.add_statement-requires-clause-first
-add_statement-requires-clause-first c =
+pub add_statement-requires-clause-readable : goal.add_statement-requires-clause-readable
+add_statement-requires-clause-readable c =
     let items : c.as_slice-assertion-items.result.now ≡ c.args.assertions.now = c.as_slice-assertion-items.ensures in
     let within : c.loop-assertion.assertion-index < length c.args.assertions.now = omega (arith, ap length items) in
-    subst IsOfFirstForm (sym (c.assertion-item.is ∙ ap (λ xs. get_or xs c.loop-assertion.assertion-index c.assertion-item.result) items)) (c.requires.first c.loop-assertion.assertion-index c.assertion-item.result within)
+    subst IsReadableAssertion (sym (c.assertion-item.is ∙ ap (λ xs. get_or xs c.loop-assertion.assertion-index c.assertion-item.result) items)) (c.requires.readable c.loop-assertion.assertion-index c.assertion-item.result within)
 
 pub loop-assertion-preserved : goal.loop-assertion-preserved
 loop-assertion-preserved c =
