@@ -1,5 +1,5 @@
 #!/usr/bin/env bash
-# Runs the program on each folder of tests/cases, or on those that are named.
+# Runs the program on each folder of tests/cases and each of examples, or on those of the cases that are named.
 #
 # A case is a folder with these files; it is copied, and the program is started in the copy:
 #   words     the words after the program's name, one a line (no file: ask p.kn)
@@ -7,6 +7,8 @@
 #   output    what standard output must be; nothing may be written to standard error
 #   status    the exit status
 #   make      a script that writes the large ones of these files into the copy
+#
+# An example is a folder with policy.kn, requests.txt and replies.txt: what `ask` writes for the requests.
 set -u
 
 top=$(cd "$(dirname "${BASH_SOURCE[0]}")/.." && pwd -P) || exit 1
@@ -36,8 +38,18 @@ if [[ $? == 125 ]]; then
     exit 1
 fi
 
-(($#)) || set -- "$top"/tests/cases/*
 passed=0 failed=0
+if (($# == 0)); then
+    for example in "$top"/examples/*/; do
+        if "$top/keynoted" ask "$example/policy.kn" <"$example/requests.txt" | cmp - "$example/replies.txt"; then
+            ((passed += 1))
+        else
+            ((failed += 1))
+            printf 'FAILED example %s\n' "$example"
+        fi
+    done
+    set -- "$top"/tests/cases/*
+fi
 for case in "$@"; do
     name=$(basename "$case")
     rm -rf "$room/case"

@@ -1,7 +1,7 @@
 -- Requests that are answered one after another.
 use Rattle.std.proofs.Common.{◌≡◌, ◌≢◌, ℕ, ◌+◌, ◌-◌, ◌≤◌, ◌<◌, Bool, true, false, cond, ◌||◌, ◌⊎◌, length-append, List, [], ◌∷◌, ◌++◌, length, map, take, drop, get_or, suc, drop-cons, refl, sym, ap, ◌∙◌, subst, ⊎_elim, arith, append_assoc, append-nil, Some, None}
-use Rattle.std.specs.Prelude.{flat_map, slice_index_or, codes, not, nat_le, ◌&&◌, ◌==◌}
-use Rattle.std.specs.List.{list_any, list_all, join_with_byte, AllByRecursion}
+use Rattle.std.specs.Prelude.{flat_map, slice_index_or, codes, not, nat_le, ◌&&◌}
+use Rattle.std.specs.List.{list_any, before_first, after_first, join_with_byte, AllByRecursion}
 use Rattle.std.specs.Str.{bytes_eq}
 use Rattle.std.proofs.lemmas.Bool.{cases_Bool, and_parts, leb-true}
 use Rattle.std.proofs.lemmas.List.{map-append, take_all, take_more, take-append-drop}
@@ -9,9 +9,8 @@ use Rattle.std.proofs.lemmas.List.Elements.{All-append, All-cons, All-nil, All-f
 use Rattle.std.proofs.lemmas.List.Folds.{list_any-append}
 use Rattle.std.proofs.lemmas.Grind.{flat_map-append}
 use Rattle.std.proofs.lemmas.Slice.Eq.{bytes_eq-Decides}
-use Rattle.kn_assert.specs.Principals.{policy, normal_form, is_colon}
-use Rattle.kn_assert.specs.Wording.{is_principal, is_principal_byte}
-use Rattle.kn_assert.specs.declared.assertion.Assertion.{Assertion}
+use Rattle.kn_principal.specs.Principals.{policy, normal_form, normal_rest, lower_case, is_colon}
+use Rattle.kn_trees.specs.declared.assertion.Assertion.{Assertion}
 use Rattle.kn_meaning.specs.declared.update.Update.{Update}
 use Rattle.kn_meaning.specs.declared.script.Ask.{Ask}
 use Rattle.kn_meaning.specs.declared.script.Ask.TheVariants.{Auth, Query}
@@ -22,7 +21,7 @@ use Rattle.kn_meaning.specs.Requests.{Request}
 use Rattle.kn_meaning.specs.Requests as Q
 use Rattle.kn_meaning.specs.Replies.{Reply, reply_text}
 use Rattle.kn_meaning.specs.Replies as R
-use Rattle.kn_meaning.specs.Daemon.{Grounds, State, first_state, Permits, own_refusal, refusal_of_auth, equations_of}
+use Rattle.kn_meaning.specs.Daemon.{Grounds, State, first_state, Permits, own_refusal, refusal_of_auth, is_principal, equations_of}
 use Rattle.kn_meaning.specs.Daemon as D
 use Rattle.kn_meaning.specs.Linearized.{Exchange, Along, texts_in}
 use Rattle.kn_meaning.specs.Asked.{no_grounds, IsAnswered}
@@ -58,25 +57,31 @@ answered-one history requests written old new request reply before permitted no_
       bytes = ap (λ (w : List ℕ). w ++ reply_text reply) before.bytes ∙ texts-append before.exchanges e;
     }
 
-byte_no_colon : (b : ℕ) → is_principal_byte b ≡ true → is_colon b ≡ false
-byte_no_colon b h =
-    let outer = and_parts (nat_le 32 b && nat_le b 126) (not (b == 34) && (not (b == 58) && not (b == 92))) h in
-    let inner = and_parts (not (b == 34)) (not (b == 58) && not (b == 92)) outer.1 in
-    let colon_free : not (is_colon b) ≡ true = (and_parts (not (b == 58)) (not (b == 92)) inner.1).0 in
-    ⊎_elim (λ (e : is_colon b ≡ true). let wrong : not true ≡ true = rw e at colon_free in absurd (cc)) (λ (e : is_colon b ≡ false). e) (cases_Bool (is_colon b))
+-- a principal with a colon keeps it in its normal form, so the policy's is that of no other text
+policy_is_normal : (name : List ℕ) → normal_form name ≡ policy → name ≡ policy
+policy_is_normal name same =
+    ⊎_elim
+    (λ (e : list_any is_colon name ≡ true).
+    let algorithm = map lower_case (before_first is_colon name) in
+    let rest = normal_rest algorithm (after_first is_colon name) in
+    let form : normal_form name ≡ algorithm ++ 58 ∷ rest = rw e refl in
+    let some : list_any is_colon (algorithm ++ 58 ∷ rest) ≡ true = list_any-append is_colon algorithm (58 ∷ rest) ∙ or_true (list_any is_colon algorithm) in
+    let wrong : true ≡ false = sym some ∙ ap (list_any is_colon) (sym form ∙ same) in
+    absurd (cc))
+    (λ (e : list_any is_colon name ≡ false). let form : normal_form name ≡ name = rw e refl in sym form ∙ same)
+    (cases_Bool (list_any is_colon name))
+  where
+    or_true : (b : Bool) → (b || true) ≡ true
+    or_true true = refl
+    or_true false = refl
 
--- a principal of the first form has no colon, so it is its own normal form
-no_colon : (name : List ℕ) → list_all is_principal_byte name ≡ true → list_any is_colon name ≡ false
-no_colon [] h = refl
-no_colon (b ∷ bs) h =
-    let parts = and_parts (is_principal_byte b) (list_all is_principal_byte bs) h in
-    let other : is_colon b ≡ false = byte_no_colon b parts.0 in
-    rw other (no_colon bs parts.1)
-
-pub normal_form-plain : (name : List ℕ) → is_principal name ≡ true → normal_form name ≡ name
-normal_form-plain name h =
-    let none : list_any is_colon name ≡ false = no_colon name (and_parts (nat_le 1 (length name) && nat_le (length name) 4096) (list_all is_principal_byte name) h).1 in
-    rw none refl
+-- a text that may name a requester names another than the policy
+pub names_another : (name : List ℕ) → is_principal name ≡ true → normal_form name ≢ policy
+names_another name right same =
+    let other : not (bytes_eq name policy) ≡ true = (and_parts (nat_le 1 (length name) && nat_le (length name) 4096) (not (bytes_eq name policy)) right).1 in
+    let equal : bytes_eq name policy ≡ true = (bytes_eq-Decides name policy).1 (policy_is_normal name same) in
+    let wrong : not true ≡ true = rw equal at other in
+    absurd (cc)
 
 differs : (x y : List ℕ) → x ≢ y → bytes_eq x y ≡ false
 differs x y h = ⊎_elim (λ (e : bytes_eq x y ≡ true). absurd (h ((bytes_eq-Decides x y).0 e))) (λ (e : bytes_eq x y ≡ false). e) (cases_Bool (bytes_eq x y))
@@ -84,19 +89,18 @@ differs x y h = ⊎_elim (λ (e : bytes_eq x y ≡ true). absurd (h ((bytes_eq-D
 below-leb : (a b : ℕ) → b < a → nat_le a b ≡ false
 below-leb a b h = ⊎_elim (λ (e : nat_le a b ≡ true). let over : a ≤ b = leb-true a b e in absurd (omega arith)) (λ (e : nat_le a b ≡ false). e) (cases_Bool (nat_le a b))
 
--- a principal of the first form is refused only where 64 others stand
-auth_is_accepted : (name : List ℕ) (session : D.Session) → is_principal name ≡ true → name ≢ policy →
-    (list_any (bytes_eq name) session.requesters ≡ false → length session.requesters < 64) → refusal_of_auth name session ≡ None
-auth_is_accepted name session plain other room =
-    let sizes : (nat_le 1 (length name) && nat_le (length name) 4096) ≡ true = (and_parts (nat_le 1 (length name) && nat_le (length name) 4096) (list_all is_principal_byte name) plain).0 in
-    rw (sizes, differs name policy other, normal_form-plain name plain)
+-- a text that may name a requester is refused only where 64 others stand
+auth_is_accepted : (name : List ℕ) (session : D.Session) → is_principal name ≡ true →
+    (list_any (bytes_eq (normal_form name)) session.requesters ≡ false → length session.requesters < 64) → refusal_of_auth name session ≡ None
+auth_is_accepted name session right room =
+    rw right
     (⊎_elim
-    (λ (e : list_any (bytes_eq name) session.requesters ≡ true). rw e refl)
-    (λ (e : list_any (bytes_eq name) session.requesters ≡ false).
+    (λ (e : list_any (bytes_eq (normal_form name)) session.requesters ≡ true). rw e refl)
+    (λ (e : list_any (bytes_eq (normal_form name)) session.requesters ≡ false).
     let few : length session.requesters < 64 = room e in
     let not_full : nat_le 64 (length session.requesters) ≡ false = below-leb 64 (length session.requesters) few in
     rw (e, not_full) refl)
-    (cases_Bool (list_any (bytes_eq name) session.requesters)))
+    (cases_Bool (list_any (bytes_eq (normal_form name)) session.requesters)))
 
 -- nothing is answered yet
 pub answered-nothing : (history : List Update) → AreAnswered history [] [] first_state
@@ -123,23 +127,22 @@ answered-bye history requests written state before =
     answered-one history requests written state state Q.Bye R.Done before (refl, (refl, refl)) (λ e. cc)
 
 -- the session after a requester was named
-entered_state : (history : List Update) (requesters : List (List ℕ)) (name : List ℕ) → is_principal name ≡ true →
-    session_state history (with_requester requesters name) ≡ D.with_session (session_state history requesters) 1 (D.add_requester name)
-entered_state history requesters name plain =
-    rw (normal_form-plain name plain)
-    (⊎_elim
-    (λ (e : list_any (bytes_eq name) requesters ≡ true). rw e refl)
-    (λ (e : list_any (bytes_eq name) requesters ≡ false). rw e refl)
-    (cases_Bool (list_any (bytes_eq name) requesters)))
+entered_state : (history : List Update) (requesters : List (List ℕ)) (name : List ℕ) →
+    session_state history (with_requester requesters (normal_form name)) ≡ D.with_session (session_state history requesters) 1 (D.add_requester name)
+entered_state history requesters name =
+    ⊎_elim
+    (λ (e : list_any (bytes_eq (normal_form name)) requesters ≡ true). rw e refl)
+    (λ (e : list_any (bytes_eq (normal_form name)) requesters ≡ false). rw e refl)
+    (cases_Bool (list_any (bytes_eq (normal_form name)) requesters))
 
 -- AUTH of a principal, for which there is room
 pub answered-auth : (history : List Update) (requests : List Request) (written : List ℕ) (requesters : List (List ℕ)) (name : List ℕ) →
-    is_principal name ≡ true → name ≢ policy → (list_any (bytes_eq name) requesters ≡ false → length requesters < 64) →
+    is_principal name ≡ true → (list_any (bytes_eq (normal_form name)) requesters ≡ false → length requesters < 64) →
     AreAnswered history requests written (session_state history requesters) →
-    AreAnswered history (requests ++ Q.Auth 1 name ∷ []) (written ++ codes "OK\n") (session_state history (with_requester requesters name))
-answered-auth history requests written requesters name plain other room before =
-    answered-one history requests written (session_state history requesters) (session_state history (with_requester requesters name)) (Q.Auth 1 name) R.Done before
-    (auth_is_accepted name (record { number = 1; pinned = history; requesters = requesters }) plain other room, (refl, entered_state history requesters name plain))
+    AreAnswered history (requests ++ Q.Auth 1 name ∷ []) (written ++ codes "OK\n") (session_state history (with_requester requesters (normal_form name)))
+answered-auth history requests written requesters name right room before =
+    answered-one history requests written (session_state history requesters) (session_state history (with_requester requesters (normal_form name))) (Q.Auth 1 name) R.Done before
+    (auth_is_accepted name (record { number = 1; pinned = history; requesters = requesters }) right room, (refl, entered_state history requesters name))
     (λ e. cc)
 
 -- QUERY, with the policy's level
@@ -228,20 +231,19 @@ underway-open assertions written e =
 pub underway-ask : (assertions : List Assertion) (asks : List Ask) (ask : Ask) (more : List Ask) (old new : List (List ℕ)) (written text : List ℕ) →
     IsAsk ask → count_different (flat_map named_by (asks ++ ask ∷ more)) ≤ 64 → Answers assertions ask old new text →
     IsUnderway assertions asks old written → IsUnderway assertions (asks ++ ask ∷ []) new (written ++ text)
-underway-ask assertions asks (Auth name) more old new written text rightly few told before =
-    let plain = rightly.names.0 in
-    let other = rightly.names.1 in
-    let names : flat_map named_by (asks ++ Auth name ∷ []) ≡ flat_map named_by asks ++ name ∷ [] = flat_map-append named_by asks (Auth name ∷ []) in
-    let all : flat_map named_by (asks ++ Auth name ∷ more) ≡ (flat_map named_by asks ++ name ∷ []) ++ flat_map named_by more =
-    flat_map-append named_by asks (Auth name ∷ more) ∙ sym (append_assoc (flat_map named_by asks) (name ∷ []) (flat_map named_by more)) in
+underway-ask assertions asks (Auth text) more old new written reply rightly few told before =
+    let name = normal_form text in
+    let names : flat_map named_by (asks ++ Auth text ∷ []) ≡ flat_map named_by asks ++ name ∷ [] = flat_map-append named_by asks (Auth text ∷ []) in
+    let all : flat_map named_by (asks ++ Auth text ∷ more) ≡ (flat_map named_by asks ++ name ∷ []) ++ flat_map named_by more =
+    flat_map-append named_by asks (Auth text ∷ more) ∙ sym (append_assoc (flat_map named_by asks) (name ∷ []) (flat_map named_by more)) in
     let bound : count_different ((flat_map named_by asks ++ name ∷ []) ++ flat_map named_by more) ≤ 64 = rw all at few in
     let room : list_any (bytes_eq name) old ≡ false → length old < 64 = room_for (flat_map named_by asks) old (flat_map named_by more) name before.entered bound in
     rw (told.0, told.1)
     record {
-      entered = rw names (entered-one (flat_map named_by asks) old name other before.entered);
+      entered = rw names (entered-one (flat_map named_by asks) old name (names_another text rightly.names) before.entered);
       answered = λ history made.
-          rw (map-append request_of asks (Auth name ∷ []))
-          (answered-auth history (Q.Open ∷ map request_of asks) written old name plain other room (before.answered history made));
+          rw (map-append request_of asks (Auth text ∷ []))
+          (answered-auth history (Q.Open ∷ map request_of asks) written old text rightly.names room (before.answered history made));
     }
 underway-ask assertions asks (Query values) more old new written text rightly few told before =
     let names : flat_map named_by (asks ++ Query values ∷ []) ≡ flat_map named_by asks =

@@ -4,12 +4,18 @@ use Rattle.std.specs.Prelude.{codes, IfSome, IsSomeAnd}
 use Rattle.kn_base.specs.declared.limits.TheConstants.{FILE_BYTES}
 use Rattle.kn_outside.specs.Told.{before, more}
 use Rattle.kn_outside.specs.Faults.{Rose}
-use Rattle.kn_assert.specs.FirstForm.{HasFirstForm}
+use Rattle.kn_assert.specs.declared.fault.ReadFault.{ReadFault}
+use Rattle.kn_files.specs.Pieces.{pieces_of}
+use Rattle.kn_meaning.specs.declared.refusal.LimitWord.{LimitWord}
+use Rattle.kn_meaning.specs.declared.refusal.Refusal.TheVariants.{Limit as TheLimit}
+use Rattle.kn_meaning.specs.Loading.{IsLoadable, IsFaultyAt, told_refusal}
+use Rattle.kn_meaning.proofs.Loading.{ends_once}
 use Rattle.kn_meaning.specs.declared.script.Script.{Script}
 use Rattle.kn_meaning.specs.FirstInput.{IsFirstInput}
 use Rattle.keynoted.specs.declared.stop.Stop.{Stop}
-use Rattle.keynoted.specs.declared.stop.Stop.TheVariants.{Words, FileFailed, FileTooLarge, FileForm, ReadFailed, InputForm, WriteFailed, Memory}
-use Rattle.keynoted.specs.Running.{FilesSeen, LinkSeen, SinkSeen, AskFor, HasContent, IsTooLarge, IsWrongInput, IsAnswering, Cause, WordsFit, status_of, line_of, IsTold, IsRun, IsFront}
+use Rattle.keynoted.specs.declared.stop.Stop.TheVariants.{Words, FileFailed, FileTooLarge, Policy, Limit, ReadFailed, InputForm, WriteFailed, Memory}
+use Rattle.keynoted.specs.Loaded.{IsLimitAt}
+use Rattle.keynoted.specs.Running.{FilesSeen, LinkSeen, SinkSeen, AskFor, HasContent, IsTooLarge, IsWrongInput, IsAnswering, Cause, WordsFit, status_of, line_of, fault_line, limit_line, IsTold, IsRun, IsFront}
 use Rattle.keynoted.proofs.Due.{input-short}
 use Rattle.keynoted.proofs.Ended.{due_or_nine, another, told-whole}
 
@@ -65,9 +71,21 @@ module _ (given : List (List ℕ)) (f f' : FilesSeen) (o o' : LinkSeen) (s s' : 
       ⊎_elim (λ (e : status ≡ status_of due). e) (λ (e : (status ≡ 9) × Rose s.faults s'.faults). absurd (calm e.1))
       (due_or_nine (line_of name due) s s' (status_of due) status told)
 
+  -- what was read is the file that the words name
+  read_there : (name file bytes read : List ℕ) (content_of : List ℕ → Option (List ℕ)) → AskFor given name → AskFor given file →
+      f.content ≡ Some content_of → content_of file ≡ Some bytes → HasContent f name read → read ≡ bytes
+  read_there name file bytes read content_of fit asks contents here has =
+      content_is f content_of file bytes read contents here (subst (λ (n : List ℕ). HasContent f n read) (same_name given name file fit asks) has)
+
+  fault_there : (read bytes : List ℕ) (n : ℕ) (fault : ReadFault) → read ≡ bytes → IsFaultyAt (pieces_of read) n fault → IsFaultyAt (pieces_of bytes) n fault
+  fault_there read bytes n fault same = subst (λ (b : List ℕ). IsFaultyAt (pieces_of b) n fault) same
+
+  limit_there : (read bytes : List ℕ) (n : ℕ) (word : LimitWord) (count : ℕ) → read ≡ bytes → IsLimitAt (pieces_of read) n word count → IsLimitAt (pieces_of bytes) n word count
+  limit_there read bytes n word count same = subst (λ (b : List ℕ). IsLimitAt (pieces_of b) n word count) same
+
   complete : (name : List ℕ) (due : Option Stop) → WordsFit given name due → Cause name f f' o o' due → IsTold (line_of name due) s s' (status_of due) status →
       (file bytes input : List ℕ) (content_of : List ℕ → Option (List ℕ)) (script : Option Script) →
-      AskFor given file → f.content ≡ Some content_of → content_of file ≡ Some bytes → length bytes ≤ FILE_BYTES → HasFirstForm bytes →
+      AskFor given file → f.content ≡ Some content_of → content_of file ≡ Some bytes → length bytes ≤ FILE_BYTES → IsLoadable (pieces_of bytes) →
       o.left ≡ Some input → IsFirstInput input script →
       (Rose f.faults f'.faults → ⊥) → (Rose o.faults o'.faults → ⊥) → (Rose s.faults s'.faults → ⊥) → (status ≡ 0) ⊎ (status ≡ 5)
   complete name None fit cause told file bytes input content_of script asks contents here within policy left form calm_files calm_link calm_sink =
@@ -80,9 +98,11 @@ module _ (given : List (List ℕ)) (f f' : FilesSeen) (o o' : LinkSeen) (s s' : 
       absurd (calm_files cause.1)
   complete name (Some FileTooLarge) fit cause told file bytes input content_of script asks contents here within policy left form calm_files calm_link calm_sink =
       absurd (not_too_large f content_of file bytes contents here within (subst (IsTooLarge f) (same_name given name file fit asks) cause.1))
-  complete name (Some FileForm) fit cause told file bytes input content_of script asks contents here within policy left form calm_files calm_link calm_sink =
-      let has : HasContent f file cause.0 = subst (λ (n : List ℕ). HasContent f n cause.0) (same_name given name file fit asks) cause.2 in
-      absurd (cause.3 (subst HasFirstForm (sym (content_is f content_of file bytes cause.0 contents here has)) policy))
+  complete name (Some (Policy n fault)) fit cause told file bytes input content_of script asks contents here within policy left form calm_files calm_link calm_sink =
+      absurd ((ends_once (pieces_of bytes)).faulty n fault policy (fault_there cause.0 bytes n fault (read_there name file bytes cause.0 content_of fit asks contents here cause.2) cause.3))
+  complete name (Some (Limit n word count)) fit cause told file bytes input content_of script asks contents here within policy left form calm_files calm_link calm_sink =
+      let limit = limit_there cause.0 bytes n word count (read_there name file bytes cause.0 content_of fit asks contents here cause.2) cause.3 in
+      absurd ((ends_once (pieces_of bytes)).full n limit.refusal policy limit.full)
   complete name (Some ReadFailed) fit cause told file bytes input content_of script asks contents here within policy left form calm_files calm_link calm_sink =
       absurd (calm_link cause.answering.0)
   complete name (Some InputForm) fit cause told file bytes input content_of script asks contents here within policy left form calm_files calm_link calm_sink =
@@ -91,18 +111,18 @@ module _ (given : List (List ℕ)) (f f' : FilesSeen) (o o' : LinkSeen) (s s' : 
       absurd (calm_link cause.answering.5)
 
   pub run-complete : IsRun given f f' o o' s s' status → (file bytes input : List ℕ) (content_of : List ℕ → Option (List ℕ)) (script : Option Script) →
-      AskFor given file → f.content ≡ Some content_of → content_of file ≡ Some bytes → length bytes ≤ FILE_BYTES → HasFirstForm bytes →
+      AskFor given file → f.content ≡ Some content_of → content_of file ≡ Some bytes → length bytes ≤ FILE_BYTES → IsLoadable (pieces_of bytes) →
       o.left ≡ Some input → IsFirstInput input script →
       (Rose f.faults f'.faults → ⊥) → (Rose o.faults o'.faults → ⊥) → (Rose s.faults s'.faults → ⊥) → (status ≡ 0) ⊎ (status ≡ 5)
   run-complete r = complete r.name r.due r.words r.cause r.told
 
   -- a policy that was read is the told content, and of the first form
   policy_is : (name file bytes : List ℕ) (content_of : List ℕ → Option (List ℕ)) (due : Option Stop) → AskFor given name → AskFor given file →
-      f.content ≡ Some content_of → content_of file ≡ Some bytes → IsAnswering name f f' o o' due → (length bytes ≤ FILE_BYTES) × HasFirstForm bytes
+      f.content ≡ Some content_of → content_of file ≡ Some bytes → IsAnswering name f f' o o' due → (length bytes ≤ FILE_BYTES) × IsLoadable (pieces_of bytes)
   policy_is name file bytes content_of due fit asks contents here answering =
       let has : HasContent f file answering.bytes = subst (λ (n : List ℕ). HasContent f n answering.bytes) (same_name given name file fit asks) answering.policy.content in
       let same = content_is f content_of file bytes answering.bytes contents here has in
-      (subst (λ (b : List ℕ). length b ≤ FILE_BYTES) same has.within, subst HasFirstForm same (answering.policy.assertions, answering.policy.form))
+      (subst (λ (b : List ℕ). length b ≤ FILE_BYTES) same has.within, subst (λ (b : List ℕ). IsLoadable (pieces_of b)) same answering.policy.loadable)
 
   calm_whole : (line : List ℕ) (k : ℕ) → IsTold line s s' k status → (Rose s.faults s'.faults → ⊥) → (status ≡ k) × (s'.written ≡ more line s.written)
   calm_whole line k told calm =
@@ -147,9 +167,11 @@ module _ (given : List (List ℕ)) (f f' : FilesSeen) (o o' : LinkSeen) (s s' : 
       let whole = calm_whole (line_of name (Some FileTooLarge)) 2 told calm_sink in
       let same = same_name given name file fit asks in
       inl (whole.0, subst (λ (n : List ℕ). s'.written ≡ more (codes "error file " ++ n ++ codes " large\n") s.written) same whole.1)
-  large name (Some FileForm) fit cause told file bytes content_of asks contents here over calm_files calm_sink =
-      let has : HasContent f file cause.0 = subst (λ (n : List ℕ). HasContent f n cause.0) (same_name given name file fit asks) cause.2 in
-      let within : length bytes ≤ FILE_BYTES = subst (λ (b : List ℕ). length b ≤ FILE_BYTES) (content_is f content_of file bytes cause.0 contents here has) has.within in
+  large name (Some (Policy n fault)) fit cause told file bytes content_of asks contents here over calm_files calm_sink =
+      let within : length bytes ≤ FILE_BYTES = subst (λ (b : List ℕ). length b ≤ FILE_BYTES) (read_there name file bytes cause.0 content_of fit asks contents here cause.2) cause.2.within in
+      absurd (omega arith)
+  large name (Some (Limit n word count)) fit cause told file bytes content_of asks contents here over calm_files calm_sink =
+      let within : length bytes ≤ FILE_BYTES = subst (λ (b : List ℕ). length b ≤ FILE_BYTES) (read_there name file bytes cause.0 content_of fit asks contents here cause.2) cause.2.within in
       absurd (omega arith)
   large name (Some ReadFailed) fit cause told file bytes content_of asks contents here over calm_files calm_sink =
       let p = policy_is name file bytes content_of (Some ReadFailed) fit asks contents here cause in
@@ -170,33 +192,73 @@ module _ (given : List (List ℕ)) (f f' : FilesSeen) (o o' : LinkSeen) (s s' : 
       (file bytes : List ℕ) (content_of : List ℕ → Option (List ℕ)) → AskFor given file → f.content ≡ Some content_of → content_of file ≡ Some bytes → FILE_BYTES < length bytes → (Rose f.faults f'.faults → ⊥) → (Rose s.faults s'.faults → ⊥) → ((status ≡ 2) × (s'.written ≡ more (codes "error file " ++ file ++ codes " large\n") s.written)) ⊎ (status ≡ 5)
   run-large r = large r.name r.due r.words r.cause r.told
 
-  no_form : (name : List ℕ) (due : Option Stop) → WordsFit given name due → Cause name f f' o o' due → IsTold (line_of name due) s s' (status_of due) status →
-      (file bytes : List ℕ) (content_of : List ℕ → Option (List ℕ)) → AskFor given file → f.content ≡ Some content_of → content_of file ≡ Some bytes → length bytes ≤ FILE_BYTES → (HasFirstForm bytes → ⊥) → (Rose f.faults f'.faults → ⊥) → (Rose s.faults s'.faults → ⊥) → (status ≡ 3) ⊎ (status ≡ 5)
-  no_form name None fit cause told file bytes content_of asks contents here within none calm_files calm_sink =
-      let p = policy_is name file bytes content_of None fit asks contents here cause in absurd (none p.1)
-  no_form name (Some Words) fit cause told file bytes content_of asks contents here within none calm_files calm_sink =
+  faulty : (name : List ℕ) (due : Option Stop) → WordsFit given name due → Cause name f f' o o' due → IsTold (line_of name due) s s' (status_of due) status →
+      (file bytes : List ℕ) (content_of : List ℕ → Option (List ℕ)) (m : ℕ) (bad : ReadFault) → AskFor given file → f.content ≡ Some content_of → content_of file ≡ Some bytes → length bytes ≤ FILE_BYTES → IsFaultyAt (pieces_of bytes) m bad → (Rose f.faults f'.faults → ⊥) → (Rose s.faults s'.faults → ⊥) → ((status ≡ 3) × (s'.written ≡ more (fault_line file m bad) s.written)) ⊎ (status ≡ 5)
+  faulty name None fit cause told file bytes content_of m bad asks contents here within bad_there calm_files calm_sink =
+      let p = policy_is name file bytes content_of None fit asks contents here cause in absurd ((ends_once (pieces_of bytes)).faulty m bad p.1 bad_there)
+  faulty name (Some Words) fit cause told file bytes content_of m bad asks contents here within bad_there calm_files calm_sink =
       absurd (fit file asks)
-  no_form name (Some FileFailed) fit cause told file bytes content_of asks contents here within none calm_files calm_sink =
+  faulty name (Some FileFailed) fit cause told file bytes content_of m bad asks contents here within bad_there calm_files calm_sink =
       absurd (calm_files cause.1)
-  no_form name (Some FileTooLarge) fit cause told file bytes content_of asks contents here within none calm_files calm_sink =
+  faulty name (Some FileTooLarge) fit cause told file bytes content_of m bad asks contents here within bad_there calm_files calm_sink =
       absurd (not_too_large f content_of file bytes contents here within (subst (IsTooLarge f) (same_name given name file fit asks) cause.1))
-  no_form name (Some FileForm) fit cause told file bytes content_of asks contents here within none calm_files calm_sink =
-      inl (due_told name (Some FileForm) told calm_sink)
-  no_form name (Some ReadFailed) fit cause told file bytes content_of asks contents here within none calm_files calm_sink =
-      let p = policy_is name file bytes content_of (Some ReadFailed) fit asks contents here cause in absurd (none p.1)
-  no_form name (Some InputForm) fit cause told file bytes content_of asks contents here within none calm_files calm_sink =
-      let p = policy_is name file bytes content_of (Some InputForm) fit asks contents here cause in absurd (none p.1)
-  no_form name (Some WriteFailed) fit cause told file bytes content_of asks contents here within none calm_files calm_sink =
-      let p = policy_is name file bytes content_of (Some WriteFailed) fit asks contents here cause in absurd (none p.1)
-  no_form name (Some Memory) fit cause told file bytes content_of asks contents here within none calm_files calm_sink =
+  faulty name (Some (Policy n fault)) fit cause told file bytes content_of m bad asks contents here within bad_there calm_files calm_sink =
+      let one = (ends_once (pieces_of bytes)).one_fault n m fault bad (fault_there cause.0 bytes n fault (read_there name file bytes cause.0 content_of fit asks contents here cause.2) cause.3) bad_there in
+      let whole = calm_whole (line_of name (Some (Policy n fault))) 3 told calm_sink in
+      let line : fault_line name n fault ≡ fault_line file m bad = ap (λ (x : List ℕ). fault_line x n fault) (same_name given name file fit asks) ∙ ap (λ (k : ℕ). fault_line file k fault) one.0 ∙ ap (fault_line file m) one.1 in
+      inl (whole.0, subst (λ (l : List ℕ). s'.written ≡ more l s.written) line whole.1)
+  faulty name (Some (Limit n word count)) fit cause told file bytes content_of m bad asks contents here within bad_there calm_files calm_sink =
+      let limit = limit_there cause.0 bytes n word count (read_there name file bytes cause.0 content_of fit asks contents here cause.2) cause.3 in
+      absurd ((ends_once (pieces_of bytes)).either m n bad limit.refusal bad_there limit.full)
+  faulty name (Some ReadFailed) fit cause told file bytes content_of m bad asks contents here within bad_there calm_files calm_sink =
+      let p = policy_is name file bytes content_of (Some ReadFailed) fit asks contents here cause in absurd ((ends_once (pieces_of bytes)).faulty m bad p.1 bad_there)
+  faulty name (Some InputForm) fit cause told file bytes content_of m bad asks contents here within bad_there calm_files calm_sink =
+      let p = policy_is name file bytes content_of (Some InputForm) fit asks contents here cause in absurd ((ends_once (pieces_of bytes)).faulty m bad p.1 bad_there)
+  faulty name (Some WriteFailed) fit cause told file bytes content_of m bad asks contents here within bad_there calm_files calm_sink =
+      let p = policy_is name file bytes content_of (Some WriteFailed) fit asks contents here cause in absurd ((ends_once (pieces_of bytes)).faulty m bad p.1 bad_there)
+  faulty name (Some Memory) fit cause told file bytes content_of m bad asks contents here within bad_there calm_files calm_sink =
       inr (due_told name (Some Memory) told calm_sink)
 
-  pub run-no_form : IsRun given f f' o o' s s' status →
-      (file bytes : List ℕ) (content_of : List ℕ → Option (List ℕ)) → AskFor given file → f.content ≡ Some content_of → content_of file ≡ Some bytes → length bytes ≤ FILE_BYTES → (HasFirstForm bytes → ⊥) → (Rose f.faults f'.faults → ⊥) → (Rose s.faults s'.faults → ⊥) → (status ≡ 3) ⊎ (status ≡ 5)
-  run-no_form r = no_form r.name r.due r.words r.cause r.told
+  pub run-faulty : IsRun given f f' o o' s s' status →
+      (file bytes : List ℕ) (content_of : List ℕ → Option (List ℕ)) (m : ℕ) (bad : ReadFault) → AskFor given file → f.content ≡ Some content_of → content_of file ≡ Some bytes → length bytes ≤ FILE_BYTES → IsFaultyAt (pieces_of bytes) m bad → (Rose f.faults f'.faults → ⊥) → (Rose s.faults s'.faults → ⊥) → ((status ≡ 3) × (s'.written ≡ more (fault_line file m bad) s.written)) ⊎ (status ≡ 5)
+  run-faulty r = faulty r.name r.due r.words r.cause r.told
+
+  full : (name : List ℕ) (due : Option Stop) → WordsFit given name due → Cause name f f' o o' due → IsTold (line_of name due) s s' (status_of due) status →
+      (file bytes : List ℕ) (content_of : List ℕ → Option (List ℕ)) (m : ℕ) (what : LimitWord) (sum : ℕ) → AskFor given file → f.content ≡ Some content_of → content_of file ≡ Some bytes → length bytes ≤ FILE_BYTES → IsLimitAt (pieces_of bytes) m what sum → (Rose f.faults f'.faults → ⊥) → (Rose s.faults s'.faults → ⊥) → ((status ≡ 3) × (s'.written ≡ more (limit_line file m what sum) s.written)) ⊎ (status ≡ 5)
+  full name None fit cause told file bytes content_of m what sum asks contents here within bad_there calm_files calm_sink =
+      let p = policy_is name file bytes content_of None fit asks contents here cause in absurd ((ends_once (pieces_of bytes)).full m bad_there.refusal p.1 bad_there.full)
+  full name (Some Words) fit cause told file bytes content_of m what sum asks contents here within bad_there calm_files calm_sink =
+      absurd (fit file asks)
+  full name (Some FileFailed) fit cause told file bytes content_of m what sum asks contents here within bad_there calm_files calm_sink =
+      absurd (calm_files cause.1)
+  full name (Some FileTooLarge) fit cause told file bytes content_of m what sum asks contents here within bad_there calm_files calm_sink =
+      absurd (not_too_large f content_of file bytes contents here within (subst (IsTooLarge f) (same_name given name file fit asks) cause.1))
+  full name (Some (Policy n fault)) fit cause told file bytes content_of m what sum asks contents here within bad_there calm_files calm_sink =
+      absurd ((ends_once (pieces_of bytes)).either n m fault bad_there.refusal (fault_there cause.0 bytes n fault (read_there name file bytes cause.0 content_of fit asks contents here cause.2) cause.3) bad_there.full)
+  full name (Some (Limit n word count)) fit cause told file bytes content_of m what sum asks contents here within bad_there calm_files calm_sink =
+      let limit = limit_there cause.0 bytes n word count (read_there name file bytes cause.0 content_of fit asks contents here cause.2) cause.3 in
+      let one = (ends_once (pieces_of bytes)).one_refusal n m limit.refusal bad_there.refusal limit.full bad_there.full in
+      let same : TheLimit word count ≡ TheLimit what sum = sym limit.told ∙ ap told_refusal one.1 ∙ bad_there.told in
+      let words : word ≡ what = cc in
+      let counts : count ≡ sum = cc in
+      let whole = calm_whole (line_of name (Some (Limit n word count))) 3 told calm_sink in
+      let line : limit_line name n word count ≡ limit_line file m what sum = ap (λ (x : List ℕ). limit_line x n word count) (same_name given name file fit asks) ∙ ap (λ (k : ℕ). limit_line file k word count) one.0 ∙ ap (λ (w : LimitWord). limit_line file m w count) words ∙ ap (limit_line file m what) counts in
+      inl (whole.0, subst (λ (l : List ℕ). s'.written ≡ more l s.written) line whole.1)
+  full name (Some ReadFailed) fit cause told file bytes content_of m what sum asks contents here within bad_there calm_files calm_sink =
+      let p = policy_is name file bytes content_of (Some ReadFailed) fit asks contents here cause in absurd ((ends_once (pieces_of bytes)).full m bad_there.refusal p.1 bad_there.full)
+  full name (Some InputForm) fit cause told file bytes content_of m what sum asks contents here within bad_there calm_files calm_sink =
+      let p = policy_is name file bytes content_of (Some InputForm) fit asks contents here cause in absurd ((ends_once (pieces_of bytes)).full m bad_there.refusal p.1 bad_there.full)
+  full name (Some WriteFailed) fit cause told file bytes content_of m what sum asks contents here within bad_there calm_files calm_sink =
+      let p = policy_is name file bytes content_of (Some WriteFailed) fit asks contents here cause in absurd ((ends_once (pieces_of bytes)).full m bad_there.refusal p.1 bad_there.full)
+  full name (Some Memory) fit cause told file bytes content_of m what sum asks contents here within bad_there calm_files calm_sink =
+      inr (due_told name (Some Memory) told calm_sink)
+
+  pub run-full : IsRun given f f' o o' s s' status →
+      (file bytes : List ℕ) (content_of : List ℕ → Option (List ℕ)) (m : ℕ) (what : LimitWord) (sum : ℕ) → AskFor given file → f.content ≡ Some content_of → content_of file ≡ Some bytes → length bytes ≤ FILE_BYTES → IsLimitAt (pieces_of bytes) m what sum → (Rose f.faults f'.faults → ⊥) → (Rose s.faults s'.faults → ⊥) → ((status ≡ 3) × (s'.written ≡ more (limit_line file m what sum) s.written)) ⊎ (status ≡ 5)
+  run-full r = full r.name r.due r.words r.cause r.told
 
   wrong_input : (name : List ℕ) (due : Option Stop) → WordsFit given name due → Cause name f f' o o' due → IsTold (line_of name due) s s' (status_of due) status →
-      (file bytes : List ℕ) (content_of : List ℕ → Option (List ℕ)) → AskFor given file → f.content ≡ Some content_of → content_of file ≡ Some bytes → length bytes ≤ FILE_BYTES → HasFirstForm bytes → (input : List ℕ) → o.left ≡ Some input → ((script : Option Script) → IsFirstInput input script → ⊥) →
+      (file bytes : List ℕ) (content_of : List ℕ → Option (List ℕ)) → AskFor given file → f.content ≡ Some content_of → content_of file ≡ Some bytes → length bytes ≤ FILE_BYTES → IsLoadable (pieces_of bytes) → (input : List ℕ) → o.left ≡ Some input → ((script : Option Script) → IsFirstInput input script → ⊥) →
       (Rose f.faults f'.faults → ⊥) → (Rose o.faults o'.faults → ⊥) → (Rose s.faults s'.faults → ⊥) → ((status ≡ 4) × (s'.written ≡ more (codes "error link form\n") s.written)) ⊎ (status ≡ 5)
   wrong_input name None fit cause told file bytes content_of asks contents here within policy input left none calm_files calm_link calm_sink =
       let due = cause.answering.1 in
@@ -207,9 +269,11 @@ module _ (given : List (List ℕ)) (f f' : FilesSeen) (o o' : LinkSeen) (s s' : 
       absurd (calm_files cause.1)
   wrong_input name (Some FileTooLarge) fit cause told file bytes content_of asks contents here within policy input left none calm_files calm_link calm_sink =
       absurd (not_too_large f content_of file bytes contents here within (subst (IsTooLarge f) (same_name given name file fit asks) cause.1))
-  wrong_input name (Some FileForm) fit cause told file bytes content_of asks contents here within policy input left none calm_files calm_link calm_sink =
-      let has : HasContent f file cause.0 = subst (λ (n : List ℕ). HasContent f n cause.0) (same_name given name file fit asks) cause.2 in
-      absurd (cause.3 (subst HasFirstForm (sym (content_is f content_of file bytes cause.0 contents here has)) policy))
+  wrong_input name (Some (Policy n fault)) fit cause told file bytes content_of asks contents here within policy input left none calm_files calm_link calm_sink =
+      absurd ((ends_once (pieces_of bytes)).faulty n fault policy (fault_there cause.0 bytes n fault (read_there name file bytes cause.0 content_of fit asks contents here cause.2) cause.3))
+  wrong_input name (Some (Limit n word count)) fit cause told file bytes content_of asks contents here within policy input left none calm_files calm_link calm_sink =
+      let limit = limit_there cause.0 bytes n word count (read_there name file bytes cause.0 content_of fit asks contents here cause.2) cause.3 in
+      absurd ((ends_once (pieces_of bytes)).full n limit.refusal policy limit.full)
   wrong_input name (Some ReadFailed) fit cause told file bytes content_of asks contents here within policy input left none calm_files calm_link calm_sink =
       absurd (calm_link cause.answering.0)
   wrong_input name (Some InputForm) fit cause told file bytes content_of asks contents here within policy input left none calm_files calm_link calm_sink =
@@ -220,7 +284,7 @@ module _ (given : List (List ℕ)) (f f' : FilesSeen) (o o' : LinkSeen) (s s' : 
       inr (due_told name (Some Memory) told calm_sink)
 
   pub run-wrong_input : IsRun given f f' o o' s s' status →
-      (file bytes : List ℕ) (content_of : List ℕ → Option (List ℕ)) → AskFor given file → f.content ≡ Some content_of → content_of file ≡ Some bytes → length bytes ≤ FILE_BYTES → HasFirstForm bytes → (input : List ℕ) → o.left ≡ Some input → ((script : Option Script) → IsFirstInput input script → ⊥) →
+      (file bytes : List ℕ) (content_of : List ℕ → Option (List ℕ)) → AskFor given file → f.content ≡ Some content_of → content_of file ≡ Some bytes → length bytes ≤ FILE_BYTES → IsLoadable (pieces_of bytes) → (input : List ℕ) → o.left ≡ Some input → ((script : Option Script) → IsFirstInput input script → ⊥) →
       (Rose f.faults f'.faults → ⊥) → (Rose o.faults o'.faults → ⊥) → (Rose s.faults s'.faults → ⊥) → ((status ≡ 4) × (s'.written ≡ more (codes "error link form\n") s.written)) ⊎ (status ≡ 5)
   run-wrong_input r = wrong_input r.name r.due r.words r.cause r.told
 
@@ -234,8 +298,10 @@ module _ (given : List (List ℕ)) (f f' : FilesSeen) (o o' : LinkSeen) (s s' : 
       absurd (another (line_of name (Some FileFailed)) s s' 2 status 4 told at (λ q. omega arith) (λ q. omega arith))
   link_rose name (Some FileTooLarge) fit cause told input script left form at =
       absurd (another (line_of name (Some FileTooLarge)) s s' 2 status 4 told at (λ q. omega arith) (λ q. omega arith))
-  link_rose name (Some FileForm) fit cause told input script left form at =
-      absurd (another (line_of name (Some FileForm)) s s' 3 status 4 told at (λ q. omega arith) (λ q. omega arith))
+  link_rose name (Some (Policy n fault)) fit cause told input script left form at =
+      absurd (another (line_of name (Some (Policy n fault))) s s' 3 status 4 told at (λ q. omega arith) (λ q. omega arith))
+  link_rose name (Some (Limit n word count)) fit cause told input script left form at =
+      absurd (another (line_of name (Some (Limit n word count))) s s' 3 status 4 told at (λ q. omega arith) (λ q. omega arith))
   link_rose name (Some ReadFailed) fit cause told input script left form at =
       cause.answering.0
   link_rose name (Some InputForm) fit cause told input script left form at =
@@ -259,7 +325,9 @@ module _ (given : List (List ℕ)) (f f' : FilesSeen) (o o' : LinkSeen) (s s' : 
       ap (λ (l : LinkSeen). l.written) cause.2
   nothing_written name (Some FileTooLarge) fit cause told other calm_link =
       ap (λ (l : LinkSeen). l.written) cause.2
-  nothing_written name (Some FileForm) fit cause told other calm_link =
+  nothing_written name (Some (Policy n fault)) fit cause told other calm_link =
+      ap (λ (l : LinkSeen). l.written) cause.4
+  nothing_written name (Some (Limit n word count)) fit cause told other calm_link =
       ap (λ (l : LinkSeen). l.written) cause.4
   nothing_written name (Some ReadFailed) fit cause told other calm_link =
       cause.answering.1
@@ -284,7 +352,9 @@ module _ (given : List (List ℕ)) (f f' : FilesSeen) (o o' : LinkSeen) (s s' : 
       cause.2
   untouched name (Some FileTooLarge) fit cause told at =
       cause.2
-  untouched name (Some FileForm) fit cause told at =
+  untouched name (Some (Policy n fault)) fit cause told at =
+      cause.4
+  untouched name (Some (Limit n word count)) fit cause told at =
       cause.4
   untouched name (Some ReadFailed) fit cause told at =
       absurd (elsewhere (line_of name (Some ReadFailed)) 4 told (λ h. omega arith) at)
@@ -311,8 +381,10 @@ module _ (given : List (List ℕ)) (f f' : FilesSeen) (o o' : LinkSeen) (s s' : 
       absurd (another (line_of name (Some FileFailed)) s s' 2 status 0 told at (λ q. omega arith) (λ q. omega arith))
   quiet name (Some FileTooLarge) fit cause told at =
       absurd (another (line_of name (Some FileTooLarge)) s s' 2 status 0 told at (λ q. omega arith) (λ q. omega arith))
-  quiet name (Some FileForm) fit cause told at =
-      absurd (another (line_of name (Some FileForm)) s s' 3 status 0 told at (λ q. omega arith) (λ q. omega arith))
+  quiet name (Some (Policy n fault)) fit cause told at =
+      absurd (another (line_of name (Some (Policy n fault))) s s' 3 status 0 told at (λ q. omega arith) (λ q. omega arith))
+  quiet name (Some (Limit n word count)) fit cause told at =
+      absurd (another (line_of name (Some (Limit n word count))) s s' 3 status 0 told at (λ q. omega arith) (λ q. omega arith))
   quiet name (Some ReadFailed) fit cause told at =
       absurd (another (line_of name (Some ReadFailed)) s s' 4 status 0 told at (λ q. omega arith) (λ q. omega arith))
   quiet name (Some InputForm) fit cause told at =
@@ -339,9 +411,12 @@ module _ (given : List (List ℕ)) (f f' : FilesSeen) (o o' : LinkSeen) (s s' : 
   front name (Some FileTooLarge) fit cause told at =
       let cut = nine (line_of name (Some FileTooLarge)) 2 told at (λ q. omega arith) in
       record { name = name; stop = FileTooLarge; words = fit; cause = cause; n = cut.1; part = cut.2; line = cut.3 }
-  front name (Some FileForm) fit cause told at =
-      let cut = nine (line_of name (Some FileForm)) 3 told at (λ q. omega arith) in
-      record { name = name; stop = FileForm; words = fit; cause = cause; n = cut.1; part = cut.2; line = cut.3 }
+  front name (Some (Policy n fault)) fit cause told at =
+      let cut = nine (line_of name (Some (Policy n fault))) 3 told at (λ q. omega arith) in
+      record { name = name; stop = Policy n fault; words = fit; cause = cause; n = cut.1; part = cut.2; line = cut.3 }
+  front name (Some (Limit n word count)) fit cause told at =
+      let cut = nine (line_of name (Some (Limit n word count))) 3 told at (λ q. omega arith) in
+      record { name = name; stop = Limit n word count; words = fit; cause = cause; n = cut.1; part = cut.2; line = cut.3 }
   front name (Some ReadFailed) fit cause told at =
       let cut = nine (line_of name (Some ReadFailed)) 4 told at (λ q. omega arith) in
       record { name = name; stop = ReadFailed; words = fit; cause = cause; n = cut.1; part = cut.2; line = cut.3 }

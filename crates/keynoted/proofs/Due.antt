@@ -3,7 +3,7 @@ use Rattle.std.proofs.Common.{◌≡◌, ℕ, ◌≤◌, inl, inr, List, [], len
 use Rattle.std.specs.Prelude.{IfSome, nat_le}
 use Rattle.std.proofs.lemmas.Bool.{cases_Bool, leb-true, leb-false}
 use Rattle.kn_outside.specs.Told.{before}
-use Rattle.kn_assert.specs.Files.{pieces_of}
+use Rattle.kn_files.specs.Pieces.{pieces_of}
 use Rattle.kn_meaning.specs.declared.script.Script.{Script}
 use Rattle.kn_meaning.specs.FirstInput.{IsFirstInput, requests_of}
 use Rattle.kn_meaning.specs.History.{loaded_history}

@@ -4,7 +4,7 @@ use Rattle.std.specs.Prelude.{codes}
 use Rattle.kn_outside.specs.Told.{more}
 use Rattle.kn_outside.specs.Faults.{Rose}
 use Rattle.keynoted.specs.declared.stop.Stop.{Stop}
-use Rattle.keynoted.specs.declared.stop.Stop.TheVariants.{Words, FileFailed, FileTooLarge, FileForm, ReadFailed, InputForm, WriteFailed, Memory}
+use Rattle.keynoted.specs.declared.stop.Stop.TheVariants.{Words, FileFailed, FileTooLarge, Policy, Limit, ReadFailed, InputForm, WriteFailed, Memory}
 use Rattle.keynoted.specs.Running.{FilesSeen, LinkSeen, SinkSeen, AskFor, Cause, WordsFit, status_of, line_of, IsTold, IsRun, IsDone, IsRefused, IsFileFault, IsNoPolicy, IsLinkFault}
 
 -- a status below 9 is that of what was due, and its line was written whole
@@ -36,7 +36,8 @@ module _ (given : List (List ℕ)) (f f' : FilesSeen) (o o' : LinkSeen) (s s' : 
   done name (Some Words) fit cause told at = absurd (another (line_of name (Some Words)) s s' 1 status 0 told at (λ q. omega arith) (λ q. omega arith))
   done name (Some FileFailed) fit cause told at = absurd (another (line_of name (Some FileFailed)) s s' 2 status 0 told at (λ q. omega arith) (λ q. omega arith))
   done name (Some FileTooLarge) fit cause told at = absurd (another (line_of name (Some FileTooLarge)) s s' 2 status 0 told at (λ q. omega arith) (λ q. omega arith))
-  done name (Some FileForm) fit cause told at = absurd (another (line_of name (Some FileForm)) s s' 3 status 0 told at (λ q. omega arith) (λ q. omega arith))
+  done name (Some (Policy n fault)) fit cause told at = absurd (another (line_of name (Some (Policy n fault))) s s' 3 status 0 told at (λ q. omega arith) (λ q. omega arith))
+  done name (Some (Limit n word count)) fit cause told at = absurd (another (line_of name (Some (Limit n word count))) s s' 3 status 0 told at (λ q. omega arith) (λ q. omega arith))
   done name (Some ReadFailed) fit cause told at = absurd (another (line_of name (Some ReadFailed)) s s' 4 status 0 told at (λ q. omega arith) (λ q. omega arith))
   done name (Some InputForm) fit cause told at = absurd (another (line_of name (Some InputForm)) s s' 4 status 0 told at (λ q. omega arith) (λ q. omega arith))
   done name (Some WriteFailed) fit cause told at = absurd (another (line_of name (Some WriteFailed)) s s' 4 status 0 told at (λ q. omega arith) (λ q. omega arith))
@@ -54,7 +55,8 @@ module _ (given : List (List ℕ)) (f f' : FilesSeen) (o o' : LinkSeen) (s s' : 
       record { words = fit; line = whole.1 }
   words name (Some FileFailed) fit cause told at = absurd (another (line_of name (Some FileFailed)) s s' 2 status 1 told at (λ q. omega arith) (λ q. omega arith))
   words name (Some FileTooLarge) fit cause told at = absurd (another (line_of name (Some FileTooLarge)) s s' 2 status 1 told at (λ q. omega arith) (λ q. omega arith))
-  words name (Some FileForm) fit cause told at = absurd (another (line_of name (Some FileForm)) s s' 3 status 1 told at (λ q. omega arith) (λ q. omega arith))
+  words name (Some (Policy n fault)) fit cause told at = absurd (another (line_of name (Some (Policy n fault))) s s' 3 status 1 told at (λ q. omega arith) (λ q. omega arith))
+  words name (Some (Limit n word count)) fit cause told at = absurd (another (line_of name (Some (Limit n word count))) s s' 3 status 1 told at (λ q. omega arith) (λ q. omega arith))
   words name (Some ReadFailed) fit cause told at = absurd (another (line_of name (Some ReadFailed)) s s' 4 status 1 told at (λ q. omega arith) (λ q. omega arith))
   words name (Some InputForm) fit cause told at = absurd (another (line_of name (Some InputForm)) s s' 4 status 1 told at (λ q. omega arith) (λ q. omega arith))
   words name (Some WriteFailed) fit cause told at = absurd (another (line_of name (Some WriteFailed)) s s' 4 status 1 told at (λ q. omega arith) (λ q. omega arith))
@@ -74,7 +76,8 @@ module _ (given : List (List ℕ)) (f f' : FilesSeen) (o o' : LinkSeen) (s s' : 
   file name (Some FileTooLarge) fit cause told at =
       let whole = told-whole (line_of name (Some FileTooLarge)) s s' 2 status told (λ nine. absurd (omega arith)) in
       record { name = name; words = fit; asked = cause.0; fault = inr (cause.1, whole.1) }
-  file name (Some FileForm) fit cause told at = absurd (another (line_of name (Some FileForm)) s s' 3 status 2 told at (λ q. omega arith) (λ q. omega arith))
+  file name (Some (Policy n fault)) fit cause told at = absurd (another (line_of name (Some (Policy n fault))) s s' 3 status 2 told at (λ q. omega arith) (λ q. omega arith))
+  file name (Some (Limit n word count)) fit cause told at = absurd (another (line_of name (Some (Limit n word count))) s s' 3 status 2 told at (λ q. omega arith) (λ q. omega arith))
   file name (Some ReadFailed) fit cause told at = absurd (another (line_of name (Some ReadFailed)) s s' 4 status 2 told at (λ q. omega arith) (λ q. omega arith))
   file name (Some InputForm) fit cause told at = absurd (another (line_of name (Some InputForm)) s s' 4 status 2 told at (λ q. omega arith) (λ q. omega arith))
   file name (Some WriteFailed) fit cause told at = absurd (another (line_of name (Some WriteFailed)) s s' 4 status 2 told at (λ q. omega arith) (λ q. omega arith))
@@ -84,23 +87,26 @@ module _ (given : List (List ℕ)) (f f' : FilesSeen) (o o' : LinkSeen) (s s' : 
       IsFileFault given f f' s s'
   run-file r = file r.name r.due r.words r.cause r.told
 
-  form : (name : List ℕ) (due : Option Stop) → WordsFit given name due → Cause name f f' o o' due → IsTold (line_of name due) s s' (status_of due) status → status ≡ 3 →
+  policy : (name : List ℕ) (due : Option Stop) → WordsFit given name due → Cause name f f' o o' due → IsTold (line_of name due) s s' (status_of due) status → status ≡ 3 →
       IsNoPolicy given f f' s s'
-  form name None fit cause told at = absurd (another (line_of name None) s s' 0 status 3 told at (λ q. omega arith) (λ q. omega arith))
-  form name (Some Words) fit cause told at = absurd (another (line_of name (Some Words)) s s' 1 status 3 told at (λ q. omega arith) (λ q. omega arith))
-  form name (Some FileFailed) fit cause told at = absurd (another (line_of name (Some FileFailed)) s s' 2 status 3 told at (λ q. omega arith) (λ q. omega arith))
-  form name (Some FileTooLarge) fit cause told at = absurd (another (line_of name (Some FileTooLarge)) s s' 2 status 3 told at (λ q. omega arith) (λ q. omega arith))
-  form name (Some FileForm) fit cause told at =
-      let whole = told-whole (line_of name (Some FileForm)) s s' 3 status told (λ nine. absurd (omega arith)) in
-      record { name = name; words = fit; asked = cause.1; bytes = cause.0; content = cause.2; none = cause.3; line = whole.1 }
-  form name (Some ReadFailed) fit cause told at = absurd (another (line_of name (Some ReadFailed)) s s' 4 status 3 told at (λ q. omega arith) (λ q. omega arith))
-  form name (Some InputForm) fit cause told at = absurd (another (line_of name (Some InputForm)) s s' 4 status 3 told at (λ q. omega arith) (λ q. omega arith))
-  form name (Some WriteFailed) fit cause told at = absurd (another (line_of name (Some WriteFailed)) s s' 4 status 3 told at (λ q. omega arith) (λ q. omega arith))
-  form name (Some Memory) fit cause told at = absurd (another (line_of name (Some Memory)) s s' 5 status 3 told at (λ q. omega arith) (λ q. omega arith))
+  policy name None fit cause told at = absurd (another (line_of name None) s s' 0 status 3 told at (λ q. omega arith) (λ q. omega arith))
+  policy name (Some Words) fit cause told at = absurd (another (line_of name (Some Words)) s s' 1 status 3 told at (λ q. omega arith) (λ q. omega arith))
+  policy name (Some FileFailed) fit cause told at = absurd (another (line_of name (Some FileFailed)) s s' 2 status 3 told at (λ q. omega arith) (λ q. omega arith))
+  policy name (Some FileTooLarge) fit cause told at = absurd (another (line_of name (Some FileTooLarge)) s s' 2 status 3 told at (λ q. omega arith) (λ q. omega arith))
+  policy name (Some (Policy n fault)) fit cause told at =
+      let whole = told-whole (line_of name (Some (Policy n fault))) s s' 3 status told (λ nine. absurd (omega arith)) in
+      record { name = name; words = fit; asked = cause.1; bytes = cause.0; content = cause.2; fault = inl (n, fault, cause.3, whole.1) }
+  policy name (Some (Limit n word count)) fit cause told at =
+      let whole = told-whole (line_of name (Some (Limit n word count))) s s' 3 status told (λ nine. absurd (omega arith)) in
+      record { name = name; words = fit; asked = cause.1; bytes = cause.0; content = cause.2; fault = inr (n, word, count, cause.3, whole.1) }
+  policy name (Some ReadFailed) fit cause told at = absurd (another (line_of name (Some ReadFailed)) s s' 4 status 3 told at (λ q. omega arith) (λ q. omega arith))
+  policy name (Some InputForm) fit cause told at = absurd (another (line_of name (Some InputForm)) s s' 4 status 3 told at (λ q. omega arith) (λ q. omega arith))
+  policy name (Some WriteFailed) fit cause told at = absurd (another (line_of name (Some WriteFailed)) s s' 4 status 3 told at (λ q. omega arith) (λ q. omega arith))
+  policy name (Some Memory) fit cause told at = absurd (another (line_of name (Some Memory)) s s' 5 status 3 told at (λ q. omega arith) (λ q. omega arith))
 
-  pub run-form : IsRun given f f' o o' s s' status → status ≡ 3 →
+  pub run-policy : IsRun given f f' o o' s s' status → status ≡ 3 →
       IsNoPolicy given f f' s s'
-  run-form r = form r.name r.due r.words r.cause r.told
+  run-policy r = policy r.name r.due r.words r.cause r.told
 
   link : (name : List ℕ) (due : Option Stop) → WordsFit given name due → Cause name f f' o o' due → IsTold (line_of name due) s s' (status_of due) status → status ≡ 4 →
       IsLinkFault given f f' o o' s s'
@@ -108,7 +114,8 @@ module _ (given : List (List ℕ)) (f f' : FilesSeen) (o o' : LinkSeen) (s s' : 
   link name (Some Words) fit cause told at = absurd (another (line_of name (Some Words)) s s' 1 status 4 told at (λ q. omega arith) (λ q. omega arith))
   link name (Some FileFailed) fit cause told at = absurd (another (line_of name (Some FileFailed)) s s' 2 status 4 told at (λ q. omega arith) (λ q. omega arith))
   link name (Some FileTooLarge) fit cause told at = absurd (another (line_of name (Some FileTooLarge)) s s' 2 status 4 told at (λ q. omega arith) (λ q. omega arith))
-  link name (Some FileForm) fit cause told at = absurd (another (line_of name (Some FileForm)) s s' 3 status 4 told at (λ q. omega arith) (λ q. omega arith))
+  link name (Some (Policy n fault)) fit cause told at = absurd (another (line_of name (Some (Policy n fault))) s s' 3 status 4 told at (λ q. omega arith) (λ q. omega arith))
+  link name (Some (Limit n word count)) fit cause told at = absurd (another (line_of name (Some (Limit n word count))) s s' 3 status 4 told at (λ q. omega arith) (λ q. omega arith))
   link name (Some ReadFailed) fit cause told at =
       let whole = told-whole (line_of name (Some ReadFailed)) s s' 4 status told (λ nine. absurd (omega arith)) in
       record { name = name; words = fit; fault = inl (cause, whole.1) }
@@ -130,7 +137,8 @@ module _ (given : List (List ℕ)) (f f' : FilesSeen) (o o' : LinkSeen) (s s' : 
   memory name (Some Words) fit cause told at = absurd (another (line_of name (Some Words)) s s' 1 status 5 told at (λ q. omega arith) (λ q. omega arith))
   memory name (Some FileFailed) fit cause told at = absurd (another (line_of name (Some FileFailed)) s s' 2 status 5 told at (λ q. omega arith) (λ q. omega arith))
   memory name (Some FileTooLarge) fit cause told at = absurd (another (line_of name (Some FileTooLarge)) s s' 2 status 5 told at (λ q. omega arith) (λ q. omega arith))
-  memory name (Some FileForm) fit cause told at = absurd (another (line_of name (Some FileForm)) s s' 3 status 5 told at (λ q. omega arith) (λ q. omega arith))
+  memory name (Some (Policy n fault)) fit cause told at = absurd (another (line_of name (Some (Policy n fault))) s s' 3 status 5 told at (λ q. omega arith) (λ q. omega arith))
+  memory name (Some (Limit n word count)) fit cause told at = absurd (another (line_of name (Some (Limit n word count))) s s' 3 status 5 told at (λ q. omega arith) (λ q. omega arith))
   memory name (Some ReadFailed) fit cause told at = absurd (another (line_of name (Some ReadFailed)) s s' 4 status 5 told at (λ q. omega arith) (λ q. omega arith))
   memory name (Some InputForm) fit cause told at = absurd (another (line_of name (Some InputForm)) s s' 4 status 5 told at (λ q. omega arith) (λ q. omega arith))
   memory name (Some WriteFailed) fit cause told at = absurd (another (line_of name (Some WriteFailed)) s s' 4 status 5 told at (λ q. omega arith) (λ q. omega arith))
@@ -153,7 +161,8 @@ module _ (given : List (List ℕ)) (f f' : FilesSeen) (o o' : LinkSeen) (s s' : 
   due_below_nine (Some Words) q = omega arith
   due_below_nine (Some FileFailed) q = omega arith
   due_below_nine (Some FileTooLarge) q = omega arith
-  due_below_nine (Some FileForm) q = omega arith
+  due_below_nine (Some (Policy n fault)) q = omega arith
+  due_below_nine (Some (Limit n word count)) q = omega arith
   due_below_nine (Some ReadFailed) q = omega arith
   due_below_nine (Some InputForm) q = omega arith
   due_below_nine (Some WriteFailed) q = omega arith
@@ -168,7 +177,8 @@ module _ (given : List (List ℕ)) (f f' : FilesSeen) (o o' : LinkSeen) (s s' : 
   refused name (Some Words) fit told none = due_or_nine (line_of name (Some Words)) s s' 1 status told
   refused name (Some FileFailed) fit told none = absurd (none name fit)
   refused name (Some FileTooLarge) fit told none = absurd (none name fit)
-  refused name (Some FileForm) fit told none = absurd (none name fit)
+  refused name (Some (Policy n fault)) fit told none = absurd (none name fit)
+  refused name (Some (Limit n word count)) fit told none = absurd (none name fit)
   refused name (Some ReadFailed) fit told none = absurd (none name fit)
   refused name (Some InputForm) fit told none = absurd (none name fit)
   refused name (Some WriteFailed) fit told none = absurd (none name fit)
@@ -182,7 +192,8 @@ module _ (given : List (List ℕ)) (f f' : FilesSeen) (o o' : LinkSeen) (s s' : 
   asks name (Some Words) fit cause = inl (ap (λ (g : FilesSeen). g.asked) cause.0)
   asks name (Some FileFailed) fit cause = inr (name, fit, cause.0)
   asks name (Some FileTooLarge) fit cause = inr (name, fit, cause.0)
-  asks name (Some FileForm) fit cause = inr (name, fit, cause.1)
+  asks name (Some (Policy n fault)) fit cause = inr (name, fit, cause.1)
+  asks name (Some (Limit n word count)) fit cause = inr (name, fit, cause.1)
   asks name (Some ReadFailed) fit cause = inr (name, fit, cause.asked)
   asks name (Some InputForm) fit cause = inr (name, fit, cause.asked)
   asks name (Some WriteFailed) fit cause = inr (name, fit, cause.asked)

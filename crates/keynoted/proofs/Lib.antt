@@ -3,9 +3,9 @@ pub mod Values
 pub mod Session
 pub mod Loaded
 pub mod Answered
-pub mod Small
 pub mod AskWords
 pub mod Printed
+pub mod Told
 pub mod Read
 pub mod Due
 pub mod Ended

@@ -1,9 +1,10 @@
 -- The first line of a text.
-use Rattle.std.proofs.Common.{◌≡◌, ◌≢◌, ℕ, Bool, not, true, false, eqb, List, [], ◌∷◌, ◌++◌, length, take, arith, All, sym, ap, ◌∙◌}
+use Rattle.std.proofs.Common.{◌≡◌, ◌≢◌, ℕ, ◌+◌, suc, Bool, not, true, false, eqb, List, [], ◌∷◌, ◌++◌, length, take, arith, All, refl, sym, ap, ◌∙◌, ⊎_elim}
+use Rattle.std.specs.List.{list_any}
 use Rattle.std.proofs.Math.Seq.{take-append_seam}
 use Rattle.std.proofs.lemmas.List.{append_cancel_left}
 use Rattle.std.specs.Str.{bytes_eq}
-use Rattle.std.proofs.lemmas.Bool.{false≢true}
+use Rattle.std.proofs.lemmas.Bool.{false≢true, cases_Bool}
 use Rattle.std.proofs.lemmas.Slice.Eq.{bytes_eq-Decides}
 use Rattle.std.proofs.lemmas.List.Sums.{position_or_len_is}
 use Rattle.kn_meaning.specs.Requests.{is_newline, line_length}
@@ -12,6 +13,14 @@ use Rattle.kn_meaning.proofs.Lines.{line_length-newline}
 -- a text without a newline
 pub line_length-clean : (xs : List ℕ) → All (λ b. is_newline b ≡ false) xs → line_length xs ≡ length xs
 line_length-clean xs clean = position_or_len_is is_newline xs (length xs) 0 (omega arith) (λ k below. clean k 0 below) (λ past. absurd (omega arith))
+
+pub clean_line : (xs : List ℕ) → line_length xs ≡ length xs → list_any is_newline xs ≡ false
+clean_line [] h = refl
+clean_line (b ∷ xs) h =
+    ⊎_elim
+    (λ (e : is_newline b ≡ true). let at : 0 ≡ suc (length xs) = rw e at h in absurd (omega arith))
+    (λ (e : is_newline b ≡ false). let at : 1 + line_length xs ≡ suc (length xs) = rw e at h in let rest : line_length xs ≡ length xs = omega arith in rw (e, clean_line xs rest) refl)
+    (cases_Bool (is_newline b))
 
 -- a text has one first line, and one rest
 pub lines_agree : (x y r s : List ℕ) → line_length x ≡ length x → line_length y ≡ length y → x ++ 10 ∷ r ≡ y ++ 10 ∷ s → (x ≡ y) × (r ≡ s)

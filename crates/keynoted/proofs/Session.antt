@@ -4,18 +4,20 @@ use Rattle.std.specs.Prelude.{flat_map}
 use Rattle.std.specs.List.{AllByRecursion, join_with_byte}
 use Rattle.std.proofs.lemmas.List.{append_cancel_left}
 use Rattle.std.proofs.lemmas.Grind.{flat_map-append}
+use Rattle.kn_principal.specs.Principals.{normal_form}
 use Rattle.kn_meaning.specs.declared.script.Ask.{Ask}
 use Rattle.kn_meaning.specs.declared.script.Ask.TheVariants.{Auth, Query}
 use Rattle.kn_meaning.specs.declared.script.Script.{Script}
 use Rattle.kn_meaning.specs.FirstInput.{ask_line, ask_text, bye_text, named_by, count_different, NamesRightly, IsAsk, IsFirstInput}
 use Rattle.kn_meaning.specs.Names.{values_of}
 use Rattle.kn_meaning.specs.Requests.{line_length}
-use Rattle.kn_meaning.proofs.Asked.{ask_line-plain, line_in_front}
+use Rattle.kn_meaning.proofs.Asked.{line_in_front}
 use Rattle.kn_meaning.proofs.Different.{count_different_longer}
-use Rattle.kn_meaning.proofs.Lines.{line_length-plain, line_length-newline}
+use Rattle.kn_meaning.proofs.LineLengths.{line_length_all}
+use Rattle.kn_meaning.proofs.Lines.{line_length-newline}
 use Rattle.keynoted.specs.Answering.{AreEntered}
 use Rattle.keynoted.specs.Session.{IsSession, noted}
-use Rattle.keynoted.proofs.Answered.{entered-one}
+use Rattle.keynoted.proofs.Answered.{entered-one, names_another}
 use Rattle.keynoted.proofs.Lines.{lines_agree}
 
 Some-same : (v w : List (List ℕ)) → Some v ≡ Some w → v ≡ w
@@ -37,7 +39,7 @@ ask_line-same (Query v) (Query w) h k e =
     ap Query (Some-same v w (sym h.names ∙ ap values_of text ∙ k.names))
 
 ask_line-clean : (a : Ask) → IsAsk a → line_length (ask_line a) ≡ length (ask_line a)
-ask_line-clean a h = line_length-plain (ask_line a) (ask_line-plain a h)
+ask_line-clean a h = line_length_all (ask_line a) h.one_line
 
 no_lines : (line behind : List ℕ) → line ++ 10 ∷ behind ≢ []
 no_lines [] behind e = cc
@@ -102,7 +104,7 @@ pub record IsRead (lines : List ℕ) (asks : List Ask) (names : List (List ℕ))
   pub few : length names ≤ 64
 
 noted-entered : (names : List (List ℕ)) (asks : List Ask) (ask : Ask) → NamesRightly ask → AreEntered (flat_map named_by asks) names → AreEntered (flat_map named_by (asks ++ ask ∷ [])) (noted names ask)
-noted-entered names asks (Auth p) rightly h = rw (flat_map-append named_by asks (Auth p ∷ [])) (entered-one (flat_map named_by asks) names p rightly.1 h)
+noted-entered names asks (Auth p) rightly h = rw (flat_map-append named_by asks (Auth p ∷ [])) (entered-one (flat_map named_by asks) names (normal_form p) (names_another p rightly) h)
 noted-entered names asks (Query v) rightly h = rw (flat_map-append named_by asks (Query v ∷ []), append-nil) h
 
 -- the beginning

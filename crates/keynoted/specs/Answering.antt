@@ -2,8 +2,8 @@
 use Rattle.std.specs.Prelude.{ℕ, ◌≡◌, ◌≢◌, ◌-◌, false, List, [], ◌∷◌, ◌++◌, length, flat_map, map, codes, slice_index_or, All, if◌then◌else◌}
 use Rattle.std.specs.List.{list_any}
 use Rattle.std.specs.Str.{bytes_eq}
-use Rattle.kn_assert.specs.Principals.{policy}
-use Rattle.kn_assert.specs.declared.assertion.Assertion.{Assertion}
+use Rattle.kn_trees.specs.declared.assertion.Assertion.{Assertion}
+use Rattle.kn_principal.specs.Principals.{policy, normal_form}
 use Rattle.kn_meaning.specs.declared.update.Update.{Update}
 use Rattle.kn_meaning.specs.declared.script.Ask.{Ask}
 use Rattle.kn_meaning.specs.declared.script.Ask.TheVariants.{Auth, Query}
@@ -38,7 +38,7 @@ with_requester requesters name = if list_any (bytes_eq name) requesters then req
 
 -- one line is answered: what it makes of the requesters, and what is written for it
 abbrev pub Answers : List Assertion → Ask → List (List ℕ) → List (List ℕ) → List ℕ → Type 0
-Answers assertions (Auth name) old new text = (new ≡ with_requester old name) × (text ≡ codes "OK\n")
+Answers assertions (Auth name) old new text = (new ≡ with_requester old (normal_form name)) × (text ≡ codes "OK\n")
 Answers assertions (Query values) old new text = (new ≡ old) × (level : ℕ) × IsPolicyLevel (query_of assertions old (length values)) level
     × (text ≡ reply_text (Value level (slice_index_or values level []) (length assertions) []))
 

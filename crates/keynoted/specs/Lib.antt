@@ -1,3 +1,4 @@
 pub mod Session
+pub mod Loaded
 pub mod Answering
 pub mod Running

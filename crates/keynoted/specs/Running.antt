@@ -1,16 +1,21 @@
 -- How a run of the program ends: its status, the line that it prints, and what it leaves.
-use Rattle.std.specs.Prelude.{ℕ, ◌≡◌, ◌<◌, ◌≤◌, List, [], ◌∷◌, ◌++◌, length, take, codes, Option, Some, None, IfSome, IsSomeAnd, ◌⊎◌}
+use Rattle.std.specs.Prelude.{ℕ, ◌≡◌, ◌<◌, ◌≤◌, List, [], ◌∷◌, ◌++◌, length, take, codes, decimal, Option, Some, None, IfSome, IsSomeAnd, ◌⊎◌}
+use Rattle.std.specs.Option.{unwrap_or}
 use Rattle.kn_base.specs.declared.limits.TheConstants.{FILE_BYTES}
 use Rattle.kn_outside.specs.Told.{more, before}
 use Rattle.kn_outside.specs.Faults.{Rose}
-use Rattle.kn_assert.specs.declared.assertion.Assertion.{Assertion}
-use Rattle.kn_assert.specs.FirstForm.{IsFirstForm, HasFirstForm}
-use Rattle.kn_assert.specs.Files.{pieces_of}
+use Rattle.kn_assert.specs.declared.fault.ReadFault.{ReadFault}
+use Rattle.kn_assert.specs.Faults.{fault_number, fault_place}
+use Rattle.kn_files.specs.Pieces.{pieces_of}
+use Rattle.kn_meaning.specs.declared.refusal.LimitWord.{LimitWord}
+use Rattle.kn_meaning.specs.Replies.{word_text}
+use Rattle.kn_meaning.specs.Loading.{IsLoadable, IsFaultyAt}
 use Rattle.kn_meaning.specs.declared.script.Script.{Script}
 use Rattle.kn_meaning.specs.FirstInput.{IsFirstInput}
 use Rattle.kn_meaning.specs.Asked.{IsAsked}
+use Rattle.keynoted.specs.Loaded.{IsLimitAt}
 use Rattle.keynoted.specs.declared.stop.Stop.{Stop}
-use Rattle.keynoted.specs.declared.stop.Stop.TheVariants.{Words, FileFailed, FileTooLarge, FileForm, ReadFailed, InputForm, WriteFailed, Memory}
+use Rattle.keynoted.specs.declared.stop.Stop.TheVariants.{Words, FileFailed, FileTooLarge, Policy, Limit, ReadFailed, InputForm, WriteFailed, Memory}
 
 -- what is seen of files: their contents where they are told, the names that were asked for, and how many reads failed
 pub record FilesSeen : Type 0 where
@@ -58,11 +63,10 @@ pub record IsWrongInput (old new : LinkSeen) (input : List ℕ) : Type 0 where
   pub read : IsRead old new input
   pub wrong : (IfSome new.left (λ left. left ≡ []) × ((script : Option Script) → IsFirstInput input script → ⊥)) ⊎ (65536 < length input)
 
--- a policy file of the first form
+-- a policy file whose assertions make a history
 pub record IsPolicy (files : FilesSeen) (name bytes : List ℕ) : Type 0 where
   pub content : HasContent files name bytes
-  pub assertions : List Assertion
-  pub form : IsFirstForm bytes assertions
+  pub loadable : IsLoadable (pieces_of bytes)
 
 -- the reply to the whole input over the policy file of these bytes
 pub record IsDue (bytes : List ℕ) (old new : LinkSeen) (reply : List ℕ) : Type 0 where
@@ -82,7 +86,8 @@ Answering bytes o o' (Some Memory) = o'.written ≡ o.written
 Answering bytes o o' (Some Words) = ⊥
 Answering bytes o o' (Some FileFailed) = ⊥
 Answering bytes o o' (Some FileTooLarge) = ⊥
-Answering bytes o o' (Some FileForm) = ⊥
+Answering bytes o o' (Some (Policy n fault)) = ⊥
+Answering bytes o o' (Some (Limit n word count)) = ⊥
 
 -- the file of this name was asked for, and it is the policy over which the link was answered
 pub record IsAnswering (name : List ℕ) (f f' : FilesSeen) (o o' : LinkSeen) (due : Option Stop) : Type 0 where
@@ -96,8 +101,10 @@ abbrev pub Cause : List ℕ → FilesSeen → FilesSeen → LinkSeen → LinkSee
 Cause name f f' o o' (Some Words) = (f' ≡ f) × (o' ≡ o)
 Cause name f f' o o' (Some FileFailed) = (f'.asked ≡ f.asked ++ name ∷ []) × Rose f.faults f'.faults × (o' ≡ o)
 Cause name f f' o o' (Some FileTooLarge) = (f'.asked ≡ f.asked ++ name ∷ []) × IsTooLarge f name × (o' ≡ o)
-Cause name f f' o o' (Some FileForm) = (bytes : List ℕ) × (f'.asked ≡ f.asked ++ name ∷ []) × HasContent f name bytes
-    × (HasFirstForm bytes → ⊥) × (o' ≡ o)
+Cause name f f' o o' (Some (Policy n fault)) = (bytes : List ℕ) × (f'.asked ≡ f.asked ++ name ∷ []) × HasContent f name bytes
+    × IsFaultyAt (pieces_of bytes) n fault × (o' ≡ o)
+Cause name f f' o o' (Some (Limit n word count)) = (bytes : List ℕ) × (f'.asked ≡ f.asked ++ name ∷ []) × HasContent f name bytes
+    × IsLimitAt (pieces_of bytes) n word count × (o' ≡ o)
 Cause name f f' o o' (Some ReadFailed) = IsAnswering name f f' o o' (Some ReadFailed)
 Cause name f f' o o' (Some InputForm) = IsAnswering name f f' o o' (Some InputForm)
 Cause name f f' o o' (Some WriteFailed) = IsAnswering name f f' o o' (Some WriteFailed)
@@ -115,11 +122,22 @@ status_of None = 0
 status_of (Some Words) = 1
 status_of (Some FileFailed) = 2
 status_of (Some FileTooLarge) = 2
-status_of (Some FileForm) = 3
+status_of (Some (Policy n fault)) = 3
+status_of (Some (Limit n word count)) = 3
 status_of (Some ReadFailed) = 4
 status_of (Some InputForm) = 4
 status_of (Some WriteFailed) = 4
 status_of (Some Memory) = 5
+
+-- the line that tells a fault of the n-th assertion of a policy file; want of memory has no number, and is told otherwise
+unfoldable pub fault_line : List ℕ → ℕ → ReadFault → List ℕ
+fault_line name n fault =
+    codes "error policy " ++ name ++ codes " " ++ decimal n ++ codes " " ++ decimal (unwrap_or (fault_number fault) 0) ++ codes " " ++ decimal (fault_place fault) ++ codes "\n"
+
+-- the line that tells which limit refuses the n-th assertion of a policy file
+unfoldable pub limit_line : List ℕ → ℕ → LimitWord → ℕ → List ℕ
+limit_line name n word count =
+    codes "error policy " ++ name ++ codes " " ++ decimal n ++ codes " limit " ++ word_text word ++ codes " " ++ decimal count ++ codes "\n"
 
 -- the line that is due, with the name of the file
 abbrev pub line_of : List ℕ → Option Stop → List ℕ
@@ -127,7 +145,8 @@ line_of name None = []
 line_of name (Some Words) = codes "error words\n"
 line_of name (Some FileFailed) = codes "error file " ++ name ++ codes " read\n"
 line_of name (Some FileTooLarge) = codes "error file " ++ name ++ codes " large\n"
-line_of name (Some FileForm) = codes "error form " ++ name ++ codes "\n"
+line_of name (Some (Policy n fault)) = fault_line name n fault
+line_of name (Some (Limit n word count)) = limit_line name n word count
 line_of name (Some ReadFailed) = codes "error link read\n"
 line_of name (Some InputForm) = codes "error link form\n"
 line_of name (Some WriteFailed) = codes "error link write\n"
@@ -167,15 +186,15 @@ pub record IsFileFault (given : List (List ℕ)) (f f' : FilesSeen) (s s' : Sink
   pub fault : (Rose f.faults f'.faults × (s'.written ≡ more (codes "error file " ++ name ++ codes " read\n") s.written))
       ⊎ (IsTooLarge f name × (s'.written ≡ more (codes "error file " ++ name ++ codes " large\n") s.written))
 
--- status 3: the file hasn't the first policy form
+-- status 3: an assertion of the file has a fault, or a limit refuses it
 pub record IsNoPolicy (given : List (List ℕ)) (f f' : FilesSeen) (s s' : SinkSeen) : Type 0 where
   pub name : List ℕ
   pub words : AskFor given name
   pub asked : f'.asked ≡ f.asked ++ name ∷ []
   pub bytes : List ℕ
   pub content : HasContent f name bytes
-  pub none : HasFirstForm bytes → ⊥
-  pub line : s'.written ≡ more (codes "error form " ++ name ++ codes "\n") s.written
+  pub fault : ((n : ℕ) × (fault : ReadFault) × IsFaultyAt (pieces_of bytes) n fault × (s'.written ≡ more (fault_line name n fault) s.written))
+      ⊎ ((n : ℕ) × (word : LimitWord) × (count : ℕ) × IsLimitAt (pieces_of bytes) n word count × (s'.written ≡ more (limit_line name n word count) s.written))
 
 -- status 4: reading or writing the link failed, or its input hasn't the first form
 pub record IsLinkFault (given : List (List ℕ)) (f f' : FilesSeen) (o o' : LinkSeen) (s s' : SinkSeen) : Type 0 where

@@ -1,6 +1,7 @@
 -- An input of the first form behind its first line (keynoted's own).
 use Rattle.std.specs.Prelude.{ℕ, ◌≡◌, ◌≤◌, List, ◌++◌, flat_map}
 use Rattle.std.specs.List.{AllByRecursion}
+use Rattle.kn_principal.specs.Principals.{normal_form}
 use Rattle.kn_meaning.specs.declared.script.Ask.{Ask}
 use Rattle.kn_meaning.specs.declared.script.Ask.TheVariants.{Auth, Query}
 use Rattle.kn_meaning.specs.declared.script.Script.{Script}
@@ -13,7 +14,7 @@ pub record IsSession (lines : List ℕ) (script : Script) : Type 0 where
   pub asks : AllByRecursion IsAsk script.asks
   pub principals : count_different (flat_map named_by script.asks) ≤ 64
 
--- the different names so far, and the one that a line names if it is new
+-- the different names so far, and the normal form of the one that a line names if it is new
 abbrev pub noted : List (List ℕ) → Ask → List (List ℕ)
-noted names (Auth principal) = with_requester names principal
+noted names (Auth principal) = with_requester names (normal_form principal)
 noted names (Query values) = names

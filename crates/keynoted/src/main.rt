@@ -1,10 +1,13 @@
 //! keynoted: may these principals do this?
 #![tactic(auto)]
 
+mod line;
+mod load;
 mod real;
 #[cfg(test)]
 mod real_tests;
 mod replies;
+mod requesters;
 mod run;
 #[cfg(test)]
 mod run_tests;

@@ -2,15 +2,16 @@
 ghost use Rattle.std.specs.Prelude.{◌≡◌, ◌≤◌, ◌<◌, ◌+◌, ◌-◌, ◌^◌, ◌++◌, [], ℕ, false, length, All, slice_index_or, Some, OnOk, IfOk, List as Of};
 ghost use Rattle.std.specs.List.{list_any};
 ghost use Rattle.std.specs.Str.{bytes_eq};
-ghost use Rattle.kn_assert.specs.Principals.{policy};
+ghost use Rattle.kn_principal.specs.Principals.{policy};
 ghost use Rattle.kn_meaning.specs.declared.update.Update.{Update};
 ghost use Rattle.kn_meaning.specs.FirstInput.{IsAsk, IsScript, IsFirstInput, requests_of};
 ghost use Rattle.kn_meaning.specs.Equations.{IsPolicyLevel};
 ghost use Rattle.kn_meaning.specs.Asked.{IsAnswered};
 ghost use Rattle.kn_meaning.specs.Replies as R;
-ghost use Rattle.keynoted.specs.Answering.{IsMadeBy, query_of, with_requester, Answers};
-ghost use Rattle.kn_levels.specs.Sizes.{IsOfFirstForm, total_size};
+ghost use Rattle.keynoted.specs.Answering.{IsMadeBy, query_of, Answers};
+ghost use Rattle.kn_levels.specs.Sizes.{IsReadableAssertion, total_size};
 
+use crate::requesters::enter;
 use crate::text::push_number;
 use kn_assert::Assertion;
 use kn_base::{List, NoMemory, Octets};
@@ -24,7 +25,7 @@ pub(crate) fn replies(
     assertions: &List<Assertion>,
     script: &Option<Script>,
 ) -> Result<Octets, NoMemory>
-    requires first { All IsOfFirstForm assertions.now }
+    requires readable { All IsReadableAssertion assertions.now }
     requires small { 65 + total_size assertions.now < 2 ^ 24 }
     requires right { (input : Of ℕ) × IsFirstInput input script.now }
     ensures { (history : Of Update) → IsMadeBy history assertions.now
@@ -42,7 +43,7 @@ fn session_replies(
     assertions: &List<Assertion>,
     script: &Script,
 ) -> Result<Octets, NoMemory>
-    requires first { All IsOfFirstForm assertions.now }
+    requires readable { All IsReadableAssertion assertions.now }
     requires small { 65 + total_size assertions.now < 2 ^ 24 }
     requires right { (input : Of ℕ) × IsScript input script.now }
     ensures { (history : Of Update) → IsMadeBy history assertions.now
@@ -78,7 +79,7 @@ fn push_answer(
     ask: &Ask,
     out: &mut Octets,
 ) -> Result<(), NoMemory>
-    requires first { All IsOfFirstForm assertions.now }
+    requires readable { All IsReadableAssertion assertions.now }
     requires small { 65 + total_size assertions.now < 2 ^ 24 }
     requires right { IsAsk ask.now }
     requires few { length requesters.old ≤ 64 }
@@ -88,7 +89,7 @@ fn push_answer(
 {
     match ask {
         Ask::Auth(name) => {
-            enter(alloc, requesters, name)?;
+            enter(alloc, requesters, name.as_slice())?;
             out.extend(b"OK\n")
         }
         Ask::Query(values) => push_query(alloc, assertions, requesters, values, out),
@@ -103,7 +104,7 @@ fn push_query(
     values: &List<Octets>,
     out: &mut Octets,
 ) -> Result<(), NoMemory>
-    requires first { All IsOfFirstForm assertions.now }
+    requires readable { All IsReadableAssertion assertions.now }
     requires small { 65 + total_size assertions.now < 2 ^ 24 }
     requires at_least_two { 2 ≤ length values.now }
     requires at_most { length values.now ≤ 64 }
@@ -129,27 +130,4 @@ fn push_value(out: &mut Octets, level: u8, name: &[u8], version: u32) -> Result<
     push_number(out, version)?;
     out.extend(b" 0\nEND\n")?;
     Ok(())
-}
-
-/// Adds a requester, unless it is there.
-fn enter(alloc: Global, requesters: &mut List<Octets>, name: &Octets) -> Result<(), NoMemory>
-    ensures { OnOk result (requesters.new ≡ with_requester requesters.old name.now) }
-{
-    if is_among(requesters, name) {
-        return Ok(());
-    }
-    let name = Octets::from_slice(alloc, name.as_slice())?;
-    match requesters.push(name) {
-        Ok(()) => Ok(()),
-        Err(_) => Err(NoMemory),
-    }
-}
-
-fn is_among(names: &List<Octets>, name: &Octets) -> bool
-    ensures { result ≡ list_any (bytes_eq name.now) names.now }
-{
-    names
-        .as_slice()
-        .iter()
-        .any(|other| name.as_slice() == other.as_slice())
 }

@@ -1,24 +1,30 @@
 //! The program over whatever files, link and output it is given.
-ghost use Rattle.std.specs.Prelude.{◌≡◌, ◌≢◌, ◌<◌, ◌≤◌, ◌∷◌, ◌++◌, [], ℕ, Some, codes, List, Option as Maybe, ◌⊎◌, length, take, OnOk, OnErr, IfOk, IfErr, IfSome, IfNone};
+ghost use Rattle.std.specs.Prelude.{◌≡◌, ◌≢◌, ◌<◌, ◌≤◌, ◌∷◌, ◌++◌, [], ℕ, Some, codes, List, Option as Maybe, ◌⊎◌, ◌+◌, ◌^◌, length, All, IfOk, IfErr, IfSome, IfNone};
 ghost use Rattle.std.specs.Result.{IsErrOf, result_err};
 ghost use Rattle.kn_outside.specs.Told.{more};
 ghost use Rattle.kn_outside.specs.Faults.{Rose};
-ghost use Rattle.kn_assert.specs.FirstForm.{IsFirstForm, HasFirstForm};
-ghost use Rattle.kn_assert.specs.Files.{pieces_of};
+ghost use Rattle.kn_files.specs.Pieces.{pieces_of};
+ghost use Rattle.kn_assert.specs.declared.fault.ReadFault.{ReadFault};
+ghost use Rattle.kn_levels.specs.Sizes.{IsReadableAssertion, total_size};
 ghost use Rattle.kn_meaning.specs.FirstInput.{IsFirstInput, requests_of};
 ghost use Rattle.kn_meaning.specs.History.{loaded_history};
 ghost use Rattle.kn_meaning.specs.Asked.{IsAnswered};
-ghost use Rattle.keynoted.specs.Running.{AskFor, Answering, Cause, line_of, status_of, IsTold, IsRun, IsRead, IsDone, IsRefused, IsFileFault, IsNoPolicy, IsLinkFault, IsFront};
+ghost use Rattle.kn_meaning.specs.Loading.{IsLoadable, IsFaultyAt};
+ghost use Rattle.kn_meaning.specs.declared.refusal.LimitWord.{LimitWord};
+ghost use Rattle.keynoted.specs.Loaded.{IsLoaded, IsLimitAt};
+ghost use Rattle.keynoted.specs.Running.{AskFor, Answering, Cause, line_of, fault_line, limit_line, status_of, IsTold, IsRun, IsRead, IsDone, IsRefused, IsFileFault, IsNoPolicy, IsLinkFault, IsFront};
 ghost use Rattle.kn_meaning.specs.declared.script.Script.{Script};
 ghost use Rattle.keynoted.specs.declared.stop.Stop.TheVariants as S;
 
+use crate::line::print_line;
+use crate::load::load;
 use crate::replies::replies;
 use crate::script::{INPUT_BYTES, ScriptFault, read_script};
 use crate::stop::Stop;
-use kn_assert::{Assertion, FirstFault, first_form, laws};
+use kn_assert::Assertion;
 use kn_base::limits::FILE_BYTES;
 use kn_base::{List, NoMemory, Octets};
-use kn_meaning::laws as requests;
+use kn_meaning::laws;
 use kn_outside::{Failed, FileFault, Files, Link, Sink, write_all};
 use std::alloc::Global;
 
@@ -31,18 +37,6 @@ fn policy_name(words: &[Octets]) -> Option<&Octets>
         return None;
     }
     Some(&words[1])
-}
-
-/// The assertions of the policy in an opened file.
-fn read_policy(alloc: Global, file: &Octets) -> Result<List<Assertion>, Stop>
-    ensures ok { IfOk result (λ assertions. IsFirstForm file.now assertions) }
-    ensures err { IfErr result (λ stop. (stop ≡ S.Memory) ⊎ ((stop ≡ S.FileForm) × ¬ HasFirstForm file.now)) }
-{
-    match first_form(alloc, file.as_slice()) {
-        Ok(assertions) => Ok(assertions),
-        Err(FirstFault::Form) => Err(Stop::FileForm),
-        Err(FirstFault::NoMemory) => Err(Stop::Memory),
-    }
 }
 
 /// The input of a link, to its end or past the bytes that an input may have.
@@ -79,12 +73,12 @@ fn reply_to(
     assertions: &List<Assertion>,
     input: &Octets,
 ) -> Result<Octets, Stop>
-    requires policy { IsFirstForm file.now assertions.now }
-    requires size { length file.now ≤ FILE_BYTES }
+    requires loaded { IsLoaded (pieces_of file.now) assertions.now }
+    requires readable { All IsReadableAssertion assertions.now }
+    requires small { 65 + total_size assertions.now < 2 ^ 24 }
     ensures ok { IfOk result (λ reply. (script : Maybe Script) × IsFirstInput input.now script × IsAnswered (loaded_history (pieces_of file.now)) (requests_of script) reply) }
     ensures err { IfErr result (λ stop. (stop ≡ S.Memory) ⊎ ((stop ≡ S.InputForm) × ((script : Maybe Script) → IsFirstInput input.now script → ⊥))) }
 {
-    laws::texts_of_file();
     let script = match read_script(alloc, input.as_slice()) {
         Ok(script) => script,
         Err(ScriptFault::Form) => return Err(Stop::InputForm),
@@ -103,14 +97,15 @@ fn answer<L: Link>(
     assertions: &List<Assertion>,
     own: &mut L,
 ) -> Result<(), Stop>
-    requires policy { IsFirstForm file.now assertions.now }
-    requires size { length file.now ≤ FILE_BYTES }
+    requires loaded { IsLoaded (pieces_of file.now) assertions.now }
+    requires readable { All IsReadableAssertion assertions.now }
+    requires small { 65 + total_size assertions.now < 2 ^ 24 }
     ensures { Answering file.now
         (record { written = L.written own.old; taken = L.taken own.old; left = L.left own.old; faults = L.faults own.old })
         (record { written = L.written own.new; taken = L.taken own.new; left = L.left own.new; faults = L.faults own.new })
         (result_err result) }
 {
-    requests::input_is_taken();
+    laws::input_is_taken();
     let input = read_input(alloc, own)?;
     let reply = reply_to(alloc, file, assertions, &input)?;
     match write_all(own, reply.as_slice()) {
@@ -141,40 +136,11 @@ fn ask<F: Files, L: Link>(
         Err(FileFault::TooLarge) => return Err(Stop::FileTooLarge),
         Err(FileFault::NoMemory) => return Err(Stop::Memory),
     };
-    let assertions = read_policy(alloc, &file)?;
+    let assertions = match load(alloc, file.as_slice()) {
+        Ok(assertions) => assertions,
+        Err(stop) => return Err(stop),
+    };
     answer(alloc, &file, &assertions, own)
-}
-
-/// Prints a line that begins and ends so, round a name.
-fn print_named<O: Sink>(out: &mut O, front: &[u8], name: &[u8], end: &[u8]) -> Result<(), Failed>
-    ensures ok { OnOk result (O.written out.new ≡ more (front.now ++ name.now ++ end.now) (O.written out.old)) }
-    ensures err { OnErr result ((n : ℕ) × (n < length (front.now ++ name.now ++ end.now))
-        × (O.written out.new ≡ more (take n (front.now ++ name.now ++ end.now)) (O.written out.old))) }
-    ensures failed { OnErr result (Rose (O.faults out.old) (O.faults out.new)) }
-{
-    write_all(out, front)?;
-    write_all(out, name)?;
-    write_all(out, end)?;
-    Ok(())
-}
-
-/// Prints the line of what stopped the program.
-fn print_line<O: Sink>(out: &mut O, stop: Stop, name: &[u8]) -> Result<(), Failed>
-    ensures ok { OnOk result (O.written out.new ≡ more (line_of name.now (Some stop)) (O.written out.old)) }
-    ensures err { OnErr result ((n : ℕ) × (n < length (line_of name.now (Some stop)))
-        × (O.written out.new ≡ more (take n (line_of name.now (Some stop))) (O.written out.old))) }
-    ensures failed { OnErr result (Rose (O.faults out.old) (O.faults out.new)) }
-{
-    match stop {
-        Stop::Words => write_all(out, b"error words\n"),
-        Stop::FileFailed => print_named(out, b"error file ", name, b" read\n"),
-        Stop::FileTooLarge => print_named(out, b"error file ", name, b" large\n"),
-        Stop::FileForm => print_named(out, b"error form ", name, b"\n"),
-        Stop::ReadFailed => write_all(out, b"error link read\n"),
-        Stop::InputForm => write_all(out, b"error link form\n"),
-        Stop::WriteFailed => write_all(out, b"error link write\n"),
-        Stop::Memory => write_all(out, b"error memory\n"),
-    }
 }
 
 /// Ends with the status and the line of what stopped the program, or with 9 where the line can't be written.
@@ -227,7 +193,8 @@ fn carry_out<F: Files, L: Link, O: Sink>(
 /// | 0 | none | the replies were written whole |
 /// | 1 | `error words` | the words aren't `ask` and one more |
 /// | 2 | `error file NAME read`, `error file NAME large` | the file couldn't be read, or has more than 16,777,216 bytes |
-/// | 3 | `error form NAME` | the file hasn't the first policy form |
+/// | 3 | `error policy NAME ASSERTION FAULT PLACE` | the assertion of this number, counted from 1, is the first that has a fault or that a limit refuses; it has this fault, at this place |
+/// | 3 | `error policy NAME ASSERTION limit WORD N` | the same, where it reads and a limit refuses it; N is the counted quantity before it |
 /// | 4 | `error link read`, `error link form`, `error link write` | the link failed, or its input hasn't the first form |
 /// | 5 | `error memory` | want of memory; nothing was written to `own` |
 /// | 9 | a proper front of the line | the line couldn't be written |
@@ -262,7 +229,7 @@ pub fn run<F: Files, L: Link, O: Sink>(
         (record { content = F.content files.new; asked = F.asked files.new; faults = F.faults files.new })
         (record { written = O.written out.old; faults = O.faults out.old })
         (record { written = O.written out.new; faults = O.faults out.new }) }
-    ensures form { result ≡ 3 → IsNoPolicy words.now
+    ensures policy { result ≡ 3 → IsNoPolicy words.now
         (record { content = F.content files.old; asked = F.asked files.old; faults = F.faults files.old })
         (record { content = F.content files.new; asked = F.asked files.new; faults = F.faults files.new })
         (record { written = O.written out.old; faults = O.faults out.old })
@@ -296,19 +263,23 @@ pub fn run<F: Files, L: Link, O: Sink>(
         F.content files.old ≡ Some content_of → content_of file ≡ Some bytes → FILE_BYTES < length bytes →
         ¬ Rose (F.faults files.old) (F.faults files.new) → ¬ Rose (O.faults out.old) (O.faults out.new) →
         ((result ≡ 2) × (O.written out.new ≡ more (codes "error file " ++ file ++ codes " large\n") (O.written out.old))) ⊎ (result ≡ 5) }
-    ensures no_form { (file bytes : List ℕ) (content_of : List ℕ → Maybe (List ℕ)) → AskFor words.now file →
-        F.content files.old ≡ Some content_of → content_of file ≡ Some bytes → length bytes ≤ FILE_BYTES → (HasFirstForm bytes → ⊥) →
+    ensures faulty { (file bytes : List ℕ) (content_of : List ℕ → Maybe (List ℕ)) (n : ℕ) (fault : ReadFault) → AskFor words.now file →
+        F.content files.old ≡ Some content_of → content_of file ≡ Some bytes → length bytes ≤ FILE_BYTES → IsFaultyAt (pieces_of bytes) n fault →
         ¬ Rose (F.faults files.old) (F.faults files.new) → ¬ Rose (O.faults out.old) (O.faults out.new) →
-        (result ≡ 3) ⊎ (result ≡ 5) }
+        ((result ≡ 3) × (O.written out.new ≡ more (fault_line file n fault) (O.written out.old))) ⊎ (result ≡ 5) }
+    ensures full { (file bytes : List ℕ) (content_of : List ℕ → Maybe (List ℕ)) (n : ℕ) (word : LimitWord) (count : ℕ) → AskFor words.now file →
+        F.content files.old ≡ Some content_of → content_of file ≡ Some bytes → length bytes ≤ FILE_BYTES → IsLimitAt (pieces_of bytes) n word count →
+        ¬ Rose (F.faults files.old) (F.faults files.new) → ¬ Rose (O.faults out.old) (O.faults out.new) →
+        ((result ≡ 3) × (O.written out.new ≡ more (limit_line file n word count) (O.written out.old))) ⊎ (result ≡ 5) }
     ensures wrong_input { (file bytes : List ℕ) (content_of : List ℕ → Maybe (List ℕ)) → AskFor words.now file →
-        F.content files.old ≡ Some content_of → content_of file ≡ Some bytes → length bytes ≤ FILE_BYTES → HasFirstForm bytes →
+        F.content files.old ≡ Some content_of → content_of file ≡ Some bytes → length bytes ≤ FILE_BYTES → IsLoadable (pieces_of bytes) →
         (input : List ℕ) → L.left own.old ≡ Some input → ((script : Maybe Script) → IsFirstInput input script → ⊥) →
         ¬ Rose (F.faults files.old) (F.faults files.new) → ¬ Rose (L.faults own.old) (L.faults own.new) → ¬ Rose (O.faults out.old) (O.faults out.new) →
         ((result ≡ 4) × (O.written out.new ≡ more (codes "error link form\n") (O.written out.old))) ⊎ (result ≡ 5) }
     ensures link_rose { (input : List ℕ) (script : Maybe Script) → L.left own.old ≡ Some input → IsFirstInput input script →
         result ≡ 4 → Rose (L.faults own.old) (L.faults own.new) }
     ensures complete { (file bytes input : List ℕ) (content_of : List ℕ → Maybe (List ℕ)) (script : Maybe Script) → AskFor words.now file →
-        F.content files.old ≡ Some content_of → content_of file ≡ Some bytes → length bytes ≤ FILE_BYTES → HasFirstForm bytes →
+        F.content files.old ≡ Some content_of → content_of file ≡ Some bytes → length bytes ≤ FILE_BYTES → IsLoadable (pieces_of bytes) →
         L.left own.old ≡ Some input → IsFirstInput input script →
         ¬ Rose (F.faults files.old) (F.faults files.new) → ¬ Rose (L.faults own.old) (L.faults own.new) → ¬ Rose (O.faults out.old) (O.faults out.new) →
         (result ≡ 0) ⊎ (result ≡ 5) }

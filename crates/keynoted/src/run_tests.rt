@@ -76,6 +76,17 @@ fn words(alloc: Global, first: &[u8], second: &[u8]) -> Result<List<Octets>, NoM
     }
 }
 
+// The status of a run, without what is proved of it: what follows a test's run looks through less.
+fn status_of(
+    alloc: Global,
+    words: &[Octets],
+    files: &mut MemFiles,
+    own: &mut NarrowLink,
+    out: &mut MemSink,
+) -> u8 {
+    run(alloc, words, files, own, out)
+}
+
 // `ask NAME` over one file `p.kn` of this content, each read of the link giving at most 20 bytes.
 fn run_over(
     alloc: Global,
@@ -104,7 +115,7 @@ fn run_over(
     let mut own = NarrowLink { link };
     let mut out = MemSink::of(alloc, numbers(alloc, failing.out)?);
     let words = words(alloc, b"ask", name)?;
-    let status = run(alloc, words.as_slice(), &mut files, &mut own, &mut out);
+    let status = status_of(alloc, words.as_slice(), &mut files, &mut own, &mut out);
     Ok(Outcome {
         status,
         written: Octets::from_slice(alloc, own.link.written())?,
@@ -158,17 +169,72 @@ fn a_missing_file_is_told(rt: HostRuntime) -> Result<(), Fail> {
     Ok(())
 }
 
+// The second assertion begins at byte 41 of the file; its fault is told from its own beginning.
 #[test]
-fn another_form_of_policy_is_told(rt: HostRuntime) -> Result<(), Fail> {
+fn a_fault_is_told_with_its_assertion(rt: HostRuntime) -> Result<(), Fail> {
+    let file = b"Authorizer: \"POLICY\"\nLicensees: \"alice\"\n\nAuthorizer: \"x\ny\"\n";
+    let left = run_over(rt.alloc(), b"p.kn", file, INPUT, none())?;
+    assert_eq!(rt; left.status, 3);
+    assert!(rt; left.line.as_slice() == b"error policy p.kn 2 2 12\n".as_slice());
+    assert!(rt; left.written.is_empty());
+    Ok(())
+}
+
+#[test]
+fn the_first_fault_is_told(rt: HostRuntime) -> Result<(), Fail> {
+    let file = b"Licensees: \"alice\"\n\nAuthorizer: \"x\n";
+    let left = run_over(rt.alloc(), b"p.kn", file, INPUT, none())?;
+    assert_eq!(rt; left.status, 3);
+    assert!(rt; left.line.as_slice() == b"error policy p.kn 1 12 0\n".as_slice());
+    Ok(())
+}
+
+// `ask p.kn` over so many assertions with an empty line behind each, and this text behind them.
+fn run_many(alloc: Global, count: u32, end: &[u8]) -> Result<Outcome, NoMemory> {
+    let mut file = Octets::new(alloc);
+    for _ in 0..count {
+        file.extend(POLICY)?;
+        file.extend(b"\n")?;
+    }
+    file.extend(end)?;
+    run_over(alloc, b"p.kn", file.as_slice(), INPUT, none())
+}
+
+#[test]
+fn the_most_assertions_are_taken(rt: HostRuntime) -> Result<(), Fail> {
+    let left = run_many(rt.alloc(), 2048, b"")?;
+    assert_eq!(rt; left.status, 0);
+    assert!(rt; left.written.as_slice() == b"OK 1 2048\nOK\nVALUE 1 yes 2048 0\nEND\n".as_slice());
+    Ok(())
+}
+
+#[test]
+fn one_assertion_too_many_is_told(rt: HostRuntime) -> Result<(), Fail> {
+    let left = run_many(rt.alloc(), 2049, b"")?;
+    assert_eq!(rt; left.status, 3);
+    assert!(rt; left.line.as_slice() == b"error policy p.kn 2049 limit live 2048\n".as_slice());
+    Ok(())
+}
+
+#[test]
+fn a_fault_is_told_before_a_limit(rt: HostRuntime) -> Result<(), Fail> {
+    let left = run_many(rt.alloc(), 2048, b"Licensees: \"alice\"\n")?;
+    assert_eq!(rt; left.status, 3);
+    assert!(rt; left.line.as_slice() == b"error policy p.kn 2049 12 0\n".as_slice());
+    Ok(())
+}
+
+#[test]
+fn a_requester_is_named_by_its_normal_form(rt: HostRuntime) -> Result<(), Fail> {
     let left = run_over(
         rt.alloc(),
         b"p.kn",
-        b"Authorizer: \"POLICY\"\n",
-        INPUT,
+        b"Authorizer: \"POLICY\"\nLicensees: \"rsa-hex:aB\" && \"bob\"\n",
+        b"OPEN\nAUTH 1 RSA-Hex:Ab\nAUTH 1 bob\nQUERY 1 no,yes\n",
         none(),
     )?;
-    assert_eq!(rt; left.status, 3);
-    assert!(rt; left.line.as_slice() == b"error form p.kn\n".as_slice());
+    assert_eq!(rt; left.status, 0);
+    assert!(rt; left.written.as_slice() == b"OK 1 1\nOK\nOK\nVALUE 1 yes 1 0\nEND\n".as_slice());
     Ok(())
 }
 
@@ -271,5 +337,26 @@ fn a_front_of_a_line_may_be_written(rt: HostRuntime) -> Result<(), Fail> {
     )?;
     assert_eq!(rt; later.status, 9);
     assert!(rt; later.line.as_slice() == b"error file ".as_slice());
+    Ok(())
+}
+
+// The line is written in nine parts, of which the fifth is the space before the fault's number.
+#[test]
+fn a_front_of_a_policy_line_may_be_written(rt: HostRuntime) -> Result<(), Fail> {
+    let failing = Failing {
+        file: 0,
+        link: 0,
+        out: 5,
+    };
+    let left = run_over(
+        rt.alloc(),
+        b"p.kn",
+        b"Authorizer: \"x\ny\"\n",
+        INPUT,
+        failing,
+    )?;
+    assert_eq!(rt; left.status, 9);
+    assert!(rt; left.line.as_slice() == b"error policy p.kn 1".as_slice());
+    assert!(rt; left.written.is_empty());
     Ok(())
 }

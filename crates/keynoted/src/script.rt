@@ -4,13 +4,14 @@ ghost use Rattle.std.specs.Prelude.{Option, ◌≡◌, ◌≢◌, ◌≤◌, ◌
 ghost use Rattle.std.specs.List.{list_all, list_any, join_with_byte};
 ghost use Rattle.std.specs.Result.{IsErrOf};
 ghost use Rattle.std.specs.Str.{bytes_eq};
-ghost use Rattle.kn_assert.specs.Wording.{is_principal, is_principal_byte};
-ghost use Rattle.kn_meaning.specs.FirstInput.{IsFirstInput, IsAsk, NamesRightly, ask_line};
+ghost use Rattle.kn_meaning.specs.Daemon.{is_principal};
+ghost use Rattle.kn_meaning.specs.FirstInput.{IsFirstInput, IsAsk, NamesRightly, ask_line, is_return};
 ghost use Rattle.kn_meaning.specs.Names.{values_of, between_commas, are_values, are_distinct, is_value_name};
 ghost use Rattle.kn_meaning.specs.Requests.{line_length};
 ghost use Rattle.kn_meaning.specs.declared.script.Ask.TheVariants.{Auth, Query};
 ghost use Rattle.keynoted.specs.Session.{IsSession, noted};
 
+use crate::requesters::{enter, is_among};
 use kn_base::limits::{
     COMPLIANCE_VALUE_BYTES, FEWEST_COMPLIANCE_VALUES, LINE_BYTES, MOST_COMPLIANCE_VALUES,
     PRINCIPAL_BYTES, REQUESTERS,
@@ -46,8 +47,8 @@ impl From<NoMemory> for ScriptFault {
 ///
 /// The form is keynoted's own. The input is empty, or it is the line `OPEN`, then lines `AUTH 1 principal` and
 /// `QUERY 1 names`, then `BYE` or nothing. Each line has at most 8,192 bytes and ends with a newline; the whole has at
-/// most 65,536 bytes and at most 64 different principals. A principal is one of the first policy form and isn't
-/// `POLICY`. The names are 2 to 64 different ones with commas between them, each of 1 to 128 bytes from 33 to 126.
+/// most 65,536 bytes and at most 64 different principals by their normal forms; no line ends with a carriage return. A
+/// principal has 1 to 4,096 bytes and isn't `POLICY`. The names are 2 to 64 different ones with commas between them, each of 1 to 128 bytes from 33 to 126.
 ///
 /// `Form` says that the input hasn't the form, `NoMemory` that there was no memory for what it asks.
 pub(crate) fn read_script(alloc: Global, input: &[u8]) -> Result<Option<Script>, ScriptFault>
@@ -128,15 +129,31 @@ fn ended(asks: List<Ask>, behind: &[u8]) -> Result<Script, ScriptFault>
     }
 }
 
+fn has_return(line: &[u8]) -> bool
+    ensures { result ≡ list_any is_return line.now }
+{
+    line.iter().any(|byte| *byte == b'\r')
+}
+
 /// What one line asks.
 fn asked(alloc: Global, line: &[u8]) -> Result<Ask, ScriptFault>
+    requires { line_length line.now ≡ length line.now }
     ensures line { IfOk result (λ ask. ask_line ask ≡ line.now) }
     ensures ok { IfOk result (λ ask. IsAsk ask) }
     ensures form { IsErrOf result ScriptFault.Form → (ask : Ask) → IsAsk ask → ask_line ask ≢ line.now }
 {
-    if line.len() > LINE_BYTES {
+    if line.len() > LINE_BYTES || has_return(line) {
         return Err(ScriptFault::Form);
     }
+    spelled(alloc, line)
+}
+
+/// What a line asks whose length and end are of the form.
+fn spelled(alloc: Global, line: &[u8]) -> Result<Ask, ScriptFault>
+    ensures line { IfOk result (λ ask. ask_line ask ≡ line.now) }
+    ensures ok { IfOk result (λ ask. NamesRightly ask) }
+    ensures form { IsErrOf result ScriptFault.Form → (ask : Ask) → NamesRightly ask → ask_line ask ≢ line.now }
+{
     if let Some(name) = line.strip_prefix(b"AUTH 1 ") {
         return Ok(Ask::Auth(principal(alloc, name)?));
     }
@@ -152,7 +169,7 @@ fn principal(alloc: Global, name: &[u8]) -> Result<Octets, ScriptFault>
     ensures ok { IfOk result (λ principal. NamesRightly (Auth principal)) }
     ensures form { IsErrOf result ScriptFault.Form → ¬ NamesRightly (Auth name.now) }
 {
-    if !is_principal(name) || name == b"POLICY".as_slice() {
+    if !is_principal(name) {
         return Err(ScriptFault::Form);
     }
     Ok(Octets::from_slice(alloc, name)?)
@@ -161,24 +178,13 @@ fn principal(alloc: Global, name: &[u8]) -> Result<Octets, ScriptFault>
 fn is_principal(name: &[u8]) -> bool
     ensures { result ≡ is_principal name.now }
 {
-    1 <= name.len() && name.len() <= PRINCIPAL_BYTES && are_principal_bytes(name)
-}
-
-fn are_principal_bytes(name: &[u8]) -> bool
-    ensures { result ≡ list_all is_principal_byte name.now }
-{
-    name.iter().all(|byte| is_principal_byte(*byte))
-}
-
-fn is_principal_byte(byte: u8) -> bool
-    ensures { result ≡ is_principal_byte byte }
-{
-    (32 <= byte && byte <= 126) && byte != b'"' && byte != b':' && byte != b'\\'
+    1 <= name.len() && name.len() <= PRINCIPAL_BYTES && name != b"POLICY".as_slice()
 }
 
 /// Notes the principal of an AUTH line as one of the different ones, of which there may be 64.
 fn note(alloc: Global, named: &mut List<Octets>, ask: &Ask) -> Result<(), ScriptFault>
-    requires { length named.old ≤ 64 }
+    requires right { IsAsk ask.now }
+    requires few_before { length named.old ≤ 64 }
     ensures ok { OnOk result (named.new ≡ noted named.old ask.now) }
     ensures few { OnOk result (length named.new ≤ 64) }
     ensures form { IsErrOf result ScriptFault.Form → 64 < length (noted named.old ask.now) }
@@ -186,23 +192,11 @@ fn note(alloc: Global, named: &mut List<Octets>, ask: &Ask) -> Result<(), Script
     let Ask::Auth(principal) = ask else {
         return Ok(());
     };
-    if is_among(principal.as_slice(), named.as_slice()) {
-        return Ok(());
-    }
-    if named.len() >= REQUESTERS {
+    let name = principal.as_slice();
+    if named.len() >= REQUESTERS && !is_among(named.as_slice(), name) {
         return Err(ScriptFault::Form);
     }
-    let copy = Octets::from_slice(alloc, principal.as_slice())?;
-    match named.push(copy) {
-        Ok(()) => Ok(()),
-        Err(_) => Err(ScriptFault::NoMemory),
-    }
-}
-
-fn is_among(name: &[u8], names: &[Octets]) -> bool
-    ensures { result ≡ list_any (bytes_eq name.now) names.now }
-{
-    names.iter().any(|other| name == other.as_slice())
+    Ok(enter(alloc, named, name)?)
 }
 
 /// The compliance values of a QUERY line, the lowest first.
@@ -259,12 +253,18 @@ fn are_printing(name: &[u8]) -> bool
     name.iter().all(|byte| 33 <= *byte && *byte <= 126)
 }
 
+fn is_there(name: &[u8], names: &[Octets]) -> bool
+    ensures { result ≡ list_any (bytes_eq name.now) names.now }
+{
+    names.iter().any(|other| name == other.as_slice())
+}
+
 fn are_distinct(names: &[Octets]) -> bool
     ensures { result ≡ are_distinct names.now }
 {
     let mut left = names;
     while let Some((name, others)) = left.split_first() {
-        if is_among(name.as_slice(), others) {
+        if is_there(name.as_slice(), others) {
             return false;
         }
         left = others;
@@ -330,9 +330,24 @@ mod tests {
         refuses(&rt, alloc, b"OPEN\nAUTH 1 alice");
         refuses(&rt, alloc, b"OPEN\nBYE\nAUTH 1 alice\n");
         refuses(&rt, alloc, b"OPEN\nAUTH 1 POLICY\n");
+        refuses(&rt, alloc, b"OPEN\nAUTH 1 \n");
+        refuses(&rt, alloc, b"OPEN\nAUTH 1 alice\r\n");
+        refuses(&rt, alloc, b"OPEN\nAUTH 1 al\rice\n");
+        refuses(&rt, alloc, b"OPEN\r\nAUTH 1 alice\n");
         refuses(&rt, alloc, b"OPEN\nAUTH 2 alice\n");
         refuses(&rt, alloc, b"OPEN\nQUERY 1 no\n");
         refuses(&rt, alloc, b"OPEN\nQUERY 1 no,no\n");
+    }
+
+    #[test]
+    fn any_bytes_name_a_requester(rt: HostRuntime) -> Result<(), Fail> {
+        let input = b"OPEN\nAUTH 1 \"a:\\\xff\x00 \n";
+        let script = read_script(rt.alloc(), input)?.ok_or("script")?;
+        match script.asks.get(0).ok_or("first")? {
+            Ask::Auth(name) => { assert_eq!(rt; name.as_slice(), b"\"a:\\\xff\x00 ".as_slice()) }
+            Ask::Query(_) => panic!(rt; "a query"),
+        }
+        Ok(())
     }
 
     /// A session that names so many different principals, the first of them twice.
@@ -355,6 +370,16 @@ mod tests {
         assert_eq!(rt; script.asks.len(), 65);
         let more = with_principals(alloc, 65)?;
         refuses(&rt, alloc, more.as_slice());
+        Ok(())
+    }
+
+    #[test]
+    fn principals_are_counted_by_their_normal_forms(rt: HostRuntime) -> Result<(), Fail> {
+        let alloc = rt.alloc();
+        let mut input = with_principals(alloc, 63)?;
+        input.extend_from_slice(b"AUTH 1 rsa-hex:AB\nAUTH 1 RSA-HEX:ab\n")?;
+        let script = read_script(alloc, input.as_slice())?.ok_or("script")?;
+        assert_eq!(rt; script.asks.len(), 66);
         Ok(())
     }
 }

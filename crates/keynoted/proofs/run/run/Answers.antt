@@ -1,5 +1,5 @@
-use Rattle.keynoted.proofs.Ended.{run-done, run-words, run-file, run-form, run-link, run-memory, run-sink, run-refused, run-asks}
-use Rattle.keynoted.proofs.Complete.{run-front, run-quiet, run-untouched, run-nothing_written, run-large, run-no_form, run-wrong_input, run-link_rose, run-complete}
+use Rattle.keynoted.proofs.Ended.{run-done, run-words, run-file, run-policy, run-link, run-memory, run-sink, run-refused, run-asks}
+use Rattle.keynoted.proofs.Complete.{run-front, run-quiet, run-untouched, run-nothing_written, run-large, run-faulty, run-full, run-wrong_input, run-link_rose, run-complete}
 use Rattle.keynoted.proofs.run.run.Goals as goal
 
 pub returns-clause-done : goal.returns-clause-done
@@ -11,8 +11,8 @@ returns-clause-words g c = run-words _ _ _ _ _ _ _ _ c.carry_out.ensures.ends
 pub returns-clause-file : goal.returns-clause-file
 returns-clause-file g c = run-file _ _ _ _ _ _ _ _ c.carry_out.ensures.ends
 
-pub returns-clause-form : goal.returns-clause-form
-returns-clause-form g c = run-form _ _ _ _ _ _ _ _ c.carry_out.ensures.ends
+pub returns-clause-policy : goal.returns-clause-policy
+returns-clause-policy g c = run-policy _ _ _ _ _ _ _ _ c.carry_out.ensures.ends
 
 pub returns-clause-link : goal.returns-clause-link
 returns-clause-link g c = run-link _ _ _ _ _ _ _ _ c.carry_out.ensures.ends
@@ -44,8 +44,11 @@ returns-clause-nothing_written g c = run-nothing_written _ _ _ _ _ _ _ _ c.carry
 pub returns-clause-large : goal.returns-clause-large
 returns-clause-large g c = run-large _ _ _ _ _ _ _ _ c.carry_out.ensures.ends
 
-pub returns-clause-no_form : goal.returns-clause-no_form
-returns-clause-no_form g c = run-no_form _ _ _ _ _ _ _ _ c.carry_out.ensures.ends
+pub returns-clause-faulty : goal.returns-clause-faulty
+returns-clause-faulty g c = run-faulty _ _ _ _ _ _ _ _ c.carry_out.ensures.ends
+
+pub returns-clause-full : goal.returns-clause-full
+returns-clause-full g c = run-full _ _ _ _ _ _ _ _ c.carry_out.ensures.ends
 
 pub returns-clause-wrong_input : goal.returns-clause-wrong_input
 returns-clause-wrong_input g c = run-wrong_input _ _ _ _ _ _ _ _ c.carry_out.ensures.ends
