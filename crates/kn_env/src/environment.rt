@@ -53,6 +53,20 @@ impl<'a> Query<'a> {
         })
     }
 
+    /// The compliance values.
+    pub fn values(&self) -> &Values
+        ensures { result.now ≡ self.now.values }
+    {
+        self.values
+    }
+
+    /// Who requests, by normal forms in the order of their entry.
+    pub fn requesters(&self) -> &List<Octets>
+        ensures { result.now ≡ self.now.requesters }
+    {
+        self.requesters
+    }
+
     // The value of a name that is no local constant.
     fn value(&self, name: &[u8]) -> &[u8]
         ensures { result.now ≡ asked_value name.now self.now }
