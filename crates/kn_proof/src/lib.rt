@@ -2,7 +2,9 @@
 #![tactic(auto)]
 
 mod named;
+mod reply;
 mod row;
 
 pub use named::{Id, NamedRow};
+pub use reply::ReadReply;
 pub use row::{Proof, Row};
