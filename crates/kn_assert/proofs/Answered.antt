@@ -1,24 +1,27 @@
 -- What the reader answers, from what its fields are.
-use Rattle.std.proofs.Common.{◌≡◌, ℕ, ◌+◌, ◌-◌, ◌<◌, ◌≤◌, ◌⊎◌, inl, inr, Bool, true, false, ◌&&◌, Option, Some, None, Result, Ok, Err, List, [], ◌∷◌, length, map, take, drop, arith, refl, sym, ◌∙◌, ap}
-use Rattle.std.specs.Prelude.{◌↔◌, IfOk, IfErr, IfSome, nat_lt, nat_le, nat_eq, codes, if◌then◌else◌}
+use Rattle.std.proofs.Common.{◌≡◌, ℕ, ◌+◌, ◌-◌, ◌<◌, ◌≤◌, ◌⊎◌, inl, inr, Bool, true, false, ◌&&◌, Option, Some, None, Result, Ok, Err, List, [], ◌∷◌, length, map, take, drop, arith, refl, sym, ◌∙◌, ap, subst}
+use Rattle.std.specs.Prelude.{◌↔◌, IfOk, IfErr, IfSome, MatchOption, nat_lt, nat_le, nat_eq, codes, if◌then◌else◌}
 use Rattle.std.specs.List.{list_any, position_or_len, before_first, after_first, ends_with}
 use Rattle.std.proofs.lemmas.Bool.Decides.{Decides-ltb, nat_tests}
 use Rattle.std.proofs.lemmas.Grind.{common_steps}
 use Rattle.std.proofs.lemmas.List.{length-append, length-map, length-drop, length-take-le}
 use Rattle.kn_env.specs.declared.constant.Constant.{Constant as Set}
 use Rattle.kn_lex.specs.Cutting.{Seen}
-use Rattle.kn_fields.specs.Fields.{field_with}
+use Rattle.kn_fields.specs.Fields.{Field, field_with}
 use Rattle.kn_fields.specs.Faults.{IsWellFielded, IsFirstFault, HasCause, constants_in}
 use Rattle.kn_fields.specs.Computed.{fields_or_fault}
 use Rattle.kn_fields.specs.declared.fault.FieldFault.{FieldFault}
 use Rattle.kn_fields.specs.declared.fault.FieldFault.TheVariants.{TooLong, Lexical, BadField, FieldTwice, FieldOrder, NoAuthorizer, Version, Constant, NoMemory as NoFieldMemory}
 use Rattle.kn_trees.specs.declared.assertion.Assertion.{Assertion}
 use Rattle.kn_trees.specs.declared.formula.Formula.{Formula}
+use Rattle.kn_trees.specs.declared.program.Program.{Program}
 use Rattle.kn_trees.specs.Formulas.{IsReadable}
+use Rattle.kn_trees.specs.Kinds.{is_well_kinded}
+use Rattle.kn_program.specs.Conditions.{IsConditions}
 use Rattle.kn_principal.specs.Principals.{lower_case, is_colon, normal_rest, with_algorithm, normal_form}
 use Rattle.kn_assert.specs.Parts.{text_by, normal_in, principal_of}
 use Rattle.kn_assert.specs.Reading.{of_fields, reading_with, reading_by, reading_of, assertion_in, fault_in, assertion_of, fault_of, IsSound}
-use Rattle.kn_assert.specs.Spelled.{IsReading, IsFirstReadFault}
+use Rattle.kn_assert.specs.Spelled.{IsShallow, IsReading, IsFirstReadFault}
 use Rattle.kn_assert.specs.declared.fault.ReadFault.{ReadFault}
 use Rattle.kn_assert.specs.declared.fault.ReadFault.TheVariants.{NoMemory}
 
@@ -85,13 +88,28 @@ readable_more : (o : Option Formula) (n m : ℕ) → n ≤ m → IfSome o (λ fo
 readable_more None n m le h = h
 readable_more (Some formula) n m le h = let small = h.small in record { sound = h.sound; small = omega (arith, small, le); shallow = h.shallow }
 
+stated_kinds : (tokens : List Seen) (o : Option Program) → IsConditions tokens o → IfSome o (λ program. is_well_kinded program ≡ true)
+stated_kinds tokens None h = tt
+stated_kinds tokens (Some program) h = h.kinds
+
+-- a program that is spelled is well kinded
+spelled_kinds : (field : Option Field) (o : Option Program) → MatchOption field (o ≡ None) (λ field. IsShallow field × IsConditions field.tokens o)
+    → IfSome o (λ program. is_well_kinded program ≡ true)
+spelled_kinds None o h = subst (λ (o : Option Program). IfSome o (λ program. is_well_kinded program ≡ true)) (sym h) tt
+spelled_kinds (Some field) o h = stated_kinds field.tokens o h.1
+
 reading_sound : (text : List ℕ) (assertion : Assertion) (n : ℕ) → IsReading text assertion → n ≤ length text
     → IfSome assertion.licensees (λ formula. IsReadable n formula) → IsSound (length text) assertion
 reading_sound text assertion n h le readable =
     let authorizer = h.spelled.authorizer in
     let one = authorizer.2.1 in
     let sized = principal_sized (constants_in (field_with 6 h.tokens)) one.0 assertion.authorizer one.2 in
-    record { some = sized.0; short = sized.1; licensees = readable_more assertion.licensees n (length text) le readable }
+    record {
+      some = sized.0;
+      short = sized.1;
+      licensees = readable_more assertion.licensees n (length text) le readable;
+      conditions = spelled_kinds (field_with 3 h.tokens) assertion.conditions h.spelled.conditions;
+    }
 
 pub well_short : (text : List ℕ) → IsWellFielded text → length text ≤ 16384
 well_short text well = by (nat_lt 16384 (length text)) refl

@@ -1,5 +1,5 @@
 -- What a field states, by the place where its tokens stand.
-use Rattle.std.proofs.Common.{◌≡◌, ℕ, suc, ◌+◌, ◌-◌, ◌<◌, ◌≤◌, Bool, true, false, inl, inr, Option, Some, None, Result, Ok, Err, List, [], ◌∷◌, length, take, drop, arith, refl, sym, ◌∙◌, ap, drop-cons}
+use Rattle.std.proofs.Common.{◌≡◌, ℕ, suc, ◌+◌, ◌-◌, ◌<◌, ◌≤◌, Bool, true, false, inl, inr, Option, Some, None, Result, Err, List, [], ◌∷◌, length, take, drop, arith, refl, sym, ◌∙◌, ap, drop-cons}
 use Rattle.std.specs.Prelude.{slice_get, if◌then◌else◌}
 use Rattle.std.proofs.lemmas.Option.{slice_get_cases, slice_get_within, get_or_from_slice_get}
 use Rattle.std.proofs.lemmas.List.{length-drop, length-take-le}
@@ -8,38 +8,16 @@ use Rattle.kn_lex.specs.Cutting.{Seen}
 use Rattle.kn_fields.specs.Fields.{field_with, between, PartIs}
 use Rattle.kn_fields.specs.Scanning.{goes_deep}
 use Rattle.kn_fields.specs.declared.part.Part.{Part}
-use Rattle.kn_assert.specs.Parts.{only_of, authorizer_by, authorizer_of, conditions_of, signature_by, signature_of}
+use Rattle.kn_assert.specs.Parts.{only_of, authorizer_by, authorizer_of, signature_by, signature_of}
 use Rattle.kn_assert.specs.Reading.{shallow, authorizer_in, signature_in}
 use Rattle.kn_assert.specs.declared.fault.ReadFault.{ReadFault}
-use Rattle.kn_assert.specs.declared.fault.ReadFault.TheVariants.{TooDeep, Syntax}
+use Rattle.kn_assert.specs.declared.fault.ReadFault.TheVariants.{TooDeep}
 
 pub between_length : (xs : List Seen) (i to : ℕ) → i ≤ to → to ≤ length xs → length (between i to xs) ≡ to - i
 unfolding between
 between_length xs i to le fits =
     let size : length (drop i xs) ≡ length xs - i = length-drop i xs in
     length-take-le (to - i) (drop i xs) (omega (arith, size, le, fits))
-
--- a field without tokens has no program, and one with tokens is at fault so far
-
-conditions_by : (tokens : List Seen) → length tokens ≡ 0 → Ok None ≡ conditions_of tokens
-unfolding conditions_of
-conditions_by [] e = refl
-conditions_by (t ∷ ts) e = absurd (omega (arith, e))
-
-pub no_conditions : (xs : List Seen) (i to : ℕ) → i ≤ to → to ≤ i → to ≤ length xs → Ok None ≡ conditions_of (between i to xs)
-no_conditions xs i to le over fits =
-    let size = between_length xs i to le fits in
-    conditions_by (between i to xs) (omega (arith, size, over))
-
-conditions_fault : (tokens : List Seen) → 0 < length tokens → Err (Syntax 3) ≡ conditions_of tokens
-unfolding conditions_of
-conditions_fault [] some = absurd (omega arith)
-conditions_fault (t ∷ ts) some = refl
-
-pub some_conditions : (xs : List Seen) (i to : ℕ) → i < to → to ≤ length xs → Err (Syntax 3) ≡ conditions_of (between i to xs)
-some_conditions xs i to below fits =
-    let size = between_length xs i to (omega arith) fits in
-    conditions_fault (between i to xs) (omega (arith, size, below))
 
 -- the one token
 

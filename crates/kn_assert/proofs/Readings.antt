@@ -15,13 +15,14 @@ use Rattle.kn_trees.specs.declared.assertion.Assertion.{Assertion}
 use Rattle.kn_trees.specs.declared.formula.Formula.{Formula}
 use Rattle.kn_trees.specs.declared.program.Program.{Program}
 use Rattle.kn_formula.specs.Licensing.{AreLicensees, licensees_of}
-use Rattle.kn_assert.specs.Parts.{principal_of, authorizer_of, conditions_of, licensees_by, signature_of}
+use Rattle.kn_program.specs.Conditions.{IsConditions, program_of}
+use Rattle.kn_assert.specs.Parts.{principal_of, authorizer_of, conditions_by, licensees_by, signature_of}
 use Rattle.kn_assert.specs.Reading.{of_fields, authorizer_in, conditions_in, licensees_in, signature_in, fault_of_part, fault_by, else_fault, first_of, faults_of, unless, assembled, reading_with, reading_by, reading_of}
 use Rattle.kn_assert.specs.Spelled.{IsOne, IsShallow, Spells, IsReading, FieldShows, fault_order, IsFirstShown, IsFirstReadFault}
 use Rattle.kn_assert.specs.declared.fault.ReadFault.{ReadFault}
 use Rattle.kn_assert.specs.declared.fault.ReadFault.TheVariants.{NoAuthorizer, NoMemory}
 use Rattle.kn_assert.specs.declared.order.Faults.{Faults}
-use Rattle.kn_assert.proofs.Stated.{PartsTold, shallow_read, shallow_ok, Least, authorizer_spelled, spelled_authorizer, signature_spelled, spelled_signature, licensees_spelled, authorizer_shown, authorizer_least, conditions_shown, conditions_least, licensees_shown, licensees_least, signature_shown, signature_least}
+use Rattle.kn_assert.proofs.Stated.{PartsTold, shallow_read, shallow_ok, Least, authorizer_spelled, spelled_authorizer, signature_spelled, spelled_signature, licensees_spelled, conditions_spelled, authorizer_shown, authorizer_least, conditions_shown, conditions_least, licensees_shown, licensees_least, signature_shown, signature_least}
 
 -- what the laws of the fields say
 pub record FieldsTold : Type 0 where
@@ -118,14 +119,17 @@ to_licensees depth constants (Some field) l h =
     shallow_read depth 5 field.tokens (licensees_by (licensees_of constants field.tokens)) h.0 ∙ ap licensees_by ((depth.states constants field.tokens l).1 h.1)
 
 conditions_to : PartsTold → (o : Option Field) (k : Option Program) → conditions_in o ≡ Ok k
-    → MatchOption o (k ≡ None) (λ field. IsShallow field × (conditions_of field.tokens ≡ Ok k))
+    → MatchOption o (k ≡ None) (λ field. IsShallow field × IsConditions field.tokens k)
 conditions_to depth None k e = sym (same_ok None k _ refl e)
-conditions_to depth (Some field) k e = shallow_ok depth 3 field.tokens (conditions_of field.tokens) k e
+conditions_to depth (Some field) k e =
+    let own = shallow_ok depth 3 field.tokens (conditions_by (program_of field.tokens)) k e in
+    (own.0, (depth.states_program field.tokens k).0 (conditions_spelled (program_of field.tokens) k own.1))
 
 to_conditions : PartsTold → (o : Option Field) (k : Option Program)
-    → MatchOption o (k ≡ None) (λ field. IsShallow field × (conditions_of field.tokens ≡ Ok k)) → conditions_in o ≡ Ok k
+    → MatchOption o (k ≡ None) (λ field. IsShallow field × IsConditions field.tokens k) → conditions_in o ≡ Ok k
 to_conditions depth None k h = ap Ok (sym h)
-to_conditions depth (Some field) k h = shallow_read depth 3 field.tokens (conditions_of field.tokens) h.0 ∙ h.1
+to_conditions depth (Some field) k h =
+    shallow_read depth 3 field.tokens (conditions_by (program_of field.tokens)) h.0 ∙ ap conditions_by ((depth.states_program field.tokens k).1 h.1)
 
 signature_to : PartsTold → (o : Option Field) (s : Option (List ℕ)) → signature_in o ≡ Ok s
     → MatchOption o (s ≡ None) (λ field. IsShallow field × IsOne field.tokens (λ token. (token.sort ≡ Text) × (s ≡ Some (literal_value token.text))))

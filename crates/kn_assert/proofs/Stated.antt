@@ -15,19 +15,25 @@ use Rattle.kn_trees.specs.declared.formula.Formula.{Formula}
 use Rattle.kn_formula.specs.Licensing.{AreLicensees, Shows, licensees_of}
 use Rattle.kn_formula.specs.declared.fault.FormulaFault.{FormulaFault}
 use Rattle.kn_formula.specs.declared.fault.FormulaFault.TheVariants.{Syntax as NoFormula, Threshold as WrongThreshold, Name as NoName, NoMemory as NoFormulaMemory}
-use Rattle.kn_assert.specs.Parts.{is_principal_token, principal_of, normal_in, text_by, only_of, named, authorizer_by, authorizer_of, conditions_of, formula_fault, licensees_by, signature_by, signature_of}
+use Rattle.kn_trees.specs.declared.program.Program.{Program}
+use Rattle.kn_program.specs.Conditions.{IsConditions, Shows as ProgramShows, program_of}
+use Rattle.kn_program.specs.declared.fault.ProgramFault.{ProgramFault}
+use Rattle.kn_program.specs.declared.fault.ProgramFault.TheVariants.{Syntax as NoProgram, Kind as WrongKind, NoMemory as NoProgramMemory}
+use Rattle.kn_assert.specs.Parts.{is_principal_token, principal_of, normal_in, text_by, only_of, named, authorizer_by, authorizer_of, program_fault, conditions_by, formula_fault, licensees_by, signature_by, signature_of}
 use Rattle.kn_assert.specs.Reading.{shallow, authorizer_in, conditions_in, licensees_in, signature_in}
 use Rattle.kn_assert.specs.Spelled.{IsOne, AuthorizerShows, ConditionsShows, LicenseesShows, SignatureShows, fault_order}
 use Rattle.kn_assert.specs.declared.fault.ReadFault.{ReadFault}
 use Rattle.kn_assert.specs.declared.fault.ReadFault.TheVariants.{TooDeep, Syntax, Kind, Threshold, Name}
 
--- what the laws below say: the test of depth is what it is to go too deep, and what is found of a formula is what the tokens
--- state or show
+-- what the laws below say: the test of depth is what it is to go too deep, and what is found of a formula or of a program is
+-- what the tokens state or show
 pub record PartsTold : Type 0 where
   pub deep : (tokens : List Seen) → goes_deep 0 0 tokens ≡ true → IsTooDeep tokens
   pub not_deep : (tokens : List Seen) → goes_deep 0 0 tokens ≡ false → IsTooDeep tokens → ⊥
   pub states : (constants : List Set) (tokens : List Seen) (l : Option Formula) → licensees_of constants tokens ≡ Ok l ↔ AreLicensees constants tokens l
   pub shows : (constants : List Set) (tokens : List Seen) (fault : FormulaFault) → licensees_of constants tokens ≡ Err fault ↔ Shows constants tokens fault
+  pub states_program : (tokens : List Seen) (p : Option Program) → program_of tokens ≡ Ok p ↔ IsConditions tokens p
+  pub shows_program : (tokens : List Seen) (fault : ProgramFault) → program_of tokens ≡ Err fault ↔ ProgramShows tokens fault
 
 pub depth_known : PartsTold → (tokens : List Seen) → IsTooDeep tokens ⊎ (IsTooDeep tokens → ⊥)
 depth_known depth tokens = by (goes_deep 0 0 tokens) refl
@@ -157,6 +163,10 @@ pub licensees_spelled : (r : Result (Option Formula) FormulaFault) (l : Option F
 licensees_spelled (Ok x) l e = let same : x ≡ l = cc in ap Ok same
 licensees_spelled (Err fault) l e = ok_err l (formula_fault fault) (sym e)
 
+pub conditions_spelled : (r : Result (Option Program) ProgramFault) (p : Option Program) → conditions_by r ≡ Ok p → r ≡ Ok p
+conditions_spelled (Ok x) p e = let same : x ≡ p = cc in ap Ok same
+conditions_spelled (Err fault) p e = ok_err p (program_fault fault) (sym e)
+
 -- the fault of a field that is computed is shown, and any other one has a greater number
 
 -- the computed fault has a lower number than this one, or is it
@@ -252,26 +262,27 @@ authorizer_least depth constants field _ h = absurd h
 
 -- Conditions
 
-program_shown : (tokens : List Seen) (f : ReadFault) → conditions_of tokens ≡ Err f → ConditionsShows tokens f
-unfolding conditions_of
-program_shown [] f e = ok_err None f e
-program_shown (t ∷ ts) f e =
-    let same : Syntax 3 ≡ f = same_fault (Syntax 3) f (Err (Syntax 3)) refl e in
-    subst (ConditionsShows (t ∷ ts)) same (refl, refl)
+program_shown : PartsTold → (tokens : List Seen) (f : ReadFault) (r : Result (Option Program) ProgramFault) → program_of tokens ≡ r → conditions_by r ≡ Err f → ConditionsShows tokens f
+program_shown told tokens f (Ok p) o e = ok_err p f e
+program_shown told tokens f (Err NoProgram) o e = subst (ConditionsShows tokens) (same_fault (Syntax 3) f (Err (Syntax 3)) refl e) (refl, (told.shows_program tokens NoProgram).0 o)
+program_shown told tokens f (Err WrongKind) o e = subst (ConditionsShows tokens) (same_fault (Kind 3) f (Err (Kind 3)) refl e) (refl, (told.shows_program tokens WrongKind).0 o)
+program_shown told tokens f (Err NoProgramMemory) o e = absurd ((told.shows_program tokens NoProgramMemory).0 o)
 
 pub conditions_shown : PartsTold → (field : Field) (f : ReadFault) → conditions_in (Some field) ≡ Err f → ConditionsShows field.tokens f
 conditions_shown depth field f e =
     elim (depth_known depth field.tokens) [
-      | inl h ↦ subst (ConditionsShows field.tokens) (same_fault (TooDeep 3) f _ (shallow_deep depth 3 field.tokens (conditions_of field.tokens) h) e) (refl, h)
-      | inr h ↦ program_shown field.tokens f (sym (shallow_read depth 3 field.tokens (conditions_of field.tokens) h) ∙ e)
+      | inl h ↦
+          subst (ConditionsShows field.tokens) (same_fault (TooDeep 3) f _ (shallow_deep depth 3 field.tokens (conditions_by (program_of field.tokens)) h) e) (refl, h)
+      | inr h ↦
+          program_shown depth field.tokens f (program_of field.tokens) refl (sym (shallow_read depth 3 field.tokens (conditions_by (program_of field.tokens)) h) ∙ e)
     ]
 
 pub conditions_least : PartsTold → (field : Field) (other : ReadFault) → ConditionsShows field.tokens other → Least (conditions_in (Some field)) other
 conditions_least depth field (TooDeep number) h = least_itself depth 3 number field.tokens _ h.0 h.1
 conditions_least depth field (Syntax number) h =
-    least_deep depth 3 field.tokens _ (Syntax number) (omega arith) (λ s. is_least _ (Syntax 3) (Syntax number) h.1 (inr (ap Syntax (sym h.0))))
+    least_deep depth 3 field.tokens _ (Syntax number) (omega arith) (λ s. is_least _ (Syntax 3) (Syntax number) (ap conditions_by ((depth.shows_program field.tokens NoProgram).1 h.1)) (inr (ap Syntax (sym h.0))))
 conditions_least depth field (Kind number) h =
-    least_deep depth 3 field.tokens _ (Kind number) (omega arith) (λ s. is_least _ (Kind 3) (Kind number) h.1 (inr (ap Kind (sym h.0))))
+    least_deep depth 3 field.tokens _ (Kind number) (omega arith) (λ s. is_least _ (Kind 3) (Kind number) (ap conditions_by ((depth.shows_program field.tokens WrongKind).1 h.1)) (inr (ap Kind (sym h.0))))
 conditions_least depth field _ h = absurd h
 
 -- Licensees

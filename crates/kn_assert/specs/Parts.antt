@@ -12,9 +12,11 @@ use Rattle.kn_trees.specs.declared.formula.Formula.{Formula}
 use Rattle.kn_trees.specs.declared.program.Program.{Program}
 use Rattle.kn_formula.specs.declared.fault.FormulaFault.{FormulaFault}
 use Rattle.kn_formula.specs.declared.fault.FormulaFault.TheVariants.{Syntax as NoFormula, Threshold as WrongThreshold, Name as NoName, NoMemory as NoFormulaMemory}
+use Rattle.kn_program.specs.declared.fault.ProgramFault.{ProgramFault}
+use Rattle.kn_program.specs.declared.fault.ProgramFault.TheVariants.{Syntax as NoProgram, Kind as WrongKind, NoMemory as NoProgramMemory}
 use Rattle.kn_principal.specs.Principals.{policy, normal_form}
 use Rattle.kn_assert.specs.declared.fault.ReadFault.{ReadFault}
-use Rattle.kn_assert.specs.declared.fault.ReadFault.TheVariants.{Syntax, Threshold, Name, NoMemory}
+use Rattle.kn_assert.specs.declared.fault.ReadFault.TheVariants.{Syntax, Kind, Threshold, Name, NoMemory}
 
 abbrev pub is_named : List ℕ → Constant → Bool
 is_named name constant = bytes_eq constant.name name
@@ -65,10 +67,15 @@ authorizer_by constants (Some token) = if is_principal_token token then named (p
 unfoldable pub authorizer_of : List Constant → List Seen → Result (List ℕ) ReadFault
 authorizer_of constants tokens = authorizer_by constants (only_of tokens)
 
--- the program of a Conditions field; so far an empty field alone has one, which is none
-unfoldable pub conditions_of : List Seen → Result (Option Program) ReadFault
-conditions_of [] = Ok None
-conditions_of (token ∷ tokens) = Err (Syntax 3)
+-- the fault of a program as one of the text; a program's reading is never want of memory
+abbrev pub program_fault : ProgramFault → ReadFault
+program_fault NoProgram = Syntax 3
+program_fault WrongKind = Kind 3
+program_fault NoProgramMemory = NoMemory
+
+abbrev pub conditions_by : Result (Option Program) ProgramFault → Result (Option Program) ReadFault
+conditions_by (Ok conditions) = Ok conditions
+conditions_by (Err fault) = Err (program_fault fault)
 
 -- the fault of a formula as one of the text; a formula's reading is never want of memory
 abbrev pub formula_fault : FormulaFault → ReadFault

@@ -1,5 +1,5 @@
 -- The assertion of a text, or its first fault, computed. Laws say that they are those of the relations.
-use Rattle.std.specs.Prelude.{ℕ, ◌<◌, ◌≤◌, ◌==◌, List, [], ◌∷◌, length, Option, Some, None, Result, Ok, Err, IfSome, if◌then◌else◌}
+use Rattle.std.specs.Prelude.{ℕ, ◌≡◌, ◌<◌, ◌≤◌, ◌==◌, true, List, [], ◌∷◌, length, Option, Some, None, Result, Ok, Err, IfSome, if◌then◌else◌}
 use Rattle.kn_env.specs.declared.constant.Constant.{Constant as Set}
 use Rattle.kn_lex.specs.Cutting.{Seen}
 use Rattle.kn_lex.specs.declared.fault.LexFault.{LexFault}
@@ -14,8 +14,10 @@ use Rattle.kn_trees.specs.declared.assertion.Assertion.{Assertion}
 use Rattle.kn_trees.specs.declared.formula.Formula.{Formula}
 use Rattle.kn_trees.specs.declared.program.Program.{Program}
 use Rattle.kn_trees.specs.Formulas.{IsReadable}
+use Rattle.kn_trees.specs.Kinds.{is_well_kinded}
 use Rattle.kn_formula.specs.Licensing.{licensees_of}
-use Rattle.kn_assert.specs.Parts.{authorizer_of, conditions_of, licensees_by, signature_of}
+use Rattle.kn_program.specs.Conditions.{program_of}
+use Rattle.kn_assert.specs.Parts.{authorizer_of, conditions_by, licensees_by, signature_of}
 use Rattle.kn_assert.specs.declared.fault.ReadFault.{ReadFault}
 use Rattle.kn_assert.specs.declared.fault.ReadFault.TheVariants.{NotText, BadString, BadToken, Float, Regex, Number, Blank, TooLong, BadField, FieldTwice, FieldOrder, NoAuthorizer, Version, Constant, TooDeep, NoMemory}
 use Rattle.kn_assert.specs.declared.order.Faults.{Faults}
@@ -52,7 +54,7 @@ authorizer_in constants (Some field) = shallow 1 field.tokens (authorizer_of con
 
 abbrev pub conditions_in : Option Field → Result (Option Program) ReadFault
 conditions_in None = Ok None
-conditions_in (Some field) = shallow 3 field.tokens (conditions_of field.tokens)
+conditions_in (Some field) = shallow 3 field.tokens (conditions_by (program_of field.tokens))
 
 abbrev pub licensees_in : List Set → Option Field → Result (Option Formula) ReadFault
 licensees_in constants None = Ok None
@@ -149,8 +151,10 @@ assertion_of text = assertion_in (reading_of text)
 abbrev pub fault_of : List ℕ → Option ReadFault
 fault_of text = fault_in (reading_of text)
 
--- An assertion that was read from so many bytes: its authorizer has 1 to 4,096 bytes, and its formula is readable.
+-- An assertion that was read from so many bytes: its authorizer has 1 to 4,096 bytes, its formula is readable, and its
+-- program is well kinded.
 pub record IsSound (bytes : ℕ) (assertion : Assertion) : Type 0 where
   pub some : 0 < length assertion.authorizer
   pub short : length assertion.authorizer ≤ 4096
   pub licensees : IfSome assertion.licensees (λ formula. IsReadable bytes formula)
+  pub conditions : IfSome assertion.conditions (λ program. is_well_kinded program ≡ true)

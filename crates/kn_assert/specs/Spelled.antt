@@ -1,6 +1,6 @@
 -- Which assertion a text spells, and which of its faults is the first one, in the words of the format (RFC 2704,
 -- section 4; the faults and their order are keynoted's own).
-use Rattle.std.specs.Prelude.{ℕ, ◌≡◌, ◌<◌, ◌⊎◌, true, List, [], ◌∷◌, ◌++◌, Some, None, Ok, Err, MatchOption, unwrap_or}
+use Rattle.std.specs.Prelude.{ℕ, ◌≡◌, ◌<◌, ◌⊎◌, true, List, [], ◌∷◌, ◌++◌, Some, None, MatchOption, unwrap_or}
 use Rattle.kn_env.specs.declared.constant.Constant.{Constant as Set}
 use Rattle.kn_lex.specs.Cutting.{Seen, Cuts}
 use Rattle.kn_lex.specs.Literal.{literal_value}
@@ -11,7 +11,8 @@ use Rattle.kn_fields.specs.Depth.{IsTooDeep}
 use Rattle.kn_fields.specs.declared.fault.FieldFault.{FieldFault}
 use Rattle.kn_trees.specs.declared.assertion.Assertion.{Assertion}
 use Rattle.kn_formula.specs.Licensing.{AreLicensees, HasNoForm, HasBadThreshold, HasBadName}
-use Rattle.kn_assert.specs.Parts.{principal_of, is_principal_token, conditions_of}
+use Rattle.kn_program.specs.Conditions.{IsConditions, HasNoProgram, HasBadKinds}
+use Rattle.kn_assert.specs.Parts.{principal_of, is_principal_token}
 use Rattle.kn_assert.specs.Faults.{fault_number}
 use Rattle.kn_assert.specs.Reading.{of_fields}
 use Rattle.kn_assert.specs.declared.fault.ReadFault.{ReadFault}
@@ -32,7 +33,7 @@ pub record Spells (text : List ℕ) (tokens : List Seen) (assertion : Assertion)
   pub licensees : MatchOption (field_with 5 tokens) (assertion.licensees ≡ None) (λ field. IsShallow field
       × AreLicensees (constants_in (field_with 6 tokens)) field.tokens assertion.licensees)
   pub conditions : MatchOption (field_with 3 tokens) (assertion.conditions ≡ None) (λ field. IsShallow field
-      × (conditions_of field.tokens ≡ Ok assertion.conditions))
+      × IsConditions field.tokens assertion.conditions)
   pub signature : MatchOption (field_with 7 tokens) (assertion.signature ≡ None) (λ field. IsShallow field
       × IsOne field.tokens (λ token. (token.sort ≡ Text) × (assertion.signature ≡ Some (literal_value token.text))))
   pub signed_to : assertion.signed_to ≡ signed_to text tokens
@@ -55,8 +56,8 @@ AuthorizerShows constants tokens _ = ⊥
 -- the tokens of a Conditions field show this fault
 abbrev pub ConditionsShows : List Seen → ReadFault → Type 0
 ConditionsShows tokens (TooDeep number) = (number ≡ 3) × IsTooDeep tokens
-ConditionsShows tokens (Syntax number) = (number ≡ 3) × (conditions_of tokens ≡ Err (Syntax 3))
-ConditionsShows tokens (Kind number) = (number ≡ 3) × (conditions_of tokens ≡ Err (Kind 3))
+ConditionsShows tokens (Syntax number) = (number ≡ 3) × HasNoProgram tokens
+ConditionsShows tokens (Kind number) = (number ≡ 3) × HasBadKinds tokens
 ConditionsShows tokens _ = ⊥
 
 -- the tokens of a Licensees field show this fault

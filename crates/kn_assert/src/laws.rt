@@ -18,6 +18,7 @@ pub fn readings_are_computed()
     kn_fields::laws::depth_is_computed();
     kn_fields::laws::one_field_of_each_number();
     kn_formula::laws::licensees_found();
+    kn_program::laws::program_found();
 }
 
 /// Every text spells an assertion or has a first fault, never both, and at most one of either.

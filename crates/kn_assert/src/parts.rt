@@ -6,7 +6,8 @@ ghost use Rattle.kn_fields.specs.Depth.{IsTooDeep};
 ghost use Rattle.kn_fields.specs.Fields.{between, field_with, PartIs};
 ghost use Rattle.kn_fields.specs.Scanning.{goes_deep};
 ghost use Rattle.kn_formula.specs.Licensing.{licensees_of};
-ghost use Rattle.kn_assert.specs.Parts.{name_text, normal_in, named, only_of, authorizer_by, conditions_of, licensees_by, signature_by, is_named};
+ghost use Rattle.kn_program.specs.Conditions.{program_of};
+ghost use Rattle.kn_assert.specs.Parts.{name_text, normal_in, named, only_of, authorizer_by, conditions_by, licensees_by, signature_by, is_named};
 ghost use Rattle.kn_assert.specs.Reading.{authorizer_in, conditions_in, licensees_in, signature_in};
 
 use crate::fault::ReadFault;
@@ -16,6 +17,7 @@ use kn_fields::{Fields, Part};
 use kn_formula::FormulaFault;
 use kn_lex::{Sort, Token, Tokens, literal};
 use kn_principal::{PrincipalFault, normal};
+use kn_program::ProgramFault;
 use kn_trees::{Formula, Program};
 use std::alloc::Global;
 
@@ -140,22 +142,21 @@ pub(crate) fn authorizer(
     }
 }
 
-/// The program of a Conditions field, or None where the field has no token.
-///
-/// So far a field with a token is fault 16.
+/// The program of a field that doesn't go too deep.
 fn program(
-    _alloc: Global,
-    _tokens: &Tokens<'_>,
+    alloc: Global,
+    fields: &Fields<'_>,
     part: Part,
 ) -> Result<Result<Option<Program>, ReadFault>, NoMemory>
-    requires before { part.label < part.end }
-    requires within { part.end ≤ length _tokens.now }
-    ensures { IfOk result (λ read. read ≡ conditions_of (between (part.label + 1) part.end _tokens.now)) }
+    requires part { PartIs 3 fields.now.tokens (Some part) }
+    requires shallow { IsTooDeep (between (part.label + 1) part.end fields.now.tokens) → ⊥ }
+    ensures { IfOk result (λ read. read ≡ conditions_by (program_of (between (part.label + 1) part.end fields.now.tokens))) }
 {
-    if part.end - part.label == 1 {
-        Ok(Ok(None))
-    } else {
-        Ok(Err(ReadFault::Syntax { field: CONDITIONS }))
+    match kn_program::conditions(alloc, &fields.tokens, part) {
+        Ok(conditions) => Ok(Ok(conditions)),
+        Err(ProgramFault::Syntax) => Ok(Err(ReadFault::Syntax { field: CONDITIONS })),
+        Err(ProgramFault::Kind) => Ok(Err(ReadFault::Kind { field: CONDITIONS })),
+        Err(ProgramFault::NoMemory) => Err(NoMemory),
     }
 }
 
@@ -166,13 +167,14 @@ pub(crate) fn conditions(
 ) -> Result<Result<Option<Program>, ReadFault>, NoMemory>
     ensures { IfOk result (λ read. read ≡ conditions_in (field_with 3 fields.now.tokens)) }
 {
+    kn_fields::laws::depth_is_computed();
     let Some(part) = fields.part(CONDITIONS) else {
         return Ok(Ok(None));
     };
     if is_deep(fields, CONDITIONS, part) {
         return Ok(Err(ReadFault::TooDeep { field: CONDITIONS }));
     }
-    program(alloc, &fields.tokens, part)
+    program(alloc, fields, part)
 }
 
 /// The formula of a field that doesn't go too deep.

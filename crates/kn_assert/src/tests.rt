@@ -87,6 +87,15 @@ fn faults_of_the_fields(rt: HostRuntime) {
                 (13, 0),
             ),
             (
+                b"KeyNote-Version: \"3\"\nAuthorizer: \"a\"\n".as_slice(),
+                (13, 0),
+            ),
+            (
+                b"KeyNote-Version: 2 2\nAuthorizer: \"a\"\n".as_slice(),
+                (13, 0),
+            ),
+            (b"KeyNote-Version:\nAuthorizer: \"a\"\n".as_slice(), (13, 0)),
+            (
                 b"KeyNote-Version: 2\nAuthorizer: \"a\"\n".as_slice(),
                 NO_FAULT,
             ),
@@ -210,10 +219,6 @@ fn faults_of_what_fields_state(rt: HostRuntime) {
             ),
             (b"Authorizer: policy\n".as_slice(), (19, 1)),
             (b"Authorizer: \"\"\n".as_slice(), (19, 1)),
-            (
-                b"Authorizer: \"a\"\nConditions: true;\n".as_slice(),
-                (16, 3),
-            ),
             (b"Authorizer: \"a\"\nConditions:\n".as_slice(), NO_FAULT),
             (b"Authorizer: \"a\"\nSignature:\n".as_slice(), (16, 7)),
             (b"Authorizer: \"a\"\nSignature: s\n".as_slice(), (16, 7)),
@@ -238,10 +243,24 @@ fn first_of_two_faults(rt: HostRuntime) {
         rt.alloc(),
         [
             (b"Authorizer: A\nConditions: true;\n".as_slice(), (19, 1)),
-            (b"Conditions: true;\nAuthorizer: A\n".as_slice(), (16, 3)),
+            (b"Conditions: true;\nAuthorizer: A\n".as_slice(), (19, 1)),
+            (
+                b"Conditions: true true;\nAuthorizer: A\n".as_slice(),
+                (16, 3),
+            ),
+            (b"Conditions: \"a\";\nAuthorizer: A\n".as_slice(), (17, 3)),
+            (b"Authorizer: A\nConditions: \"a\";\n".as_slice(), (19, 1)),
+            (
+                b"Authorizer: \"a\"\nConditions: !!!!!!!!!\"a\";\n".as_slice(),
+                (15, 3),
+            ),
+            (
+                b"Authorizer: \"a\"\nConditions: \"a\" 1;\n".as_slice(),
+                (16, 3),
+            ),
             (b"Authorizer: A\nSignature: s\n".as_slice(), (19, 1)),
             (
-                b"Authorizer: \"a\"\nConditions: true;\nSignature: s\n".as_slice(),
+                b"Authorizer: \"a\"\nConditions: true->;\nSignature: s\n".as_slice(),
                 (16, 3),
             ),
             (
@@ -452,14 +471,229 @@ fn faults_of_licensees(rt: HostRuntime) {
                 (18, 5),
             ),
             (
-                b"Licensees: Q\nConditions: true;\nAuthorizer: \"a\"\n".as_slice(),
+                b"Licensees: Q\nConditions: 1;\nAuthorizer: \"a\"\n".as_slice(),
                 (19, 5),
             ),
             (
-                b"Conditions: true;\nLicensees: Q\nAuthorizer: \"a\"\n".as_slice(),
-                (16, 3),
+                b"Conditions: 1;\nLicensees: Q\nAuthorizer: \"a\"\n".as_slice(),
+                (17, 3),
             ),
         ]
         .as_slice(),
     );
+}
+
+#[test]
+fn faults_of_conditions(rt: HostRuntime) {
+    check_faults(
+        &rt,
+        rt.alloc(),
+        [
+            (
+                b"Authorizer: \"a\"\nConditions: TRUE && !False;\n".as_slice(),
+                NO_FAULT,
+            ),
+            (
+                b"Authorizer: \"a\"\nConditions: a == \"1\" -> { b == \"2\" -> \"yes\"; true -> \"log\"; };\n".as_slice(),
+                NO_FAULT,
+            ),
+            (b"Authorizer: \"a\"\nConditions: ;;\n".as_slice(), NO_FAULT),
+            (
+                b"Authorizer: \"a\"\nConditions: true -> {};\n".as_slice(),
+                NO_FAULT,
+            ),
+            (b"Authorizer: \"a\"\nConditions: {}\n".as_slice(), (16, 3)),
+            (
+                b"Authorizer: \"a\"\nConditions: 1 < 2 < 3;\n".as_slice(),
+                (16, 3),
+            ),
+            (
+                b"Authorizer: \"a\"\nConditions: true true;\n".as_slice(),
+                (16, 3),
+            ),
+            (
+                b"Authorizer: \"a\"\nConditions: (true;\n".as_slice(),
+                (16, 3),
+            ),
+            (
+                b"Authorizer: \"a\"\nConditions: true -> {true;\n".as_slice(),
+                (16, 3),
+            ),
+            (
+                b"Authorizer: \"a\"\nConditions: \"a\";\n".as_slice(),
+                (17, 3),
+            ),
+            (
+                b"Authorizer: \"a\"\nConditions: true -> 1;\n".as_slice(),
+                (17, 3),
+            ),
+            (
+                b"Authorizer: \"a\"\nConditions: True == \"true\";\n".as_slice(),
+                (17, 3),
+            ),
+            (
+                b"Authorizer: \"a\"\nConditions: true -> { @1 == 1; };\n".as_slice(),
+                (17, 3),
+            ),
+            (
+                b"Authorizer: \"a\"\nConditions: !!!!!!!!true;\n".as_slice(),
+                NO_FAULT,
+            ),
+            (
+                b"Authorizer: \"a\"\nConditions: !!!!!!!!!true;\n".as_slice(),
+                (15, 3),
+            ),
+            (
+                b"Authorizer: \"a\"\nConditions: 1 - -------1 == 0;\n".as_slice(),
+                NO_FAULT,
+            ),
+            (
+                b"Authorizer: \"a\"\nConditions: 1 - --------1 == 0;\n".as_slice(),
+                (15, 3),
+            ),
+        ]
+        .as_slice(),
+    );
+}
+
+#[test]
+fn brackets_of_conditions(rt: HostRuntime) {
+    let alloc = rt.alloc();
+    let front = b"Authorizer: \"a\"\nConditions: ".as_slice();
+    for (count, wanted) in [(64, NO_FAULT), (65, (15, 3))] {
+        let opened = repeated(alloc, front, b'(', count, b"true".as_slice()).expect(
+            &rt,
+            "there is memory",
+        );
+        check_repeated(
+            &rt,
+            alloc,
+            opened.as_slice(),
+            b')',
+            count,
+            b";\n".as_slice(),
+            wanted,
+        );
+    }
+}
+
+#[test]
+fn conditions_that_are_read(rt: HostRuntime) {
+    let text = b"Authorizer: \"a\"\nConditions: ;a == \"1\" -> \"yes\";; true -> {@b > 2;}\n";
+    match read(rt.alloc(), text.as_slice()) {
+        Ok(assertion) => match &assertion.conditions {
+            Some(program) => {
+                let clauses = program.clauses.as_slice();
+                assert_eq!(&rt; clauses.len(), 2);
+                assert!(&rt;
+                    matches!(
+                        &clauses[0].test,
+                        Expr::Compare {
+                            sign: Comparison::Eq,
+                            ..
+                        }
+                    )
+                );
+                assert!(&rt; matches!(&clauses[0].then, Then::Value(_)));
+                assert!(&rt; matches!(&clauses[1].test, Expr::Truth(true)));
+                assert!(&rt; matches!(&clauses[1].then, Then::Block(_)));
+            }
+            None => assert!(&rt; false, "no conditions"),
+        },
+        Err(fault) => assert!(&rt; false, "fault {:?}", fault),
+    }
+}
+
+/// One of the parts that `&&` or `||` joins.
+fn part(expr: &Expr, i: u32) -> Option<&Expr> {
+    match expr {
+        Expr::And(parts) => parts.get(i),
+        Expr::Or(parts) => parts.get(i),
+        _ => None,
+    }
+}
+
+/// What a sign before an operand or a test stands before.
+fn behind(expr: &Expr) -> Option<&Expr> {
+    match expr {
+        Expr::Not(part) => Some(part.get()),
+        Expr::Minus(part) => Some(part.get()),
+        Expr::Number(part) => Some(part.get()),
+        Expr::Deref(part) => Some(part.get()),
+        _ => None,
+    }
+}
+
+/// The right side of one of a chain's operations, if it has this sign.
+fn right_side(expr: &Expr, i: u32, sign: Operation) -> Option<&Expr> {
+    let Expr::Chain { rest, .. } = expr else {
+        return None;
+    };
+    let link = rest.get(i)?;
+    if link.sign == sign {
+        Some(&link.right)
+    } else {
+        None
+    }
+}
+
+/// The one clause of the block that a program's one clause has.
+fn nested(program: &Program) -> Option<&Clause> {
+    match &program.clauses.get(0)?.then {
+        Then::Block(block) => block.clauses.get(0),
+        _ => None,
+    }
+}
+
+/// Asserts the test `false || true && !(8 - 2 * 3 ^ -1 - @"5" == 1)`.
+fn check_test(rt: &impl Abort, test: &Expr) -> Option<()> {
+    assert!(rt; matches!(test, Expr::Or(_)));
+    assert!(rt; matches!(part(test, 0)?, Expr::Truth(false)));
+    let both = part(test, 1)?;
+    assert!(rt; matches!(both, Expr::And(_)));
+    assert!(rt; matches!(part(both, 0)?, Expr::Truth(true)));
+    let Expr::Compare { sign, left, right } = behind(part(both, 1)?)? else {
+        return None;
+    };
+    assert_eq!(rt; *sign, Comparison::Eq);
+    assert!(rt; matches!(right.get(), Expr::Whole(1)));
+    let sum = left.get();
+    let product = right_side(sum, 0, Operation::Less)?;
+    let power = right_side(product, 0, Operation::Times)?;
+    let minus = right_side(power, 0, Operation::Power)?;
+    assert!(rt; matches!(minus, Expr::Minus(_)));
+    assert!(rt; matches!(behind(minus)?, Expr::Whole(1)));
+    let number = right_side(sum, 1, Operation::Less)?;
+    assert!(rt; matches!(number, Expr::Number(_)));
+    assert!(rt; matches!(behind(number)?, Expr::Text(_)));
+    Some(())
+}
+
+/// Asserts the value `$"v" . w`.
+fn check_value(rt: &impl Abort, then: &Then) -> Option<()> {
+    let Then::Value(value) = then else {
+        return None;
+    };
+    let Expr::Chain { first, .. } = value else {
+        return None;
+    };
+    assert!(rt; matches!(first.get(), Expr::Deref(_)));
+    assert!(rt; matches!(behind(first.get())?, Expr::Text(_)));
+    let name = right_side(value, 0, Operation::Join)?;
+    assert!(rt; matches!(name, Expr::Name(_)));
+    Some(())
+}
+
+#[test]
+fn all_levels_of_the_grammar(rt: HostRuntime) {
+    let text =
+        b"Authorizer: \"a\"\nConditions: true -> {false || true && !(8 - 2 * 3 ^ -1 - @\"5\" == 1) -> $\"v\" . w;};\n";
+    let assertion = read(rt.alloc(), text.as_slice()).expect(&rt, "the text is read");
+    let program = assertion
+        .conditions
+        .as_ref()
+        .expect(&rt, "there are conditions");
+    let clause = nested(program).expect(&rt, "there is a nested clause");
+    assert!(&rt; check_test(&rt, &clause.test).is_some());
+    assert!(&rt; check_value(&rt, &clause.then).is_some());
 }

@@ -11,6 +11,8 @@ returns-clause-reading c text assertion =
         not_deep = c.depth_is_computed.ensures.not_deep;
         states = c.licensees_found.ensures.formula;
         shows = c.licensees_found.ensures.fault;
+        states_program = c.program_found.ensures.program;
+        shows_program = c.program_found.ensures.fault;
       };
       one = c.one_field_of_each_number.ensures.one;
       authorizer = c.one_field_of_each_number.ensures.authorizer;
@@ -27,6 +29,8 @@ returns-clause-fault c text fault =
         not_deep = c.depth_is_computed.ensures.not_deep;
         states = c.licensees_found.ensures.formula;
         shows = c.licensees_found.ensures.fault;
+        states_program = c.program_found.ensures.program;
+        shows_program = c.program_found.ensures.fault;
       };
       one = c.one_field_of_each_number.ensures.one;
       authorizer = c.one_field_of_each_number.ensures.authorizer;
@@ -43,6 +47,8 @@ returns-clause-not_memory c text e =
         not_deep = c.depth_is_computed.ensures.not_deep;
         states = c.licensees_found.ensures.formula;
         shows = c.licensees_found.ensures.fault;
+        states_program = c.program_found.ensures.program;
+        shows_program = c.program_found.ensures.fault;
       };
       one = c.one_field_of_each_number.ensures.one;
       authorizer = c.one_field_of_each_number.ensures.authorizer;
