@@ -1,8 +1,8 @@
 pub mod Different
 pub mod Lines
+pub mod Words
 pub mod Asked
 pub mod LineLengths
-pub mod Pieces
 pub mod Tables
 pub mod Walks
 pub mod Loading

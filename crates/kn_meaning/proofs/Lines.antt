@@ -1,5 +1,5 @@
 -- The first line of a text.
-use Rattle.std.proofs.Common.{◌≡◌, ℕ, ◌+◌, ◌≤◌, ◌<◌, true, false, suc, List, [], ◌∷◌, ◌++◌, length, take, drop, refl, ap, ◌∙◌, ⊎_elim, arith, length-append}
+use Rattle.std.proofs.Common.{◌≡◌, ℕ, ◌+◌, ◌≤◌, ◌<◌, true, false, cond, suc, List, [], ◌∷◌, ◌++◌, length, take, drop, refl, ap, ◌∙◌, ⊎_elim, arith, length-append}
 use Rattle.std.specs.Prelude.{nat_lt}
 use Rattle.std.specs.List.{before_first, after_first, list_any}
 use Rattle.std.proofs.lemmas.Bool.{cases_Bool, or_parts, cond-true, cond-false, le-ltb, lt-ltb}
@@ -13,6 +13,12 @@ without_return-none [] h = refl
 without_return-none (b ∷ []) h = rw (or_parts (is_return b) false h).0 refl
 without_return-none (b ∷ c ∷ bs) h =
     ap (λ (l : List ℕ). b ∷ l) (without_return-none (c ∷ bs) (or_parts (is_return b) (list_any is_return (c ∷ bs)) h).1)
+
+-- a byte at the end of a line, if it is a carriage return or not
+pub without_return-last : (xs : List ℕ) (b : ℕ) → without_return (xs ++ b ∷ []) ≡ xs ++ cond (is_return b) [] (b ∷ [])
+without_return-last [] b = refl
+without_return-last (x ∷ []) b = refl
+without_return-last (x ∷ y ∷ xs) b = ap (λ (l : List ℕ). x ∷ l) (without_return-last (y ∷ xs) b)
 
 pub line_length-newline : (line rest : List ℕ) → line_length line ≡ length line → line_length (line ++ 10 ∷ rest) ≡ length line
 line_length-newline [] rest h = refl

@@ -1,27 +1,49 @@
 -- The equations of a query (RFC 2704, section 5) over named principals, and their least solution.
-use Rattle.std.specs.Prelude.{ℕ, ◌≡◌, ◌≤◌, List, [], ◌∷◌, Bool, min, max, Option, Some, None, if◌then◌else◌}
+use Rattle.std.specs.Prelude.{ℕ, ◌≡◌, ◌-◌, ◌≤◌, List, [], ◌∷◌, length, map, Bool, min, max, Option, Some, None, if◌then◌else◌}
 use Rattle.std.specs.List.{list_any}
 use Rattle.std.specs.Str.{bytes_eq}
 use Rattle.kn_principal.specs.Principals.{policy}
 use Rattle.kn_trees.specs.declared.formula.Formula.{Formula}
 use Rattle.kn_trees.specs.declared.assertion.Assertion.{Assertion}
+use Rattle.kn_env.specs.Environment.{Asked}
+use Rattle.kn_cond.specs.Programs.{field_value}
+use Rattle.kn_proof.specs.declared.named.Id.{Id}
 use Rattle.kn_meaning.specs.Formulas.{Levels, formula_level}
+
+-- an assertion of a query, by its id
+pub record Part : Type 0 where
+  pub id : Id
+  pub assertion : Assertion
 
 -- an assertion in a query, with the compliance value of its conditions there
 pub record Statement : Type 0 where
+  pub id : Id
   pub authorizer : List ℕ
   pub ceiling : ℕ
   pub licensees : Option Formula
 
--- what an assertion states; the value of its conditions is the top, since a text with conditions is no assertion yet
-abbrev pub statement_of : ℕ → Assertion → Statement
-statement_of top a = record { authorizer = a.authorizer; ceiling = top; licensees = a.licensees }
+-- what an assertion states in a query; a name in its conditions has the value of its own local constant first
+abbrev pub statement_of : Asked → Part → Statement
+statement_of asked part = record {
+  id = part.id;
+  authorizer = part.assertion.authorizer;
+  ceiling = field_value (record { asked = asked; constants = part.assertion.constants }) part.assertion.conditions;
+  licensees = part.assertion.licensees;
+}
 
 -- what a query asks: the greatest compliance value, who requests, and what is stated
 pub record Equations : Type 0 where
   pub top : ℕ
   pub requesters : List (List ℕ)
   pub statements : List Statement
+
+-- what is asked of these assertions
+abbrev pub equations_over : Asked → List Part → Equations
+equations_over asked parts = record {
+  top = length asked.values - 1;
+  requesters = asked.requesters;
+  statements = map (statement_of asked) parts;
+}
 
 -- the level of an assertion's licensees; a missing field has the lowest
 abbrev pub licensees_level : ℕ → Levels → Option Formula → ℕ

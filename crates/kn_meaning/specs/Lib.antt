@@ -1,6 +1,7 @@
-pub mod Names
 pub mod Formulas
 pub mod Equations
+pub mod Occurring
+pub mod Proofs
 pub mod History
 pub mod Loading
 pub mod Requests
@@ -9,6 +10,7 @@ pub mod Daemon
 pub mod Linearized
 pub mod FirstInput
 pub mod Asked
+pub mod Played
 pub mod Laws
 pub mod Tables
 pub mod Examples

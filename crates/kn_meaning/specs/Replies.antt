@@ -1,8 +1,8 @@
 -- Replies and their texts (keynoted's own line protocol).
 use Rattle.std.specs.Prelude.{ℕ, ◌+◌, ◌/◌, ◌%◌, ◌==◌, nat_lt, List, [], ◌∷◌, ◌++◌, length, codes, flat_map, decimal, if◌then◌else◌}
-use Rattle.kn_meaning.specs.declared.rows.Id.{Id}
-use Rattle.kn_meaning.specs.declared.rows.Id.TheVariants.{Shared, Private}
-use Rattle.kn_meaning.specs.declared.rows.NamedRow.{NamedRow}
+use Rattle.kn_proof.specs.declared.named.Id.{Id}
+use Rattle.kn_proof.specs.declared.named.Id.TheVariants.{Shared, Private}
+use Rattle.kn_proof.specs.declared.named.NamedRow.{NamedRow}
 use Rattle.kn_meaning.specs.declared.refusal.Refusal.{Refusal}
 use Rattle.kn_meaning.specs.declared.refusal.Refusal.TheVariants as R
 use Rattle.kn_meaning.specs.declared.refusal.LimitWord.{LimitWord}

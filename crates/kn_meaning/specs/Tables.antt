@@ -12,7 +12,7 @@ level_in [] name = 0
 level_in (l ∷ ls) name = if bytes_eq l.name name then l.level else level_in ls name
 
 abbrev pub statement_of : Stated → Statement
-statement_of s = record { authorizer = s.authorizer; ceiling = s.ceiling; licensees = s.licensees }
+statement_of s = record { id = s.id; authorizer = s.authorizer; ceiling = s.ceiling; licensees = s.licensees }
 
 -- the equations of a table of statements
 abbrev pub equations_in : ℕ → List (List ℕ) → List Stated → Equations

@@ -8,7 +8,6 @@ pub mod fault;
 pub mod laws;
 pub mod plain;
 pub mod refusal;
-pub mod rows;
 pub mod script;
 #[cfg(test)]
 mod tests;

@@ -4,7 +4,6 @@ ghost use Rattle.std.specs.Prelude.{◌≡◌, ◌≤◌, ◌++◌, ◌∷◌, [
 ghost use Rattle.std.specs.List.{list_any, position_or_len};
 ghost use Rattle.std.specs.Str.{bytes_eq};
 ghost use Rattle.kn_base.specs.Threshold as T;
-ghost use Rattle.kn_meaning.specs.Names as N;
 ghost use Rattle.kn_meaning.specs.Formulas as L;
 ghost use Rattle.kn_meaning.specs.Equations as E;
 ghost use Rattle.kn_meaning.specs.Tables.{level_in, statement_of, equations_in, next_table, entry_of, first_table, last_table};
@@ -14,6 +13,7 @@ use crate::refusal::Refusal;
 use itoa::Buffer;
 use kn_assert::Formula;
 use kn_base::{List, NoMemory, Octets};
+use kn_proof::Id;
 use std::alloc::Global;
 
 /// A principal's level, counted from 0.
@@ -26,6 +26,7 @@ pub struct Level {
 /// An assertion in a query, with the compliance value of its conditions there.
 #[derive(Drop)]
 pub struct Stated {
+    pub id: Id,
     pub authorizer: Octets,
     pub ceiling: u8,
     pub licensees: Option<Formula>,
@@ -361,103 +362,4 @@ pub fn refusal_reply_text(alloc: Global, refusal: &Refusal) -> Result<Octets, No
     push_refusal(&mut text, refusal)?;
     text.push(b'\n')?;
     Ok(text)
-}
-
-/// A name of 1 to 128 bytes, each from 33 to 126.
-/// Slow, and only there to be compared with.
-pub fn is_value_name(name: &[u8]) -> bool
-    ensures { result ≡ N.is_value_name name.now }
-{
-    if name.is_empty() || name.len() > 128 {
-        return false;
-    }
-    for byte in name {
-        if *byte < 33 || *byte > 126 {
-            return false;
-        }
-    }
-    true
-}
-
-/// Whether no name stands twice.
-/// Slow, and only there to be compared with.
-pub fn are_distinct(names: &[Octets]) -> bool
-    ensures { result ≡ N.are_distinct names.now }
-{
-    let mut rest = names;
-    while let Some((first, others)) = rest.split_first() {
-        if is_among(first.as_slice(), others) {
-            return false;
-        }
-        rest = others;
-    }
-    true
-}
-
-/// Whether these are 2 to 64 different names.
-/// Slow, and only there to be compared with.
-pub fn are_values(names: &[Octets]) -> bool
-    ensures { result ≡ N.are_values names.now }
-{
-    if names.len() < 2 || names.len() > 64 {
-        return false;
-    }
-    for name in names {
-        if !is_value_name(name.as_slice()) {
-            return false;
-        }
-    }
-    are_distinct(names)
-}
-
-/// The place of the first comma, or the length where there is none.
-/// Slow, and only there to be compared with.
-pub fn comma_place(text: &[u8]) -> usize
-    ensures place { result ≡ position_or_len (λ b. eqb b 44) text.now }
-    ensures bound { result ≤ length text.now }
-{
-    for (place, byte) in text.iter().enumerate() {
-        if *byte == b',' {
-            return place;
-        }
-    }
-    text.len()
-}
-
-/// The pieces of a text between its commas.
-/// Slow, and only there to be compared with.
-#[tactic(auto, using(crate::proofs::Pieces::piece_moved, crate::proofs::Pieces::piece_last))]
-pub fn pieces(alloc: Global, text: &[u8]) -> Result<List<Octets>, NoMemory>
-    ensures { IfOk result (λ pieces. pieces ≡ N.between_commas text.now) }
-{
-    let mut pieces = List::new(alloc);
-    let mut rest = text;
-    let mut place = comma_place(rest);
-    while place < rest.len() {
-        let piece = Octets::from_slice(alloc, rest.split_at(place).0)?;
-        match pieces.push(piece) {
-            Ok(()) => {}
-            Err(_) => return Err(NoMemory),
-        }
-        rest = rest.split_at(place + 1).1;
-        place = comma_place(rest);
-    }
-    let last = Octets::from_slice(alloc, rest)?;
-    match pieces.push(last) {
-        Ok(()) => Ok(pieces),
-        Err(_) => Err(NoMemory),
-    }
-}
-
-/// The compliance values that a text names, the lowest first, or None where it names none.
-/// Slow, and only there to be compared with.
-pub fn values(alloc: Global, text: &[u8]) -> Result<Option<List<Octets>>, NoMemory>
-    ensures { IfOk result (λ names. names ≡ N.values_of text.now) }
-{
-    let names = pieces(alloc, text)?;
-    if are_values(names.as_slice()) {
-        Ok(Some(names))
-    } else {
-        Ok(None)
-    }
 }

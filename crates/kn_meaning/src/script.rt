@@ -1,6 +1,7 @@
 //! What an input of the first form asks.
 
 use kn_base::{List, Octets};
+use kn_env::Values;
 
 /// A line between OPEN and BYE.
 #[derive(Drop)]
@@ -8,7 +9,14 @@ pub enum Ask {
     /// Names a requester of session 1.
     Auth(Octets),
     /// Asks for the policy's level among these compliance values, the lowest first.
-    Query(List<Octets>),
+    Query(Values),
+    /// Gives an attribute of session 1 this value; None is the empty value, where nothing stands behind the name. Where
+    /// it is `returned`, the line ends with a carriage return that isn't part of it.
+    Set {
+        name: Octets,
+        value: Option<Octets>,
+        returned: bool,
+    },
 }
 
 /// One session: its lines in order, and whether BYE ends it.

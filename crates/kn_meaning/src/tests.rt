@@ -1,10 +1,11 @@
 use crate::plain::{
     Level, Stated, done_text, formula_level, least_levels, level_of, refusal_reply_text,
-    started_text, value_text, values,
+    started_text, value_text,
 };
 use crate::refusal::{LimitWord, Refusal};
 use kn_assert::Formula;
 use kn_base::{List, NoMemory, Octets};
+use kn_proof::Id;
 use std::alloc::Global;
 
 /// The statement that an authorizer licenses any of these, at most at this level.
@@ -22,6 +23,7 @@ fn statement(
         }
     }
     Ok(Stated {
+        id: Id::Shared(1),
         authorizer: Octets::from_slice(alloc, authorizer)?,
         ceiling,
         licensees: Some(Formula::Any(parts)),
@@ -133,25 +135,5 @@ fn texts_of_replies(rt: HostRuntime) -> Result<(), NoMemory> {
         refusal_reply_text(alloc, &Refusal::Syntax)?.as_slice(),
         b"NO 1 syntax\n".as_slice()
     );
-    Ok(())
-}
-
-#[test]
-fn values_of_texts(rt: HostRuntime) -> Result<(), NoMemory> {
-    let alloc = rt.alloc();
-    let Some(names) = values(alloc, b"no,yes")? else {
-        assert!(rt; false, "two names");
-        return Ok(());
-    };
-    assert_eq!(rt; names.len(), 2);
-    assert!(rt;
-        names
-            .get(1)
-            .is_some_and(|name| name.as_slice() == b"yes".as_slice())
-    );
-    let refused: [&[u8]; 5] = [b"", b"yes", b"no,no", b"no,", b"no,y s"];
-    for text in &refused {
-        assert!(rt; values(alloc, text)?.is_none());
-    }
     Ok(())
 }

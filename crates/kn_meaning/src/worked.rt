@@ -5,7 +5,7 @@ ghost use Rattle.std.specs.List.{list_any};
 ghost use Rattle.kn_meaning.specs.Formulas.{Levels};
 ghost use Rattle.kn_meaning.specs.Equations.{Equations, IsLeast};
 ghost use Rattle.kn_meaning.specs.Examples.{question, direct_policy, cyclic_policy};
-ghost use Rattle.kn_meaning.specs.Names.{values_of};
+ghost use Rattle.kn_env.specs.Values.{values_of};
 ghost use Rattle.kn_meaning.specs.Requests as Q;
 ghost use Rattle.kn_meaning.specs.Requests.{first_of, Takes, is_newline, first_of_line, line_of, without_return};
 ghost use Rattle.kn_meaning.specs.Replies.{reply_text, Done, Started, Value, No, NoMemory};
@@ -41,6 +41,7 @@ pub fn faulty_lines()
     ensures space_behind { first_of (codes "OPEN \n") ≡ Some (Q.Faulty F.Syntax, []) }
     ensures no_principal { first_of (codes "AUTH 1\n") ≡ Some (Q.Faulty F.Syntax, []) }
     ensures leading_zero { first_of (codes "AUTH 01 alice\n") ≡ Some (Q.Faulty F.Syntax, []) }
+    ensures no_name { first_of (codes "SET 1  v\n") ≡ Some (Q.Faulty F.Syntax, []) }
     ensures lower_case { first_of (codes "open\n") ≡ Some (Q.Faulty F.Command, []) }
     ensures empty_line { first_of (codes "\n") ≡ Some (Q.Faulty F.Command, []) }
     ensures return_alone { first_of (codes "\r\n") ≡ Some (Q.Faulty F.Command, []) }
@@ -55,6 +56,8 @@ pub fn whole_texts()
         (Q.Open ∷ Q.Faulty F.Syntax ∷ Q.Faulty F.Command ∷ Q.Faulty F.Command ∷ []) (codes "BY") }
     ensures spaces { Takes (codes "AUTH 1  a b \nAUTH 1 \nQUERY 1 \n")
         (Q.Auth 1 (codes " a b ") ∷ Q.Auth 1 [] ∷ Q.Query 1 [] ∷ []) [] }
+    ensures attributes { Takes (codes "SET 1 v a b\r\nSET 1 v \nSET 1 v\n")
+        (Q.Set 1 (codes "v") (codes "a b") ∷ Q.Set 1 (codes "v") [] ∷ Q.Set 1 (codes "v") [] ∷ []) [] }
 {}
 
 /// The texts of replies.

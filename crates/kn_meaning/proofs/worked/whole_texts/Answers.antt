@@ -9,3 +9,6 @@ returns-clause-faulty c = (codes "OPEN x\nopen\n\nBY", refl, (codes "open\n\nBY"
 
 pub returns-clause-spaces : goal.returns-clause-spaces
 returns-clause-spaces c = (codes "AUTH 1 \nQUERY 1 \n", refl, (codes "QUERY 1 \n", refl, ([], refl, refl)))
+
+pub returns-clause-attributes : goal.returns-clause-attributes
+returns-clause-attributes c = (codes "SET 1 v \nSET 1 v\n", refl, (codes "SET 1 v\n", refl, ([], refl, refl)))
