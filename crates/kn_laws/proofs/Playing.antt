@@ -1,0 +1,123 @@
+-- What the daemon permits changes the state as playing does, and requests mean one query.
+use Rattle.std.proofs.Common.{◌≡◌, ◌≢◌, ℕ, suc, ◌⊎◌, List, [], ◌∷◌, ◌++◌, length, take, All, Some, None, inl, inr, refl, sym, ap, ◌∙◌, subst, arith}
+use Rattle.kn_meaning.specs.declared.update.Update.{Update}
+use Rattle.kn_meaning.specs.Requests.{Request, Open, Close, Pin, Assert, Retract, Set, SetHex, Unset, Auth, Unauth, Clear, Query, Admin, Add, Drop, Bye, Faulty}
+use Rattle.kn_meaning.specs.Replies.{Reply, Done, Started, Number, PrivateAdded, Added, Value, No, NoMemory}
+use Rattle.kn_meaning.specs.Daemon.{Grounds, State, Session, own_refusal, Does, Permits, first_state}
+use Rattle.kn_meaning.specs.Asked.{no_grounds}
+use Rattle.kn_meaning.specs.Linearized.{Exchange, Along, requests_in}
+use Rattle.kn_meaning.specs.Played.{changed_by, unless_refused, after_request, played, IsAsking, IsMeant}
+
+-- what an accepted request does is its change
+does-changes : (caller : ℕ) (past : List Update) (old : State) (request : Request) (reply : Reply) (new : State) → Does caller past old request reply new → new ≡ changed_by past old request
+does-changes caller past old Open reply new h = h.1
+does-changes caller past old (Set s name value) reply new h = h.1
+does-changes caller past old (Auth s text) reply new h = h.1
+does-changes caller past old (Query s names) reply new (session, values, is_open, named, answer, same) = same
+does-changes caller past old Bye reply new h = h.1
+does-changes caller past old (Close s) reply new h = absurd h
+does-changes caller past old (Pin s) reply new h = absurd h
+does-changes caller past old (Assert s text) reply new h = absurd h
+does-changes caller past old (Retract s k) reply new h = absurd h
+does-changes caller past old (SetHex s name value) reply new h = absurd h
+does-changes caller past old (Unset s name) reply new h = absurd h
+does-changes caller past old (Unauth s text) reply new h = absurd h
+does-changes caller past old (Clear s) reply new h = absurd h
+does-changes caller past old (Admin text) reply new h = absurd h
+does-changes caller past old (Add text) reply new h = absurd h
+does-changes caller past old (Drop k) reply new h = absurd h
+does-changes caller past old (Faulty fault) reply new h = absurd h
+
+accepted : (g : Grounds) (caller : ℕ) (past : List Update) (old : State) (request : Request) (reply : Reply) (new : State) → (own_refusal g old request ≡ None) × Does caller past old request reply new → new ≡ after_request g past old request
+accepted g caller past old request reply new h =
+    does-changes caller past old request reply new h.1 ∙ ap (λ r. unless_refused r old (changed_by past old request)) (sym h.0)
+
+pub permitted-is_played : (g : Grounds) (caller : ℕ) (past : List Update) (old : State) (request : Request) (reply : Reply) (new : State) → Permits g caller past old request reply new → reply ≢ NoMemory → new ≡ after_request g past old request
+permitted-is_played g caller past old request (No refusal) new h some = h.1 ∙ ap (λ r. unless_refused r old (changed_by past old request)) (sym h.0)
+permitted-is_played g caller past old request NoMemory new h some = absurd (some refl)
+permitted-is_played g caller past old request Done new h some = accepted g caller past old request Done new h
+permitted-is_played g caller past old request (Started s version) new h some = accepted g caller past old request (Started s version) new h
+permitted-is_played g caller past old request (Number version) new h some = accepted g caller past old request (Number version) new h
+permitted-is_played g caller past old request (PrivateAdded k) new h some = accepted g caller past old request (PrivateAdded k) new h
+permitted-is_played g caller past old request (Added k version) new h some = accepted g caller past old request (Added k version) new h
+permitted-is_played g caller past old request (Value index name version rows) new h some = accepted g caller past old request (Value index name version rows) new h
+
+take-whole : {A : Type 0} (xs : List A) → take (length xs) xs ≡ xs
+take-whole [] = refl
+take-whole (x ∷ xs) = ap (λ ys. x ∷ ys) (take-whole xs)
+
+pub along-is_played : (g : Grounds) (caller : ℕ) (history : List Update) (old : State) (es : List Exchange) (new : State) → Along g caller history old es new
+    → All (λ e. e.place ≡ length history) es → All (λ e. e.reply ≢ NoMemory) es → new ≡ played g history old (requests_in es)
+along-is_played g caller history old [] new along places some = along
+along-is_played g caller history old (e ∷ es) new (mid, permits, rest) places some =
+    let place : e.place ≡ length history = places 0 e (omega arith) in
+    let past : take e.place history ≡ history = ap (λ n. take n history) place ∙ take-whole history in
+    let first : mid ≡ after_request g history old e.request = permitted-is_played g caller history old e.request e.reply mid (subst (λ updates. Permits g caller updates old e.request e.reply mid) past permits) (some 0 e (omega arith)) in
+    along-is_played g caller history mid es new rest (λ i d l. places (suc i) d (omega arith)) (λ i d l. some (suc i) d (omega arith))
+    ∙ ap (λ state. played g history state (requests_in es)) first
+
+-- what is asked has one session and one list of values
+asking-one : (state : State) (request : Request) (session other : Session) (values others : List (List ℕ)) → IsAsking state request session values → IsAsking state request other others → (session ≡ other) × (values ≡ others)
+asking-one state (Query s names) session other values others h k = (by-session (sym h.0 ∙ k.0), by-values (sym h.1 ∙ k.1))
+  where
+    by-session : Some session ≡ Some other → session ≡ other
+    by-session e = cc
+
+    by-values : Some values ≡ Some others → values ≡ others
+    by-values e = cc
+asking-one state Open session other values others h k = absurd h
+asking-one state (Close s) session other values others h k = absurd h
+asking-one state (Pin s) session other values others h k = absurd h
+asking-one state (Assert s text) session other values others h k = absurd h
+asking-one state (Retract s n) session other values others h k = absurd h
+asking-one state (Set s name value) session other values others h k = absurd h
+asking-one state (SetHex s name value) session other values others h k = absurd h
+asking-one state (Unset s name) session other values others h k = absurd h
+asking-one state (Auth s text) session other values others h k = absurd h
+asking-one state (Unauth s text) session other values others h k = absurd h
+asking-one state (Clear s) session other values others h k = absurd h
+asking-one state (Admin text) session other values others h k = absurd h
+asking-one state (Add text) session other values others h k = absurd h
+asking-one state (Drop n) session other values others h k = absurd h
+asking-one state Bye session other values others h k = absurd h
+asking-one state (Faulty fault) session other values others h k = absurd h
+
+-- Two cuts of one list: at the same place, or the second is behind the first.
+record IsBehind {A : Type 0} (front : List A) (x : A) (behind later : List A) (y : A) (rest : List A) : Type 0 where
+  between : List A
+  longer : later ≡ front ++ x ∷ between
+  left : behind ≡ between ++ y ∷ rest
+
+record IsSameCut {A : Type 0} (front : List A) (x : A) (later : List A) (y : A) : Type 0 where
+  same_front : front ≡ later
+  same : x ≡ y
+
+abbrev Cuts : {A : Type 0} → List A → A → List A → List A → A → List A → Type 0
+Cuts front x behind later y rest = IsSameCut front x later y ⊎ (IsBehind front x behind later y rest ⊎ IsBehind later y rest front x behind)
+
+cuts : {A : Type 0} (front : List A) (x : A) (behind later : List A) (y : A) (rest : List A) → front ++ x ∷ behind ≡ later ++ y ∷ rest → Cuts front x behind later y rest
+cuts [] x behind [] y rest e = inl (record { same_front = refl; same = cc })
+cuts [] x behind (z ∷ later) y rest e = inr (inl (record { between = later; longer = cc; left = cc }))
+cuts (z ∷ front) x behind [] y rest e = inr (inr (record { between = front; longer = cc; left = cc }))
+cuts (z ∷ front) x behind (w ∷ later) y rest e = by (cuts front x behind later y rest (cc))
+  where
+    head : z ≡ w
+    head = cc
+
+    by : Cuts front x behind later y rest → Cuts (z ∷ front) x behind (w ∷ later) y rest
+    by (inl at) = inl (record { same_front = ap (λ q. q ∷ front) head ∙ ap (λ qs. w ∷ qs) at.same_front; same = at.same })
+    by (inr (inl at)) = inr (inl (record { between = at.between; longer = ap (λ q. q ∷ later) (sym head) ∙ ap (λ qs. z ∷ qs) at.longer; left = at.left }))
+    by (inr (inr at)) = inr (inr (record { between = at.between; longer = ap (λ q. q ∷ front) head ∙ ap (λ qs. w ∷ qs) at.longer; left = at.left }))
+
+pub one_meant : (history : List Update) (requests : List Request) (session other : Session) (values others : List (List ℕ)) → IsMeant history requests session values → IsMeant history requests other others → (session ≡ other) × (values ≡ others)
+one_meant history requests session other values others h k = by (cuts h.front h.query h.behind k.front k.query k.behind (sym h.cut ∙ k.cut))
+  where
+    state_at : List Request → State
+    state_at = played no_grounds history first_state
+
+    by : Cuts h.front h.query h.behind k.front k.query k.behind → (session ≡ other) × (values ≡ others)
+    by (inl at) =
+        asking-one (state_at h.front) h.query session other values others h.asking
+        (subst (λ q. IsAsking (state_at h.front) q other others) (sym at.same) (subst (λ front. IsAsking (state_at front) k.query other others) (sym at.same_front) k.asking))
+    by (inr (inl at)) = absurd (h.last at.between k.query k.behind other others at.left (subst (λ front. IsAsking (state_at front) k.query other others) at.longer k.asking))
+    by (inr (inr at)) = absurd (k.last at.between h.query h.behind session values at.left (subst (λ front. IsAsking (state_at front) h.query session values) at.longer h.asking))

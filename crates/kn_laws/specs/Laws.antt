@@ -1,0 +1,38 @@
+-- Laws of least levels and of proofs.
+use Rattle.std.specs.Prelude.{ℕ, ◌≡◌, ◌≤◌, List}
+use Rattle.kn_principal.specs.Principals.{policy}
+use Rattle.kn_proof.specs.declared.named.NamedRow.{NamedRow}
+use Rattle.kn_meaning.specs.Formulas.{Levels}
+use Rattle.kn_meaning.specs.Equations.{Equations, IsLeast, IsPolicyLevel}
+use Rattle.kn_meaning.specs.Proofs.{levels_by, IsProof}
+use Rattle.kn_laws.specs.Least.{least_levels}
+
+-- as many rounds as there are principals times the top give the least levels
+abbrev pub LeastLevelsAreLeast : Type 0
+LeastLevelsAreLeast = (e : Equations) → IsLeast e (least_levels e)
+
+-- each query gives the policy a level
+abbrev pub EveryQueryHasALevel : Type 0
+EveryQueryHasALevel = (e : Equations) → (level : ℕ) × IsPolicyLevel e level
+
+-- one alone
+abbrev pub EveryQueryHasOneLevel : Type 0
+EveryQueryHasOneLevel = (e : Equations) (level other : ℕ) → IsPolicyLevel e level → IsPolicyLevel e other → level ≡ other
+
+-- and no least level is above the top, however high the ceilings are
+abbrev pub LeastLevelsAreWithin : Type 0
+LeastLevelsAreWithin = (e : Equations) (at : Levels) → IsLeast e at → (name : List ℕ) → at name ≤ e.top
+
+-- The rows of a proof give each principal its least level. The policy's is the level that they prove, whatever levels are
+-- the least, and no other level has a proof.
+pub record IsDetermined (e : Equations) (rows : List NamedRow) (level : ℕ) : Type 0 where
+  pub least : IsLeast e (levels_by e rows)
+  pub claim : (at : Levels) → IsLeast e at → at policy ≡ level
+  pub only : (others : List NamedRow) (other : ℕ) → IsProof e others other → other ≡ level
+
+abbrev pub ProofDeterminesLevel : Type 0
+ProofDeterminesLevel = (e : Equations) (rows : List NamedRow) (level : ℕ) → IsProof e rows level → IsDetermined e rows level
+
+-- each query has a proof
+abbrev pub EveryQueryHasAProof : Type 0
+EveryQueryHasAProof = (e : Equations) → (level : ℕ) × (rows : List NamedRow) × IsProof e rows level

@@ -1,0 +1,4 @@
+pub mod Least
+pub mod Laws
+pub mod PlayedLaws
+pub mod Tested

@@ -1,0 +1,9 @@
+//! Laws of least levels, of proofs and of playing over named principals, each of them the contract of a function that
+//! does nothing, and a plain slow program that follows a proof. Nothing stands on this crate: it shows that the
+//! definitions of `kn_meaning` mean what they are meant to.
+#![tactic(auto)]
+
+pub mod laws;
+pub mod plain;
+#[cfg(test)]
+mod tests;
