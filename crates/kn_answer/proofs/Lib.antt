@@ -1,0 +1,10 @@
+pub mod Spelled
+pub mod Counted
+pub mod Folded
+pub mod Bridge
+pub mod Grown
+pub mod Keyed
+pub mod Followed
+pub mod Rowed
+pub mod Located
+pub mod Listed

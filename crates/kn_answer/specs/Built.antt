@@ -1,0 +1,18 @@
+-- A system with the names of its principals and the ids of its rows, and when it is that of a query.
+use Rattle.std.specs.Prelude.{ℕ, ◌≡◌, List, map}
+use Rattle.kn_proof.specs.declared.named.Id.{Id}
+use Rattle.kn_meaning.specs.Equations.{Equations}
+use Rattle.kn_system.specs.Equations.{Equations as System, IsSystem}
+use Rattle.kn_answer.specs.Numbering.{IsSystemOf}
+
+-- the names of the principals and the ids of the rows, each at its number
+pub record Interned : Type 0 where
+  pub names : List (List ℕ)
+  pub system : System
+  pub ids : List Id
+
+-- The system is that of the query, and each row has the id of its statement.
+pub record IsBuilt (e : Equations) (built : Interned) : Type 0 where
+  pub well_formed : IsSystem built.system
+  pub of : IsSystemOf e built.names built.system
+  pub ids : built.ids ≡ map (λ s. s.id) e.statements

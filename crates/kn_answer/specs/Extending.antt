@@ -1,0 +1,35 @@
+-- Names that get numbers behind others, while a system is built.
+use Rattle.std.specs.Prelude.{ℕ, ◌≡◌, ◌+◌, ◌≤◌, true, List, [], ◌∷◌, ◌++◌, length}
+use Rattle.std.specs.List.{list_any}
+use Rattle.std.specs.Str.{bytes_eq}
+use Rattle.kn_meaning.specs.Equations.{Equations, Statement}
+use Rattle.kn_answer.specs.declared.numbered.Numbered.{Numbered}
+use Rattle.kn_answer.specs.Numbering.{IsNumber, AreNumbered, IsSystemOf}
+
+-- the names keep their numbers
+abbrev pub Keeps : List (List ℕ) → List (List ℕ) → Type 0
+Keeps old new = (p : ℕ) (name : List ℕ) → IsNumber old name p → IsNumber new name p
+
+-- the query with one more statement, behind the others
+abbrev pub with_statement : Equations → Statement → Equations
+with_statement e statement = record e { statements = e.statements ++ statement ∷ [] }
+
+-- At most n principals that are no requesters have got numbers, and the system is that of the same queries.
+pub record Extends (n : ℕ) (old new : Numbered) : Type 0 where
+  pub keeps : Keeps old.names new.names
+  pub few : length new.names ≤ length old.names + n
+  pub one_each : length new.names ≡ length new.system.requesters
+  pub levels : new.system.levels ≡ old.system.levels
+  pub rows : new.system.rows ≡ old.system.rows
+  pub same : (e : Equations) → IsSystemOf e old.names old.system → IsSystemOf e new.names new.system
+
+-- The requester has a number, and nothing else has changed.
+pub record AddsRequester (name : List ℕ) (old new : Numbered) : Type 0 where
+  pub keeps : Keeps old.names new.names
+  pub number : (p : ℕ) × IsNumber new.names name p
+  pub few : length new.names ≤ length old.names + 1
+  pub one_each : length new.names ≡ length new.system.requesters
+  pub levels : new.system.levels ≡ old.system.levels
+  pub rows : new.system.rows ≡ old.system.rows
+  pub numbered : (requesters : List (List ℕ)) → list_any (bytes_eq name) requesters ≡ true
+      → AreNumbered requesters old.names old.system.requesters → AreNumbered requesters new.names new.system.requesters

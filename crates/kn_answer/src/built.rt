@@ -1,0 +1,160 @@
+//! The system of a query, with the names of its principals and the ids of its rows.
+ghost use Rattle.std.specs.Prelude.{◌≡◌, ◌+◌, ◌^◌, ◌<◌, ◌≤◌, false, All, Some, length, map, slice_get, IfOk};
+ghost use Rattle.std.specs.List.{list_any};
+ghost use Rattle.std.specs.Str.{bytes_eq};
+ghost use Rattle.kn_principal.specs.Principals.{policy};
+ghost use Rattle.kn_meaning.specs.Equations.{equations_over};
+ghost use Rattle.kn_answer.specs.Numbering.{IsNumber};
+ghost use Rattle.kn_answer.specs.Built.{IsBuilt};
+ghost use Rattle.kn_answer.specs.Located.{IsFound, IsInRange, IsLocated, AreLocated};
+ghost use Rattle.kn_answer.specs.Sizes.{IsReadablePart, total_size};
+
+use crate::names::Names;
+use crate::numbered::{Numbered, numbered_query};
+use crate::types::{Part, Tally};
+use kn_base::{List, NoMemory, Octets};
+use kn_env::Query;
+use kn_proof::{Id, NamedRow, Proof, ReadReply, Row};
+use kn_system::System;
+use std::alloc::Global;
+use std::marker::Model;
+
+/// The system of a query: its principals by numbers, of which `POLICY` has 0, and a row for each assertion, in their
+/// order. The names of the principals and the ids of the assertions are kept beside it.
+#[derive(Drop)]
+pub struct Built {
+    names: Names,
+    system: System<Tally>,
+    ids: List<Id>,
+}
+
+impl Model for Built {
+    ghost use Rattle.std.specs.Prelude.{◌≡◌, length};
+    ghost use Rattle.kn_answer.specs.Built.{Interned};
+
+    ghost Value = { Interned };
+
+    ghost view = { λ b. record { names = b.names; system = b.system; ids = b.ids } };
+
+    ghost invariant = { λ b.
+        (length b.names ≡ length b.system.requesters) × (length b.ids ≡ length b.system.rows) };
+}
+
+/// The system of a query.
+///
+/// `NoMemory` comes only for want of memory.
+pub fn build(alloc: Global, list: &List<Part<'_>>, query: &Query<'_>) -> Result<Built, NoMemory>
+    requires readable { All IsReadablePart list.now }
+    requires small { 65 + total_size list.now < 2 ^ 24 }
+    requires others { list_any (bytes_eq policy) query.now.requesters ≡ false }
+    requires few { length query.now.requesters ≤ 64 }
+    ensures built { IfOk result (λ built. IsBuilt (equations_over query.now list.now) built) }
+    ensures ids { IfOk result (λ built. built.ids ≡ map (λ part. part.id) list.now) }
+{
+    let ids = ids_of(alloc, list)?;
+    let Numbered { names, system } = numbered_query(alloc, list, query)?;
+    let _levels = system.levels();
+    Ok(Built { names, system, ids })
+}
+
+// The ids of assertions, in their order.
+fn ids_of(alloc: Global, list: &List<Part<'_>>) -> Result<List<Id>, NoMemory>
+    ensures { IfOk result (λ ids. ids ≡ map (λ part. part.id) list.now) }
+{
+    let mut ids = List::new(alloc);
+    for part in list.as_slice() {
+        match ids.push(part.id) {
+            Ok(()) => {}
+            Err(_) => return Err(NoMemory),
+        }
+    }
+    Ok(ids)
+}
+
+impl Built {
+    /// The system.
+    pub fn system(&self) -> &System<Tally>
+        ensures { result.now ≡ self.now.system }
+    {
+        &self.system
+    }
+
+    /// The name of a principal, in normal form.
+    pub fn name(&self, principal: u32) -> &[u8]
+        requires in_range { principal < length self.now.system.requesters }
+        ensures name { IsNumber self.now.names result.now principal }
+    {
+        self.names.get(principal)
+    }
+
+    /// The id of the assertion of which a row is.
+    pub fn id(&self, row: u32) -> Id
+        requires in_range { row < length self.now.system.rows }
+        ensures id { IsNumber self.now.ids result row }
+    {
+        self.ids.as_slice()[row as usize]
+    }
+
+    // A row by its numbers.
+    fn located(&self, named: &NamedRow) -> Row
+        ensures { IsLocated self.now named.now result }
+    {
+        Row {
+            principal: self.find_name(named.principal.as_slice()),
+            value: named.value,
+            by: self.find_id(named.id),
+        }
+    }
+
+    // The number of a principal, and the greatest u32 where it has none.
+    fn find_name(&self, name: &[u8]) -> u32
+        ensures { IsFound self.now.names name.now result }
+    {
+        match self.names.find(name) {
+            Some(number) => number,
+            None => u32::MAX,
+        }
+    }
+
+    // The number of the first row with this id, and the greatest u32 where there is none.
+    fn find_id(&self, id: Id) -> u32
+        ensures { IsFound self.now.ids id result }
+    {
+        let ids = self.ids.as_slice();
+        for row in 0..self.ids.len() {
+            if ids[row as usize] == id {
+                return row;
+            }
+        }
+        u32::MAX
+    }
+
+    // A row by its names.
+    pub(crate) fn named(&self, alloc: Global, row: &Row) -> Result<NamedRow, NoMemory>
+        requires in_range { IsInRange self.now.system row.now }
+        ensures { IfOk result (λ named. IsLocated self.now named row.now) }
+    {
+        Ok(NamedRow {
+            value: row.value,
+            id: self.id(row.by),
+            principal: Octets::from_slice(alloc, self.name(row.principal))?,
+        })
+    }
+}
+
+/// The rows that a reply tells by names, by their numbers in a system, in the same order and with the same levels. A name
+/// or an id that isn't in the system becomes the greatest u32, which is the number of none.
+///
+/// `NoMemory` comes only for want of memory.
+pub fn locate(alloc: Global, built: &Built, reply: &ReadReply) -> Result<Proof, NoMemory>
+    ensures located { IfOk result (λ proof. AreLocated built.now reply.now.rows proof.rows) }
+{
+    let mut rows = List::new(alloc);
+    for row in reply.rows.as_slice() {
+        match rows.push(built.located(row)) {
+            Ok(()) => {}
+            Err(_) => return Err(NoMemory),
+        }
+    }
+    Ok(Proof { rows })
+}

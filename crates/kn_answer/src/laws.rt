@@ -1,0 +1,9 @@
+//! Laws of the systems of queries, each of them the contract of a function that does nothing.
+
+ghost use Rattle.kn_answer.specs.Laws.{LocatedProofs};
+
+/// Where the ids of the assertions differ, located rows prove a level in the system of a query exactly where the rows by
+/// names prove it of the query.
+pub fn located_proofs()
+    ensures { LocatedProofs }
+{}

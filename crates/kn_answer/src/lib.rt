@@ -1,0 +1,16 @@
+//! Answers to queries: assertions and a query become a system over numbered principals, which is settled, and its proof
+//! is told by names. And back: a proof that a reply tells by names is found again in a system.
+#![tactic(auto)]
+
+mod answers;
+mod built;
+pub mod laws;
+mod names;
+mod numbered;
+#[cfg(test)]
+mod tests;
+mod types;
+
+pub use answers::answer;
+pub use built::{Built, build, locate};
+pub use types::{Answer, Part, Tally};

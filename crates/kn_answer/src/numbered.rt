@@ -1,0 +1,259 @@
+//! A query over numbered principals.
+ghost use Rattle.std.specs.Prelude.{◌≡◌, ℕ, ◌+◌, ◌-◌, ◌^◌, ◌<◌, ◌≤◌, false, true, [], ◌∷◌, ◌++◌, All, length, map, IfOk, IfSome, OnOk};
+ghost use Rattle.std.specs.List.{list_any};
+ghost use Rattle.std.specs.Str.{bytes_eq};
+ghost use Rattle.kn_cond.specs.Programs.{field_value as field_value_of};
+ghost use Rattle.kn_principal.specs.Principals.{policy};
+ghost use Rattle.kn_meaning.specs.Equations.{Equations, equations_over, statement_of};
+ghost use Rattle.kn_system.specs.Equations.{node_total};
+ghost use Rattle.kn_system.specs.Forms.{IsFormula};
+ghost use Rattle.kn_answer.specs.Numbering.{IsNumber, IsAbsent, AreNumbered, HaveNumbers, IsSystemOf, SpellLicensees};
+ghost use Rattle.kn_answer.specs.Extending.{Extends, AddsRequester, with_statement};
+ghost use Rattle.kn_answer.specs.Spelling.{AddsSpelled, AddsGate};
+ghost use Rattle.kn_answer.specs.Sizes.{IsReadablePart, size_of, total_size};
+ghost use Rattle.kn_trees.specs.Formulas.{IsReadable, field_nodes, formula_nodes, is_sound, total};
+
+use crate::names::Names;
+use crate::types::{Part, Tally};
+use kn_assert::{Assertion, Formula};
+use kn_base::{List, NoMemory, Octets};
+use kn_cond::field_value;
+use kn_env::{Env, Query};
+use kn_system::{Piece, System};
+use std::alloc::Global;
+
+/// Principals with their numbers, and a system over these numbers.
+#[derive(Drop)]
+pub(super) struct Numbered {
+    pub(super) names: Names,
+    pub(super) system: System<Tally>,
+}
+
+/// The system of a query: its principals by numbers, and a row for each assertion.
+pub(super) fn numbered_query(
+    alloc: Global,
+    list: &List<Part<'_>>,
+    query: &Query<'_>,
+) -> Result<Numbered, NoMemory>
+    requires readable { All IsReadablePart list.now }
+    requires small { 65 + total_size list.now < 2 ^ 24 }
+    requires others { list_any (bytes_eq policy) query.now.requesters ≡ false }
+    requires few { length query.now.requesters ≤ 64 }
+    ensures system { IfOk result (λ numbered. IsSystemOf (equations_over query.now list.now) numbered.names numbered.system) }
+    ensures levels { IfOk result (λ numbered. numbered.system.levels ≡ length query.now.values) }
+{
+    let mut numbered = Numbered::of_policy(alloc, query.values().len() as u8)?;
+    numbered.add_requesters(query.requesters())?;
+    numbered.add_statements(alloc, list, query)?;
+    Ok(numbered)
+}
+
+// An `Err` of these leaves a value that is of no more use.
+impl Numbered {
+    // The policy alone, which has number 0.
+    fn of_policy(alloc: Global, values: u8) -> Result<Numbered, NoMemory>
+        requires at_least_two { 2 ≤ values }
+        requires at_most { values ≤ 64 }
+        ensures names { IfOk result (λ numbered. numbered.names ≡ policy ∷ []) }
+        ensures system { IfOk result (λ numbered. numbered.system
+            ≡ record { levels = values; requesters = false ∷ []; rows = [] }) }
+    {
+        let mut names = Names::new(alloc);
+        names.push(b"POLICY".as_slice())?;
+        Ok(Numbered {
+            names,
+            system: System::start(alloc, Tally, values),
+        })
+    }
+
+    fn add(&mut self, name: &[u8], requester: bool) -> Result<u32, NoMemory>
+        requires few { length self.old.names < 2 ^ 24 }
+        requires one_each { length self.old.names ≡ length self.old.system.requesters }
+        requires absent { IsAbsent self.old.names name.now }
+        ensures number { IfOk result (λ number. number ≡ length self.old.names) }
+        ensures names { OnOk result (self.new.names ≡ self.old.names ++ name.now ∷ []) }
+        ensures system { OnOk result (self.new.system
+            ≡ record self.old.system { requesters = self.old.system.requesters ++ requester ∷ [] }) }
+    {
+        self.names.push(name)?;
+        self.system.push_principal(requester)
+    }
+
+    // A system can't make a principal a requester later, so requesters get their numbers before others.
+    fn add_requester(&mut self, name: &[u8]) -> Result<(), NoMemory>
+        requires few { length self.old.names < 2 ^ 24 }
+        requires one_each { length self.old.names ≡ length self.old.system.requesters }
+        ensures { OnOk result (AddsRequester name.now self.old self.new) }
+    {
+        match self.names.find(name) {
+            Some(_) => Ok(()),
+            None => {
+                self.add(name, true)?;
+                Ok(())
+            }
+        }
+    }
+
+    // The number of a principal, which gets one here where it has none yet.
+    fn number(&mut self, name: &[u8]) -> Result<u32, NoMemory>
+        requires few { length self.old.names < 2 ^ 24 }
+        requires one_each { length self.old.names ≡ length self.old.system.requesters }
+        ensures number { IfOk result (λ number. IsNumber self.new.names name.now number) }
+        ensures ok { OnOk result (Extends 1 self.old self.new) }
+    {
+        match self.names.find(name) {
+            Some(number) => Ok(number),
+            None => self.add(name, false),
+        }
+    }
+
+    fn add_requesters(&mut self, requesters: &List<Octets>) -> Result<(), NoMemory>
+        requires few { length self.old.names + length requesters.now ≤ 2 ^ 24 }
+        requires numbered { AreNumbered requesters.now self.old.names self.old.system.requesters }
+        ensures names { OnOk result (length self.new.names ≤ length self.old.names + length requesters.now) }
+        ensures numbered { OnOk result (AreNumbered requesters.now self.new.names self.new.system.requesters) }
+        ensures all { OnOk result (HaveNumbers requesters.now self.new.names) }
+        ensures levels { OnOk result (self.new.system.levels ≡ self.old.system.levels) }
+        ensures rows { OnOk result (self.new.system.rows ≡ self.old.system.rows) }
+    {
+        for requester in requesters.as_slice() {
+            self.add_requester(requester.as_slice())?;
+        }
+        Ok(())
+    }
+
+    fn add_statements(
+        &mut self,
+        alloc: Global,
+        list: &List<Part<'_>>,
+        query: &Query<'_>,
+    ) -> Result<(), NoMemory>
+        requires readable { All IsReadablePart list.now }
+        requires names_fit { length self.old.names + total_size list.now ≤ 2 ^ 24 }
+        requires nodes_fit { node_total self.old.system.rows + total_size list.now ≤ 2 ^ 24 }
+        requires one_each { length self.old.names ≡ length self.old.system.requesters }
+        requires at_least_two { 2 ≤ length query.now.values }
+        requires levels { self.old.system.levels ≡ length query.now.values }
+        ensures system { OnOk result (IsSystemOf (equations_over query.now []) self.old.names self.old.system
+            → IsSystemOf (equations_over query.now list.now) self.new.names self.new.system) }
+        ensures levels { OnOk result (self.new.system.levels ≡ self.old.system.levels) }
+    {
+        for part in list.as_slice() {
+            self.add_statement(alloc, part, query)?;
+        }
+        Ok(())
+    }
+
+    fn add_statement(
+        &mut self,
+        alloc: Global,
+        part: &Part<'_>,
+        query: &Query<'_>,
+    ) -> Result<(), NoMemory>
+        requires readable { IsReadablePart part.now }
+        requires names_fit { length self.old.names + size_of part.now ≤ 2 ^ 24 }
+        requires nodes_fit { node_total self.old.system.rows + size_of part.now ≤ 2 ^ 24 }
+        requires one_each { length self.old.names ≡ length self.old.system.requesters }
+        requires at_least_two { 2 ≤ length query.now.values }
+        requires levels { self.old.system.levels ≡ length query.now.values }
+        ensures names { OnOk result (length self.new.names ≤ length self.old.names + size_of part.now) }
+        ensures nodes { OnOk result (node_total self.new.system.rows
+            ≤ node_total self.old.system.rows + size_of part.now) }
+        ensures one_each { OnOk result (length self.new.names ≡ length self.new.system.requesters) }
+        ensures levels { OnOk result (self.new.system.levels ≡ self.old.system.levels) }
+        ensures system { OnOk result ((e : Equations) → IsSystemOf e self.old.names self.old.system
+            → IsSystemOf (with_statement e (statement_of query.now part.now)) self.new.names self.new.system) }
+    {
+        let assertion = part.assertion;
+        let authorizer = self.number(assertion.authorizer.as_slice())?;
+        let ceiling = ceiling_of(alloc, query, assertion)?;
+        let pieces = self.licensees(alloc, &assertion.licensees)?;
+        self.system.push_row(authorizer, ceiling, &pieces)?;
+        Ok(())
+    }
+
+    // The pieces of a Licensees field. A missing one has those of `||` over no parts.
+    fn licensees(
+        &mut self,
+        alloc: Global,
+        licensees: &Option<Formula>,
+    ) -> Result<List<Piece>, NoMemory>
+        requires readable { IfSome licensees.now (λ formula. (bytes : ℕ) × IsReadable bytes formula) }
+        requires few { length self.old.names + field_nodes licensees.now ≤ 2 ^ 24 }
+        requires one_each { length self.old.names ≡ length self.old.system.requesters }
+        ensures ok { OnOk result (Extends (field_nodes licensees.now) self.old self.new) }
+        ensures level { IfOk result (λ pieces. (top : ℕ) → SpellLicensees top self.new.names licensees.now pieces) }
+        ensures one_formula { IfOk result (λ pieces. IsFormula (length self.new.names) pieces) }
+        ensures short { IfOk result (λ pieces. length pieces ≤ 1 + field_nodes licensees.now) }
+    {
+        let mut pieces = List::new(alloc);
+        match licensees {
+            Some(formula) => self.add_formula(formula, &mut pieces)?,
+            None => add_piece(&mut pieces, Piece::Gate { need: 1, count: 0 })?,
+        }
+        Ok(pieces)
+    }
+
+    // Adds the pieces of a formula behind others.
+    #[cycle(formula)]
+    fn add_formula(&mut self, formula: &Formula, pieces: &mut List<Piece>) -> Result<(), NoMemory>
+        requires sound { is_sound formula.now ≡ true }
+        requires few { length self.old.names + formula_nodes formula.now ≤ 2 ^ 24 }
+        requires one_each { length self.old.names ≡ length self.old.system.requesters }
+        ensures grown { OnOk result (Extends (formula_nodes formula.now) self.old self.new) }
+        ensures spelled { OnOk result (AddsSpelled self.new.names (formula.now ∷ []) pieces.old pieces.new) }
+    {
+        match formula {
+            Formula::Who(name) => {
+                let number = self.number(name.as_slice())?;
+                add_piece(pieces, Piece::Who(number))
+            }
+            Formula::All(parts) => self.add_gate(parts.len(), parts, pieces),
+            Formula::Any(parts) => self.add_gate(1, parts, pieces),
+            Formula::Threshold { need, list } => self.add_gate(*need, list, pieces),
+        }
+    }
+
+    // Adds a gate and the pieces of its parts behind others.
+    #[cycle(formula)]
+    fn add_gate(
+        &mut self,
+        need: u32,
+        parts: &List<Formula>,
+        pieces: &mut List<Piece>,
+    ) -> Result<(), NoMemory>
+        requires need { 1 ≤ need }
+        requires sound { All (λ part. is_sound part ≡ true) parts.now }
+        requires few { length self.old.names + total (map formula_nodes parts.now) ≤ 2 ^ 24 }
+        requires one_each { length self.old.names ≡ length self.old.system.requesters }
+        ensures grown { OnOk result (Extends (total (map formula_nodes parts.now)) self.old self.new) }
+        ensures spelled { OnOk result (AddsGate self.new.names need parts.now pieces.old pieces.new) }
+    {
+        let count = parts.len();
+        add_piece(pieces, Piece::Gate { need, count })?;
+        for part in parts.as_slice() {
+            self.add_formula(part, pieces)?;
+        }
+        Ok(())
+    }
+}
+
+// The value of an assertion's conditions in a query.
+fn ceiling_of(alloc: Global, query: &Query<'_>, assertion: &Assertion) -> Result<u8, NoMemory>
+    requires at_least_two { 2 ≤ length query.now.values }
+    ensures value { IfOk result (λ ceiling. ceiling
+        ≡ field_value_of (record { asked = query.now; constants = assertion.now.constants }) assertion.now.conditions) }
+    ensures at_most_top { IfOk result (λ ceiling. ceiling ≤ length query.now.values - 1) }
+{
+    let env = Env::of(query, &assertion.constants);
+    field_value(alloc, &assertion.conditions, &env)
+}
+
+fn add_piece(pieces: &mut List<Piece>, piece: Piece) -> Result<(), NoMemory>
+    ensures { OnOk result (pieces.new ≡ pieces.old ++ piece ∷ []) }
+{
+    match pieces.push(piece) {
+        Ok(()) => Ok(()),
+        Err(_) => Err(NoMemory),
+    }
+}

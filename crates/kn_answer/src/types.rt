@@ -1,0 +1,36 @@
+use kn_assert::Assertion;
+use kn_base::List;
+use kn_proof::{Id, NamedRow};
+use std::marker::Model;
+
+/// An assertion of a query, by its id.
+#[derive(Drop)]
+pub struct Part<'a> {
+    pub id: Id,
+    pub assertion: &'a Assertion,
+}
+
+impl<'a> Model for Part<'a> {
+    ghost use Rattle.std.specs.Coded.{codes};
+    ghost use Rattle.kn_trees.specs.contracts.assertion.Assertion as e;
+    ghost use Rattle.kn_meaning.specs.Equations.{Part as AssertionById};
+
+    ghost Value = { AssertionById };
+
+    ghost coded = { Prim.hlevel (codes, e.the_row.coded) };
+
+    ghost view = { λ p. record { id = p.id; assertion = p.assertion.now } };
+}
+
+/// A compliance value, and the rows that prove it.
+#[derive(Debug, Drop)]
+pub struct Answer {
+    /// The policy's level in the least fixed point of the query's equations, the lowest being 0.
+    pub value: u8,
+    /// The rows of a proof of it in their order: each stands on those before it.
+    pub rows: List<NamedRow>,
+}
+
+/// The mark of the systems of queries, and of the steps that reading them takes.
+#[derive(Debug, Drop)]
+pub struct Tally;
