@@ -1,0 +1,8 @@
+pub mod Numerals
+pub mod Quotes
+pub mod Cuts
+pub mod Lines
+pub mod Written
+pub mod Only
+pub mod Whole
+pub mod OneLine

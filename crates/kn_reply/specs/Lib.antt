@@ -1,0 +1,4 @@
+pub mod Lines
+pub mod Quoting
+pub mod Reading
+pub mod Words
