@@ -1,0 +1,3 @@
+pub mod Numbered
+pub mod Entering
+pub mod Answered

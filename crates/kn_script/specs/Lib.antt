@@ -1,0 +1,2 @@
+pub mod Requesters
+pub mod Session
