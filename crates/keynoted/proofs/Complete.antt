@@ -12,11 +12,14 @@ use Rattle.kn_meaning.specs.Loading.{IsLoadable, IsFaultyAt, told_refusal}
 use Rattle.kn_meaning.proofs.Loading.{ends_once}
 use Rattle.kn_meaning.specs.declared.script.Script.{Script}
 use Rattle.kn_meaning.specs.FirstInput.{IsFirstInput}
-use Rattle.keynoted.specs.declared.stop.Stop.{Stop}
-use Rattle.keynoted.specs.declared.stop.Stop.TheVariants.{Words, FileFailed, FileTooLarge, Policy, Limit, ReadFailed, InputForm, WriteFailed, Memory}
-use Rattle.keynoted.specs.Loaded.{IsLimitAt}
-use Rattle.keynoted.specs.Running.{FilesSeen, LinkSeen, SinkSeen, AskFor, HasContent, IsTooLarge, IsWrongInput, IsAnswering, Cause, WordsFit, status_of, line_of, fault_line, limit_line, IsTold, IsRun, IsFront}
-use Rattle.keynoted.proofs.Due.{input-short}
+use Rattle.kn_commands.specs.declared.stop.Stop.{Stop}
+use Rattle.kn_commands.specs.declared.stop.Stop.TheVariants.{Words, FileFailed, FileTooLarge, Policy, Limit, ReadFailed, InputForm, WriteFailed, Memory}
+use Rattle.kn_commands.specs.Seen.{FilesSeen, LinkSeen, SinkSeen, HasContent, IsTooLarge}
+use Rattle.kn_commands.specs.Loaded.{IsLimitAt}
+use Rattle.kn_commands.specs.Asking.{IsWrongInput, IsAnswering, Cause, status_of, line_of, fault_line, limit_line}
+use Rattle.keynoted.specs.Commands.{AskFor}
+use Rattle.keynoted.specs.Running.{WordsFit, IsTold, IsRun, IsFront}
+use Rattle.kn_commands.proofs.Due.{input-short}
 use Rattle.keynoted.proofs.Ended.{due_or_nine, another, told-whole}
 
 -- the file that the words name
@@ -24,7 +27,7 @@ same_name : (given : List (List ℕ)) (a b : List ℕ) → AskFor given a → As
 same_name given a b first second = let both : codes "ask" ∷ a ∷ [] ≡ codes "ask" ∷ b ∷ [] = sym first ∙ second in cc
 
 -- what was read from a told file is its content
-content_is : (f : FilesSeen) (content_of : List ℕ → Option (List ℕ)) (name bytes read : List ℕ) → f.content ≡ Some content_of → content_of name ≡ Some bytes →
+pub content_is : (f : FilesSeen) (content_of : List ℕ → Option (List ℕ)) (name bytes read : List ℕ) → f.content ≡ Some content_of → content_of name ≡ Some bytes →
     HasContent f name read → read ≡ bytes
 content_is f content_of name bytes read told here has =
     let there : IfSome (Some content_of) (λ c. c name ≡ Some read) = subst (λ (t : Option (List ℕ → Option (List ℕ))). IfSome t (λ c. c name ≡ Some read)) told has.content in
@@ -32,7 +35,7 @@ content_is f content_of name bytes read told here has =
     cc
 
 -- a told file within the limit isn't too large
-not_too_large : (f : FilesSeen) (content_of : List ℕ → Option (List ℕ)) (name bytes : List ℕ) → f.content ≡ Some content_of → content_of name ≡ Some bytes →
+pub not_too_large : (f : FilesSeen) (content_of : List ℕ → Option (List ℕ)) (name bytes : List ℕ) → f.content ≡ Some content_of → content_of name ≡ Some bytes →
     length bytes ≤ FILE_BYTES → IsTooLarge f name → ⊥
 not_too_large f content_of name bytes told here within large =
     let there : IsSomeAnd (content_of name) (λ b. FILE_BYTES < length b) =
@@ -93,7 +96,7 @@ module _ (given : List (List ℕ)) (f f' : FilesSeen) (o o' : LinkSeen) (s s' : 
   complete name (Some Memory) fit cause told file bytes input content_of script asks contents here within policy left form calm_files calm_link calm_sink =
       inr (due_told name (Some Memory) told calm_sink)
   complete name (Some Words) fit cause told file bytes input content_of script asks contents here within policy left form calm_files calm_link calm_sink =
-      absurd (fit file asks)
+      absurd (fit.ask file asks)
   complete name (Some FileFailed) fit cause told file bytes input content_of script asks contents here within policy left form calm_files calm_link calm_sink =
       absurd (calm_files cause.1)
   complete name (Some FileTooLarge) fit cause told file bytes input content_of script asks contents here within policy left form calm_files calm_link calm_sink =
@@ -160,7 +163,7 @@ module _ (given : List (List ℕ)) (f f' : FilesSeen) (o o' : LinkSeen) (s s' : 
       let within : length bytes ≤ FILE_BYTES = p.0 in
       absurd (omega arith)
   large name (Some Words) fit cause told file bytes content_of asks contents here over calm_files calm_sink =
-      absurd (fit file asks)
+      absurd (fit.ask file asks)
   large name (Some FileFailed) fit cause told file bytes content_of asks contents here over calm_files calm_sink =
       absurd (calm_files cause.1)
   large name (Some FileTooLarge) fit cause told file bytes content_of asks contents here over calm_files calm_sink =
@@ -197,7 +200,7 @@ module _ (given : List (List ℕ)) (f f' : FilesSeen) (o o' : LinkSeen) (s s' : 
   faulty name None fit cause told file bytes content_of m bad asks contents here within bad_there calm_files calm_sink =
       let p = policy_is name file bytes content_of None fit asks contents here cause in absurd ((ends_once (pieces_of bytes)).faulty m bad p.1 bad_there)
   faulty name (Some Words) fit cause told file bytes content_of m bad asks contents here within bad_there calm_files calm_sink =
-      absurd (fit file asks)
+      absurd (fit.ask file asks)
   faulty name (Some FileFailed) fit cause told file bytes content_of m bad asks contents here within bad_there calm_files calm_sink =
       absurd (calm_files cause.1)
   faulty name (Some FileTooLarge) fit cause told file bytes content_of m bad asks contents here within bad_there calm_files calm_sink =
@@ -228,7 +231,7 @@ module _ (given : List (List ℕ)) (f f' : FilesSeen) (o o' : LinkSeen) (s s' : 
   full name None fit cause told file bytes content_of m what sum asks contents here within bad_there calm_files calm_sink =
       let p = policy_is name file bytes content_of None fit asks contents here cause in absurd ((ends_once (pieces_of bytes)).full m bad_there.refusal p.1 bad_there.full)
   full name (Some Words) fit cause told file bytes content_of m what sum asks contents here within bad_there calm_files calm_sink =
-      absurd (fit file asks)
+      absurd (fit.ask file asks)
   full name (Some FileFailed) fit cause told file bytes content_of m what sum asks contents here within bad_there calm_files calm_sink =
       absurd (calm_files cause.1)
   full name (Some FileTooLarge) fit cause told file bytes content_of m what sum asks contents here within bad_there calm_files calm_sink =
@@ -264,7 +267,7 @@ module _ (given : List (List ℕ)) (f f' : FilesSeen) (o o' : LinkSeen) (s s' : 
       let due = cause.answering.1 in
       absurd (none due.script (subst (λ (i : List ℕ). IsFirstInput i due.script) (sym (read_is o o' input due.input left due.whole.read.left due.whole.ended)) due.form))
   wrong_input name (Some Words) fit cause told file bytes content_of asks contents here within policy input left none calm_files calm_link calm_sink =
-      absurd (fit file asks)
+      absurd (fit.ask file asks)
   wrong_input name (Some FileFailed) fit cause told file bytes content_of asks contents here within policy input left none calm_files calm_link calm_sink =
       absurd (calm_files cause.1)
   wrong_input name (Some FileTooLarge) fit cause told file bytes content_of asks contents here within policy input left none calm_files calm_link calm_sink =

@@ -3,9 +3,12 @@ use Rattle.std.proofs.Common.{◌≡◌, ℕ, ◌<◌, ◌⊎◌, inl, inr, List
 use Rattle.std.specs.Prelude.{codes}
 use Rattle.kn_outside.specs.Told.{more}
 use Rattle.kn_outside.specs.Faults.{Rose}
-use Rattle.keynoted.specs.declared.stop.Stop.{Stop}
-use Rattle.keynoted.specs.declared.stop.Stop.TheVariants.{Words, FileFailed, FileTooLarge, Policy, Limit, ReadFailed, InputForm, WriteFailed, Memory}
-use Rattle.keynoted.specs.Running.{FilesSeen, LinkSeen, SinkSeen, AskFor, Cause, WordsFit, status_of, line_of, IsTold, IsRun, IsDone, IsRefused, IsFileFault, IsNoPolicy, IsLinkFault}
+use Rattle.kn_commands.specs.declared.stop.Stop.{Stop}
+use Rattle.kn_commands.specs.declared.stop.Stop.TheVariants.{Words, FileFailed, FileTooLarge, Policy, Limit, ReadFailed, InputForm, WriteFailed, Memory}
+use Rattle.kn_commands.specs.Seen.{FilesSeen, LinkSeen, SinkSeen}
+use Rattle.kn_commands.specs.Asking.{Cause, status_of, line_of}
+use Rattle.keynoted.specs.Commands.{AskFor}
+use Rattle.keynoted.specs.Running.{WordsFit, IsTold, IsRun, IsDone, IsRefused, IsFileFault, IsNoPolicy, IsLinkFault}
 
 -- a status below 9 is that of what was due, and its line was written whole
 pub told-whole : (line : List ℕ) (s s' : SinkSeen) (due status : ℕ) → IsTold line s s' due status → (status ≡ 9 → ⊥) → (status ≡ due) × (s'.written ≡ more line s.written)

@@ -1,12 +1,6 @@
-pub mod Lines
-pub mod Values
-pub mod Session
-pub mod Loaded
-pub mod Answered
-pub mod AskWords
-pub mod Printed
-pub mod Told
-pub mod Read
-pub mod Due
+pub mod Spelled
 pub mod Ended
 pub mod Complete
+pub mod Meant
+pub mod Checked
+pub mod Commanded

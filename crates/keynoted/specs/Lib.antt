@@ -1,4 +1,2 @@
-pub mod Session
-pub mod Loaded
-pub mod Answering
+pub mod Commands
 pub mod Running

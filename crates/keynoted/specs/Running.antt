@@ -1,169 +1,56 @@
 -- How a run of the program ends: its status, the line that it prints, and what it leaves.
-use Rattle.std.specs.Prelude.{ℕ, ◌≡◌, ◌<◌, ◌≤◌, List, [], ◌∷◌, ◌++◌, length, take, codes, decimal, Option, Some, None, IfSome, IsSomeAnd, ◌⊎◌}
-use Rattle.std.specs.Option.{unwrap_or}
-use Rattle.kn_base.specs.declared.limits.TheConstants.{FILE_BYTES}
-use Rattle.kn_outside.specs.Told.{more, before}
+use Rattle.std.specs.Prelude.{ℕ, ◌≡◌, ◌<◌, List, [], ◌∷◌, ◌++◌, length, take, codes, Option, Some, None, ◌⊎◌}
+use Rattle.kn_outside.specs.Told.{more}
 use Rattle.kn_outside.specs.Faults.{Rose}
 use Rattle.kn_assert.specs.declared.fault.ReadFault.{ReadFault}
-use Rattle.kn_assert.specs.Faults.{fault_number, fault_place}
 use Rattle.kn_files.specs.Pieces.{pieces_of}
 use Rattle.kn_meaning.specs.declared.refusal.LimitWord.{LimitWord}
-use Rattle.kn_meaning.specs.Replies.{word_text}
-use Rattle.kn_meaning.specs.Loading.{IsLoadable, IsFaultyAt}
-use Rattle.kn_meaning.specs.declared.script.Script.{Script}
-use Rattle.kn_meaning.specs.FirstInput.{IsFirstInput}
-use Rattle.kn_meaning.specs.Asked.{IsAsked}
-use Rattle.keynoted.specs.Loaded.{IsLimitAt}
-use Rattle.keynoted.specs.declared.stop.Stop.{Stop}
-use Rattle.keynoted.specs.declared.stop.Stop.TheVariants.{Words, FileFailed, FileTooLarge, Policy, Limit, ReadFailed, InputForm, WriteFailed, Memory}
+use Rattle.kn_meaning.specs.Loading.{IsFaultyAt}
+use Rattle.kn_commands.specs.declared.stop.Stop.{Stop}
+use Rattle.kn_commands.specs.declared.stop.Stop.TheVariants.{Words, ReadFailed, InputForm, WriteFailed}
+use Rattle.kn_commands.specs.declared.ending.Ending.{Ending}
+use Rattle.kn_commands.specs.Names.{Names}
+use Rattle.kn_commands.specs.Seen.{FilesSeen, LinkSeen, SinkSeen, HasContent, IsTooLarge}
+use Rattle.kn_commands.specs.Loaded.{IsLimitAt}
+use Rattle.kn_commands.specs.Asking.{IsAnswering, Cause, status_of, fault_line, limit_line, line_of}
+use Rattle.kn_commands.specs.Checking.{CheckCause, status_of_ending, line_of_ending}
+use Rattle.keynoted.specs.Commands.{AskFor, CheckFor, IsNoCommand}
 
--- what is seen of files: their contents where they are told, the names that were asked for, and how many reads failed
-pub record FilesSeen : Type 0 where
-  pub content : Option (List ℕ → Option (List ℕ))
-  pub asked : List (List ℕ)
-  pub faults : ℕ
-
--- what is seen of a link: what was written and read, and what is left to read, where that is told; how many calls failed
-pub record LinkSeen : Type 0 where
-  pub written : Option (List ℕ)
-  pub taken : Option (List ℕ)
-  pub left : Option (List ℕ)
-  pub faults : ℕ
-
--- what is seen of a sink: what was written, where that is told, and how many writes failed
-pub record SinkSeen : Type 0 where
-  pub written : Option (List ℕ)
-  pub faults : ℕ
-
--- the words ask for the policy in the file of this name
-abbrev pub AskFor : List (List ℕ) → List ℕ → Type 0
-AskFor words name = words ≡ codes "ask" ∷ name ∷ []
-
--- these bytes were read from the file of this name: its content, if contents are told, and not too large
-pub record HasContent (files : FilesSeen) (name bytes : List ℕ) : Type 0 where
-  pub content : IfSome files.content (λ content_of. content_of name ≡ Some bytes)
-  pub within : length bytes ≤ FILE_BYTES
-
--- the file of this name is larger than any that is read, if contents are told
-abbrev pub IsTooLarge : FilesSeen → List ℕ → Type 0
-IsTooLarge files name = IfSome files.content (λ content_of. IsSomeAnd (content_of name) (λ bytes. FILE_BYTES < length bytes))
-
--- this much of the input was read, if the link tells it
-pub record IsRead (old new : LinkSeen) (input : List ℕ) : Type 0 where
-  pub taken : new.taken ≡ more input old.taken
-  pub left : old.left ≡ before input new.left
-
--- the input was read to its end
-pub record IsReadWhole (old new : LinkSeen) (input : List ℕ) : Type 0 where
-  pub read : IsRead old new input
-  pub ended : IfSome new.left (λ left. left ≡ [])
-
--- the input hasn't the first form: what was read of it to its end, or it is longer than that form may be
-pub record IsWrongInput (old new : LinkSeen) (input : List ℕ) : Type 0 where
-  pub read : IsRead old new input
-  pub wrong : (IfSome new.left (λ left. left ≡ []) × ((script : Option Script) → IsFirstInput input script → ⊥)) ⊎ (65536 < length input)
-
--- a policy file whose assertions make a history
-pub record IsPolicy (files : FilesSeen) (name bytes : List ℕ) : Type 0 where
-  pub content : HasContent files name bytes
-  pub loadable : IsLoadable (pieces_of bytes)
-
--- the reply to the whole input over the policy file of these bytes
-pub record IsDue (bytes : List ℕ) (old new : LinkSeen) (reply : List ℕ) : Type 0 where
-  pub input : List ℕ
-  pub whole : IsReadWhole old new input
-  pub script : Option Script
-  pub form : IsFirstInput input script
-  pub asked : IsAsked (pieces_of bytes) input reply
-
--- What answering the link over the policy file of these bytes does where this stops it. At None the reply was written whole.
-abbrev pub Answering : List ℕ → LinkSeen → LinkSeen → Option Stop → Type 0
-Answering bytes o o' None = (reply : List ℕ) × IsDue bytes o o' reply × (o'.written ≡ more reply o.written)
-Answering bytes o o' (Some WriteFailed) = (reply : List ℕ) × (n : ℕ) × IsDue bytes o o' reply × (n < length reply) × (o'.written ≡ more (take n reply) o.written) × Rose o.faults o'.faults
-Answering bytes o o' (Some InputForm) = (input : List ℕ) × IsWrongInput o o' input × (o'.written ≡ o.written)
-Answering bytes o o' (Some ReadFailed) = Rose o.faults o'.faults × (o'.written ≡ o.written)
-Answering bytes o o' (Some Memory) = o'.written ≡ o.written
-Answering bytes o o' (Some Words) = ⊥
-Answering bytes o o' (Some FileFailed) = ⊥
-Answering bytes o o' (Some FileTooLarge) = ⊥
-Answering bytes o o' (Some (Policy n fault)) = ⊥
-Answering bytes o o' (Some (Limit n word count)) = ⊥
-
--- the file of this name was asked for, and it is the policy over which the link was answered
-pub record IsAnswering (name : List ℕ) (f f' : FilesSeen) (o o' : LinkSeen) (due : Option Stop) : Type 0 where
-  pub asked : f'.asked ≡ f.asked ++ name ∷ []
-  pub bytes : List ℕ
-  pub policy : IsPolicy f name bytes
-  pub answering : Answering bytes o o' due
-
--- why a run ends so, and what it leaves of the files and of the link
-abbrev pub Cause : List ℕ → FilesSeen → FilesSeen → LinkSeen → LinkSeen → Option Stop → Type 0
-Cause name f f' o o' (Some Words) = (f' ≡ f) × (o' ≡ o)
-Cause name f f' o o' (Some FileFailed) = (f'.asked ≡ f.asked ++ name ∷ []) × Rose f.faults f'.faults × (o' ≡ o)
-Cause name f f' o o' (Some FileTooLarge) = (f'.asked ≡ f.asked ++ name ∷ []) × IsTooLarge f name × (o' ≡ o)
-Cause name f f' o o' (Some (Policy n fault)) = (bytes : List ℕ) × (f'.asked ≡ f.asked ++ name ∷ []) × HasContent f name bytes
-    × IsFaultyAt (pieces_of bytes) n fault × (o' ≡ o)
-Cause name f f' o o' (Some (Limit n word count)) = (bytes : List ℕ) × (f'.asked ≡ f.asked ++ name ∷ []) × HasContent f name bytes
-    × IsLimitAt (pieces_of bytes) n word count × (o' ≡ o)
-Cause name f f' o o' (Some ReadFailed) = IsAnswering name f f' o o' (Some ReadFailed)
-Cause name f f' o o' (Some InputForm) = IsAnswering name f f' o o' (Some InputForm)
-Cause name f f' o o' (Some WriteFailed) = IsAnswering name f f' o o' (Some WriteFailed)
-Cause name f f' o o' (Some Memory) = ((f'.asked ≡ f.asked) ⊎ (f'.asked ≡ f.asked ++ name ∷ [])) × (o'.written ≡ o.written)
-Cause name f f' o o' None = IsAnswering name f f' o o' None
-
--- the words are those of no command, or of this one
+-- the words are those of no command, or of `ask` with this name
 abbrev pub WordsFit : List (List ℕ) → List ℕ → Option Stop → Type 0
 WordsFit words name None = AskFor words name
-WordsFit words name (Some Words) = (file : List ℕ) → AskFor words file → ⊥
+WordsFit words name (Some Words) = IsNoCommand words
 WordsFit words name (Some stop) = AskFor words name
-
-abbrev pub status_of : Option Stop → ℕ
-status_of None = 0
-status_of (Some Words) = 1
-status_of (Some FileFailed) = 2
-status_of (Some FileTooLarge) = 2
-status_of (Some (Policy n fault)) = 3
-status_of (Some (Limit n word count)) = 3
-status_of (Some ReadFailed) = 4
-status_of (Some InputForm) = 4
-status_of (Some WriteFailed) = 4
-status_of (Some Memory) = 5
-
--- the line that tells a fault of the n-th assertion of a policy file; want of memory has no number, and is told otherwise
-unfoldable pub fault_line : List ℕ → ℕ → ReadFault → List ℕ
-fault_line name n fault =
-    codes "error policy " ++ name ++ codes " " ++ decimal n ++ codes " " ++ decimal (unwrap_or (fault_number fault) 0) ++ codes " " ++ decimal (fault_place fault) ++ codes "\n"
-
--- the line that tells which limit refuses the n-th assertion of a policy file
-unfoldable pub limit_line : List ℕ → ℕ → LimitWord → ℕ → List ℕ
-limit_line name n word count =
-    codes "error policy " ++ name ++ codes " " ++ decimal n ++ codes " limit " ++ word_text word ++ codes " " ++ decimal count ++ codes "\n"
-
--- the line that is due, with the name of the file
-abbrev pub line_of : List ℕ → Option Stop → List ℕ
-line_of name None = []
-line_of name (Some Words) = codes "error words\n"
-line_of name (Some FileFailed) = codes "error file " ++ name ++ codes " read\n"
-line_of name (Some FileTooLarge) = codes "error file " ++ name ++ codes " large\n"
-line_of name (Some (Policy n fault)) = fault_line name n fault
-line_of name (Some (Limit n word count)) = limit_line name n word count
-line_of name (Some ReadFailed) = codes "error link read\n"
-line_of name (Some InputForm) = codes "error link form\n"
-line_of name (Some WriteFailed) = codes "error link write\n"
-line_of name (Some Memory) = codes "error memory\n"
 
 -- the line was written whole and the status is its own; or a write failed, the status is 9 and only a front of the line stands
 abbrev pub IsTold : List ℕ → SinkSeen → SinkSeen → ℕ → ℕ → Type 0
 IsTold line s s' due status = ((status ≡ due) × (s'.written ≡ more line s.written))
     ⊎ ((status ≡ 9) × Rose s.faults s'.faults × (n : ℕ) × (n < length line) × (s'.written ≡ more (take n line) s.written))
 
--- a run: why it ended, and what it told
+-- a run of other words than those of `check`: why it ended, and what it told
 pub record IsRun (given : List (List ℕ)) (f f' : FilesSeen) (o o' : LinkSeen) (s s' : SinkSeen) (status : ℕ) : Type 0 where
   pub name : List ℕ
   pub due : Option Stop
   pub words : WordsFit given name due
   pub cause : Cause name f f' o o' due
   pub told : IsTold (line_of name due) s s' (status_of due) status
+
+-- a run of `check`: why it ended, and what it told; the link is as it was
+pub record IsCheckRun (names : Names) (f f' : FilesSeen) (o o' : LinkSeen) (s s' : SinkSeen) (status : ℕ) : Type 0 where
+  pub ending : Ending
+  pub cause : CheckCause f f' names ending
+  pub told : IsTold (line_of_ending names ending) s s' (status_of_ending ending) status
+  pub untouched : o' ≡ o
+
+-- a run of some words: it is one of `check`, or of other words
+abbrev pub IsEnded : List (List ℕ) → FilesSeen → FilesSeen → LinkSeen → LinkSeen → SinkSeen → SinkSeen → ℕ → Type 0
+IsEnded words f f' o o' s s' status =
+    ((names : Names) × CheckFor words names × IsCheckRun names f f' o o' s s' status) ⊎ IsRun words f f' o o' s s' status
+
+-- why a run of `check` ended so, and that its line was written whole
+pub record EndsBy (names : Names) (f f' : FilesSeen) (s s' : SinkSeen) (ending : Ending) : Type 0 where
+  pub cause : CheckCause f f' names ending
+  pub line : s'.written ≡ more (line_of_ending names ending) s.written
 
 -- What the statuses say one by one.
 
@@ -175,7 +62,7 @@ pub record IsDone (given : List (List ℕ)) (f f' : FilesSeen) (o o' : LinkSeen)
 
 -- status 1: the words are those of no command
 pub record IsRefused (given : List (List ℕ)) (s s' : SinkSeen) : Type 0 where
-  pub words : (file : List ℕ) → AskFor given file → ⊥
+  pub words : IsNoCommand given
   pub line : s'.written ≡ more (codes "error words\n") s.written
 
 -- status 2: reading the file failed, or it is too large

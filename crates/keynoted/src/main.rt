@@ -1,24 +1,19 @@
 //! keynoted: may these principals do this?
 #![tactic(auto)]
 
-mod line;
-mod load;
+#[cfg(test)]
+mod check_tests;
 mod real;
 #[cfg(test)]
 mod real_tests;
-mod replies;
-mod requesters;
 mod run;
 #[cfg(test)]
 mod run_tests;
-mod script;
-mod stop;
-mod text;
 mod words;
 
 use crate::real::{RealFiles, StdLink, StdOut};
-use crate::stop::Stop;
 use kn_base::NoMemory;
+use kn_commands::Stop;
 use std::process::ExitCode;
 
 fn main(rt: HostRuntime) -> ExitCode {

@@ -136,7 +136,10 @@ fn none() -> Failing {
 fn the_reply_is_written(rt: HostRuntime) -> Result<(), Fail> {
     let left = run_over(rt.alloc(), b"p.kn", POLICY, INPUT, none())?;
     assert_eq!(rt; left.status, 0);
-    assert!(rt; left.written.as_slice() == b"OK 1 1\nOK\nVALUE 1 yes 1 0\nEND\n".as_slice());
+    assert!(rt;
+        left.written.as_slice()
+            == b"OK 1 1\nOK\nVALUE 1 yes 1 1\nROW 1 a1 \"POLICY\"\nEND\n".as_slice()
+    );
     assert!(rt; left.line.is_empty());
     assert_eq!(rt; left.asked, 1);
     Ok(())
@@ -204,7 +207,10 @@ fn run_many(alloc: Global, count: u32, end: &[u8]) -> Result<Outcome, NoMemory> 
 fn the_most_assertions_are_taken(rt: HostRuntime) -> Result<(), Fail> {
     let left = run_many(rt.alloc(), 2048, b"")?;
     assert_eq!(rt; left.status, 0);
-    assert!(rt; left.written.as_slice() == b"OK 1 2048\nOK\nVALUE 1 yes 2048 0\nEND\n".as_slice());
+    assert!(rt;
+        left.written.as_slice()
+            == b"OK 1 2048\nOK\nVALUE 1 yes 2048 1\nROW 1 a1 \"POLICY\"\nEND\n".as_slice()
+    );
     Ok(())
 }
 
@@ -234,7 +240,77 @@ fn a_requester_is_named_by_its_normal_form(rt: HostRuntime) -> Result<(), Fail> 
         none(),
     )?;
     assert_eq!(rt; left.status, 0);
-    assert!(rt; left.written.as_slice() == b"OK 1 1\nOK\nOK\nVALUE 1 yes 1 0\nEND\n".as_slice());
+    assert!(rt;
+        left.written.as_slice()
+            == b"OK 1 1\nOK\nOK\nVALUE 1 yes 1 1\nROW 1 a1 \"POLICY\"\nEND\n".as_slice()
+    );
+    Ok(())
+}
+
+// The second assertion proves that y has the middle value, on which the first one leans.
+#[test]
+fn rows_prove_the_value(rt: HostRuntime) -> Result<(), Fail> {
+    let left = run_over(
+        rt.alloc(),
+        b"p.kn",
+        b"Authorizer: \"POLICY\"\nLicensees: 2-of(\"x\",\"y\",\"z\")\n\nAuthorizer: \"y\"\nLicensees: \"w\"\nConditions: true -> \"log\";\n",
+        b"OPEN\nAUTH 1 x\nAUTH 1 w\nQUERY 1 no,log,yes\n",
+        none(),
+    )?;
+    assert_eq!(rt; left.status, 0);
+    assert!(rt;
+        left.written.as_slice()
+            == b"OK 1 2\nOK\nOK\nVALUE 1 log 2 2\nROW 1 a2 \"y\"\nROW 1 a1 \"POLICY\"\nEND\n".as_slice()
+    );
+    Ok(())
+}
+
+#[test]
+fn conditions_see_attributes(rt: HostRuntime) -> Result<(), Fail> {
+    let left = run_over(
+        rt.alloc(),
+        b"p.kn",
+        b"Authorizer: \"POLICY\"\nLicensees: \"alice\"\nConditions: a == \"x y\" && b == \"\" && @v == 1;\n",
+        b"OPEN\nAUTH 1 alice\nSET 1 v 1.2\nSET 1 a x\nQUERY 1 no,yes\nSET 1 a x y\r\nSET 1 b\nQUERY 1 no,yes\n",
+        none(),
+    )?;
+    assert_eq!(rt; left.status, 0);
+    assert!(rt;
+        left.written.as_slice()
+            == b"OK 1 1\nOK\nOK\nOK\nVALUE 0 no 1 0\nEND\nOK\nOK\nVALUE 1 yes 1 1\nROW 1 a1 \"POLICY\"\nEND\n".as_slice()
+    );
+    Ok(())
+}
+
+#[test]
+fn attributes_are_entered(rt: HostRuntime) -> Result<(), Fail> {
+    let left = run_over(
+        rt.alloc(),
+        b"p.kn",
+        POLICY,
+        b"OPEN\nSET 1 v 1.2\r\nSET 1 v\nAUTH 1 alice\nQUERY 1 no,yes\nBYE\n",
+        none(),
+    )?;
+    assert_eq!(rt; left.status, 0);
+    assert!(rt;
+        left.written.as_slice()
+            == b"OK 1 1\nOK\nOK\nOK\nVALUE 1 yes 1 1\nROW 1 a1 \"POLICY\"\nEND\nOK\n".as_slice()
+    );
+    Ok(())
+}
+
+#[test]
+fn an_attribute_that_is_refused_is_told(rt: HostRuntime) -> Result<(), Fail> {
+    let left = run_over(
+        rt.alloc(),
+        b"p.kn",
+        POLICY,
+        b"OPEN\nSET 1 v 1\nSET 1 _v 3\n",
+        none(),
+    )?;
+    assert_eq!(rt; left.status, 4);
+    assert!(rt; left.line.as_slice() == b"error link form\n".as_slice());
+    assert!(rt; left.written.is_empty());
     Ok(())
 }
 
@@ -269,11 +345,11 @@ fn each_failed_read_is_told(rt: HostRuntime) -> Result<(), Fail> {
     Ok(())
 }
 
-// The reply of 29 bytes is written by calls 4 to 8.
+// The reply of 48 bytes is written by calls 4 to 10.
 #[test]
 fn each_failed_write_is_told(rt: HostRuntime) -> Result<(), Fail> {
-    let reply: &[u8] = b"OK 1 1\nOK\nVALUE 1 yes 1 0\nEND\n";
-    for write in 0..5 {
+    let reply: &[u8] = b"OK 1 1\nOK\nVALUE 1 yes 1 1\nROW 1 a1 \"POLICY\"\nEND\n";
+    for write in 0..7 {
         let failing = Failing {
             file: 0,
             link: 4 + write,

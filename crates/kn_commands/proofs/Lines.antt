@@ -1,0 +1,21 @@
+-- The lines of `check`, printed in parts.
+use Rattle.std.proofs.Common.{◌≡◌, ℕ, List, [], ◌++◌, append_assoc}
+use Rattle.std.specs.Prelude.{codes, decimal}
+use Rattle.kn_check.specs.declared.reject.Reject.{Reject}
+use Rattle.kn_check.specs.Rejects.{reason_number, reason_row, reason_found}
+use Rattle.kn_commands.specs.Checking.{text_line, reject_line, proved_line}
+
+pub text_parts : (a b : List ℕ) (fault line : ℕ) → a ≡ decimal fault → b ≡ decimal line →
+    codes "error proof text " ++ (a ++ (codes " " ++ (b ++ (codes "\n" ++ [])))) ≡ text_line fault line
+unfolding text_line
+text_parts a b fault line first second = rw (first, second) (simp append_assoc)
+
+pub reject_parts : (a b p : List ℕ) (reject : Reject) → a ≡ decimal (reason_number reject) → b ≡ decimal (reason_row reject) → p ≡ decimal (reason_found reject) →
+    codes "error proof reject " ++ (a ++ (codes " " ++ (b ++ (codes " " ++ (p ++ (codes "\n" ++ [])))))) ≡ reject_line reject
+unfolding reject_line
+reject_parts a b p reject first second third = rw (first, second, third) (simp append_assoc)
+
+pub proved_parts : (a name : List ℕ) (value : ℕ) → a ≡ decimal value →
+    codes "PROVED " ++ (a ++ (codes " " ++ (name ++ (codes "\n" ++ [])))) ≡ proved_line value name
+unfolding proved_line
+proved_parts a name value first = rw first (simp append_assoc)

@@ -1,0 +1,111 @@
+-- How answering a link ends: its status, the line that tells it, and what it leaves (keynoted's own).
+use Rattle.std.specs.Prelude.{ℕ, ◌≡◌, ◌<◌, List, [], ◌∷◌, ◌++◌, length, take, codes, decimal, Option, Some, None, IfSome, ◌⊎◌}
+use Rattle.std.specs.Option.{unwrap_or}
+use Rattle.kn_outside.specs.Told.{more, before}
+use Rattle.kn_outside.specs.Faults.{Rose}
+use Rattle.kn_assert.specs.declared.fault.ReadFault.{ReadFault}
+use Rattle.kn_assert.specs.Faults.{fault_number, fault_place}
+use Rattle.kn_files.specs.Pieces.{pieces_of}
+use Rattle.kn_meaning.specs.declared.refusal.LimitWord.{LimitWord}
+use Rattle.kn_meaning.specs.Replies.{word_text}
+use Rattle.kn_meaning.specs.Loading.{IsFaultyAt}
+use Rattle.kn_meaning.specs.declared.script.Script.{Script}
+use Rattle.kn_meaning.specs.FirstInput.{IsFirstInput}
+use Rattle.kn_meaning.specs.Asked.{IsAsked}
+use Rattle.kn_commands.specs.Loaded.{IsLimitAt}
+use Rattle.kn_commands.specs.Seen.{FilesSeen, LinkSeen, HasContent, IsTooLarge, IsPolicy}
+use Rattle.kn_commands.specs.declared.stop.Stop.{Stop}
+use Rattle.kn_commands.specs.declared.stop.Stop.TheVariants.{Words, FileFailed, FileTooLarge, Policy, Limit, ReadFailed, InputForm, WriteFailed, Memory}
+
+-- this much of the input was read, if the link tells it
+pub record IsRead (old new : LinkSeen) (input : List ℕ) : Type 0 where
+  pub taken : new.taken ≡ more input old.taken
+  pub left : old.left ≡ before input new.left
+
+-- the input was read to its end
+pub record IsReadWhole (old new : LinkSeen) (input : List ℕ) : Type 0 where
+  pub read : IsRead old new input
+  pub ended : IfSome new.left (λ left. left ≡ [])
+
+-- the input hasn't the first form: what was read of it to its end, or it is longer than that form may be
+pub record IsWrongInput (old new : LinkSeen) (input : List ℕ) : Type 0 where
+  pub read : IsRead old new input
+  pub wrong : (IfSome new.left (λ left. left ≡ []) × ((script : Option Script) → IsFirstInput input script → ⊥)) ⊎ (65536 < length input)
+
+-- the reply to the whole input over the policy file of these bytes
+pub record IsDue (bytes : List ℕ) (old new : LinkSeen) (reply : List ℕ) : Type 0 where
+  pub input : List ℕ
+  pub whole : IsReadWhole old new input
+  pub script : Option Script
+  pub form : IsFirstInput input script
+  pub asked : IsAsked (pieces_of bytes) input reply
+
+-- What answering the link over the policy file of these bytes does where this stops it. At None the reply was written whole.
+abbrev pub Answering : List ℕ → LinkSeen → LinkSeen → Option Stop → Type 0
+Answering bytes o o' None = (reply : List ℕ) × IsDue bytes o o' reply × (o'.written ≡ more reply o.written)
+Answering bytes o o' (Some WriteFailed) = (reply : List ℕ) × (n : ℕ) × IsDue bytes o o' reply × (n < length reply) × (o'.written ≡ more (take n reply) o.written) × Rose o.faults o'.faults
+Answering bytes o o' (Some InputForm) = (input : List ℕ) × IsWrongInput o o' input × (o'.written ≡ o.written)
+Answering bytes o o' (Some ReadFailed) = Rose o.faults o'.faults × (o'.written ≡ o.written)
+Answering bytes o o' (Some Memory) = o'.written ≡ o.written
+Answering bytes o o' (Some Words) = ⊥
+Answering bytes o o' (Some FileFailed) = ⊥
+Answering bytes o o' (Some FileTooLarge) = ⊥
+Answering bytes o o' (Some (Policy n fault)) = ⊥
+Answering bytes o o' (Some (Limit n word count)) = ⊥
+
+-- the file of this name was asked for, and it is the policy over which the link was answered
+pub record IsAnswering (name : List ℕ) (f f' : FilesSeen) (o o' : LinkSeen) (due : Option Stop) : Type 0 where
+  pub asked : f'.asked ≡ f.asked ++ name ∷ []
+  pub bytes : List ℕ
+  pub policy : IsPolicy f name bytes
+  pub answering : Answering bytes o o' due
+
+-- why a run ends so, and what it leaves of the files and of the link
+abbrev pub Cause : List ℕ → FilesSeen → FilesSeen → LinkSeen → LinkSeen → Option Stop → Type 0
+Cause name f f' o o' (Some Words) = (f' ≡ f) × (o' ≡ o)
+Cause name f f' o o' (Some FileFailed) = (f'.asked ≡ f.asked ++ name ∷ []) × Rose f.faults f'.faults × (o' ≡ o)
+Cause name f f' o o' (Some FileTooLarge) = (f'.asked ≡ f.asked ++ name ∷ []) × IsTooLarge f name × (o' ≡ o)
+Cause name f f' o o' (Some (Policy n fault)) = (bytes : List ℕ) × (f'.asked ≡ f.asked ++ name ∷ []) × HasContent f name bytes
+    × IsFaultyAt (pieces_of bytes) n fault × (o' ≡ o)
+Cause name f f' o o' (Some (Limit n word count)) = (bytes : List ℕ) × (f'.asked ≡ f.asked ++ name ∷ []) × HasContent f name bytes
+    × IsLimitAt (pieces_of bytes) n word count × (o' ≡ o)
+Cause name f f' o o' (Some ReadFailed) = IsAnswering name f f' o o' (Some ReadFailed)
+Cause name f f' o o' (Some InputForm) = IsAnswering name f f' o o' (Some InputForm)
+Cause name f f' o o' (Some WriteFailed) = IsAnswering name f f' o o' (Some WriteFailed)
+Cause name f f' o o' (Some Memory) = ((f'.asked ≡ f.asked) ⊎ (f'.asked ≡ f.asked ++ name ∷ [])) × (o'.written ≡ o.written)
+Cause name f f' o o' None = IsAnswering name f f' o o' None
+
+abbrev pub status_of : Option Stop → ℕ
+status_of None = 0
+status_of (Some Words) = 1
+status_of (Some FileFailed) = 2
+status_of (Some FileTooLarge) = 2
+status_of (Some (Policy n fault)) = 3
+status_of (Some (Limit n word count)) = 3
+status_of (Some ReadFailed) = 4
+status_of (Some InputForm) = 4
+status_of (Some WriteFailed) = 4
+status_of (Some Memory) = 5
+
+-- the line that tells a fault of the n-th assertion of a policy file; want of memory has no number, and is told otherwise
+unfoldable pub fault_line : List ℕ → ℕ → ReadFault → List ℕ
+fault_line name n fault =
+    codes "error policy " ++ name ++ codes " " ++ decimal n ++ codes " " ++ decimal (unwrap_or (fault_number fault) 0) ++ codes " " ++ decimal (fault_place fault) ++ codes "\n"
+
+-- the line that tells which limit refuses the n-th assertion of a policy file
+unfoldable pub limit_line : List ℕ → ℕ → LimitWord → ℕ → List ℕ
+limit_line name n word count =
+    codes "error policy " ++ name ++ codes " " ++ decimal n ++ codes " limit " ++ word_text word ++ codes " " ++ decimal count ++ codes "\n"
+
+-- the line that is due, with the name of the file
+abbrev pub line_of : List ℕ → Option Stop → List ℕ
+line_of name None = []
+line_of name (Some Words) = codes "error words\n"
+line_of name (Some FileFailed) = codes "error file " ++ name ++ codes " read\n"
+line_of name (Some FileTooLarge) = codes "error file " ++ name ++ codes " large\n"
+line_of name (Some (Policy n fault)) = fault_line name n fault
+line_of name (Some (Limit n word count)) = limit_line name n word count
+line_of name (Some ReadFailed) = codes "error link read\n"
+line_of name (Some InputForm) = codes "error link form\n"
+line_of name (Some WriteFailed) = codes "error link write\n"
+line_of name (Some Memory) = codes "error memory\n"

@@ -1,0 +1,194 @@
+-- How checking a reply ends: its status, the line that tells it, and what it leaves (keynoted's own).
+use Rattle.std.specs.Prelude.{ℕ, ◌≡◌, ◌≤◌, ◌⊎◌, List, ◌∷◌, [], ◌++◌, length, take, codes, decimal, Option, Some}
+use Rattle.kn_outside.specs.Faults.{Rose}
+use Rattle.kn_files.specs.Pieces.{pieces_of}
+use Rattle.kn_proof.specs.declared.reply.ReadReply.{ReadReply}
+use Rattle.kn_check.specs.declared.reject.Reject.{Reject}
+use Rattle.kn_check.specs.Rejects.{reason_number, reason_row, reason_found}
+use Rattle.kn_meaning.specs.declared.script.Script.{Script}
+use Rattle.kn_meaning.specs.History.{loaded_history}
+use Rattle.kn_meaning.specs.Loading.{IsFaultyAt}
+use Rattle.kn_meaning.specs.Daemon.{Session, equations_of}
+use Rattle.kn_meaning.specs.FirstInput.{IsFirstInput, requests_of}
+use Rattle.kn_meaning.specs.Played.{IsMeant}
+use Rattle.kn_reply.specs.declared.fault.ProofFault.{ProofFault}
+use Rattle.kn_reply.specs.declared.fault.ProofFault.TheVariants as F
+use Rattle.kn_reply.specs.Reading.{IsReply, IsFirstFault, fault_number, fault_line}
+use Rattle.kn_verify.specs.Verdicts.{IsReplyTo, IsProved, IsUnproved}
+use Rattle.kn_commands.specs.declared.stop.Stop.{Stop}
+use Rattle.kn_commands.specs.declared.stop.Stop.TheVariants.{Words, FileFailed, FileTooLarge, Limit, ReadFailed, InputForm, WriteFailed, Memory}
+use Rattle.kn_commands.specs.declared.stop.Stop.TheVariants as S
+use Rattle.kn_commands.specs.declared.ending.Source.{Source}
+use Rattle.kn_commands.specs.declared.ending.Source.TheVariants.{Policy, Script as TheScript, Reply}
+use Rattle.kn_commands.specs.declared.ending.Ending.{Ending}
+use Rattle.kn_commands.specs.declared.ending.Ending.TheVariants.{Stopped, NoQuery, Faulty, Rejected, Proved}
+use Rattle.kn_commands.specs.Names.{Names, in_order}
+use Rattle.kn_commands.specs.Loaded.{IsLimitAt}
+use Rattle.kn_commands.specs.Seen.{FilesSeen, HasContent, IsTooLarge, IsPolicy}
+use Rattle.kn_commands.specs.Asking.{line_of, status_of}
+
+-- the script has the form of an input, and means this query over the policy of these texts
+pub record IsQuery (texts : List (List ℕ)) (script : List ℕ) (session : Session) (values : List (List ℕ)) : Type 0 where
+  pub parsed : Option Script
+  pub form : IsFirstInput script parsed
+  pub meant : IsMeant (loaded_history texts) (requests_of parsed) session values
+
+-- the files hold a policy, and a script that means this query over it
+pub record HasQuery (f : FilesSeen) (names : Names) (session : Session) (values : List (List ℕ)) : Type 0 where
+  pub bytes : List ℕ
+  pub policy : IsPolicy f names.policy bytes
+  pub script : List ℕ
+  pub content : HasContent f names.script script
+  pub query : IsQuery (pieces_of bytes) script session values
+
+-- the files hold a policy, and a script that means no query over it
+pub record HasNoQuery (f : FilesSeen) (names : Names) : Type 0 where
+  pub bytes : List ℕ
+  pub policy : IsPolicy f names.policy bytes
+  pub script : List ℕ
+  pub content : HasContent f names.script script
+  pub none : (session : Session) (values : List (List ℕ)) → ¬ IsQuery (pieces_of bytes) script session values
+
+-- the name of a file
+abbrev pub name_of : Names → Source → List ℕ
+name_of names Policy = names.policy
+name_of names TheScript = names.script
+name_of names Reply = names.reply
+
+-- how many files were asked for before this one
+abbrev pub count_before : Source → ℕ
+count_before Policy = 0
+count_before TheScript = 1
+count_before Reply = 2
+
+-- how many files were asked for when this one was
+abbrev pub count_to : Source → ℕ
+count_to Policy = 1
+count_to TheScript = 2
+count_to Reply = 3
+
+-- what was found before a file was asked for
+abbrev pub Reached : FilesSeen → Names → Source → Type 0
+Reached f names Policy = Unit {0}
+Reached f names TheScript = (bytes : List ℕ) × IsPolicy f names.policy bytes
+Reached f names Reply = (session : Session) × (values : List (List ℕ)) × HasQuery f names session values
+
+-- a file was asked for after those before it, and they held what they have to
+pub record IsAsked (f f' : FilesSeen) (names : Names) (source : Source) : Type 0 where
+  pub asked : f'.asked ≡ f.asked ++ take (count_to source) (in_order names)
+  pub reached : Reached f names source
+
+-- the policy file was read, and holds this
+pub record IsPolicyRead (f f' : FilesSeen) (names : Names) (bytes : List ℕ) : Type 0 where
+  pub asked : f'.asked ≡ f.asked ++ names.policy ∷ []
+  pub content : HasContent f names.policy bytes
+
+-- why reading a file, or loading the policy, stops a run
+abbrev pub StopsAt : FilesSeen → FilesSeen → Names → Source → Stop → Type 0
+StopsAt f f' names source FileFailed = IsAsked f f' names source × Rose f.faults f'.faults
+StopsAt f f' names source FileTooLarge = IsAsked f f' names source × IsTooLarge f (name_of names source)
+StopsAt f f' names source (S.Policy n fault) = (source ≡ Policy) × (bytes : List ℕ) × IsPolicyRead f f' names bytes × IsFaultyAt (pieces_of bytes) n fault
+StopsAt f f' names source (Limit n word count) = (source ≡ Policy) × (bytes : List ℕ) × IsPolicyRead f f' names bytes × IsLimitAt (pieces_of bytes) n word count
+StopsAt f f' names source Memory = (n : ℕ) × (n ≤ 3) × (f'.asked ≡ f.asked ++ take n (in_order names))
+StopsAt f f' names source Words = ⊥
+StopsAt f f' names source ReadFailed = ⊥
+StopsAt f f' names source InputForm = ⊥
+StopsAt f f' names source WriteFailed = ⊥
+
+-- how a run ends at a fault of a text; want of memory has no number
+abbrev pub ending_of_fault : ProofFault → Ending
+ending_of_fault (F.Line n) = Faulty 1 n
+ending_of_fault (F.Number n) = Faulty 2 n
+ending_of_fault (F.Count n) = Faulty 3 n
+ending_of_fault F.NoMemory = Stopped Reply Memory
+
+-- what is wrong with the text of a reply: its first fault, or that it is the reply to another query, which is a fault of line 1
+abbrev pub IsFaultyText : Session → List (List ℕ) → List ℕ → ℕ → ℕ → Type 0
+IsFaultyText session values text fault line =
+    ((own : ProofFault) × IsFirstFault text own × (fault_number own ≡ Some fault) × (fault_line own ≡ Some line))
+    ⊎ ((fault ≡ 1) × (line ≡ 1) × ((reply : ReadReply) × IsReply text reply × ¬ IsReplyTo (length session.pinned) values reply))
+
+-- the text is that of a reply to the query whose rows don't prove its value: this is the first item that fails
+pub record IsUnprovedText (session : Session) (values : List (List ℕ)) (text : List ℕ) (reject : Reject) : Type 0 where
+  pub reply : ReadReply
+  pub read : IsReply text reply
+  pub unproved : IsUnproved (equations_of session values) (length session.pinned) values reply reject
+
+-- the text is that of a reply to the query whose rows prove this value of this name
+pub record IsProvedText (session : Session) (values : List (List ℕ)) (text : List ℕ) (value : ℕ) (name : List ℕ) : Type 0 where
+  pub reply : ReadReply
+  pub read : IsReply text reply
+  pub value_told : reply.value ≡ value
+  pub name_told : reply.name ≡ name
+  pub proved : IsProved (equations_of session values) (length session.pinned) values reply
+
+-- what the text of a reply to a query shows where a run ends so; for want of memory it shows nothing
+abbrev pub Shows : Session → List (List ℕ) → List ℕ → Ending → Type 0
+Shows session values text (Stopped source stop) = (source ≡ Reply) × (stop ≡ Memory)
+Shows session values text NoQuery = ⊥
+Shows session values text (Faulty fault line) = IsFaultyText session values text fault line
+Shows session values text (Rejected reject) = IsUnprovedText session values text reject
+Shows session values text (Proved value name) = IsProvedText session values text value name
+
+-- the files hold a query and a text, which shows why a run ends so
+pub record IsShown (f f' : FilesSeen) (names : Names) (ending : Ending) : Type 0 where
+  pub asked : f'.asked ≡ f.asked ++ in_order names
+  pub session : Session
+  pub values : List (List ℕ)
+  pub query : HasQuery f names session values
+  pub text : List ℕ
+  pub content : HasContent f names.reply text
+  pub shows : Shows session values text ending
+
+-- why a run ends so
+abbrev pub CheckCause : FilesSeen → FilesSeen → Names → Ending → Type 0
+CheckCause f f' names (Stopped source stop) = StopsAt f f' names source stop
+CheckCause f f' names NoQuery = (f'.asked ≡ f.asked ++ take 2 (in_order names)) × HasNoQuery f names
+CheckCause f f' names (Faulty fault line) = IsShown f f' names (Faulty fault line)
+CheckCause f f' names (Rejected reject) = IsShown f f' names (Rejected reject)
+CheckCause f f' names (Proved value name) = IsShown f f' names (Proved value name)
+
+-- why a file isn't read
+abbrev pub IsUnread : FilesSeen → FilesSeen → List ℕ → Stop → Type 0
+IsUnread f f' name FileFailed = (f'.asked ≡ f.asked ++ name ∷ []) × Rose f.faults f'.faults
+IsUnread f f' name FileTooLarge = (f'.asked ≡ f.asked ++ name ∷ []) × IsTooLarge f name
+IsUnread f f' name Memory = f'.asked ≡ f.asked
+IsUnread f f' name Words = ⊥
+IsUnread f f' name (S.Policy n fault) = ⊥
+IsUnread f f' name (Limit n word count) = ⊥
+IsUnread f f' name ReadFailed = ⊥
+IsUnread f f' name InputForm = ⊥
+IsUnread f f' name WriteFailed = ⊥
+
+-- so many of the files were asked for, and what they hold is as it was
+pub record HaveAsked (f f' : FilesSeen) (names : Names) (n : ℕ) : Type 0 where
+  pub asked : f'.asked ≡ f.asked ++ take n (in_order names)
+  pub content : f'.content ≡ f.content
+  pub later : f.faults ≤ f'.faults
+
+abbrev pub status_of_ending : Ending → ℕ
+status_of_ending (Stopped source stop) = status_of (Some stop)
+status_of_ending NoQuery = 10
+status_of_ending (Faulty fault line) = 6
+status_of_ending (Rejected reject) = 6
+status_of_ending (Proved value name) = 0
+
+-- the line that tells a fault in the text of a reply
+unfoldable pub text_line : ℕ → ℕ → List ℕ
+text_line fault line = codes "error proof text " ++ decimal fault ++ codes " " ++ decimal line ++ codes "\n"
+
+-- the line that tells why rows are no proof
+unfoldable pub reject_line : Reject → List ℕ
+reject_line reject =
+    codes "error proof reject " ++ decimal (reason_number reject) ++ codes " " ++ decimal (reason_row reject) ++ codes " " ++ decimal (reason_found reject) ++ codes "\n"
+
+unfoldable pub proved_line : ℕ → List ℕ → List ℕ
+proved_line value name = codes "PROVED " ++ decimal value ++ codes " " ++ name ++ codes "\n"
+
+-- the line that is due
+abbrev pub line_of_ending : Names → Ending → List ℕ
+line_of_ending names (Stopped source stop) = line_of (name_of names source) (Some stop)
+line_of_ending names NoQuery = codes "error query\n"
+line_of_ending names (Faulty fault line) = text_line fault line
+line_of_ending names (Rejected reject) = reject_line reject
+line_of_ending names (Proved value name) = proved_line value name

@@ -1,0 +1,128 @@
+//! Answering the input of a link over the policy in a file.
+ghost use Rattle.std.specs.Prelude.{◌≡◌, ◌≢◌, ◌<◌, ◌≤◌, ◌+◌, ◌^◌, [], ℕ, List, Option as Maybe, ◌⊎◌, length, All, IfOk, IfErr, IfSome};
+ghost use Rattle.std.specs.Result.{result_err};
+ghost use Rattle.kn_outside.specs.Faults.{Rose};
+ghost use Rattle.kn_files.specs.Pieces.{pieces_of};
+ghost use Rattle.kn_answer.specs.Sizes.{IsReadablePart, total_size};
+ghost use Rattle.kn_play.specs.Answering.{parts_in};
+ghost use Rattle.kn_meaning.specs.declared.script.Script.{Script};
+ghost use Rattle.kn_meaning.specs.FirstInput.{IsFirstInput, requests_of};
+ghost use Rattle.kn_meaning.specs.History.{loaded_history};
+ghost use Rattle.kn_meaning.specs.Asked.{IsAnswered};
+ghost use Rattle.kn_commands.specs.Loaded.{IsLoaded};
+ghost use Rattle.kn_commands.specs.Asking.{Answering, Cause, IsRead};
+ghost use Rattle.kn_commands.specs.declared.stop.Stop.TheVariants as S;
+
+use crate::load::load;
+use crate::stop::Stop;
+use kn_assert::Assertion;
+use kn_base::{List, NoMemory, Octets};
+use kn_meaning::laws;
+use kn_outside::{Failed, FileFault, Files, Link, write_all};
+use kn_play::replies;
+use kn_script::{INPUT_BYTES, ScriptFault, read_script};
+use std::alloc::Global;
+
+/// The input of a link, to its end or past the bytes that an input may have.
+fn read_input<L: Link>(alloc: Global, own: &mut L) -> Result<Octets, Stop>
+    ensures read { IfOk result (λ input. IsRead (record { written = L.written own.old; taken = L.taken own.old; left = L.left own.old; faults = L.faults own.old })
+        (record { written = L.written own.new; taken = L.taken own.new; left = L.left own.new; faults = L.faults own.new }) input) }
+    ensures ended { IfOk result (λ input. length input ≤ 65536 → IfSome (L.left own.new) (λ left. left ≡ [])) }
+    ensures err { IfErr result (λ stop. (stop ≡ S.Memory) ⊎ ((stop ≡ S.ReadFailed) × Rose (L.faults own.old) (L.faults own.new))) }
+    ensures keeps_written { L.written own.new ≡ L.written own.old }
+    ensures later { L.faults own.old ≤ L.faults own.new }
+{
+    let mut input = Octets::new(alloc);
+    let mut buffer = [0u8; 4096];
+    while input.len() <= INPUT_BYTES {
+        let read = match own.read(&mut buffer) {
+            Ok(read) => read,
+            Err(Failed) => return Err(Stop::ReadFailed),
+        };
+        if read == 0 {
+            return Ok(input);
+        }
+        match input.extend(buffer.split_at(read).0) {
+            Ok(()) => {}
+            Err(NoMemory) => return Err(Stop::Memory),
+        }
+    }
+    Ok(input)
+}
+
+/// The reply to an input over the assertions of a policy.
+fn reply_to(
+    alloc: Global,
+    file: &Octets,
+    assertions: &List<Assertion>,
+    input: &Octets,
+) -> Result<Octets, Stop>
+    requires loaded { IsLoaded (pieces_of file.now) assertions.now }
+    requires readable { All IsReadablePart (parts_in assertions.now) }
+    requires small { 65 + total_size (parts_in assertions.now) < 2 ^ 24 }
+    ensures ok { IfOk result (λ reply. (script : Maybe Script) × IsFirstInput input.now script × IsAnswered (loaded_history (pieces_of file.now)) (requests_of script) reply) }
+    ensures err { IfErr result (λ stop. (stop ≡ S.Memory) ⊎ ((stop ≡ S.InputForm) × ((script : Maybe Script) → IsFirstInput input.now script → ⊥))) }
+{
+    let script = match read_script(alloc, input.as_slice()) {
+        Ok(script) => script,
+        Err(ScriptFault::Form) => return Err(Stop::InputForm),
+        Err(ScriptFault::NoMemory) => return Err(Stop::Memory),
+    };
+    match replies(alloc, assertions, &script) {
+        Ok(reply) => Ok(reply),
+        Err(NoMemory) => Err(Stop::Memory),
+    }
+}
+
+/// Answers the whole input of a link over the assertions of a policy.
+fn answer<L: Link>(
+    alloc: Global,
+    file: &Octets,
+    assertions: &List<Assertion>,
+    own: &mut L,
+) -> Result<(), Stop>
+    requires loaded { IsLoaded (pieces_of file.now) assertions.now }
+    requires readable { All IsReadablePart (parts_in assertions.now) }
+    requires small { 65 + total_size (parts_in assertions.now) < 2 ^ 24 }
+    ensures { Answering file.now
+        (record { written = L.written own.old; taken = L.taken own.old; left = L.left own.old; faults = L.faults own.old })
+        (record { written = L.written own.new; taken = L.taken own.new; left = L.left own.new; faults = L.faults own.new })
+        (result_err result) }
+{
+    laws::input_is_taken();
+    let input = read_input(alloc, own)?;
+    let reply = reply_to(alloc, file, assertions, &input)?;
+    match write_all(own, reply.as_slice()) {
+        Ok(()) => Ok(()),
+        Err(Failed) => Err(Stop::WriteFailed),
+    }
+}
+
+/// Answers the link over the policy in the file of this name.
+pub fn ask<F: Files, L: Link>(
+    alloc: Global,
+    name: &[u8],
+    files: &mut F,
+    own: &mut L,
+) -> Result<(), Stop>
+    ensures cause { Cause name.now
+        (record { content = F.content files.old; asked = F.asked files.old; faults = F.faults files.old })
+        (record { content = F.content files.new; asked = F.asked files.new; faults = F.faults files.new })
+        (record { written = L.written own.old; taken = L.taken own.old; left = L.left own.old; faults = L.faults own.old })
+        (record { written = L.written own.new; taken = L.taken own.new; left = L.left own.new; faults = L.faults own.new })
+        (result_err result) }
+    ensures words { result ≢ Err S.Words }
+    ensures keeps_content { F.content files.new ≡ F.content files.old }
+{
+    let file = match files.read(name) {
+        Ok(file) => file,
+        Err(FileFault::Failed) => return Err(Stop::FileFailed),
+        Err(FileFault::TooLarge) => return Err(Stop::FileTooLarge),
+        Err(FileFault::NoMemory) => return Err(Stop::Memory),
+    };
+    let assertions = match load(alloc, file.as_slice()) {
+        Ok(assertions) => assertions,
+        Err(stop) => return Err(stop),
+    };
+    answer(alloc, &file, &assertions, own)
+}

@@ -1,0 +1,97 @@
+//! The line that tells how checking a reply ended.
+ghost use Rattle.std.specs.Prelude.{◌≡◌, ◌<◌, ℕ, length, take, OnOk, OnErr};
+ghost use Rattle.kn_outside.specs.Told.{more};
+ghost use Rattle.kn_outside.specs.Faults.{Rose};
+ghost use Rattle.kn_commands.specs.Checking.{line_of_ending, text_line, reject_line, proved_line};
+
+use crate::checking::CheckFiles;
+use crate::ending::Ending;
+use crate::line::{print_all, print_line};
+use itoa::Buffer;
+use kn_check::Reject;
+use kn_outside::{Failed, Sink, write_all};
+
+/// Prints the line of a fault in the text of a reply.
+fn print_text_fault<O: Sink>(out: &mut O, fault: u8, line: u32) -> Result<(), Failed>
+    ensures ok { OnOk result (O.written out.new ≡ more (text_line fault line) (O.written out.old)) }
+    ensures err { OnErr result ((n : ℕ) × (n < length (text_line fault line))
+        × (O.written out.new ≡ more (take n (text_line fault line)) (O.written out.old))) }
+    ensures failed { OnErr result (Rose (O.faults out.old) (O.faults out.new)) }
+{
+    let mut fault_digits = Buffer::new();
+    let mut line_digits = Buffer::new();
+    print_all(
+        out,
+        &[
+            b"error proof text ",
+            fault_digits.format(fault).as_bytes(),
+            b" ",
+            line_digits.format(line).as_bytes(),
+            b"\n",
+        ],
+    )
+}
+
+/// Prints the line of the first item of a proof that fails.
+fn print_reject<O: Sink>(out: &mut O, reject: &Reject) -> Result<(), Failed>
+    ensures ok { OnOk result (O.written out.new ≡ more (reject_line reject.now) (O.written out.old)) }
+    ensures err { OnErr result ((n : ℕ) × (n < length (reject_line reject.now))
+        × (O.written out.new ≡ more (take n (reject_line reject.now)) (O.written out.old))) }
+    ensures failed { OnErr result (Rose (O.faults out.old) (O.faults out.new)) }
+{
+    let mut number_digits = Buffer::new();
+    let mut row_digits = Buffer::new();
+    let mut found_digits = Buffer::new();
+    print_all(
+        out,
+        &[
+            b"error proof reject ",
+            number_digits.format(reject.number()).as_bytes(),
+            b" ",
+            row_digits.format(reject.row()).as_bytes(),
+            b" ",
+            found_digits.format(reject.found()).as_bytes(),
+            b"\n",
+        ],
+    )
+}
+
+/// Prints the line of a value that is proved.
+fn print_proved<O: Sink>(out: &mut O, value: u8, name: &[u8]) -> Result<(), Failed>
+    ensures ok { OnOk result (O.written out.new ≡ more (proved_line value name.now) (O.written out.old)) }
+    ensures err { OnErr result ((n : ℕ) × (n < length (proved_line value name.now))
+        × (O.written out.new ≡ more (take n (proved_line value name.now)) (O.written out.old))) }
+    ensures failed { OnErr result (Rose (O.faults out.old) (O.faults out.new)) }
+{
+    let mut value_digits = Buffer::new();
+    print_all(
+        out,
+        &[
+            b"PROVED ",
+            value_digits.format(value).as_bytes(),
+            b" ",
+            name,
+            b"\n",
+        ],
+    )
+}
+
+/// Prints the line of how checking a reply ended.
+pub fn print_ending<O: Sink>(
+    out: &mut O,
+    ending: &Ending,
+    names: &CheckFiles<'_>,
+) -> Result<(), Failed>
+    ensures ok { OnOk result (O.written out.new ≡ more (line_of_ending names.now ending.now) (O.written out.old)) }
+    ensures err { OnErr result ((n : ℕ) × (n < length (line_of_ending names.now ending.now))
+        × (O.written out.new ≡ more (take n (line_of_ending names.now ending.now)) (O.written out.old))) }
+    ensures failed { OnErr result (Rose (O.faults out.old) (O.faults out.new)) }
+{
+    match ending {
+        Ending::Stopped { source, stop } => print_line(out, *stop, names.name(*source)),
+        Ending::NoQuery => write_all(out, b"error query\n"),
+        Ending::Faulty { fault, line } => print_text_fault(out, *fault, *line),
+        Ending::Rejected(reject) => print_reject(out, reject),
+        Ending::Proved { value, name } => print_proved(out, *value, name.as_slice()),
+    }
+}

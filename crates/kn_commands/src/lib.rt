@@ -1,0 +1,18 @@
+//! What the commands do, over whatever files, link and output they are given: `ask` answers an input over a policy, and
+//! `check` tells whether a reply proves the value of the query that a script means.
+#![tactic(auto)]
+
+mod asking;
+mod checking;
+mod ending;
+mod ending_line;
+mod line;
+mod load;
+mod stop;
+
+pub use asking::ask;
+pub use checking::{CheckFiles, check};
+pub use ending::{Ending, Source};
+pub use ending_line::print_ending;
+pub use line::print_line;
+pub use stop::Stop;

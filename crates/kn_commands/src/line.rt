@@ -1,0 +1,120 @@
+//! The line that tells what stopped the program.
+ghost use Rattle.std.specs.Prelude.{◌≡◌, ◌<◌, ◌++◌, ℕ, Some, codes, flat_map, length, take, OnOk, OnErr};
+ghost use Rattle.kn_outside.specs.Told.{more};
+ghost use Rattle.kn_outside.specs.Faults.{Rose};
+ghost use Rattle.kn_commands.specs.Asking.{line_of, fault_line, limit_line};
+
+use crate::stop::Stop;
+use itoa::Buffer;
+use kn_assert::ReadFault;
+use kn_meaning::refusal::LimitWord;
+use kn_outside::{Failed, Sink, write_all};
+
+/// Prints texts one after the other.
+pub(crate) fn print_all<O: Sink>(out: &mut O, texts: &[&[u8]]) -> Result<(), Failed>
+    ensures ok { OnOk result (O.written out.new ≡ more (flat_map (λ t. t.now) texts.now) (O.written out.old)) }
+    ensures err { OnErr result ((n : ℕ) × (n < length (flat_map (λ t. t.now) texts.now))
+        × (O.written out.new ≡ more (take n (flat_map (λ t. t.now) texts.now)) (O.written out.old))) }
+    ensures failed { OnErr result (Rose (O.faults out.old) (O.faults out.new)) }
+{
+    for text in texts {
+        write_all(out, *text)?;
+    }
+    Ok(())
+}
+
+/// Prints the line of a file that could not be read, which ends so.
+fn print_file<O: Sink>(out: &mut O, name: &[u8], end: &[u8]) -> Result<(), Failed>
+    ensures ok { OnOk result (O.written out.new ≡ more (codes "error file " ++ name.now ++ end.now) (O.written out.old)) }
+    ensures err { OnErr result ((n : ℕ) × (n < length (codes "error file " ++ name.now ++ end.now))
+        × (O.written out.new ≡ more (take n (codes "error file " ++ name.now ++ end.now)) (O.written out.old))) }
+    ensures failed { OnErr result (Rose (O.faults out.old) (O.faults out.new)) }
+{
+    print_all(out, &[b"error file ", name, end])
+}
+
+/// Prints the line of a fault in a policy file.
+fn print_fault<O: Sink>(
+    out: &mut O,
+    name: &[u8],
+    assertion: u32,
+    fault: ReadFault,
+) -> Result<(), Failed>
+    ensures ok { OnOk result (O.written out.new ≡ more (fault_line name.now assertion fault) (O.written out.old)) }
+    ensures err { OnErr result ((n : ℕ) × (n < length (fault_line name.now assertion fault))
+        × (O.written out.new ≡ more (take n (fault_line name.now assertion fault)) (O.written out.old))) }
+    ensures failed { OnErr result (Rose (O.faults out.old) (O.faults out.new)) }
+{
+    let mut assertion_digits = Buffer::new();
+    let mut fault_digits = Buffer::new();
+    let mut place_digits = Buffer::new();
+    print_all(
+        out,
+        &[
+            b"error policy ",
+            name,
+            b" ",
+            assertion_digits.format(assertion).as_bytes(),
+            b" ",
+            fault_digits.format(fault.number().unwrap_or(0)).as_bytes(),
+            b" ",
+            place_digits.format(fault.place()).as_bytes(),
+            b"\n",
+        ],
+    )
+}
+
+/// Prints the line of a limit that a policy file meets.
+fn print_limit<O: Sink>(
+    out: &mut O,
+    name: &[u8],
+    assertion: u32,
+    word: LimitWord,
+    count: u32,
+) -> Result<(), Failed>
+    ensures ok { OnOk result (O.written out.new ≡ more (limit_line name.now assertion word count) (O.written out.old)) }
+    ensures err { OnErr result ((n : ℕ) × (n < length (limit_line name.now assertion word count))
+        × (O.written out.new ≡ more (take n (limit_line name.now assertion word count)) (O.written out.old))) }
+    ensures failed { OnErr result (Rose (O.faults out.old) (O.faults out.new)) }
+{
+    let mut assertion_digits = Buffer::new();
+    let mut count_digits = Buffer::new();
+    print_all(
+        out,
+        &[
+            b"error policy ",
+            name,
+            b" ",
+            assertion_digits.format(assertion).as_bytes(),
+            b" limit ",
+            word.text(),
+            b" ",
+            count_digits.format(count).as_bytes(),
+            b"\n",
+        ],
+    )
+}
+
+/// Prints the line of what stopped the program.
+pub fn print_line<O: Sink>(out: &mut O, stop: Stop, name: &[u8]) -> Result<(), Failed>
+    ensures ok { OnOk result (O.written out.new ≡ more (line_of name.now (Some stop)) (O.written out.old)) }
+    ensures err { OnErr result ((n : ℕ) × (n < length (line_of name.now (Some stop)))
+        × (O.written out.new ≡ more (take n (line_of name.now (Some stop))) (O.written out.old))) }
+    ensures failed { OnErr result (Rose (O.faults out.old) (O.faults out.new)) }
+{
+    match stop {
+        Stop::Words => write_all(out, b"error words\n"),
+        Stop::FileFailed => print_file(out, name, b" read\n"),
+        Stop::FileTooLarge => print_file(out, name, b" large\n"),
+        Stop::Policy { assertion, fault } => print_fault(out, name, assertion, fault),
+        Stop::Limit {
+            assertion,
+            word,
+            count,
+        } => print_limit(out, name, assertion, word, count),
+        Stop::ReadFailed => write_all(out, b"error link read\n"),
+        Stop::InputForm => write_all(out, b"error link form\n"),
+        Stop::WriteFailed => write_all(out, b"error link write\n"),
+        Stop::Memory => write_all(out, b"error memory\n"),
+    }
+}

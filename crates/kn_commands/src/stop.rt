@@ -1,0 +1,53 @@
+//! What stops the program before its work is done.
+ghost use Rattle.std.specs.Prelude.{◌≡◌, Some};
+
+use kn_assert::ReadFault;
+use kn_meaning::refusal::LimitWord;
+
+/// Why `ask` writes no reply, or only a part of it.
+#[derive(Debug, Clone, Copy, PartialEq, Eq)]
+pub enum Stop {
+    /// The words match no form.
+    Words,
+    /// The policy file could not be read.
+    FileFailed,
+    /// The policy file is larger than any that is read.
+    FileTooLarge,
+    /// The assertion of this number in the policy file, counted from 1, has this fault.
+    Policy {
+        assertion: u32,
+        fault: ReadFault,
+    },
+    /// A limit of the shared credentials refuses the assertion of this number in the policy file, counted from 1.
+    /// `count` is the counted quantity before it.
+    Limit {
+        assertion: u32,
+        word: LimitWord,
+        count: u32,
+    },
+    /// Reading the link failed.
+    ReadFailed,
+    /// The input hasn't the first input form.
+    InputForm,
+    /// Writing to the link failed.
+    WriteFailed,
+    /// There was no memory.
+    Memory,
+}
+
+impl Stop {
+    ghost use Rattle.kn_commands.specs.Asking.{status_of};
+
+    /// The exit status.
+    pub fn status(self) -> u8
+        ensures { result ≡ status_of (Some self) }
+    {
+        match self {
+            Stop::Words => 1,
+            Stop::FileFailed | Stop::FileTooLarge => 2,
+            Stop::Policy { .. } | Stop::Limit { .. } => 3,
+            Stop::ReadFailed | Stop::InputForm | Stop::WriteFailed => 4,
+            Stop::Memory => 5,
+        }
+    }
+}

@@ -1,0 +1,5 @@
+pub mod Reached
+pub mod Asking
+pub mod Ids
+pub mod Verified
+pub mod Readable

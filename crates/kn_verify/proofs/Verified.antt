@@ -1,0 +1,96 @@
+-- What the checker of rows by numbers says of a reply, which tells them by names.
+use Rattle.std.proofs.Common.{◌≡◌, ℕ, ◌<◌, Bool, List, [], length, map, slice_get, slice_index, slice_index_or, Result, Ok, Err, OnOk, IfErr, IsTrue, Some, refl, sym, ap, ◌∙◌, subst}
+use Rattle.std.specs.Str.{bytes_eq}
+use Rattle.std.proofs.lemmas.Option.{get_or_from_slice_get}
+use Rattle.std.proofs.lemmas.Slice.Eq.{bytes_eq-Decides}
+use Rattle.kn_trees.specs.declared.assertion.Assertion.{Assertion}
+use Rattle.kn_proof.specs.declared.named.Id.{Id}
+use Rattle.kn_proof.specs.declared.row.Row.{Row}
+use Rattle.kn_proof.specs.declared.reply.ReadReply.{ReadReply}
+use Rattle.kn_env.specs.Environment.{Asked}
+use Rattle.kn_system.specs.Least.{least_levels}
+use Rattle.kn_system.specs.Lawful.{LeastLevelsAreLeast}
+use Rattle.kn_system.specs.Proofs.{IsProof}
+use Rattle.kn_meaning.specs.Equations.{Equations, Part, equations_over, IsPolicyLevel}
+use Rattle.kn_meaning.specs.Proofs as named
+use Rattle.kn_answer.specs.Numbering.{AreDistinct}
+use Rattle.kn_answer.specs.Built.{Interned, IsBuilt}
+use Rattle.kn_answer.specs.Located.{AreLocated}
+use Rattle.kn_answer.specs.Laws.{LocatedProofs}
+use Rattle.kn_answer.proofs.Bridge.{IsPolicyLevel-by_name}
+use Rattle.kn_play.specs.declared.session.Session.{Session}
+use Rattle.kn_play.specs.Answering.{parts_in, asked_in}
+use Rattle.kn_verify.specs.declared.verdict.Refused.{Refused}
+use Rattle.kn_verify.specs.declared.verdict.Refused.TheVariants.{Other, Rejected, NoMemory}
+use Rattle.kn_verify.specs.Verdicts.{IsReplyTo, IsProved, IsRefusal, IsStepsRefusal, equations_in}
+use Rattle.kn_verify.proofs.Ids.{ids_distinct}
+
+-- rows that were located in the system of a query
+pub record AreOf (e : Equations) (built : Interned) (reply : ReadReply) (rows : List Row) : Type 0 where
+  pub is_built : IsBuilt e built
+  pub distinct : AreDistinct built.ids
+  pub located : AreLocated built reply.rows rows
+
+same_asked : (query : Asked) (session : Session) (values : List (List ℕ)) → query.attributes ≡ session.attributes → query.values ≡ values → query.requesters ≡ session.requesters →
+    query ≡ asked_in session values
+same_asked query session values attributes names requesters =
+    let whole : query ≡ record { attributes = query.attributes; values = query.values; requesters = query.requesters } = refl in
+    cc
+
+pub located_rows : (session : Session) (values : List (List ℕ)) (assertions : List Assertion) (query : Asked) (list : List Part) (built : Interned) (reply : ReadReply) (rows : List Row) →
+    query.attributes ≡ session.attributes → query.values ≡ values → query.requesters ≡ session.requesters → list ≡ parts_in assertions →
+    IsBuilt (equations_over query list) built → built.ids ≡ map (λ (part : Part). part.id) list → AreLocated built reply.rows rows →
+    AreOf (equations_in session values assertions) built reply rows
+located_rows session values assertions query list built reply rows attributes names requesters same is_built ids located =
+    let asked : query ≡ asked_in session values = same_asked query session values attributes names requesters in
+    let numbered : built.ids ≡ map (λ (part : Part). part.id) (parts_in assertions) = ids ∙ ap (map (λ (part : Part). part.id)) same in
+    record {
+      is_built = subst (λ (e : Equations). IsBuilt e built) (ap (λ (q : Asked). equations_over q list) asked ∙ ap (equations_over (asked_in session values)) same) is_built;
+      distinct = subst (λ (l : List Id). AreDistinct l) (sym numbered) (ids_distinct assertions);
+      located = located;
+    }
+
+-- rows that prove the value by numbers
+pub proved_by_name : LocatedProofs → LeastLevelsAreLeast → (e : Equations) (version : ℕ) (values : List (List ℕ)) (reply : ReadReply) (built : Interned) (rows : List Row) →
+    IsReplyTo version values reply → AreOf e built reply rows → IsProof built.system rows reply.value → reply.value ≡ slice_index (least_levels built.system) 0 →
+    IsProved e version values reply
+proved_by_name law leasts e version values reply built rows to_query of proof level = record {
+  to_query = to_query;
+  proof = (law e built of.is_built of.distinct reply.rows rows of.located reply.value).0 proof;
+  least = subst (IsPolicyLevel e) (sym level) (IsPolicyLevel-by_name e built.names built.system of.is_built.of (least_levels built.system) (leasts built.system));
+}
+
+-- rows that don't
+pub refused_by_name : LocatedProofs → (e : Equations) (version : ℕ) (values : List (List ℕ)) (reply : ReadReply) (built : Interned) (rows : List Row) (refused : Refused) →
+    IsReplyTo version values reply → AreOf e built reply rows → IsStepsRefusal built.system rows reply.value refused →
+    IsRefusal e version values reply refused
+refused_by_name law e version values reply built rows Other to_query of cause = absurd cause
+refused_by_name law e version values reply built rows (Rejected reject) to_query of cause = record {
+  to_query = to_query;
+  unproved = λ proof. cause.0 ((law e built of.is_built of.distinct reply.rows rows of.located reply.value).1 proof);
+  rejected = record { built = built; is_built = of.is_built; located = rows; are_located = of.located; is_reject = cause.1 };
+}
+refused_by_name law e version values reply built rows NoMemory to_query of cause = tt
+
+-- the same of a checker's answer
+pub ok_by_name : LocatedProofs → LeastLevelsAreLeast → (e : Equations) (version : ℕ) (values : List (List ℕ)) (reply : ReadReply) (built : Interned) (rows : List Row) (result : Result (Unit {0}) Refused) →
+    IsReplyTo version values reply → AreOf e built reply rows → OnOk result (IsProof built.system rows reply.value) → OnOk result (reply.value ≡ slice_index (least_levels built.system) 0) →
+    OnOk result (IsProved e version values reply)
+ok_by_name law leasts e version values reply built rows (Ok u) to_query of proof level = proved_by_name law leasts e version values reply built rows to_query of proof level
+ok_by_name law leasts e version values reply built rows (Err refused) to_query of proof level = tt
+
+pub err_by_name : LocatedProofs → (e : Equations) (version : ℕ) (values : List (List ℕ)) (reply : ReadReply) (built : Interned) (rows : List Row) (result : Result (Unit {0}) Refused) →
+    IsReplyTo version values reply → AreOf e built reply rows → IfErr result (λ refused. IsStepsRefusal built.system rows reply.value refused) →
+    IfErr result (λ refused. IsRefusal e version values reply refused)
+err_by_name law e version values reply built rows (Ok u) to_query of cause = tt
+err_by_name law e version values reply built rows (Err refused) to_query of cause = refused_by_name law e version values reply built rows refused to_query of cause
+
+-- the name of a value that is there decides
+pub name_decides : (version : ℕ) (values : List (List ℕ)) (reply : ReadReply) (name : List ℕ) (test : Bool) → reply.version ≡ version → reply.value < length values →
+    slice_get values reply.value ≡ Some name → test ≡ bytes_eq reply.name name →
+    (IsTrue test → IsReplyTo version values reply) × (IsReplyTo version values reply → IsTrue test)
+name_decides version values reply name test same within here is =
+    let there : slice_index_or values reply.value [] ≡ name = get_or_from_slice_get values reply.value name [] here in (
+      (λ yes. record { same_version = same; within = within; name = (bytes_eq-Decides reply.name name).0 (sym is ∙ yes) ∙ sym there }),
+      (λ to. is ∙ (bytes_eq-Decides reply.name name).1 (to.name ∙ there)),
+    )

@@ -1,0 +1,60 @@
+-- Whether a reply proves the value of a query over the assertions of a policy (keynoted's own).
+use Rattle.std.specs.Prelude.{ℕ, ◌≡◌, ◌<◌, List, [], length, slice_index_or}
+use Rattle.kn_trees.specs.declared.assertion.Assertion.{Assertion}
+use Rattle.kn_proof.specs.declared.named.NamedRow.{NamedRow}
+use Rattle.kn_proof.specs.declared.row.Row.{Row}
+use Rattle.kn_proof.specs.declared.reply.ReadReply.{ReadReply}
+use Rattle.kn_check.specs.declared.reject.Reject.{Reject}
+use Rattle.kn_check.specs.Rejects.{IsReject}
+use Rattle.kn_system.specs.Equations.{Equations as System}
+use Rattle.kn_system.specs.Proofs as numbered
+use Rattle.kn_meaning.specs.Equations.{Equations, equations_over, IsPolicyLevel}
+use Rattle.kn_meaning.specs.Proofs.{IsProof}
+use Rattle.kn_answer.specs.Built.{Interned, IsBuilt}
+use Rattle.kn_answer.specs.Located.{AreLocated}
+use Rattle.kn_play.specs.declared.session.Session.{Session}
+use Rattle.kn_play.specs.Answering.{parts_in, asked_in}
+use Rattle.kn_verify.specs.declared.verdict.Refused.{Refused}
+use Rattle.kn_verify.specs.declared.verdict.Refused.TheVariants.{Other, Rejected, NoMemory}
+
+-- the reply tells this version, and a value among these by its name
+pub record IsReplyTo (version : ℕ) (values : List (List ℕ)) (reply : ReadReply) : Type 0 where
+  pub same_version : reply.version ≡ version
+  pub within : reply.value < length values
+  pub name : reply.name ≡ slice_index_or values reply.value []
+
+-- what a session asks of these assertions where these are the compliance values
+abbrev pub equations_in : Session → List (List ℕ) → List Assertion → Equations
+equations_in session values assertions = equations_over (asked_in session values) (parts_in assertions)
+
+-- in some numbering of the query's principals this is the first item that fails
+pub record IsRejected (e : Equations) (rows : List NamedRow) (level : ℕ) (reject : Reject) : Type 0 where
+  pub built : Interned
+  pub is_built : IsBuilt e built
+  pub located : List Row
+  pub are_located : AreLocated built rows located
+  pub is_reject : IsReject built.system located level reject
+
+-- the rows of the reply prove its value, which is the policy's level in the least fixed point
+pub record IsProved (e : Equations) (version : ℕ) (values : List (List ℕ)) (reply : ReadReply) : Type 0 where
+  pub to_query : IsReplyTo version values reply
+  pub proof : IsProof e reply.rows reply.value
+  pub least : IsPolicyLevel e reply.value
+
+-- the reply is one to the query, but its rows prove no such value: this is the first item that fails
+pub record IsUnproved (e : Equations) (version : ℕ) (values : List (List ℕ)) (reply : ReadReply) (reject : Reject) : Type 0 where
+  pub to_query : IsReplyTo version values reply
+  pub unproved : ¬ IsProof e reply.rows reply.value
+  pub rejected : IsRejected e reply.rows reply.value reject
+
+-- why a reply is refused
+abbrev pub IsRefusal : Equations → ℕ → List (List ℕ) → ReadReply → Refused → Type 0
+IsRefusal e version values reply Other = ¬ IsReplyTo version values reply
+IsRefusal e version values reply (Rejected reject) = IsUnproved e version values reply reject
+IsRefusal e version values reply NoMemory = Unit {0}
+
+-- why rows by numbers are refused
+abbrev pub IsStepsRefusal : System → List Row → ℕ → Refused → Type 0
+IsStepsRefusal s rows level Other = ⊥
+IsStepsRefusal s rows level (Rejected reject) = (¬ numbered.IsProof s rows level) × IsReject s rows level reject
+IsStepsRefusal s rows level NoMemory = Unit {0}
