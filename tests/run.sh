@@ -9,6 +9,8 @@
 #   make      a script that writes the large ones of these files into the copy
 #
 # An example is a folder with policy.kn, requests.txt and replies.txt: what `ask` writes for the requests.
+#
+# Each VALUE reply of a case that ends with status 0 is given to `check` too, which has to prove it.
 set -u
 
 top=$(cd "$(dirname "${BASH_SOURCE[0]}")/.." && pwd -P) || exit 1
@@ -29,6 +31,24 @@ run_case() {
     [[ $status == "$(<status)" ]] || echo "status $status, and not $(<status)"
     cmp "$room/output" output 2>&1
     [[ -s $room/errors ]] && echo "on standard error: $(head -c 300 "$room/errors")"
+    [[ ${words[0]-} == ask && $status == 0 ]] && check_replies "${words[1]}"
+}
+
+# Has `check` prove each VALUE reply of the case in the current folder over this policy. The script of a reply is the input up
+# to its QUERY.
+check_replies() {
+    local queries starts ends at index name proved
+    mapfile -t queries < <(grep -an '^QUERY ' input | cut -d: -f1)
+    mapfile -t starts < <(grep -an '^VALUE ' output | cut -d: -f1)
+    mapfile -t ends < <(grep -an '^END$' output | cut -d: -f1)
+    [[ ${#queries[@]} == "${#starts[@]}" && ${#starts[@]} == "${#ends[@]}" ]] || { echo "not one reply for each query"; return; }
+    for at in "${!starts[@]}"; do
+        head -n "${queries[at]}" input >script
+        head -n "${ends[at]}" output | tail -n "+${starts[at]}" >reply
+        read -r _ index name _ <reply
+        proved=$("$top/keynoted" check "$1" script reply 2>&1)
+        [[ $proved == "PROVED $index $name" ]] || echo "check of reply $((at + 1)) prints '$proved'"
+    done
 }
 
 # What isn't built yet is built here, before the cases. The program itself never ends with 125.
