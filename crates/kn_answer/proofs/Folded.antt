@@ -1,7 +1,9 @@
 -- What is computed of a formula, by what is computed of its parts.
-use Rattle.std.proofs.Common.{◌≡◌, ℕ, suc, zero, ◌+◌, ◌<◌, ◌≤◌, Bool, true, ◌&&◌, nat_le, List, [], ◌∷◌, ◌++◌, get_or, take, length, map, All as Each, sym, ap, subst, ◌∙◌, arith}
+use Rattle.std.proofs.Common.{◌≡◌, ℕ, suc, zero, ◌+◌, ◌<◌, ◌≤◌, Bool, true, ◌&&◌, nat_le, List, [], ◌∷◌, ◌++◌, get_or, take, length, map, flat_map, All as Each, sym, ap, subst, ◌∙◌, arith}
 use Rattle.std.specs.List.{list_all}
-use Rattle.std.proofs.lemmas.List.{length-map, map-append, take_more}
+use Rattle.std.proofs.lemmas.List.{length-map, map-append, take_more, append-nil}
+use Rattle.std.proofs.lemmas.Grind.{flat_map-append}
+use Rattle.std.proofs.lemmas.List.Folds.{flat_map-map}
 use Rattle.std.proofs.lemmas.Bool.{and_parts, leb-true}
 use Rattle.kn_base.specs.Threshold.{threshold}
 use Rattle.kn_trees.specs.declared.formula.Formula.{Formula}
@@ -11,6 +13,8 @@ use Rattle.kn_trees.specs.declared.formula.Formula.TheOpen.Formula-F.{Who as ope
 use Rattle.kn_trees.specs.declared.formula.Formula.TheFolds.{fold-Formula, fold-roll-Formula}
 use Rattle.kn_trees.specs.Formulas.{total, node_step, formula_nodes, greatest_of, depth_step, formula_depth, itself, sound_step, is_sound, IsReadable}
 use Rattle.kn_meaning.specs.Formulas.{Levels, level_step, formula_level}
+use Rattle.kn_meaning.specs.Occurring.{names_step, formula_names}
+use Rattle.kn_answer.specs.Numbering.{NamedPiece, Leaf, Gate, pieces_step, formula_pieces}
 
 fold-Who : (X : Type 0) (step : Formula-F X → X) (name : List ℕ) → fold-Formula X step (Who name) ≡ step (open_Who name)
 fold-Who X step name = ap (fold-Formula X step) (sym (rolls-Who name)) ∙ fold-roll-Formula X step (open_Who name)
@@ -36,34 +40,50 @@ pub formula_depth-Who : (name : List ℕ) → formula_depth (Who name) ≡ 1
 unfolding formula_depth
 formula_depth-Who name = fold-Who ℕ depth_step name
 
+pub formula_names-Who : (name : List ℕ) → formula_names (Who name) ≡ name ∷ []
+unfolding formula_names
+formula_names-Who name = fold-Who (List (List ℕ)) names_step name
+
+pub formula_pieces-Who : (name : List ℕ) → formula_pieces (Who name) ≡ Leaf name ∷ []
+unfolding formula_pieces
+formula_pieces-Who name = fold-Who (List NamedPiece) pieces_step name
+
 -- The formula is that so many of these parts are needed.
 pub record IsGate (need : ℕ) (parts : List Formula) (formula : Formula) : Type 0 where
   pub level : (top : ℕ) (at : Levels) → formula_level top at formula ≡ threshold top need (map (formula_level top at) parts)
   pub nodes : formula_nodes formula ≡ 1 + total (map formula_nodes parts)
   pub depth : formula_depth formula ≡ 1 + greatest_of (map formula_depth parts)
+  pub names : formula_names formula ≡ flat_map formula_names parts
+  pub pieces : formula_pieces formula ≡ Gate need (length parts) ∷ flat_map formula_pieces parts
 
 pub IsGate-All : (parts : List Formula) → IsGate (length parts) parts (All parts)
-unfolding formula_level formula_nodes formula_depth
+unfolding formula_level formula_nodes formula_depth formula_names formula_pieces
 IsGate-All parts = record {
   level = λ top at. fold-All ℕ (level_step top at) parts ∙ ap (λ n. threshold top n (map (formula_level top at) parts)) (simp length-map);
   nodes = fold-All ℕ node_step parts;
   depth = fold-All ℕ depth_step parts;
+  names = fold-All (List (List ℕ)) names_step parts ∙ flat_map-map (λ ns. ns) formula_names parts;
+  pieces = fold-All (List NamedPiece) pieces_step parts ∙ ap (λ n. Gate n n ∷ flat_map (λ ps. ps) (map formula_pieces parts)) (simp length-map) ∙ ap (λ ps. Gate (length parts) (length parts) ∷ ps) (flat_map-map (λ ps. ps) formula_pieces parts);
 }
 
 pub IsGate-Any : (parts : List Formula) → IsGate 1 parts (Any parts)
-unfolding formula_level formula_nodes formula_depth
+unfolding formula_level formula_nodes formula_depth formula_names formula_pieces
 IsGate-Any parts = record {
   level = λ top at. fold-Any ℕ (level_step top at) parts;
   nodes = fold-Any ℕ node_step parts;
   depth = fold-Any ℕ depth_step parts;
+  names = fold-Any (List (List ℕ)) names_step parts ∙ flat_map-map (λ ns. ns) formula_names parts;
+  pieces = fold-Any (List NamedPiece) pieces_step parts ∙ ap (λ n. Gate 1 n ∷ flat_map (λ ps. ps) (map formula_pieces parts)) (simp length-map) ∙ ap (λ ps. Gate 1 (length parts) ∷ ps) (flat_map-map (λ ps. ps) formula_pieces parts);
 }
 
 pub IsGate-Threshold : (need : ℕ) (parts : List Formula) → IsGate need parts (Threshold need parts)
-unfolding formula_level formula_nodes formula_depth
+unfolding formula_level formula_nodes formula_depth formula_names formula_pieces
 IsGate-Threshold need parts = record {
   level = λ top at. fold-Threshold ℕ (level_step top at) need parts;
   nodes = fold-Threshold ℕ node_step need parts;
   depth = fold-Threshold ℕ depth_step need parts;
+  names = fold-Threshold (List (List ℕ)) names_step need parts ∙ flat_map-map (λ ns. ns) formula_names parts;
+  pieces = fold-Threshold (List NamedPiece) pieces_step need parts ∙ ap (λ n. Gate need n ∷ flat_map (λ ps. ps) (map formula_pieces parts)) (simp length-map) ∙ ap (λ ps. Gate need (length parts) ∷ ps) (flat_map-map (λ ps. ps) formula_pieces parts);
 }
 
 -- parts that are sound together are sound one by one
@@ -148,6 +168,12 @@ total-more parts i part within here =
     let sum : total (map formula_nodes (take i parts) ++ formula_nodes part ∷ []) ≡ total (map formula_nodes (take i parts)) + (formula_nodes part + 0) = total-append (map formula_nodes (take i parts)) (formula_nodes part ∷ []) in
     let whole : total (map formula_nodes (take (i + 1) parts)) ≡ total (map formula_nodes (take i parts) ++ formula_nodes part ∷ []) = ap total mapped in
     omega arith
+
+-- what is had of one part more stands behind
+pub flat_map-more : {A B : Type 0} (f : A → List B) (parts : List A) (i : ℕ) (part : A) → i < length parts → part ≡ get_or parts i part → flat_map f (take (i + 1) parts) ≡ flat_map f (take i parts) ++ f part
+flat_map-more f parts i part within here =
+    let longer : take (i + 1) parts ≡ take i parts ++ part ∷ [] = take_more parts i part within ∙ ap (λ p. take i parts ++ p ∷ []) (sym here) in
+    ap (flat_map f) longer ∙ flat_map-append f (take i parts) (part ∷ []) ∙ ap (λ bs. flat_map f (take i parts) ++ bs) (append-nil (f part))
 
 -- one principal is readable from any text of one byte
 pub IsReadable-Who : (name : List ℕ) → IsReadable 1 (Who name)

@@ -9,11 +9,13 @@ use Rattle.std.proofs.lemmas.Option.{slice_get_within}
 use Rattle.kn_meaning.specs.Formulas.{Levels}
 use Rattle.kn_meaning.specs.Equations.{Equations, Statement, is_requester}
 use Rattle.kn_system.specs.declared.rows.Row.{Row}
+use Rattle.kn_system.specs.declared.rows.Piece.{Piece}
+use Rattle.kn_system.specs.declared.rows.Piece.TheVariants as P
 use Rattle.kn_system.specs.Equations.{Equations as System}
 use Rattle.kn_answer.proofs.Bridge.{bytes_eq-same, bytes_eq-true}
 use Rattle.kn_answer.specs.declared.numbered.Numbered.{Numbered}
-use Rattle.kn_answer.specs.Numbering.{IsNumber, IsAbsent, AreDistinct, HaveLevels, IsRowOf, AreRowsOf, AreNumbered, HaveNumbers, IsSystemOf}
-use Rattle.kn_answer.specs.Extending.{Keeps, Extends, AddsRequester, with_statement}
+use Rattle.kn_answer.specs.Numbering.{IsNumber, IsAbsent, AreDistinct, HaveLevels, NamedPiece, Leaf, Gate, IsPieceOf, ArePiecesOf, licensees_pieces, IsRowOf, AreRowsOf, AreNumbered, AreNamesOf, IsSystemOf}
+use Rattle.kn_answer.specs.Extending.{Keeps, AddsNames, Extends, AddsRequester, with_statement}
 
 -- what stands in a list stands in a longer one at the same place
 pub slice_get-front : {A : Type 0} (xs ys : List A) (p : ℕ) (x : A) → slice_get xs p ≡ Some x → slice_get (xs ++ ys) p ≡ Some x
@@ -47,11 +49,25 @@ AreDistinct-longer names last distinct absent p q name here there = by (number_i
 HaveLevels-kept : (old new : List (List ℕ)) → Keeps old new → (at : Levels) (levels : List ℕ) → HaveLevels new at levels → HaveLevels old at levels
 HaveLevels-kept old new keeps at levels have p name here = have p name (keeps p name here)
 
+IsPieceOf-kept : (old new : List (List ℕ)) → Keeps old new → (named : NamedPiece) (piece : Piece) → IsPieceOf old named piece → IsPieceOf new named piece
+IsPieceOf-kept old new keeps (Leaf name) (P.Who p) is = keeps p name is
+IsPieceOf-kept old new keeps (Leaf name) (P.Gate need count) is = absurd is
+IsPieceOf-kept old new keeps (Gate need count) (P.Who p) is = absurd is
+IsPieceOf-kept old new keeps (Gate need count) (P.Gate k n) is = is
+
+-- pieces stay those of a formula
+pub ArePiecesOf-kept : (old new : List (List ℕ)) → Keeps old new → (named : List NamedPiece) (pieces : List Piece) → ArePiecesOf old named pieces → ArePiecesOf new named pieces
+ArePiecesOf-kept old new keeps [] [] are = tt
+ArePiecesOf-kept old new keeps [] (p ∷ pieces) are = absurd are
+ArePiecesOf-kept old new keeps (n ∷ named) [] are = absurd are
+ArePiecesOf-kept old new keeps (n ∷ named) (p ∷ pieces) are = (IsPieceOf-kept old new keeps n p are.0, ArePiecesOf-kept old new keeps named pieces are.1)
+
 -- rows stay those of their statements
 pub IsRowOf-kept : (top : ℕ) (old new : List (List ℕ)) → Keeps old new → (statement : Statement) (row : Row) → IsRowOf top old statement row → IsRowOf top new statement row
 IsRowOf-kept top old new keeps statement row is = record {
   authorizer = keeps row.authorizer statement.authorizer is.authorizer;
   ceiling = is.ceiling;
+  pieces = ArePiecesOf-kept old new keeps (licensees_pieces statement.licensees) row.formula is.pieces;
   licensees = λ at levels have. is.licensees at levels (HaveLevels-kept old new keeps at levels have);
 }
 
@@ -99,9 +115,94 @@ IsSystemOf-row e names s of statement row is = record {
   rows = AreRowsOf-longer e.top names e.statements s.rows of.rows statement row is;
 }
 
-pub Extends-none : (old : Numbered) → length old.names ≡ length old.system.requesters → Extends 0 old old
-Extends-none old one_each = record {
+-- no names
+pub AddsNames-none : (names : List (List ℕ)) → AddsNames [] names names
+AddsNames-none names = record {
   keeps = λ p name here. here;
+  all = λ name among. absurd (no among);
+  only = λ p name here. inl (p, here);
+}
+  where
+    no : false ≡ true → ⊥
+    no same = cc
+
+-- the one name that another is among
+among_one : (other name : List ℕ) → list_any (bytes_eq other) (name ∷ []) ≡ true → other ≡ name
+among_one other name among = by (bytes_eq other name) refl among
+  where
+    by : (b : Bool) → bytes_eq other name ≡ b → (b || false) ≡ true → other ≡ name
+    by true e among = bytes_eq-true other name e
+    by false e among = cc
+
+one_among : (other name : List ℕ) → other ≡ name → list_any (bytes_eq other) (name ∷ []) ≡ true
+one_among other name same = ap (λ b. b || false) (bytes_eq-same other name same)
+
+-- a name that has a number already
+pub AddsNames-known : (names : List (List ℕ)) (name : List ℕ) (p : ℕ) → IsNumber names name p → AddsNames (name ∷ []) names names
+AddsNames-known names name p here = record {
+  keeps = λ q other there. there;
+  all = λ other among. (p, here ∙ ap Some (sym (among_one other name among)));
+  only = λ q other there. inl (q, there);
+}
+
+-- a name that gets the next number
+pub AddsNames-longer : (old new : List (List ℕ)) (name : List ℕ) → new ≡ old ++ name ∷ [] → AddsNames (name ∷ []) old new
+AddsNames-longer old new name names = record {
+  keeps = λ p other here. ap (λ ns. slice_get ns p) names ∙ Keeps-longer old (name ∷ []) p other here;
+  all = λ other among. (length old, ap (λ ns. slice_get ns (length old)) names ∙ slice_get-last old name ∙ ap Some (sym (among_one other name among)));
+  only = λ p other here. by p other (number_in_longer old name other p (ap (λ ns. slice_get ns p) (sym names) ∙ here));
+}
+  where
+    by : (p : ℕ) (other : List ℕ) → IsNumber old other p ⊎ ((p ≡ length old) × (name ≡ other)) → ((q : ℕ) × IsNumber old other q) ⊎ (list_any (bytes_eq other) (name ∷ []) ≡ true)
+    by p other (inl there) = inl (p, there)
+    by p other (inr is) = inr (one_among other name (sym is.1))
+
+or_true : (a b : Bool) → (a || b) ≡ true → (a ≡ true) ⊎ (b ≡ true)
+or_true true b either = inl refl
+or_true false b either = inr either
+
+true_or : (a b : Bool) → a ≡ true → (a || b) ≡ true
+true_or true b is = refl
+true_or false b is = cc
+
+or_as_true : (a b : Bool) → b ≡ true → (a || b) ≡ true
+or_as_true true b is = refl
+or_as_true false b is = is
+
+-- names, and then more
+pub AddsNames-then : (first second old between new : List (List ℕ)) → AddsNames first old between → AddsNames second between new → AddsNames (first ++ second) old new
+AddsNames-then first second old between new a b = record {
+  keeps = λ p name here. b.keeps p name (a.keeps p name here);
+  all = λ name among. has name (or_true (list_any (bytes_eq name) first) (list_any (bytes_eq name) second) (sym (list_any-append (bytes_eq name) first second) ∙ among));
+  only = λ p name here. from name (b.only p name here);
+}
+  where
+    has : (name : List ℕ) → (list_any (bytes_eq name) first ≡ true) ⊎ (list_any (bytes_eq name) second ≡ true) → (p : ℕ) × IsNumber new name p
+    has name (inl among) = let number : (p : ℕ) × IsNumber between name p = a.all name among in (number.0, b.keeps number.0 name number.1)
+    has name (inr among) = b.all name among
+
+    behind : (name : List ℕ) → ((q : ℕ) × IsNumber old name q) ⊎ (list_any (bytes_eq name) first ≡ true) → ((q : ℕ) × IsNumber old name q) ⊎ (list_any (bytes_eq name) (first ++ second) ≡ true)
+    behind name (inl there) = inl there
+    behind name (inr among) = inr (list_any-append (bytes_eq name) first second ∙ true_or (list_any (bytes_eq name) first) (list_any (bytes_eq name) second) among)
+
+    from : (name : List ℕ) → ((q : ℕ) × IsNumber between name q) ⊎ (list_any (bytes_eq name) second ≡ true) → ((q : ℕ) × IsNumber old name q) ⊎ (list_any (bytes_eq name) (first ++ second) ≡ true)
+    from name (inl there) = behind name (a.only there.0 name there.1)
+    from name (inr among) = inr (list_any-append (bytes_eq name) first second ∙ or_as_true (list_any (bytes_eq name) first) (list_any (bytes_eq name) second) among)
+
+-- where no name had a number before, these have one and no others
+pub AreNamesOf-added : (principals names : List (List ℕ)) → AddsNames principals [] names → AreNamesOf principals names
+AreNamesOf-added principals names added = record {
+  all = added.all;
+  only = λ p name here. by name (added.only p name here);
+}
+  where
+    by : (name : List ℕ) → ((q : ℕ) × IsNumber [] name q) ⊎ (list_any (bytes_eq name) principals ≡ true) → list_any (bytes_eq name) principals ≡ true
+    by name (inl there) = absurd (let within : there.0 < 0 = slice_get_within [] there.0 name there.1 in omega arith)
+    by name (inr among) = among
+
+pub Extends-none : (old : Numbered) → length old.names ≡ length old.system.requesters → Extends 0 [] old old
+Extends-none old one_each = record {
+  names = AddsNames-none old.names;
   few = omega arith;
   one_each = one_each;
   levels = refl;
@@ -109,9 +210,20 @@ Extends-none old one_each = record {
   same = λ e of. of;
 }
 
-pub Extends-within : (n m : ℕ) (old new : Numbered) → n ≤ m → Extends n old new → Extends m old new
-Extends-within n m old new within ext = record {
-  keeps = ext.keeps;
+-- a name that has a number already
+pub Extends-known : (old : Numbered) (name : List ℕ) (p : ℕ) → length old.names ≡ length old.system.requesters → IsNumber old.names name p → Extends 1 (name ∷ []) old old
+Extends-known old name p one_each here = record {
+  names = AddsNames-known old.names name p here;
+  few = omega arith;
+  one_each = one_each;
+  levels = refl;
+  rows = refl;
+  same = λ e of. of;
+}
+
+pub Extends-within : (n m : ℕ) (added others : List (List ℕ)) (old new : Numbered) → n ≤ m → added ≡ others → Extends n added old new → Extends m others old new
+Extends-within n m added others old new within same ext = record {
+  names = subst (λ ns. AddsNames ns old.names new.names) same ext.names;
   few = let few : length new.names ≤ length old.names + n = ext.few in omega arith;
   one_each = ext.one_each;
   levels = ext.levels;
@@ -119,9 +231,9 @@ Extends-within n m old new within ext = record {
   same = ext.same;
 }
 
-pub Extends-then : (n m : ℕ) (old between new : Numbered) → Extends n old between → Extends m between new → Extends (n + m) old new
-Extends-then n m old between new first second = record {
-  keeps = λ p name here. second.keeps p name (first.keeps p name here);
+pub Extends-then : (n m : ℕ) (added more : List (List ℕ)) (old between new : Numbered) → Extends n added old between → Extends m more between new → Extends (n + m) (added ++ more) old new
+Extends-then n m added more old between new first second = record {
+  names = AddsNames-then added more old.names between.names new.names first.names second.names;
   few = let a : length between.names ≤ length old.names + n = first.few in let b : length new.names ≤ length between.names + m = second.few in omega arith;
   one_each = second.one_each;
   levels = second.levels ∙ first.levels;
@@ -133,9 +245,9 @@ length_longer : {A : Type 0} (xs : List A) (x : A) → length (xs ++ x ∷ []) �
 length_longer xs x = simp length-append
 
 -- a principal that is no requester gets the next number
-pub Extends-longer : (old new : Numbered) (name : List ℕ) → length old.names ≡ length old.system.requesters → IsAbsent old.names name → new.names ≡ old.names ++ name ∷ [] → new.system ≡ record old.system { requesters = old.system.requesters ++ false ∷ [] } → Extends 1 old new
+pub Extends-longer : (old new : Numbered) (name : List ℕ) → length old.names ≡ length old.system.requesters → IsAbsent old.names name → new.names ≡ old.names ++ name ∷ [] → new.system ≡ record old.system { requesters = old.system.requesters ++ false ∷ [] } → Extends 1 (name ∷ []) old new
 Extends-longer old new name one_each absent names system = record {
-  keeps = λ p other here. ap (λ ns. slice_get ns p) names ∙ Keeps-longer old.names (name ∷ []) p other here;
+  names = AddsNames-longer old.names new.names name names;
   few = let same : length new.names ≡ length old.names + 1 = ap length names ∙ length_longer old.names name in omega arith;
   one_each = ap length names ∙ length_longer old.names name ∙ ap (λ n. n + 1) one_each ∙ sym (length_longer old.system.requesters false) ∙ sym (ap (λ s. length s.requesters) system);
   levels = ap (λ s. s.levels) system;
@@ -145,8 +257,7 @@ Extends-longer old new name one_each absent names system = record {
 
 pub AddsRequester-none : (old : Numbered) (name : List ℕ) → length old.names ≡ length old.system.requesters → (p : ℕ) → IsNumber old.names name p → AddsRequester name old old
 AddsRequester-none old name one_each p here = record {
-  keeps = λ q other there. there;
-  number = (p, here);
+  names = AddsNames-known old.names name p here;
   few = omega arith;
   one_each = one_each;
   levels = refl;
@@ -156,8 +267,7 @@ AddsRequester-none old name one_each p here = record {
 
 pub AddsRequester-longer : (old new : Numbered) (name : List ℕ) → length old.names ≡ length old.system.requesters → IsAbsent old.names name → new.names ≡ old.names ++ name ∷ [] → new.system ≡ record old.system { requesters = old.system.requesters ++ true ∷ [] } → AddsRequester name old new
 AddsRequester-longer old new name one_each absent names system = record {
-  keeps = λ p other here. ap (λ ns. slice_get ns p) names ∙ Keeps-longer old.names (name ∷ []) p other here;
-  number = (length old.names, ap (λ ns. slice_get ns (length old.names)) names ∙ slice_get-last old.names name);
+  names = AddsNames-longer old.names new.names name names;
   few = let same : length new.names ≡ length old.names + 1 = ap length names ∙ length_longer old.names name in omega arith;
   one_each = ap length names ∙ length_longer old.names name ∙ ap (λ n. n + 1) one_each ∙ sym (length_longer old.system.requesters true) ∙ sym (ap (λ s. length s.requesters) system);
   levels = ap (λ s. s.levels) system;
@@ -174,23 +284,11 @@ both_on_ok (Err e) P Q R f p q = tt
 pub is_among : (requesters : List (List ℕ)) (i : ℕ) (name : List ℕ) → i < length requesters → name ≡ get_or requesters i name → list_any (bytes_eq name) requesters ≡ true
 is_among requesters i name within here = list_any_at (bytes_eq name) requesters i name within (bytes_eq-same name (get_or requesters i name) here)
 
-number_among : (requesters : List (List ℕ)) (name other : List ℕ) (old new : List (List ℕ)) → Keeps old new → (p : ℕ) → IsNumber new name p → HaveNumbers requesters old → (b : Bool) → bytes_eq other name ≡ b → list_any (bytes_eq other) requesters || (b || false) ≡ true → (q : ℕ) × IsNumber new other q
-number_among requesters name other old new keeps p here have true e among = (p, here ∙ ap Some (sym (bytes_eq-true other name e)))
-number_among requesters name other old new keeps p here have false e among =
-    let before : list_any (bytes_eq other) requesters ≡ true = sym (or_false (list_any (bytes_eq other) requesters)) ∙ among in
-    let number : (q : ℕ) × IsNumber old other q = have other before in
-    (number.0, keeps number.0 other number.1)
-  where
-    or_false : (b : Bool) → (b || false) ≡ b
-    or_false true = refl
-    or_false false = refl
-
 -- one requester more has a number
-pub HaveNumbers-longer : (requesters : List (List ℕ)) (i : ℕ) (name : List ℕ) (old new : Numbered) → i < length requesters → name ≡ get_or requesters i name → AddsRequester name old new → HaveNumbers (take i requesters) old.names → HaveNumbers (take (i + 1) requesters) new.names
-HaveNumbers-longer requesters i name old new within here added have other among =
-    let longer : take (i + 1) requesters ≡ take i requesters ++ name ∷ [] = take_more requesters i name within ∙ ap (λ n. take i requesters ++ n ∷ []) (sym here) in
-    number_among (take i requesters) name other old.names new.names added.keeps added.number.0 added.number.1 have (bytes_eq other name) refl
-    (sym (list_any-append (bytes_eq other) (take i requesters) (name ∷ [])) ∙ ap (list_any (bytes_eq other)) (sym longer) ∙ among)
+pub AddsNames-requester : (requesters : List (List ℕ)) (i : ℕ) (name : List ℕ) (first : List (List ℕ)) (old new : Numbered) → i < length requesters → name ≡ get_or requesters i name → AddsRequester name old new → AddsNames (take i requesters) first old.names → AddsNames (take (i + 1) requesters) first new.names
+AddsNames-requester requesters i name first old new within here added before =
+    let longer : take i requesters ++ name ∷ [] ≡ take (i + 1) requesters = ap (λ n. take i requesters ++ n ∷ []) here ∙ sym (take_more requesters i name within) in
+    subst (λ ns. AddsNames ns first new.names) longer (AddsNames-then (take i requesters) (name ∷ []) first old.names new.names before added.names)
 
 pub known_on_ok : {T E : Type 0} (r : Result T E) (P : Type 0) → P → OnOk r P
 known_on_ok (Ok x) P p = p

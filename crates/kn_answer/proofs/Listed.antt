@@ -1,5 +1,5 @@
 -- Lists of rows by names and by numbers, row by row.
-use Rattle.std.proofs.Common.{◌≡◌, ℕ, suc, zero, ◌+◌, ◌<◌, ◌≤◌, Bool, true, false, cond, All, List, [], ◌∷◌, ◌++◌, get_or, take, slice_set, length, refl, sym, ap, ◌∙◌, subst, arith}
+use Rattle.std.proofs.Common.{◌≡◌, ℕ, suc, zero, ◌+◌, ◌<◌, ◌≤◌, Bool, true, false, cond, List, [], ◌∷◌, ◌++◌, get_or, take, slice_set, length, sym, ap, ◌∙◌, subst, arith}
 use Rattle.std.specs.Str.{bytes_eq}
 use Rattle.std.proofs.lemmas.List.{take_more}
 use Rattle.kn_principal.specs.Principals.{policy}
@@ -9,9 +9,9 @@ use Rattle.kn_meaning.specs.Equations.{Equations, is_requester}
 use Rattle.kn_meaning.specs.Proofs.{row_level, levels_by, AreRows}
 use Rattle.kn_meaning.specs.Proofs as proof
 use Rattle.kn_system.specs.Equations.{Equations as System}
-use Rattle.kn_system.specs.Proofs.{IsStep, AreSteps}
+use Rattle.kn_system.specs.Proofs.{AreSteps}
 use Rattle.kn_answer.specs.Built.{Interned}
-use Rattle.kn_answer.specs.Located.{IsLocated, AreLocated, IsInRange, AreInRange}
+use Rattle.kn_answer.specs.Located.{IsLocated, AreLocated, AreInRange}
 
 AreLocated-push : (built : Interned) (rows : List NamedRow) (located : List Row) → AreLocated built rows located → (named : NamedRow) (row : Row) → IsLocated built named row → AreLocated built (rows ++ named ∷ []) (located ++ row ∷ [])
 AreLocated-push built [] [] are named row is = (is, tt)

@@ -1,7 +1,5 @@
 -- Rows by numbers are a proof in the system of a query exactly where the rows by names are one of the query.
-use Rattle.std.proofs.Common.{◌≡◌, ℕ, ◌+◌, ◌-◌, ◌^◌, ◌<◌, ◌≤◌, ◌⊎◌, ◌↔◌, Any, true, false, cond, List, [], ◌∷◌, ◌++◌, slice_get, slice_index, slice_index_or, slice_set, length, Some, inl, inr, refl, sym, ap, ◌∙◌, subst, arith}
-use Rattle.std.specs.List.{list_any}
-use Rattle.std.specs.Str.{bytes_eq}
+use Rattle.std.proofs.Common.{◌≡◌, ℕ, ◌+◌, ◌-◌, ◌^◌, ◌<◌, ◌≤◌, true, false, cond, List, [], ◌∷◌, ◌++◌, slice_get, slice_index_or, slice_set, length, Some, inl, inr, sym, ap, ◌∙◌, subst, arith}
 use Rattle.std.proofs.lemmas.List.{append-nil, append_assoc}
 use Rattle.std.proofs.lemmas.Option.{slice_get_within, slice_get-get_or}
 use Rattle.kn_principal.specs.Principals.{policy}
@@ -19,7 +17,7 @@ use Rattle.kn_answer.specs.Built.{Interned, IsBuilt}
 use Rattle.kn_answer.specs.Located.{IsFound, IsLocated, AreLocated}
 use Rattle.kn_answer.proofs.Grown.{AreNumbered-length}
 use Rattle.kn_answer.proofs.Followed.{row_level-none, row_level-zero, HaveFollowed, HaveFollowed-none, HaveFollowed-row}
-use Rattle.kn_answer.proofs.Rowed.{IsAt, at-statement, at-row, top-of, worth-at, flag-at, rows-few, closed-named, closed-numbered}
+use Rattle.kn_answer.proofs.Rowed.{IsAt, at-statement, at-row, worth-at, flag-at, rows-few, closed-named, closed-numbered}
 
 -- a number in range is that of the item
 found-within : {A : Type 0} (items : List A) (item : A) (p : ℕ) → IsFound items item p → p < 2 ^ 32 - 1 → IsNumber items item p

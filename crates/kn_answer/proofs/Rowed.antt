@@ -1,8 +1,7 @@
 -- A row of the system and the statement that it is of.
-use Rattle.std.proofs.Common.{◌≡◌, ℕ, suc, zero, ◌+◌, ◌-◌, ◌^◌, ◌<◌, ◌≤◌, Bool, true, false, List, [], ◌∷◌, slice_get, slice_index, slice_index_or, get_or, length, map, All, Some, None, inl, inr, refl, sym, ap, ◌∙◌, subst, arith}
+use Rattle.std.proofs.Common.{◌≡◌, ℕ, suc, zero, ◌+◌, ◌-◌, ◌^◌, ◌<◌, ◌≤◌, Bool, true, List, [], ◌∷◌, slice_get, slice_index, slice_index_or, get_or, length, map, All, Some, None, refl, ap, ◌∙◌, subst, arith}
 use Rattle.std.specs.Option.{option_map}
 use Rattle.std.proofs.lemmas.Option.{slice_get_within, get_or_from_slice_get, slice_get-map, slice_get-get_or}
-use Rattle.kn_proof.specs.declared.named.Id.{Id}
 use Rattle.kn_proof.specs.declared.named.Id.TheVariants.{Shared}
 use Rattle.kn_meaning.specs.Formulas.{Levels}
 use Rattle.kn_meaning.specs.Equations.{Equations, Statement, is_requester}
@@ -13,7 +12,7 @@ use Rattle.kn_system.specs.Equations.{Equations as System, IsRow, IsSystem, row_
 use Rattle.kn_system.specs.Forms.{AreForms}
 use Rattle.kn_system.specs.Least.{worth}
 use Rattle.kn_system.specs.Proofs.{IsClosed}
-use Rattle.kn_answer.specs.Numbering.{IsNumber, HaveLevels, IsRowOf, AreRowsOf, AreNumbered, IsSystemOf}
+use Rattle.kn_answer.specs.Numbering.{IsNumber, HaveLevels, IsRowOf, AreRowsOf}
 use Rattle.kn_answer.specs.Built.{Interned, IsBuilt}
 use Rattle.kn_answer.proofs.Bridge.{worth-same}
 

@@ -1,8 +1,9 @@
 -- The pieces of formulas have their levels, depths and nodes.
-use Rattle.std.proofs.Common.{◌≡◌, ℕ, suc, zero, ◌+◌, ◌<◌, ◌≤◌, max, List, [], ◌∷◌, ◌++◌, slice_index, get_or, length, map, take, drop, Some, None, refl, sym, ap, subst, ◌∙◌, arith}
+use Rattle.std.proofs.Common.{◌≡◌, ℕ, suc, zero, ◌+◌, ◌<◌, ◌≤◌, max, List, [], ◌∷◌, ◌++◌, slice_index, get_or, length, map, flat_map, take, drop, Some, None, refl, sym, ap, subst, ◌∙◌, arith}
 use Rattle.std.proofs.Math.Seq.{take-append_seam, drop-append_seam}
 use Rattle.std.proofs.lemmas.List.{length-map, length-append, map-append, append_assoc, append-nil}
 use Rattle.std.proofs.lemmas.Option.{slice_get_within, slice_get-get_or}
+use Rattle.std.proofs.lemmas.Grind.{flat_map-append}
 use Rattle.kn_base.specs.Threshold.{threshold}
 use Rattle.kn_trees.specs.declared.formula.Formula.{Formula}
 use Rattle.kn_trees.specs.declared.formula.Formula.TheVariants.{Who}
@@ -13,10 +14,11 @@ use Rattle.kn_system.specs.declared.rows.Piece.{Piece}
 use Rattle.kn_system.specs.declared.rows.Piece.TheVariants as P
 use Rattle.kn_system.specs.Form.{form_levels}
 use Rattle.kn_system.specs.Forms.{AreForms, IsFormula, form_depths, greatest_of}
-use Rattle.kn_answer.specs.Numbering.{IsNumber, HaveLevels, SpellLicensees}
+use Rattle.kn_answer.specs.Numbering.{IsNumber, HaveLevels, NamedPiece, ArePiecesOf, formula_pieces, licensees_pieces, SpellLicensees}
 use Rattle.kn_answer.specs.Extending.{Keeps}
 use Rattle.kn_answer.specs.Spelling.{AreSpelled, AddsSpelled, AddsGate}
-use Rattle.kn_answer.proofs.Folded.{total-append, formula_level-Who, formula_nodes-Who, formula_depth-Who, IsGate}
+use Rattle.kn_answer.proofs.Folded.{total-append, formula_level-Who, formula_nodes-Who, formula_depth-Who, formula_pieces-Who, IsGate}
+use Rattle.kn_answer.proofs.Grown.{ArePiecesOf-kept}
 
 -- names that keep their numbers are no fewer
 pub Keeps-length : (old new : List (List ℕ)) → Keeps old new → length old ≤ length new
@@ -32,6 +34,7 @@ HaveLevels-kept old new keeps at levels have p name here = have p name (keeps p 
 -- no formulas have no pieces
 pub AreSpelled-none : (names : List (List ℕ)) → AreSpelled names [] []
 AreSpelled-none names = record {
+  pieces_of = tt;
   levels = λ top at levels rest have. refl;
   forms = λ principals n rest within are. subst (λ k. AreForms principals k rest) (omega arith) are;
   depths = λ rest. refl;
@@ -41,6 +44,7 @@ AreSpelled-none names = record {
 -- one principal
 pub AreSpelled-Who : (names : List (List ℕ)) (name : List ℕ) (p : ℕ) → IsNumber names name p → AreSpelled names (Who name ∷ []) (P.Who p ∷ [])
 AreSpelled-Who names name p here = record {
+  pieces_of = subst (λ named. ArePiecesOf names (named ++ []) (P.Who p ∷ [])) (sym (formula_pieces-Who name)) (here, tt);
   levels = λ top at levels rest have. ap (λ l. l ∷ form_levels top levels rest) (have p name here ∙ sym (formula_level-Who top at name));
   forms = λ principals n rest within are. let same : suc n ≡ 1 + n = omega arith in subst (λ k. AreForms principals k (P.Who p ∷ rest)) same (one principals n rest within are);
   depths = λ rest. ap (λ d. d ∷ form_depths rest) (sym (formula_depth-Who name));
@@ -57,15 +61,24 @@ greatest-same (x ∷ xs) = ap (max x) (greatest-same xs)
 -- pieces that stand behind names which have got more numbers
 pub AreSpelled-kept : (old new : List (List ℕ)) → Keeps old new → (formulas : List Formula) (pieces : List Piece) → AreSpelled old formulas pieces → AreSpelled new formulas pieces
 AreSpelled-kept old new keeps formulas pieces are = record {
+  pieces_of = ArePiecesOf-kept old new keeps (flat_map formula_pieces formulas) pieces are.pieces_of;
   levels = λ top at levels rest have. are.levels top at levels rest (HaveLevels-kept old new keeps at levels have);
   forms = λ principals n rest within forms. are.forms principals n rest (let more : length old ≤ length new = Keeps-length old new keeps in omega arith) forms;
   depths = are.depths;
   nodes = are.nodes;
 }
 
+-- the pieces of formulas and of more formulas
+ArePiecesOf-append : (names : List (List ℕ)) (ns ms : List NamedPiece) (ps qs : List Piece) → ArePiecesOf names ns ps → ArePiecesOf names ms qs → ArePiecesOf names (ns ++ ms) (ps ++ qs)
+ArePiecesOf-append names [] ms [] qs first second = second
+ArePiecesOf-append names [] ms (p ∷ ps) qs first second = absurd first
+ArePiecesOf-append names (n ∷ ns) ms [] qs first second = absurd first
+ArePiecesOf-append names (n ∷ ns) ms (p ∷ ps) qs first second = (first.0, ArePiecesOf-append names ns ms ps qs first.1 second)
+
 -- formulas and more formulas
 pub AreSpelled-then : (names : List (List ℕ)) (fs gs : List Formula) (ps qs : List Piece) → AreSpelled names fs ps → AreSpelled names gs qs → AreSpelled names (fs ++ gs) (ps ++ qs)
 AreSpelled-then names fs gs ps qs first second = record {
+  pieces_of = subst (λ named. ArePiecesOf names named (ps ++ qs)) (sym (flat_map-append formula_pieces fs gs)) (ArePiecesOf-append names (flat_map formula_pieces fs) (flat_map formula_pieces gs) ps qs first.pieces_of second.pieces_of);
   levels = λ top at levels rest have.
       let f = formula_level top at in
       ap (form_levels top levels) (append_assoc ps qs rest)
@@ -92,6 +105,7 @@ AreSpelled-then names fs gs ps qs first second = record {
 -- a gate over parts
 pub AreSpelled-gate : (names : List (List ℕ)) (need : ℕ) (parts : List Formula) (pieces : List Piece) (formula : Formula) → 1 ≤ need → IsGate need parts formula → AreSpelled names parts pieces → AreSpelled names (formula ∷ []) (P.Gate need (length parts) ∷ pieces)
 AreSpelled-gate names need parts pieces formula need_one gate are = record {
+  pieces_of = subst (λ named. ArePiecesOf names named (P.Gate need (length parts) ∷ pieces)) (sym (append-nil (formula_pieces formula) ∙ gate.pieces)) ((refl, refl), are.pieces_of);
   levels = λ top at levels rest have.
       let f = formula_level top at in
       let behind = form_levels top levels rest in
@@ -150,6 +164,10 @@ IsFormula-alone names formula bytes pieces readable are =
 pub SpellLicensees-alone : (names : List (List ℕ)) (formula : Formula) (pieces : List Piece) → AreSpelled names (formula ∷ []) pieces → (top : ℕ) → SpellLicensees top names (Some formula) pieces
 SpellLicensees-alone names formula pieces are top at levels have =
     ap (λ ps. slice_index (form_levels top levels ps) 0) (sym (append-nil pieces)) ∙ ap (λ ls. slice_index ls 0) (are.levels top at levels [] have)
+
+-- the pieces of a field with one formula
+pub ArePiecesOf-alone : (names : List (List ℕ)) (formula : Formula) (pieces : List Piece) → AreSpelled names (formula ∷ []) pieces → ArePiecesOf names (licensees_pieces (Some formula)) pieces
+ArePiecesOf-alone names formula pieces are = subst (λ named. ArePiecesOf names named pieces) (append-nil (formula_pieces formula)) are.pieces_of
 
 -- no part has the level 0
 pub SpellLicensees-none : (top : ℕ) (names : List (List ℕ)) → SpellLicensees top names None (P.Gate 1 0 ∷ [])

@@ -2,8 +2,9 @@
 use Rattle.std.specs.Prelude.{ℕ, ◌≡◌, List, map}
 use Rattle.kn_proof.specs.declared.named.Id.{Id}
 use Rattle.kn_meaning.specs.Equations.{Equations}
+use Rattle.kn_meaning.specs.Occurring.{occurring}
 use Rattle.kn_system.specs.Equations.{Equations as System, IsSystem}
-use Rattle.kn_answer.specs.Numbering.{IsSystemOf}
+use Rattle.kn_answer.specs.Numbering.{AreNamesOf, IsSystemOf}
 
 -- the names of the principals and the ids of the rows, each at its number
 pub record Interned : Type 0 where
@@ -11,8 +12,10 @@ pub record Interned : Type 0 where
   pub system : System
   pub ids : List Id
 
--- The system is that of the query, and each row has the id of its statement.
+-- The system is that of the query: its principals are those that occur in the query, and no others, and each row has the
+-- id of its statement.
 pub record IsBuilt (e : Equations) (built : Interned) : Type 0 where
   pub well_formed : IsSystem built.system
   pub of : IsSystemOf e built.names built.system
+  pub principals : AreNamesOf (occurring e) built.names
   pub ids : built.ids ≡ map (λ s. s.id) e.statements

@@ -1,22 +1,33 @@
 -- Names that get numbers behind others, while a system is built.
-use Rattle.std.specs.Prelude.{ℕ, ◌≡◌, ◌+◌, ◌≤◌, true, List, [], ◌∷◌, ◌++◌, length}
+use Rattle.std.specs.Prelude.{ℕ, ◌≡◌, ◌+◌, ◌≤◌, ◌⊎◌, true, List, [], ◌∷◌, ◌++◌, length}
 use Rattle.std.specs.List.{list_any}
 use Rattle.std.specs.Str.{bytes_eq}
 use Rattle.kn_meaning.specs.Equations.{Equations, Statement}
 use Rattle.kn_answer.specs.declared.numbered.Numbered.{Numbered}
-use Rattle.kn_answer.specs.Numbering.{IsNumber, AreNumbered, IsSystemOf}
+use Rattle.kn_answer.specs.Numbering.{IsNumber, AreNumbered, HaveNumbers, IsSystemOf}
 
 -- the names keep their numbers
 abbrev pub Keeps : List (List ℕ) → List (List ℕ) → Type 0
 Keeps old new = (p : ℕ) (name : List ℕ) → IsNumber old name p → IsNumber new name p
 
+-- a name that has a number had one before, or is one of these
+abbrev pub AddsOnly : List (List ℕ) → List (List ℕ) → List (List ℕ) → Type 0
+AddsOnly added old new = (p : ℕ) (name : List ℕ) → IsNumber new name p → ((q : ℕ) × IsNumber old name q) ⊎ (list_any (bytes_eq name) added ≡ true)
+
+-- names keep their numbers, these have numbers, and no others have got any
+pub record AddsNames (added old new : List (List ℕ)) : Type 0 where
+  pub keeps : Keeps old new
+  pub all : HaveNumbers added new
+  pub only : AddsOnly added old new
+
 -- the query with one more statement, behind the others
 abbrev pub with_statement : Equations → Statement → Equations
 with_statement e statement = record e { statements = e.statements ++ statement ∷ [] }
 
--- At most n principals that are no requesters have got numbers, and the system is that of the same queries.
-pub record Extends (n : ℕ) (old new : Numbered) : Type 0 where
-  pub keeps : Keeps old.names new.names
+-- These principals have numbers, of which at most n, that are no requesters, got theirs here, and the system states what the
+-- same queries do.
+pub record Extends (n : ℕ) (added : List (List ℕ)) (old new : Numbered) : Type 0 where
+  pub names : AddsNames added old.names new.names
   pub few : length new.names ≤ length old.names + n
   pub one_each : length new.names ≡ length new.system.requesters
   pub levels : new.system.levels ≡ old.system.levels
@@ -25,8 +36,7 @@ pub record Extends (n : ℕ) (old new : Numbered) : Type 0 where
 
 -- The requester has a number, and nothing else has changed.
 pub record AddsRequester (name : List ℕ) (old new : Numbered) : Type 0 where
-  pub keeps : Keeps old.names new.names
-  pub number : (p : ℕ) × IsNumber new.names name p
+  pub names : AddsNames (name ∷ []) old.names new.names
   pub few : length new.names ≤ length old.names + 1
   pub one_each : length new.names ≡ length new.system.requesters
   pub levels : new.system.levels ≡ old.system.levels

@@ -1,5 +1,5 @@
 -- Which pieces a formula over named principals is, where the principals have numbers.
-use Rattle.std.specs.Prelude.{ℕ, ◌≡◌, ◌+◌, ◌≤◌, List, ◌∷◌, ◌++◌, length, map}
+use Rattle.std.specs.Prelude.{ℕ, ◌≡◌, ◌+◌, ◌≤◌, List, ◌∷◌, ◌++◌, length, map, flat_map}
 use Rattle.kn_trees.specs.declared.formula.Formula.{Formula}
 use Rattle.kn_trees.specs.Formulas.{total, formula_nodes, formula_depth}
 use Rattle.kn_meaning.specs.Formulas.{Levels, formula_level}
@@ -7,11 +7,12 @@ use Rattle.kn_system.specs.declared.rows.Piece.{Piece}
 use Rattle.kn_system.specs.declared.rows.Piece.TheVariants.{Gate}
 use Rattle.kn_system.specs.Form.{form_levels}
 use Rattle.kn_system.specs.Forms.{AreForms, form_depths}
-use Rattle.kn_answer.specs.Numbering.{HaveLevels}
+use Rattle.kn_answer.specs.Numbering.{HaveLevels, ArePiecesOf, formula_pieces}
 
 -- Whatever pieces stand behind them, these have the levels of these formulas wherever the principals have the same
--- levels, and they spell as many formulas, as deep and with as many nodes.
+-- levels, and they spell as many formulas, as deep and with as many nodes. They are those of the formulas.
 pub record AreSpelled (names : List (List ℕ)) (formulas : List Formula) (pieces : List Piece) : Type 0 where
+  pub pieces_of : ArePiecesOf names (flat_map formula_pieces formulas) pieces
   pub levels : (top : ℕ) (at : Levels) (levels : List ℕ) (rest : List Piece) → HaveLevels names at levels
       → form_levels top levels (pieces ++ rest) ≡ map (formula_level top at) formulas ++ form_levels top levels rest
   pub forms : (principals n : ℕ) (rest : List Piece) → length names ≤ principals → AreForms principals n rest

@@ -1,14 +1,15 @@
 //! A query over numbered principals.
-ghost use Rattle.std.specs.Prelude.{◌≡◌, ℕ, ◌+◌, ◌-◌, ◌^◌, ◌<◌, ◌≤◌, false, true, [], ◌∷◌, ◌++◌, All, length, map, IfOk, IfSome, OnOk};
+ghost use Rattle.std.specs.Prelude.{◌≡◌, ℕ, ◌+◌, ◌-◌, ◌^◌, ◌<◌, ◌≤◌, false, true, [], ◌∷◌, ◌++◌, All, flat_map, length, map, IfOk, IfSome, OnOk};
 ghost use Rattle.std.specs.List.{list_any};
 ghost use Rattle.std.specs.Str.{bytes_eq};
 ghost use Rattle.kn_cond.specs.Programs.{field_value as field_value_of};
 ghost use Rattle.kn_principal.specs.Principals.{policy};
 ghost use Rattle.kn_meaning.specs.Equations.{Equations, equations_over, statement_of};
+ghost use Rattle.kn_meaning.specs.Occurring.{occurring, formula_names, licensees_names, statement_names};
 ghost use Rattle.kn_system.specs.Equations.{node_total};
 ghost use Rattle.kn_system.specs.Forms.{IsFormula};
-ghost use Rattle.kn_answer.specs.Numbering.{IsNumber, IsAbsent, AreNumbered, HaveNumbers, IsSystemOf, SpellLicensees};
-ghost use Rattle.kn_answer.specs.Extending.{Extends, AddsRequester, with_statement};
+ghost use Rattle.kn_answer.specs.Numbering.{IsNumber, IsAbsent, ArePiecesOf, AreNamesOf, AreNumbered, HaveNumbers, IsSystemOf, SpellLicensees, licensees_pieces};
+ghost use Rattle.kn_answer.specs.Extending.{AddsNames, Extends, AddsRequester, with_statement};
 ghost use Rattle.kn_answer.specs.Spelling.{AddsSpelled, AddsGate};
 ghost use Rattle.kn_answer.specs.Sizes.{IsReadablePart, size_of, total_size};
 ghost use Rattle.kn_trees.specs.Formulas.{IsReadable, field_nodes, formula_nodes, is_sound, total};
@@ -40,6 +41,7 @@ pub(super) fn numbered_query(
     requires others { list_any (bytes_eq policy) query.now.requesters ≡ false }
     requires few { length query.now.requesters ≤ 64 }
     ensures system { IfOk result (λ numbered. IsSystemOf (equations_over query.now list.now) numbered.names numbered.system) }
+    ensures principals { IfOk result (λ numbered. AreNamesOf (occurring (equations_over query.now list.now)) numbered.names) }
     ensures levels { IfOk result (λ numbered. numbered.system.levels ≡ length query.now.values) }
 {
     let mut numbered = Numbered::of_policy(alloc, query.values().len() as u8)?;
@@ -99,7 +101,7 @@ impl Numbered {
         requires few { length self.old.names < 2 ^ 24 }
         requires one_each { length self.old.names ≡ length self.old.system.requesters }
         ensures number { IfOk result (λ number. IsNumber self.new.names name.now number) }
-        ensures ok { OnOk result (Extends 1 self.old self.new) }
+        ensures ok { OnOk result (Extends 1 (name.now ∷ []) self.old self.new) }
     {
         match self.names.find(name) {
             Some(number) => Ok(number),
@@ -112,7 +114,7 @@ impl Numbered {
         requires numbered { AreNumbered requesters.now self.old.names self.old.system.requesters }
         ensures names { OnOk result (length self.new.names ≤ length self.old.names + length requesters.now) }
         ensures numbered { OnOk result (AreNumbered requesters.now self.new.names self.new.system.requesters) }
-        ensures all { OnOk result (HaveNumbers requesters.now self.new.names) }
+        ensures principals { OnOk result (AddsNames requesters.now self.old.names self.new.names) }
         ensures levels { OnOk result (self.new.system.levels ≡ self.old.system.levels) }
         ensures rows { OnOk result (self.new.system.rows ≡ self.old.system.rows) }
     {
@@ -136,6 +138,8 @@ impl Numbered {
         requires levels { self.old.system.levels ≡ length query.now.values }
         ensures system { OnOk result (IsSystemOf (equations_over query.now []) self.old.names self.old.system
             → IsSystemOf (equations_over query.now list.now) self.new.names self.new.system) }
+        ensures principals { OnOk result (AddsNames (flat_map statement_names (map (statement_of query.now) list.now))
+            self.old.names self.new.names) }
         ensures levels { OnOk result (self.new.system.levels ≡ self.old.system.levels) }
     {
         for part in list.as_slice() {
@@ -163,6 +167,7 @@ impl Numbered {
         ensures levels { OnOk result (self.new.system.levels ≡ self.old.system.levels) }
         ensures system { OnOk result ((e : Equations) → IsSystemOf e self.old.names self.old.system
             → IsSystemOf (with_statement e (statement_of query.now part.now)) self.new.names self.new.system) }
+        ensures principals { OnOk result (AddsNames (statement_names (statement_of query.now part.now)) self.old.names self.new.names) }
     {
         let assertion = part.assertion;
         let authorizer = self.number(assertion.authorizer.as_slice())?;
@@ -181,7 +186,8 @@ impl Numbered {
         requires readable { IfSome licensees.now (λ formula. (bytes : ℕ) × IsReadable bytes formula) }
         requires few { length self.old.names + field_nodes licensees.now ≤ 2 ^ 24 }
         requires one_each { length self.old.names ≡ length self.old.system.requesters }
-        ensures ok { OnOk result (Extends (field_nodes licensees.now) self.old self.new) }
+        ensures ok { OnOk result (Extends (field_nodes licensees.now) (licensees_names licensees.now) self.old self.new) }
+        ensures pieces { IfOk result (λ pieces. ArePiecesOf self.new.names (licensees_pieces licensees.now) pieces) }
         ensures level { IfOk result (λ pieces. (top : ℕ) → SpellLicensees top self.new.names licensees.now pieces) }
         ensures one_formula { IfOk result (λ pieces. IsFormula (length self.new.names) pieces) }
         ensures short { IfOk result (λ pieces. length pieces ≤ 1 + field_nodes licensees.now) }
@@ -200,7 +206,7 @@ impl Numbered {
         requires sound { is_sound formula.now ≡ true }
         requires few { length self.old.names + formula_nodes formula.now ≤ 2 ^ 24 }
         requires one_each { length self.old.names ≡ length self.old.system.requesters }
-        ensures grown { OnOk result (Extends (formula_nodes formula.now) self.old self.new) }
+        ensures grown { OnOk result (Extends (formula_nodes formula.now) (formula_names formula.now) self.old self.new) }
         ensures spelled { OnOk result (AddsSpelled self.new.names (formula.now ∷ []) pieces.old pieces.new) }
     {
         match formula {
@@ -226,7 +232,7 @@ impl Numbered {
         requires sound { All (λ part. is_sound part ≡ true) parts.now }
         requires few { length self.old.names + total (map formula_nodes parts.now) ≤ 2 ^ 24 }
         requires one_each { length self.old.names ≡ length self.old.system.requesters }
-        ensures grown { OnOk result (Extends (total (map formula_nodes parts.now)) self.old self.new) }
+        ensures grown { OnOk result (Extends (total (map formula_nodes parts.now)) (flat_map formula_names parts.now) self.old self.new) }
         ensures spelled { OnOk result (AddsGate self.new.names need parts.now pieces.old pieces.new) }
     {
         let count = parts.len();

@@ -1,4 +1,4 @@
-use Rattle.std.proofs.Common.{◌≡◌, ℕ, ◌+◌, ◌-◌, ◌<◌, ◌≤◌, List, length, slice_index, sym, ap, ◌∙◌, subst, arith}
+use Rattle.std.proofs.Common.{◌≡◌, ◌+◌, ◌-◌, ◌≤◌, length, slice_index, sym, ap, ◌∙◌, subst, arith}
 use Rattle.kn_meaning.specs.Equations.{Equations, IsPolicyLevel, equations_over}
 use Rattle.kn_meaning.specs.Proofs as proof
 use Rattle.kn_system.specs.Equations.{Equations as System}

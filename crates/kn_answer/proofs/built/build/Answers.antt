@@ -1,4 +1,4 @@
-use Rattle.std.proofs.Common.{◌≡◌, ◌∙◌, ap, sym, length, map, arith}
+use Rattle.std.proofs.Common.{◌≡◌, ◌∙◌, ap, sym, length}
 use Rattle.std.proofs.lemmas.List.{length-map}
 use Rattle.std.proofs.lemmas.Simd.{map-map}
 use Rattle.kn_meaning.specs.Equations.{equations_over, statement_of}
@@ -19,5 +19,6 @@ pub returns-clause-built : goal.returns-clause-built
 returns-clause-built c = record {
   well_formed = c.levels-levels.ensures.well_formed;
   of = c.in_ok-names.ensures.system;
+  principals = c.in_ok-names.ensures.principals;
   ids = c.in_ok-ids.ensures ∙ sym (map-map (λ s. s.id) (statement_of c.args.query.now) c.args.list.now);
 }

@@ -1,6 +1,5 @@
-use Rattle.std.proofs.Common.{◌≡◌, ◌+◌, ◌<◌, ◌∷◌, ◌++◌, [], length, get_or, take, sym, ap, ◌∙◌, subst, arith}
+use Rattle.std.proofs.Common.{◌≡◌, ◌+◌, ◌<◌, length, get_or, take, sym, ap, ◌∙◌, subst, arith}
 use Rattle.kn_answer.proofs.Listed.{located-more}
-use Rattle.kn_answer.proofs.built.locate.Invariants.{invariant-loop-row}
 use Rattle.kn_answer.specs.Located.{AreLocated}
 use Rattle.kn_answer.proofs.built.locate.Goals as goal
 

@@ -1,6 +1,6 @@
 use Rattle.std.proofs.Common.{◌≡◌, ℕ, ◌+◌, ◌≤◌, ◌<◌, length, get_or, ap, ◌∙◌, subst, arith}
 use Rattle.kn_answer.specs.Extending.{AddsRequester}
-use Rattle.kn_answer.proofs.Grown.{HaveNumbers-longer, is_among}
+use Rattle.kn_answer.proofs.Grown.{AddsNames-requester, is_among}
 use Rattle.kn_answer.proofs.numbered.Numbered.add_requesters.Goals as goal
 
 pub loop-requester-preserved : goal.loop-requester-preserved
@@ -13,7 +13,7 @@ loop-requester-preserved c =
     record {
       few = let few : length c.add_requester.new.self.names ≤ length c.loop-requester.self.names + 1 = added.few in omega (arith, c.loop-requester.invariant.few);
       numbered = added.numbered c.args.requesters.now (is_among c.args.requesters.now i c.requester-item.result within here) c.loop-requester.invariant.numbered;
-      reached = HaveNumbers-longer c.args.requesters.now i c.requester-item.result c.loop-requester.self c.add_requester.new.self within here added c.loop-requester.invariant.reached;
+      reached = AddsNames-requester c.args.requesters.now i c.requester-item.result c.args.self.now.names c.loop-requester.self c.add_requester.new.self within here added c.loop-requester.invariant.reached;
       levels = added.levels ∙ c.loop-requester.invariant.levels;
       rows = added.rows ∙ c.loop-requester.invariant.rows;
     }

@@ -1,8 +1,12 @@
-use Rattle.std.proofs.Common.{◌≡◌, ℕ, ◌+◌, ◌-◌, ◌<◌, length, List, take, drop, get_or, sym, ap, ◌∙◌, subst, arith}
-use Rattle.std.proofs.lemmas.List.{take_all}
+use Rattle.std.proofs.Common.{◌≡◌, ℕ, ◌+◌, ◌-◌, ◌<◌, length, List, [], ◌∷◌, ◌++◌, flat_map, map, take, drop, get_or, sym, ap, ◌∙◌, subst, arith}
+use Rattle.std.proofs.lemmas.List.{take_all, append-nil}
+use Rattle.std.proofs.lemmas.Grind.{flat_map-append}
 use Rattle.kn_env.specs.Environment.{Asked}
 use Rattle.kn_answer.specs.Numbering.{IsSystemOf}
-use Rattle.kn_meaning.specs.Equations.{Part, equations_over}
+use Rattle.kn_meaning.specs.Equations.{Part, Statement, equations_over, statement_of}
+use Rattle.kn_meaning.specs.Occurring.{statement_names}
+use Rattle.kn_answer.specs.Extending.{AddsNames}
+use Rattle.kn_answer.proofs.Grown.{AddsNames-then}
 use Rattle.kn_answer.specs.Sizes.{IsReadablePart, total_size, size_of}
 use Rattle.kn_answer.proofs.Counted.{total_size-drop, statements-more}
 use Rattle.kn_answer.proofs.numbered.Numbered.add_statements.Goals as goal
@@ -32,9 +36,22 @@ loop-part-preserved c =
           subst (λ statements. IsSystemOf (record { top = length asked.values - 1; requesters = asked.requesters; statements = statements }) c.add_statement.new.self.names c.add_statement.new.self.system)
           (statements-more asked list i a within here)
           (c.in_ok-add_statement.ensures.system (equations_over asked (take i list)) (c.loop-part.invariant.system of));
+      principals =
+          let before : List Statement = map (statement_of asked) (take i list) in
+          let statement : Statement = statement_of asked a in
+          let names : flat_map statement_names before ++ statement_names statement ≡ flat_map statement_names (map (statement_of asked) (take (i + 1) list)) =
+          sym (flat_map-append statement_names before (statement ∷ []) ∙ ap (λ ns. flat_map statement_names before ++ ns) (append-nil (statement_names statement)))
+          ∙ ap (flat_map statement_names) (statements-more asked list i a within here) in
+          subst (λ ns. AddsNames ns c.args.self.now.names c.add_statement.new.self.names) names
+          (AddsNames-then (flat_map statement_names before) (statement_names statement) c.args.self.now.names c.loop-part.self.names c.add_statement.new.self.names c.loop-part.invariant.principals c.in_ok-add_statement.ensures.principals);
     }
 
 pub returns-clause-system : goal.returns-clause-system
 returns-clause-system c = λ of.
     let all : take c.loop-part.part-index c.args.list.now ≡ c.args.list.now = take_all c.loop-part.part-index c.args.list.now (omega (arith, ap length c.as_slice-part-items.ensures)) in
     subst (λ list. IsSystemOf (equations_over c.args.query.now list) c.loop-part.self.names c.loop-part.self.system) all (c.loop-part.invariant.system of)
+
+pub returns-clause-principals : goal.returns-clause-principals
+returns-clause-principals c =
+    let all : take c.loop-part.part-index c.args.list.now ≡ c.args.list.now = take_all c.loop-part.part-index c.args.list.now (omega (arith, ap length c.as_slice-part-items.ensures)) in
+    subst (λ list. AddsNames (flat_map statement_names (map (statement_of c.args.query.now) list)) c.args.self.now.names c.loop-part.self.names) all c.loop-part.invariant.principals

@@ -1,7 +1,9 @@
-use Rattle.std.proofs.Common.{◌≡◌, ◌+◌, ◌^◌, ◌≤◌, [], length, take, drop}
+use Rattle.std.proofs.Common.{◌≡◌, ◌+◌, ◌^◌, ◌≤◌, [], flat_map, length, map, take, drop}
 use Rattle.kn_system.specs.Equations.{node_total}
 use Rattle.kn_answer.specs.Numbering.{IsSystemOf}
-use Rattle.kn_meaning.specs.Equations.{equations_over}
+use Rattle.kn_meaning.specs.Equations.{equations_over, statement_of}
+use Rattle.kn_meaning.specs.Occurring.{statement_names}
+use Rattle.kn_answer.specs.Extending.{AddsNames}
 use Rattle.kn_answer.specs.Sizes.{total_size}
 use Rattle.kn_answer.proofs.numbered.Numbered.add_statements.Given as goal
 
@@ -13,4 +15,5 @@ invariant-loop-part l = record {
   levels : l.self.system.levels ≡ l.initial.self.system.levels;
   system : IsSystemOf (equations_over l.query []) l.initial.self.names l.initial.self.system
       → IsSystemOf (equations_over l.query (take l.part-index l.list)) l.self.names l.self.system;
+  principals : AddsNames (flat_map statement_names (map (statement_of l.query) (take l.part-index l.list))) l.initial.self.names l.self.names;
 }

@@ -1,11 +1,14 @@
-use Rattle.std.proofs.Common.{◌≡◌, ℕ, List, [], ◌∷◌, ◌++◌, length, IfSome, sym, ap, ◌∙◌, subst}
-use Rattle.kn_trees.specs.Formulas.{IsReadable}
+use Rattle.std.proofs.Common.{◌≡◌, ℕ, List, [], ◌∷◌, ◌++◌, length, IfSome, refl, sym, ap, ◌∙◌, subst}
+use Rattle.kn_trees.specs.Formulas.{IsReadable, field_nodes}
+use Rattle.kn_meaning.specs.Occurring.{licensees_names}
+use Rattle.kn_answer.specs.Extending.{Extends}
+use Rattle.kn_answer.proofs.Grown.{Extends-none}
 use Rattle.kn_system.specs.declared.rows.Piece.{Piece}
 use Rattle.kn_system.specs.declared.rows.Piece.TheVariants.{Gate}
 use Rattle.kn_system.specs.Forms.{IsFormula}
-use Rattle.kn_answer.specs.Numbering.{SpellLicensees}
+use Rattle.kn_answer.specs.Numbering.{SpellLicensees, ArePiecesOf, licensees_pieces}
 use Rattle.kn_answer.specs.Spelling.{AreSpelled}
-use Rattle.kn_answer.proofs.Spelled.{SpellLicensees-none, SpellLicensees-alone, IsFormula-alone, IsFormula-none, AddsSpelled-first}
+use Rattle.kn_answer.proofs.Spelled.{ArePiecesOf-alone, SpellLicensees-none, SpellLicensees-alone, IsFormula-alone, IsFormula-none, AddsSpelled-first}
 use Rattle.kn_answer.proofs.numbered.Numbered.licensees.Goals as goal
 use Rattle.kn_answer.proofs.numbered.Numbered.licensees.Goals.{in-Some+in_ok-add_formula-in-Some, in-None+in_ok-add_piece-in-None}
 
@@ -40,4 +43,32 @@ returns-clause-one_formula c =
           let names : List (List ℕ) = c.match-licensees.self.names in
           let alone : c.match-licensees.pieces ≡ Gate 1 0 ∷ [] = w.pieces-is ∙ w.in_ok-add_piece-in-None.ensures ∙ ap (λ ps. ps ++ Gate 1 0 ∷ []) c.new-pieces.ensures in
           subst (IsFormula (length names)) (sym alone) (IsFormula-none names)
+    ]
+
+pub returns-clause-pieces : goal.returns-clause-pieces
+returns-clause-pieces c =
+    elim c.match-licensees.branch [
+      | in-Some+in_ok-add_formula-in-Some w ↦
+          let names : List (List ℕ) = w.add_formula.new.self.names in
+          let pieces : List Piece = w.add_formula.new.pieces in
+          let spelled : AreSpelled names (w.in-Some.formula ∷ []) pieces = AddsSpelled-first names (w.in-Some.formula ∷ []) c.new-pieces.result pieces c.new-pieces.ensures w.in_ok-add_formula-in-Some.ensures.spelled in
+          subst (λ self. ArePiecesOf self.names (licensees_pieces c.args.licensees.now) c.match-licensees.pieces) (sym w.self-is)
+          (subst (λ ps. ArePiecesOf names (licensees_pieces c.args.licensees.now) ps) (sym w.pieces-is)
+          (subst (λ licensees. ArePiecesOf names (licensees_pieces licensees) pieces) (sym w.in-Some.is) (ArePiecesOf-alone names w.in-Some.formula pieces spelled)))
+      | in-None+in_ok-add_piece-in-None w ↦
+          let names : List (List ℕ) = c.match-licensees.self.names in
+          let alone : c.match-licensees.pieces ≡ Gate 1 0 ∷ [] = w.pieces-is ∙ w.in_ok-add_piece-in-None.ensures ∙ ap (λ ps. ps ++ Gate 1 0 ∷ []) c.new-pieces.ensures in
+          subst (λ ps. ArePiecesOf names (licensees_pieces c.args.licensees.now) ps) (sym alone)
+          (subst (λ licensees. ArePiecesOf names (licensees_pieces licensees) (Gate 1 0 ∷ [])) (sym w.in-None.is) ((refl, refl), tt))
+    ]
+
+pub returns-clause-ok : goal.returns-clause-ok
+returns-clause-ok c =
+    elim c.match-licensees.branch [
+      | in-Some+in_ok-add_formula-in-Some w ↦
+          subst (Extends (field_nodes c.args.licensees.now) (licensees_names c.args.licensees.now) c.args.self.now) (sym w.self-is)
+          (subst (λ licensees. Extends (field_nodes licensees) (licensees_names licensees) c.args.self.now w.add_formula.new.self) (sym w.in-Some.is) w.in_ok-add_formula-in-Some.ensures.grown)
+      | in-None+in_ok-add_piece-in-None w ↦
+          subst (Extends (field_nodes c.args.licensees.now) (licensees_names c.args.licensees.now) c.args.self.now) (sym w.self-is)
+          (subst (λ licensees. Extends (field_nodes licensees) (licensees_names licensees) c.args.self.now c.args.self.now) (sym w.in-None.is) (Extends-none c.args.self.now c.requires.one_each))
     ]
