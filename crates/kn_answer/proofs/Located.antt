@@ -20,12 +20,12 @@ use Rattle.kn_answer.proofs.Followed.{row_level-none, row_level-zero, HaveFollow
 use Rattle.kn_answer.proofs.Rowed.{IsAt, at-statement, at-row, worth-at, flag-at, rows-few, closed-named, closed-numbered}
 
 -- a number in range is that of the item
-found-within : {A : Type 0} (items : List A) (item : A) (p : ℕ) → IsFound items item p → p < 2 ^ 32 - 1 → IsNumber items item p
+pub found-within : {A : Type 0} (items : List A) (item : A) (p : ℕ) → IsFound items item p → p < 2 ^ 32 - 1 → IsNumber items item p
 found-within items item p (inl number) within = number
 found-within items item p (inr none) within = absurd (omega (arith, none.1))
 
 -- an item that has a number is found
-found-there : {A : Type 0} (items : List A) (item : A) (p q : ℕ) → IsFound items item p → IsNumber items item q → IsNumber items item p
+pub found-there : {A : Type 0} (items : List A) (item : A) (p q : ℕ) → IsFound items item p → IsNumber items item q → IsNumber items item p
 found-there items item p q (inl number) there = number
 found-there items item p q (inr none) there = absurd (none.0 q there)
 
@@ -140,7 +140,7 @@ IsFollowed-more e built before levels named_row row rows located follows step re
 }
 
 -- steps by numbers are rows by names
-steps-named : (e : Equations) (built : Interned) → IsBuilt e built → (before : List NamedRow) (levels : List ℕ) → HaveFollowed e built.names before levels
+pub steps-named : (e : Equations) (built : Interned) → IsBuilt e built → (before : List NamedRow) (levels : List ℕ) → HaveFollowed e built.names before levels
     → (rows : List NamedRow) (located : List ProofRow) → AreLocated built rows located → AreSteps built.system levels located → IsFollowed e built before levels rows located
 steps-named e built is before levels followed [] [] are steps = IsFollowed-none e built before levels followed
 steps-named e built is before levels followed [] (row ∷ located) are steps = absurd are

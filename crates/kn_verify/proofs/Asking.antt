@@ -14,7 +14,7 @@ use Rattle.kn_meaning.specs.Daemon as D
 use Rattle.kn_meaning.specs.Asked.{no_grounds}
 use Rattle.kn_meaning.specs.Played.{IsAsking, IsMeant, played, up_to_end}
 use Rattle.kn_play.specs.declared.session.Session.{Session}
-use Rattle.kn_play.specs.Answering.{AreRight, session_at, session_state}
+use Rattle.kn_play.specs.Answering.{AreRight, session_at}
 use Rattle.kn_verify.specs.Scripts.{is_query, IsLastQuery, IsReached}
 use Rattle.kn_play.proofs.Entering.{right_of}
 use Rattle.kn_verify.proofs.Reached.{ask_behind, right_front}

@@ -1,5 +1,6 @@
 pub mod Reached
 pub mod Asking
 pub mod Ids
+pub mod Rejected
 pub mod Verified
 pub mod Readable

@@ -1,5 +1,5 @@
 -- Assertions whose formulas a reader gives, as parts of a query.
-use Rattle.std.proofs.Common.{◌≡◌, ℕ, ◌+◌, ◌*◌, ◌≤◌, List, [], ◌∷◌, length, IfSome, All, Option, Some, None, arith}
+use Rattle.std.proofs.Common.{ℕ, ◌+◌, ◌*◌, ◌≤◌, List, [], ◌∷◌, length, IfSome, All, Option, Some, None, arith}
 use Rattle.std.proofs.lemmas.List.Elements.{All-nil, All-cons, All-head, All-tail}
 use Rattle.kn_trees.specs.declared.formula.Formula.{Formula}
 use Rattle.kn_trees.specs.declared.assertion.Assertion.{Assertion}

@@ -12,7 +12,6 @@ use Rattle.kn_system.specs.Least.{least_levels}
 use Rattle.kn_system.specs.Lawful.{LeastLevelsAreLeast}
 use Rattle.kn_system.specs.Proofs.{IsProof}
 use Rattle.kn_meaning.specs.Equations.{Equations, Part, equations_over, IsPolicyLevel}
-use Rattle.kn_meaning.specs.Proofs as named
 use Rattle.kn_answer.specs.Numbering.{AreDistinct}
 use Rattle.kn_answer.specs.Built.{Interned, IsBuilt}
 use Rattle.kn_answer.specs.Located.{AreLocated}
@@ -24,6 +23,7 @@ use Rattle.kn_verify.specs.declared.verdict.Refused.{Refused}
 use Rattle.kn_verify.specs.declared.verdict.Refused.TheVariants.{Other, Rejected, NoMemory}
 use Rattle.kn_verify.specs.Verdicts.{IsReplyTo, IsProved, IsRefusal, IsStepsRefusal, equations_in}
 use Rattle.kn_verify.proofs.Ids.{ids_distinct}
+use Rattle.kn_verify.proofs.Rejected.{rejected-named}
 
 -- rows that were located in the system of a query
 pub record AreOf (e : Equations) (built : Interned) (reply : ReadReply) (rows : List Row) : Type 0 where
@@ -68,7 +68,7 @@ refused_by_name law e version values reply built rows Other to_query of cause = 
 refused_by_name law e version values reply built rows (Rejected reject) to_query of cause = record {
   to_query = to_query;
   unproved = λ proof. cause.0 ((law e built of.is_built of.distinct reply.rows rows of.located reply.value).1 proof);
-  rejected = record { built = built; is_built = of.is_built; located = rows; are_located = of.located; is_reject = cause.1 };
+  rejected = rejected-named e built of.is_built reply.rows rows of.located reply.value reject cause.1;
 }
 refused_by_name law e version values reply built rows NoMemory to_query of cause = tt
 

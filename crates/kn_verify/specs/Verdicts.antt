@@ -1,7 +1,6 @@
 -- Whether a reply proves the value of a query over the assertions of a policy (keynoted's own).
 use Rattle.std.specs.Prelude.{ℕ, ◌≡◌, ◌<◌, List, [], length, slice_index_or}
 use Rattle.kn_trees.specs.declared.assertion.Assertion.{Assertion}
-use Rattle.kn_proof.specs.declared.named.NamedRow.{NamedRow}
 use Rattle.kn_proof.specs.declared.row.Row.{Row}
 use Rattle.kn_proof.specs.declared.reply.ReadReply.{ReadReply}
 use Rattle.kn_check.specs.declared.reject.Reject.{Reject}
@@ -10,10 +9,9 @@ use Rattle.kn_system.specs.Equations.{Equations as System}
 use Rattle.kn_system.specs.Proofs as numbered
 use Rattle.kn_meaning.specs.Equations.{Equations, equations_over, IsPolicyLevel}
 use Rattle.kn_meaning.specs.Proofs.{IsProof}
-use Rattle.kn_answer.specs.Built.{Interned, IsBuilt}
-use Rattle.kn_answer.specs.Located.{AreLocated}
 use Rattle.kn_play.specs.declared.session.Session.{Session}
 use Rattle.kn_play.specs.Answering.{parts_in, asked_in}
+use Rattle.kn_verify.specs.Rejections.{IsRejected}
 use Rattle.kn_verify.specs.declared.verdict.Refused.{Refused}
 use Rattle.kn_verify.specs.declared.verdict.Refused.TheVariants.{Other, Rejected, NoMemory}
 
@@ -26,14 +24,6 @@ pub record IsReplyTo (version : ℕ) (values : List (List ℕ)) (reply : ReadRep
 -- what a session asks of these assertions where these are the compliance values
 abbrev pub equations_in : Session → List (List ℕ) → List Assertion → Equations
 equations_in session values assertions = equations_over (asked_in session values) (parts_in assertions)
-
--- in some numbering of the query's principals this is the first item that fails
-pub record IsRejected (e : Equations) (rows : List NamedRow) (level : ℕ) (reject : Reject) : Type 0 where
-  pub built : Interned
-  pub is_built : IsBuilt e built
-  pub located : List Row
-  pub are_located : AreLocated built rows located
-  pub is_reject : IsReject built.system located level reject
 
 -- the rows of the reply prove its value, which is the policy's level in the least fixed point
 pub record IsProved (e : Equations) (version : ℕ) (values : List (List ℕ)) (reply : ReadReply) : Type 0 where

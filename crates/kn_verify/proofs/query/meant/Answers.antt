@@ -1,6 +1,3 @@
-use Rattle.std.proofs.Common.{subst}
-use Rattle.kn_meaning.specs.declared.script.Ask.{Ask}
-use Rattle.kn_verify.specs.Scripts.{is_query, IsLastQuery}
 use Rattle.kn_verify.proofs.Asking.{IsCut, right_before, script_meant, nothing_meant, empty_meant, few_reached}
 use Rattle.kn_verify.proofs.query.meant.Goals as goal
 

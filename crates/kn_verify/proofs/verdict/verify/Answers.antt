@@ -1,6 +1,6 @@
 use Rattle.std.proofs.Common.{refl}
 use Rattle.kn_verify.proofs.Verified.{AreOf, located_rows, ok_by_name, err_by_name}
-use Rattle.kn_verify.specs.Verdicts.{IsReplyTo, equations_in}
+use Rattle.kn_verify.specs.Verdicts.{equations_in}
 use Rattle.kn_verify.proofs.verdict.verify.Goals as goal
 
 located : (c : goal.After-drop-list-inside-2) → AreOf (equations_in c.args.meant.now.session c.args.meant.now.values.now c.args.assertions.now) c.in_ok-built.built c.args.reply.now c.in_ok-proof.proof.rows
