@@ -1,4 +1,5 @@
-use crate::{List, Octets, Reserved, Steps, decimal};
+use crate::limits;
+use crate::{Boxed, List, Octets, Reserved, Steps, decimal};
 use std::test::Fail;
 
 /// A type that leads back to itself through a list.
@@ -115,4 +116,44 @@ fn counted_steps(rt: HostRuntime) {
     steps.tick();
     steps.tick();
     assert_eq!(rt; steps.count(), 2);
+}
+
+#[test]
+fn boxed_value(rt: HostRuntime) -> Result<(), Fail> {
+    let boxed = Boxed::new(rt.alloc(), Tree::Leaf(5))?;
+    assert!(rt; has_leaf(boxed.get(), 5));
+    Ok(())
+}
+
+#[test]
+fn limits_in_bytes(rt: HostRuntime) {
+    assert_eq!(rt; limits::ASSERTION_BYTES, 16_384);
+    assert_eq!(rt; limits::LINE_BYTES, 8_192);
+    assert_eq!(rt; limits::NAME_BYTES, 128);
+    assert_eq!(rt; limits::VALUE_BYTES, 4_096);
+    assert_eq!(rt; limits::PRINCIPAL_BYTES, 4_096);
+    assert_eq!(rt; limits::TEXT_BYTES, 65_536);
+    assert_eq!(rt; limits::PRIVATE_BYTES, 262_144);
+    assert_eq!(rt; limits::COMPLIANCE_VALUE_BYTES, 128);
+    assert_eq!(rt; limits::LIVE_BYTES, 4_194_304);
+    assert_eq!(rt; limits::LOGGED_BYTES, 67_108_864);
+    assert_eq!(rt; limits::FILE_BYTES, 16_777_216);
+}
+
+#[test]
+fn limits_in_counts(rt: HostRuntime) {
+    assert_eq!(rt; limits::OPEN_BRACKETS, 64);
+    assert_eq!(rt; limits::PREFIX_SIGNS, 8);
+    assert_eq!(rt; limits::ATTRIBUTES, 256);
+    assert_eq!(rt; limits::REQUESTERS, 64);
+    assert_eq!(rt; limits::PRIVATE_ASSERTIONS, 64);
+    assert_eq!(rt; limits::SESSIONS, 16);
+    assert_eq!(rt; limits::FEWEST_COMPLIANCE_VALUES, 2);
+    assert_eq!(rt; limits::MOST_COMPLIANCE_VALUES, 64);
+    assert_eq!(rt; limits::LIVE_CREDENTIALS, 2_048);
+    assert_eq!(rt; limits::UPDATES, 65_536);
+    assert_eq!(rt; limits::WORKERS, 16);
+    assert_eq!(rt; limits::PASSES, 64);
+    assert_eq!(rt; limits::REQUESTS, 1_000_000);
+    assert_eq!(rt; limits::CONNECTIONS, 1_000_000);
 }

@@ -1,6 +1,9 @@
-ghost use Rattle.std.specs.Prelude.{◌≡◌, ◌<◌, ℕ, length, slice_index, IfErr, IsOk, OnOk};
+ghost use Rattle.std.specs.Prelude.{◌≡◌, ◌<◌, ◌+◌, ◌-◌, ◌^◌, ℕ, length, min, slice_index, IfErr, IsOk, OnOk};
+ghost use Rattle.kn_check.specs.Reads.{nodes_read, support_nodes};
 ghost use Rattle.kn_check.specs.Rejects.{IsOwn, IsReject, IsRowReject, IsRowFault, IsUnclosed, worth_at};
 ghost use Rattle.kn_check.specs.declared.reject.Reject.TheVariants.{Unclosed};
+ghost use Rattle.kn_system.specs.Counts.{IsWithin};
+ghost use Rattle.kn_system.specs.Equations.{node_total, row_at};
 ghost use Rattle.kn_system.specs.Least.{at_first, least_levels};
 ghost use Rattle.kn_system.specs.Lawful.{AreLevels};
 ghost use Rattle.kn_system.specs.Proofs.{levels_after, AreSteps, IsClosed, IsProof, IsStep};
@@ -12,6 +15,9 @@ use kn_system::{System, laws};
 
 /// Whether a proof proves that the policy has the claimed level in a system (keynoted's own), and else the first item
 /// that fails. What is claimed is then the policy's level in the least fixed point.
+///
+/// A step is a node of a formula that is read: one formula for each row of the proof, and then that of each row of the
+/// system.
 ///
 /// `work` is room for the levels, one byte for each principal. What it holds doesn't matter, before or after. No memory
 /// is taken.
@@ -27,6 +33,7 @@ pub fn check<L>(
     ensures err { IfErr result (λ reject. IsReject system.now proof.now.rows claimed reject) }
     ensures only { IsProof system.now proof.now.rows claimed → IsOk result }
     ensures least { OnOk result (claimed ≡ slice_index (least_levels system.now) 0) }
+    ensures ticks { IsWithin (nodes_read system.now proof.now.rows) steps.old steps.new }
 {
     system.first_levels(work);
     follow_rows(system, &proof.rows, work, steps)?;
@@ -52,6 +59,7 @@ fn follow_rows<L>(
     ensures after { OnOk result (levels.new ≡ levels_after (at_first system.now) rows.now) }
     ensures fit { OnOk result (AreLevels system.now levels.new) }
     ensures err { IfErr result (λ reject. (k : ℕ) × IsRowFault system.now rows.now reject k) }
+    ensures ticks { IsWithin (support_nodes system.now rows.now) steps.old steps.new }
 {
     laws::proofs_go_on();
     let items = rows.as_slice();
@@ -103,6 +111,7 @@ fn test_support<L>(
     requires own { IsOwn system.now levels.now row }
     ensures ok { OnOk result (IsStep system.now levels.now row) }
     ensures err { IfErr result (λ reject. IsRowReject system.now levels.now number row reject) }
+    ensures ticks { steps.new ≡ min (steps.old + length (row_at system.now.rows row.by).formula) (2 ^ 64 - 1) }
 {
     let found = worth(system, row.by, levels, steps);
     if found < row.value {
@@ -116,6 +125,7 @@ fn test_closed<L>(system: &System<L>, levels: &[u8], steps: &mut Steps<L>) -> Re
     requires fit { AreLevels system.now levels.now }
     ensures ok { OnOk result (IsClosed system.now levels.now) }
     ensures err { IfErr result (λ reject. (i : ℕ) × (found : ℕ) × (reject ≡ Unclosed i found) × IsUnclosed system.now levels.now i found) }
+    ensures ticks { IsWithin (node_total system.now.rows) steps.old steps.new }
 {
     for assertion in 0..system.rows() {
         let found = worth(system, assertion, levels, steps);
@@ -130,7 +140,8 @@ fn test_closed<L>(system: &System<L>, levels: &[u8], steps: &mut Steps<L>) -> Re
 fn worth<L>(system: &System<L>, row: u32, levels: &[u8], steps: &mut Steps<L>) -> u8
     requires in_range { row < length system.now.rows }
     requires fit { AreLevels system.now levels.now }
-    ensures { result ≡ worth_at system.now levels.now row }
+    ensures exact { result ≡ worth_at system.now levels.now row }
+    ensures ticks { steps.new ≡ min (steps.old + length (row_at system.now.rows row).formula) (2 ^ 64 - 1) }
 {
     system
         .ceiling(row)

@@ -1,4 +1,5 @@
 ghost use Rattle.std.specs.Prelude.{◌≡◌, ◌<◌, ◌-◌, false, length, IfOk, IsTrue, OnOk, slice_index};
+ghost use Rattle.kn_system.specs.Counts.{IsLater};
 ghost use Rattle.kn_system.specs.Equations.{IsSystem};
 ghost use Rattle.kn_system.specs.Least.{at_first, least_levels};
 ghost use Rattle.kn_system.specs.Proofs.{levels_after, HasOneRowEach, IsProof};
@@ -31,6 +32,7 @@ pub fn settle<L>(
     ensures proof { IfOk result (λ settled. IsProof system.now settled.proof.rows (slice_index (least_levels system.now) 0)) }
     ensures after { IfOk result (λ settled. levels_after (at_first system.now) settled.proof.rows ≡ least_levels system.now) }
     ensures rows { IfOk result (λ settled. HasOneRowEach system.now (least_levels system.now) settled.proof.rows) }
+    ensures later { IsLater steps.old steps.new }
 {
     let mut levels = zeros(alloc, system)?;
     settle_in(alloc, system, &mut levels, steps)
@@ -57,6 +59,7 @@ fn settle_in<L>(
     ensures proof { IfOk result (λ settled. IsProof system.now settled.proof.rows (slice_index (least_levels system.now) 0)) }
     ensures after { IfOk result (λ settled. levels_after (at_first system.now) settled.proof.rows ≡ least_levels system.now) }
     ensures rows { IfOk result (λ settled. HasOneRowEach system.now (least_levels system.now) settled.proof.rows) }
+    ensures later { IsLater steps.old steps.new }
 {
     system.first_levels(levels);
     let mut rows = List::new(alloc);
@@ -87,7 +90,8 @@ fn settle_level<L>(
     requires well_formed { IsSystem system.now }
     requires above_lowest { 0 < value }
     requires settled { IsSettled system.now value levels.old rows.old }
-    ensures { OnOk result (IsSettled system.now (value - 1) levels.new rows.new) }
+    ensures settled { OnOk result (IsSettled system.now (value - 1) levels.new rows.new) }
+    ensures later { IsLater steps.old steps.new }
 {
     laws::settling_goes_down();
     loop {
@@ -111,6 +115,7 @@ fn scan<L>(
     ensures settled { OnOk result (IsSettled system.now value levels.new rows.new) }
     ensures fewer { IfOk result (λ changed. IsTrue changed → unsettled levels.new < unsettled levels.old) }
     ensures done { IfOk result (λ changed. changed ≡ false → HasNoneBefore system.now value levels.new (length system.now.rows)) }
+    ensures later { IsLater steps.old steps.new }
 {
     let mut changed = false;
     for row in 0..system.rows() {
@@ -138,6 +143,7 @@ fn try_row<L>(
     ensures fewer { IfOk result (λ granted. IsTrue granted → unsettled levels.new < unsettled levels.old) }
     ensures same { IfOk result (λ granted. granted ≡ false → levels.new ≡ levels.old) }
     ensures nothing { IfOk result (λ granted. granted ≡ false → GivesNothing system.now value levels.old row) }
+    ensures later { IsLater steps.old steps.new }
 {
     let principal = system.authorizer(row);
     if levels[principal as usize] > 0 {

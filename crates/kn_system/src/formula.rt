@@ -1,4 +1,4 @@
-ghost use Rattle.std.specs.Prelude.{◌≡◌, ◌+◌, ◌^◌, ◌<◌, ◌≤◌, ◌∷◌, [], ℕ, All, IfOk, length, drop, List as ListOf};
+ghost use Rattle.std.specs.Prelude.{◌≡◌, ◌+◌, ◌-◌, ◌^◌, ◌<◌, ◌≤◌, ◌∷◌, [], ℕ, All, IfOk, length, drop, min, List as ListOf};
 ghost use Rattle.kn_base.specs.Threshold.{threshold};
 ghost use Rattle.kn_system.specs.Form.{form_levels, leaf_count as leaf_count_of};
 ghost use Rattle.kn_system.specs.Forms.{AreSpelt, AreTallied};
@@ -77,7 +77,7 @@ pub fn level_at<L>(
     ensures low { result.0 ≤ top }
     ensures further { at < result.1 }
     ensures inside { result.1 ≤ length pieces.now }
-    ensures ticks { steps.old + length pieces.now < 2 ^ 64 + at → steps.new + at ≡ steps.old + result.1 }
+    ensures ticks { steps.new ≡ min (steps.old + (result.1 - at)) (2 ^ 64 - 1) }
 {
     steps.tick();
     match pieces[at] {

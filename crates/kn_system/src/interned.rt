@@ -1,4 +1,4 @@
-ghost use Rattle.std.specs.Prelude.{◌≡◌, ◌+◌, ◌-◌, ◌^◌, ◌<◌, ◌≤◌, [], ◌∷◌, ◌++◌, All, IfOk, OnErr, false, length, slice_index_or};
+ghost use Rattle.std.specs.Prelude.{◌≡◌, ◌+◌, ◌-◌, ◌^◌, ◌<◌, ◌≤◌, [], ◌∷◌, ◌++◌, All, IfOk, OnErr, false, length, min, slice_index_or};
 
 use crate::formula::{copied, leaf_count, level_at};
 use crate::rows::{Piece, Row};
@@ -199,8 +199,7 @@ impl<L> System<L> {
         ensures exact { result
             ≡ form_level (self.now.levels - 1) values.now (row_at self.now.rows row).formula }
         ensures in_range { result < self.now.levels }
-        ensures ticks { steps.old < 2 ^ 63
-            → steps.new ≡ steps.old + length (row_at self.now.rows row).formula }
+        ensures ticks { steps.new ≡ min (steps.old + length (row_at self.now.rows row).formula) (2 ^ 64 - 1) }
     {
         let formula = self.rows.as_slice()[row as usize].formula.as_slice();
         level_at(formula, 0, self.levels - 1, values, steps).0

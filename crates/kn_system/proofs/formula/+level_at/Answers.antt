@@ -36,10 +36,7 @@ loop-part-preserved g t c =
       tallied =
           subst (AreTallied _) (sym (take_next behind part level after read))
           (AreTallied-push c.loop-part.tally (take part behind) level c.loop-part.invariant.size (omega (arith, c.level_at-level.ensures.low)) c.loop-part.invariant.tallied);
-      ticks = λ bound.
-          let before = c.loop-part.invariant.ticks bound in
-          let call = c.level_at-level.ensures.ticks (omega arith) in
-          omega (arith, before, call);
+      ticks = omega (arith, c.loop-part.invariant.ticks, c.loop-part.invariant.further, c.level_at-level.ensures.ticks, c.level_at-level.ensures.further);
       size = length-set c.loop-part.tally level _ ∙ c.loop-part.invariant.size;
     }
 

@@ -1,4 +1,4 @@
-use Rattle.std.proofs.Common.{◌≡◌, ◌+◌, ◌-◌, ◌<◌, ◌≤◌, ◌^◌, length, take, drop}
+use Rattle.std.proofs.Common.{◌≡◌, ◌+◌, ◌-◌, ◌<◌, ◌≤◌, ◌^◌, length, min, take, drop}
 use Rattle.kn_system.specs.Form.{form_levels}
 use Rattle.kn_system.specs.Forms.{AreTallied}
 use Rattle.kn_system.proofs.formula.+level_at.Given as goal
@@ -13,5 +13,5 @@ invariant-loop-part g l = record {
   rest : drop l._part (form_levels l.top l.values (drop (l.at + 1) l.pieces)) ≡ form_levels l.top l.values (drop l.next l.pieces);
   tallied : AreTallied l.tally (take l._part (form_levels l.top l.values (drop (l.at + 1) l.pieces)));
   size : length l.tally ≡ 64;
-  ticks : l.fn.steps + length l.pieces < 2 ^ 64 + l.at → l.steps + l.at ≡ l.fn.steps + l.next;
+  ticks : l.steps ≡ min (l.fn.steps + (l.next - l.at)) (2 ^ 64 - 1);
 }

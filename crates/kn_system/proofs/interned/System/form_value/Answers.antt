@@ -19,6 +19,4 @@ returns-clause-ticks g c =
     let formula = pieces_read s c.args.row pieces c.args.values.now (subst IsSystem c.self.view_is c.self.invariant.0) c.requires.row_in_range c.requires.one_each read in
     let all : c.level_at.result.1 ≡ length pieces = behind_one _ c.level_at.result.0 c.level_at.result.1 c.args.values.now pieces formula.one c.level_at.ensures.inside c.level_at.ensures.level in
     let size : length pieces ≡ length (row_at s.rows c.args.row).formula = ap length read in
-    λ low.
-    let counted = c.level_at.ensures.ticks (omega (arith, formula.few)) in
-    omega (arith, counted)
+    omega (arith, c.level_at.ensures.ticks)
