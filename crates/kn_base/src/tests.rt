@@ -1,5 +1,4 @@
-use crate::limits;
-use crate::{Boxed, List, Octets, Reserved, Steps, decimal};
+use crate::{Boxed, List, Octets, Reserved, Steps, decimal, limits};
 use std::test::Fail;
 
 /// A type that leads back to itself through a list.

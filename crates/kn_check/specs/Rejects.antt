@@ -13,22 +13,22 @@ pub record IsInRange (s : Equations) (row : ProofRow) : Type 0 where
   pub named : row.by < length s.rows
   pub level : row.value < s.levels
 
--- and its principal is no requester
+-- a row in range whose principal is no requester
 pub record IsOther (s : Equations) (row : ProofRow) : Type 0 where
   pub range : IsInRange s row
   pub other : slice_index_or s.requesters row.principal true ≡ false
 
--- and has no level yet
+-- a row in range whose principal is no requester and has no level yet
 pub record IsFresh (s : Equations) (levels : List ℕ) (row : ProofRow) : Type 0 where
   pub other : IsOther s row
   pub fresh : slice_index levels row.principal ≡ 0
 
--- and gets one above the lowest
+-- a row in range that gives a level above the lowest to a principal who is no requester and has none yet
 pub record IsRaising (s : Equations) (levels : List ℕ) (row : ProofRow) : Type 0 where
   pub fresh : IsFresh s levels row
   pub positive : 0 < row.value
 
--- by a row of the system of which it is the authorizer
+-- a raising row that stands on a row of the system whose authorizer is its principal
 pub record IsOwn (s : Equations) (levels : List ℕ) (row : ProofRow) : Type 0 where
   pub raising : IsRaising s levels row
   pub own : (row_at s.rows row.by).authorizer ≡ row.principal

@@ -1,5 +1,5 @@
 -- A proof has one row for each principal that has its level by a row.
-use Rattle.std.proofs.Common.{◌≡◌, ℕ, suc, zero, ◌+◌, ◌-◌, ◌<◌, ◌≤◌, ◌≢◌, Bool, true, false, cond, List, [], ◌∷◌, slice_index, slice_index_or, slice_set, length, min, inl, inr, refl, sym, ap, ◌∙◌, arith}
+use Rattle.std.proofs.Common.{◌≡◌, ℕ, ◌+◌, ◌-◌, ◌<◌, Bool, true, false, cond, List, [], ◌∷◌, slice_index, slice_index_or, slice_set, length, min, inl, inr, refl, sym, ap, ◌∙◌, arith}
 use Rattle.std.proofs.lemmas.Bool.{cases_eq}
 use Rattle.std.proofs.lemmas.Bool.Decides.{nat_tests}
 use Rattle.std.proofs.lemmas.List.{get_or_default, get_or-set_same, get_or-set_other, length-set}
@@ -7,7 +7,7 @@ use Rattle.kn_proof.specs.declared.row.Row.{Row as ProofRow}
 use Rattle.kn_system.specs.Equations.{Equations}
 use Rattle.kn_system.specs.Least.{at_first, least_levels}
 use Rattle.kn_system.specs.Lawful.{IsByPrincipal}
-use Rattle.kn_system.specs.Proofs.{levels_after, IsStep, AreSteps, IsProof, rows_of, HasOneRowEach}
+use Rattle.kn_system.specs.Proofs.{levels_after, AreSteps, IsProof, rows_of, HasOneRowEach}
 use Rattle.kn_system.proofs.Turned.{by_principal}
 use Rattle.kn_system.proofs.Proven.{proof-determines, size-at_first}
 

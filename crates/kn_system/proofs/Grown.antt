@@ -1,5 +1,5 @@
 -- A well-formed system stays so as principals and rows are added.
-use Rattle.std.proofs.Common.{◌≡◌, ℕ, zero, suc, ◌+◌, ◌<◌, ◌≤◌, ◌^◌, Bool, List, [], ◌∷◌, ◌++◌, length, slice_index_or, arith}
+use Rattle.std.proofs.Common.{◌≡◌, ℕ, zero, suc, ◌+◌, ◌<◌, ◌≤◌, ◌^◌, Bool, true, false, List, [], ◌∷◌, ◌++◌, length, slice_index_or, arith}
 use Rattle.std.proofs.lemmas.List.Elements.{All-weaker, All-push}
 use Rattle.kn_system.specs.declared.rows.Piece.{Piece}
 use Rattle.kn_system.specs.declared.rows.Piece.TheVariants.{Who, Gate}
@@ -26,11 +26,12 @@ IsRow-more levels n m l row h = record {
 }
 
 -- with more principals
-pub IsSystem-more_principals : (levels : ℕ) (before after : List Bool) (rows : List Row) → length before ≤ length after → length after ≤ 2 ^ 24
+pub IsSystem-more_principals : (levels : ℕ) (before after : List Bool) (rows : List Row) → length before ≤ length after → length after ≤ 2 ^ 24 → slice_index_or after 0 true ≡ false
     → IsSystem (record { levels = levels; requesters = before; rows = rows }) → IsSystem (record { levels = levels; requesters = after; rows = rows })
-IsSystem-more_principals levels before after rows more fit h = record {
+IsSystem-more_principals levels before after rows more fit policy h = record {
   levels_fit = h.levels_fit;
   principals_fit = (omega (arith, h.principals_fit.0), fit);
+  policy = policy;
   nodes_fit = h.nodes_fit;
   rows_fit = All-weaker (IsRow levels (length before)) (IsRow levels (length after)) (IsRow-more levels (length before) (length after) more) rows h.rows_fit;
 }
@@ -61,6 +62,7 @@ pub IsSystem-more_rows : (levels : ℕ) (requesters : List Bool) (rows : List Ro
 IsSystem-more_rows levels requesters rows row one fit h = record {
   levels_fit = h.levels_fit;
   principals_fit = h.principals_fit;
+  policy = h.policy;
   nodes_fit = omega (arith, node_total-push rows row);
   rows_fit = All-push (IsRow levels (length requesters)) rows row h.rows_fit one;
 }

@@ -1,5 +1,5 @@
 -- A query over numbered principals: what a system is seen as.
-use Rattle.std.specs.Prelude.{ℕ, ◌+◌, ◌<◌, ◌≤◌, ◌^◌, Bool, List, [], ◌∷◌, All, length, slice_index_or}
+use Rattle.std.specs.Prelude.{ℕ, ◌≡◌, ◌+◌, ◌<◌, ◌≤◌, ◌^◌, Bool, true, false, List, [], ◌∷◌, All, length, slice_index_or}
 use Rattle.kn_system.specs.declared.rows.Row.{Row}
 use Rattle.kn_system.specs.Form.{leaf_count}
 use Rattle.kn_system.specs.Forms.{IsFormula}
@@ -30,8 +30,10 @@ abbrev pub leaf_total : List Row → ℕ
 leaf_total [] = 0
 leaf_total (row ∷ rows) = leaf_count row.formula + leaf_total rows
 
+-- Levels, principals and formulas are within their limits, the policy, principal 0, is no requester, and each row is one.
 pub record IsSystem (s : Equations) : Type 0 where
   pub levels_fit : (2 ≤ s.levels) × (s.levels ≤ 64)
   pub principals_fit : (1 ≤ length s.requesters) × (length s.requesters ≤ 2 ^ 24)
+  pub policy : slice_index_or s.requesters 0 true ≡ false
   pub nodes_fit : node_total s.rows < 2 ^ 24
   pub rows_fit : All (IsRow s.levels (length s.requesters)) s.rows

@@ -1,11 +1,10 @@
-use Rattle.std.proofs.Common.{◌≡◌, ℕ, ◌+◌, ◌<◌, ◌≤◌, List, [], ◌∷◌, ◌++◌, take, length, get_or, slice_set, sym, ap, ◌∙◌, subst, arith, rules}
+use Rattle.std.proofs.Common.{◌≡◌, ℕ, ◌+◌, ◌<◌, List, [], ◌∷◌, ◌++◌, take, length, get_or, slice_set, sym, ap, ◌∙◌, subst, arith, rules}
 use Rattle.std.proofs.lemmas.List.{take_more}
 use Rattle.kn_proof.specs.declared.row.Row.{Row as ProofRow}
 use Rattle.kn_system.specs.Equations.{Equations, row_at}
 use Rattle.kn_system.specs.Lawful.{GoesOn}
 use Rattle.kn_system.specs.Least.{at_first}
 use Rattle.kn_system.specs.Proofs.{levels_after, AreSteps, IsStep}
-use Rattle.kn_check.specs.Reads.{support_nodes}
 use Rattle.kn_check.proofs.Counted.{support_nodes-take, support_nodes-more}
 use Rattle.kn_check.proofs.rows.follow_rows.Goals as goal
 

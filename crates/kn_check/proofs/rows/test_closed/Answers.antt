@@ -1,6 +1,5 @@
-use Rattle.std.proofs.Common.{◌≡◌, ℕ, ◌+◌, ◌<◌, ◌≤◌, List, take, length, sym, arith, rules}
+use Rattle.std.proofs.Common.{ℕ, ◌+◌, List, arith, rules}
 use Rattle.kn_system.specs.declared.rows.Row.{Row}
-use Rattle.kn_system.specs.Equations.{row_at, node_total}
 use Rattle.kn_check.proofs.Counted.{node_total-take, node_total-more}
 use Rattle.kn_check.proofs.rows.test_closed.Goals as goal
 

@@ -1,4 +1,4 @@
-use Rattle.std.proofs.Common.{◌≤◌, ◌^◌, [], ◌∷◌, false, length, length-append, ap, arith}
+use Rattle.std.proofs.Common.{◌≤◌, ◌^◌, [], ◌∷◌, false, length, refl, length-append, ap, arith}
 use Rattle.kn_system.specs.Equations.{Equations}
 use Rattle.kn_system.proofs.Grown.{IsSystem-more_principals}
 use Rattle.kn_system.proofs.interned.System.push_principal.Goals as goal
@@ -13,6 +13,6 @@ invariant_of-self g c =
           let size = ap length w.in-Ok.ensures.ok in
           let more : length (false ∷ s.others) ≤ length (false ∷ c.push.new.self) = omega (arith, length-append s.others (c.args.requester ∷ [])) in
           let fit : length (false ∷ c.push.new.self) ≤ 2 ^ 24 = omega (arith, length-append s.others (c.args.requester ∷ [])) in
-          (IsSystem-more_principals s.levels (false ∷ s.others) (false ∷ c.push.new.self) s.rows more fit c.self.invariant.0, c.self.invariant.1, c.self.invariant.2)
+          (IsSystem-more_principals s.levels (false ∷ s.others) (false ∷ c.push.new.self) s.rows more fit refl c.self.invariant.0, c.self.invariant.1, c.self.invariant.2)
       | in-Err w ↦ rw w.in-Err.ensures.err c.self.invariant
     ]
