@@ -1,9 +1,10 @@
-use Rattle.std.specs.Prelude.{ℕ, Bool, List, [], ◌∷◌, ◌++◌, ◌≡◌, ◌==◌, ◌+◌, ◌-◌, ◌^◌, nat_lt, nat_le, min, max, length, slice_index, Option, Some, None, Result, Ok, Err, if◌then◌else◌}
+use Rattle.std.specs.Prelude.{ℕ, Bool, List, [], ◌∷◌, ◌++◌, ◌≡◌, ◌==◌, nat_lt, nat_le, min, max, length, slice_index, Option, Some, None, Result, Ok, Err, if◌then◌else◌}
 use Rattle.std.specs.List.{list_any}
 use Rattle.std.specs.Str.{bytes_eq}
 use Rattle.kn_base.specs.declared.limits.TheConstants.{FILE_BYTES}
 use Rattle.kn_outside.specs.declared.entry.FileEntry.{FileEntry}
 use Rattle.kn_outside.specs.declared.files.FileFault.{FileFault}
+use Rattle.kn_outside.specs.Faults.{raised}
 use Rattle.kn_outside.specs.declared.files.FileFault.TheVariants.{Failed, TooLarge, NoMemory}
 
 -- a sink in memory: what was written, how many writes there were and how many failed, and which ones fail
@@ -33,10 +34,6 @@ pub record FilesInMemory : Type 0 where
   pub calls : ℕ
   pub faults : ℕ
   pub failing : List ℕ
-
--- a count that goes up by one, as far as u64 goes
-abbrev pub raised : ℕ → ℕ
-raised count = min (count + 1) (2 ^ 64 - 1)
 
 -- whether the call of this number fails
 abbrev pub is_failing : List ℕ → ℕ → Bool

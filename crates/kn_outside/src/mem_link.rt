@@ -1,5 +1,6 @@
 ghost use Rattle.std.specs.Prelude.{◌≡◌, ◌+◌, ◌-◌, ◌^◌, ◌<◌, ◌≤◌, [], ◌++◌, true, false, min, length, take, drop, IfOk, OnOk, OnErr, IsErr, IsTrue, ◌↔◌};
-ghost use Rattle.kn_outside.specs.InMemory.{raised, is_failing, cut_of};
+ghost use Rattle.kn_outside.specs.Faults.{raised};
+ghost use Rattle.kn_outside.specs.InMemory.{is_failing, cut_of};
 
 use crate::failed::Failed;
 use crate::link::Link;

@@ -1,6 +1,6 @@
 ghost use Rattle.std.specs.Prelude.{◌≡◌, ◌+◌, ◌-◌, ◌^◌, ◌<◌, ◌≤◌, [], ◌++◌, true, false, min, length, IfOk, OnOk, OnErr, IsErr, IsTrue, ◌↔◌};
-ghost use Rattle.kn_outside.specs.InMemory.{raised, is_failing};
-ghost use Rattle.kn_outside.specs.Faults.{Rose};
+ghost use Rattle.kn_outside.specs.InMemory.{is_failing};
+ghost use Rattle.kn_outside.specs.Faults.{raised, Rose};
 
 use crate::failed::Failed;
 use crate::numbered::fails;
