@@ -1,4 +1,5 @@
 pub mod Values
+pub mod Table
 pub mod Literals
 pub mod Faulty
 pub mod Along

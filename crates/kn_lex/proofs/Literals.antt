@@ -157,11 +157,11 @@ Passes items more =
     (quote_len Plain (items_bytes items ++ 34 ∷ more) ≡ Some (length (items_bytes items) + 1))
     × (quote_len Joined (items_bytes items ++ 34 ∷ more) ≡ Some (length (items_bytes items) + 1))
 
-plain_bytes : (c : ℕ) → not (c == 34 || c == 92 || c == 10 || c == 13) ≡ true
+pub plain_bytes : (c : ℕ) → not (c == 34 || c == 92 || c == 10 || c == 13) ≡ true
     → ((c == 34) ≡ false) × ((c == 92) ≡ false) × ((c == 10 || c == 13) ≡ false)
 plain_bytes c e = (grind (arith, nat_tests), grind (arith, nat_tests), grind (arith, nat_tests))
 
-escaped_bytes : (c : ℕ) → not (c == 10 || c == 13) ≡ true → ((c == 13) ≡ false) × ((c == 10) ≡ false)
+pub escaped_bytes : (c : ℕ) → not (c == 10 || c == 13) ≡ true → ((c == 13) ≡ false) × ((c == 10) ≡ false)
 escaped_bytes c e = (grind (arith, nat_tests), grind (arith, nat_tests))
 
 pub items_pass : (items : List Item) (more : List ℕ) → list_all is_item items ≡ true → Passes items more

@@ -7,3 +7,4 @@ pub mod Scanning
 pub mod Seeing
 pub mod TokenFacts
 pub mod Computed
+pub mod Escapes

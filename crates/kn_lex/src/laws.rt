@@ -5,6 +5,9 @@ ghost use Rattle.kn_lex.specs.Cutting.{Seen, Cuts};
 ghost use Rattle.kn_lex.specs.Faults.{IsFaultless, IsFirstLexicalFault};
 ghost use Rattle.kn_lex.specs.TokenFacts.{IsTokenOf};
 ghost use Rattle.kn_lex.specs.Computed.{tokens_or_fault};
+ghost use Rattle.kn_lex.specs.Spelling.{IsLiteral};
+ghost use Rattle.kn_lex.specs.Literal.{value_behind, inside, literal_value};
+ghost use Rattle.kn_lex.specs.Escapes.{EscapeTable};
 ghost use Rattle.kn_lex.specs.declared.fault.LexFault.{LexFault};
 
 /// Every text has either tokens that cut it and no fault, or a first fault; never both; and at most one
@@ -32,4 +35,11 @@ pub fn tokens_are_computed()
 /// A text has at most as many tokens as bytes.
 pub fn no_more_tokens_than_bytes()
     ensures { (text : List ℕ) (tokens : List Seen) → Cuts text tokens → length tokens ≤ length text }
+{}
+
+/// The value of a literal goes by the table of escapes: it has each row of the table, and whatever has each
+/// row gives the same value of every literal.
+pub fn value_by_table()
+    ensures rows { EscapeTable (value_behind 0) }
+    ensures only { (value : List ℕ → List ℕ) → EscapeTable value → (text : List ℕ) → IsLiteral text → literal_value text ≡ value (inside text) }
 {}
