@@ -1,3 +1,4 @@
+pub mod Rows
 pub mod Cutting
 pub mod Splitting
 pub mod Tokens

@@ -2,3 +2,4 @@ pub mod Lines
 pub mod Literals
 pub mod Pieces
 pub mod Splitting
+pub mod Paragraphs

@@ -1,13 +1,15 @@
 //! Laws of the definitions, for the crates above: each is the contract of a function that does nothing.
 
-ghost use Rattle.std.specs.Prelude.{◌≡◌, ◌⊎◌, ℕ, List, [], ◌∷◌, ◌++◌, length, All, fold, true, false, not, ◌||◌, ◌==◌};
+ghost use Rattle.std.specs.Prelude.{◌≡◌, ◌⊎◌, ℕ, List, [], ◌∷◌, ◌++◌, length, All, Contains, fold, true, false, not, ◌||◌, ◌==◌};
 ghost use Rattle.std.specs.List.{list_all};
 ghost use Rattle.kn_lex.specs.Spelling.{Item, is_item, items_bytes, IsLiteral};
 ghost use Rattle.kn_lex.specs.Cutting.{Seen, Cuts};
 ghost use Rattle.kn_lex.specs.Faults.{IsFaultless};
-ghost use Rattle.kn_files.specs.Lines.{lines_of, are_lines, joined, after_byte, is_literal};
+ghost use Rattle.kn_base.specs.declared.span.Span.{Span};
+ghost use Rattle.kn_files.specs.Lines.{Line, lines_of, are_lines, joined, after_byte, is_literal, is_cut};
 ghost use Rattle.kn_files.specs.Literals.{leaves_out};
-ghost use Rattle.kn_files.specs.Pieces.{is_assertion, spans_of, IsWithin, StandApart, HasWholeLines};
+ghost use Rattle.kn_files.specs.Paragraphs.{lines_in, IsParagraph, IsOfParagraph, IsOfLines, HasLine, LacksLine, AreOfComment};
+ghost use Rattle.kn_files.specs.Pieces.{is_assertion, text_of, span_of, spans_of, IsWithin, StandApart, HasWholeLines};
 ghost use Rattle.kn_files.specs.declared.within.Within.{Within};
 
 /// The lines of a file are those that make it up, and there is one way only to cut it into lines.
@@ -48,4 +50,21 @@ pub fn left_out()
 pub fn faultless_text()
     ensures none { (text : List ℕ) → Cuts text [] → IsFaultless text → spans_of text ≡ [] }
     ensures one { (text : List ℕ) (token : Seen) (tokens : List Seen) → Cuts text (token ∷ tokens) → IsFaultless text → length (spans_of text) ≡ 1 }
+{}
+
+/// The spans of a file by its lines. Each paragraph that is an assertion is a span, and there is no other span.
+/// A blank line that begins outside literals is in no span, and each other line is one of a paragraph, in whose
+/// span it is.
+pub fn spans_by_lines()
+    ensures each { (file : List ℕ) (lines : List Line) → IsParagraph file lines → is_assertion (text_of lines) ≡ true → Contains (spans_of file) (span_of lines) }
+    ensures only { (file : List ℕ) (span : Span) → Contains (spans_of file) span → IsOfParagraph file span }
+    ensures blank { (file : List ℕ) (line : Line) (span : Span) → Contains (lines_in file) line → is_cut line ≡ true → Contains (spans_of file) span → LacksLine span line }
+    ensures other { (file : List ℕ) (line : Line) → Contains (lines_in file) line → is_cut line ≡ false → IsOfLines file line }
+    ensures inside { (file : List ℕ) (lines : List Line) (line : Line) → IsParagraph file lines → Contains lines line → HasLine (span_of lines) line }
+{}
+
+/// A line with the label of a comment that begins outside literals, and each line that goes on with its body,
+/// opens no literal, whatever quotes it has: the next line begins outside literals.
+pub fn comments_in_files()
+    ensures { (file : List ℕ) (before comment : List Line) (next : Line) (behind : List Line) → lines_in file ≡ before ++ comment ++ next ∷ behind → AreOfComment comment → is_literal next.within ≡ false }
 {}
