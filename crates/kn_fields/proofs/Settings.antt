@@ -7,7 +7,8 @@ use Rattle.kn_lex.specs.Cutting.{Seen}
 use Rattle.kn_lex.specs.declared.token.Sort.{Sort}
 use Rattle.kn_lex.specs.declared.token.Sort.TheVariants.{Label, Body, Name, Number, Text, Sign}
 use Rattle.kn_fields.specs.Fields.{between}
-use Rattle.kn_fields.specs.Constants.{is_text_sort, next_turn, turn_behind, fits, departs, constant_of, constants_of}
+use Rattle.kn_fields.specs.Constants.{is_text_sort, constant_of, constants_of}
+use Rattle.kn_fields.specs.Turns.{next_turn, turn_behind, fits, departs}
 use Rattle.kn_fields.specs.Scanning.{first_place, else_place, end_place, departure}
 use Rattle.kn_fields.specs.declared.constants.Turn.{Turn}
 use Rattle.kn_fields.specs.declared.constants.Turn.TheVariants.{Setting, Equals, Value}
@@ -15,7 +16,7 @@ use Rattle.kn_env.specs.declared.constant.Constant.{Constant}
 use Rattle.kn_fields.proofs.Places.{some_same}
 use Rattle.kn_fields.proofs.Between.{between_here, between_more, between_end, scan_step, scan_by}
 
-turn_more : (turn : Turn) (xs : List Seen) (t : Seen) → turn_behind turn (xs ++ t ∷ []) ≡ next_turn (turn_behind turn xs)
+pub turn_more : (turn : Turn) (xs : List Seen) (t : Seen) → turn_behind turn (xs ++ t ∷ []) ≡ next_turn (turn_behind turn xs)
 unfolding turn_behind
 turn_more turn [] t = refl
 turn_more turn (x ∷ xs) t = turn_more (next_turn turn) xs t
@@ -62,7 +63,7 @@ sound_here xs from i to t e le below is =
 some_at : (xs : List Seen) (i : ℕ) → i < length xs → (t : Seen) × (slice_get xs i ≡ Some t)
 some_at xs i below = elim (slice_get_cases xs i).1 [ inl h ↦ (h.0, h.2) | inr h ↦ absurd (omega (arith, below, h.0)) ]
 
-text_sort : (sort : Sort) → is_text_sort sort ≡ true → sort ≡ Text
+pub text_sort : (sort : Sort) → is_text_sort sort ≡ true → sort ≡ Text
 text_sort Label e = absurd (false≢true e)
 text_sort Body e = absurd (false≢true e)
 text_sort Name e = absurd (false≢true e)

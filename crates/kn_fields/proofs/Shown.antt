@@ -9,7 +9,8 @@ use Rattle.kn_lex.specs.Seeing.{HasCause as HasLexicalCause}
 use Rattle.kn_lex.specs.declared.fault.LexFault.{LexFault}
 use Rattle.kn_lex.specs.declared.fault.LexFault.TheVariants.{NotText, BadString, BadToken, Float, Regex, Number, Blank, NoMemory as NoLexMemory}
 use Rattle.kn_fields.specs.Fields.{Field, field_with, between, PartIs}
-use Rattle.kn_fields.specs.Constants.{turn_behind, departs}
+use Rattle.kn_fields.specs.Constants.{IsConstantList}
+use Rattle.kn_fields.specs.Turns.{turn_behind, departs}
 use Rattle.kn_fields.specs.Faults.{is_bad_field, is_second, is_late_version, is_behind_signature, is_version, DepartsAt, Shows, TokensShow, HasFault, fault_order, IsFirstFault, IsWellFielded, HasCause}
 use Rattle.kn_fields.specs.Scanning.{start_of, first_place, else_place, order_place, version_by, version_place, end_place, departure, constant_by, constant_place, fault_at, fault_without, fault_in, of_lexical}
 use Rattle.kn_fields.specs.declared.constants.Turn.{Turn}
@@ -18,6 +19,7 @@ use Rattle.kn_fields.specs.declared.part.Part.{Part}
 use Rattle.kn_fields.specs.declared.fault.FieldFault.{FieldFault}
 use Rattle.kn_fields.specs.declared.fault.FieldFault.TheVariants.{TooLong, Lexical, BadField, FieldTwice, FieldOrder, NoAuthorizer, Version, Constant, NoMemory}
 use Rattle.kn_fields.proofs.Places.{some_same, none_shown, first_shown, none_place, shown_place}
+use Rattle.kn_fields.proofs.Lists.{begins_list, whole_list, list_due, none_departs, departure_from, departure_to}
 
 -- the one list that cuts a text, and its one first lexical fault
 abbrev pub OneList : Type 0
@@ -59,7 +61,7 @@ unfolding version_place
 shown_version tokens at h =
     ap version_by h.1 ∙ ap (λ (b : Bool). if b then None else Some h.0.label.span.start) h.2.0 ∙ ap Some (sym h.2.1)
 
-departs_shown : (field : Field) (at : ℕ) → departure field.tokens (Some field.label.span.start) ≡ Some at → DepartsAt field at
+pub departs_shown : (field : Field) (at : ℕ) → departure field.tokens (Some field.label.span.start) ≡ Some at → DepartsAt field at
 unfolding departure
 departs_shown field at e = by (first_place departs [] field.tokens) refl e
   where
@@ -77,21 +79,33 @@ departs_shown field at e = by (first_place departs [] field.tokens) refl e
 
     by : (o : Option ℕ) → first_place departs [] field.tokens ≡ o
         → else_place o (end_place (Some field.label.span.start) (turn_behind Setting field.tokens)) ≡ Some at → DepartsAt field at
-    by None n h = let l = late (turn_behind Setting field.tokens) refl h in inr (none_shown departs field.tokens n, l.0, l.1)
-    by (Some a) n h = inl (first_shown departs field.tokens at (n ∙ h))
+    by None n h = let l = late (turn_behind Setting field.tokens) refl h in inr (begins_list field.tokens (none_shown departs field.tokens n), (λ list. l.0 (list_due field.tokens list)), l.1)
+    by (Some a) n h = inl (departure_from field.tokens at (first_shown departs field.tokens at (n ∙ h)))
 
 shown_departs : (field : Field) (at : ℕ) → DepartsAt field at → departure field.tokens (Some field.label.span.start) ≡ Some at
 unfolding departure
 shown_departs field at (inl h) =
-    ap (λ (o : Option ℕ). else_place o (end_place (Some field.label.span.start) (turn_behind Setting field.tokens))) (shown_place departs field.tokens at h)
+    ap (λ (o : Option ℕ). else_place o (end_place (Some field.label.span.start) (turn_behind Setting field.tokens))) (shown_place departs field.tokens at (departure_to field.tokens at h))
 shown_departs field at (inr h) =
-    ap (λ (o : Option ℕ). else_place o (end_place (Some field.label.span.start) (turn_behind Setting field.tokens))) (none_place departs field.tokens h.0)
+    ap (λ (o : Option ℕ). else_place o (end_place (Some field.label.span.start) (turn_behind Setting field.tokens))) (none_place departs field.tokens (none_departs field.tokens h.0))
     ∙ late (turn_behind Setting field.tokens) refl ∙ ap Some (sym h.2)
   where
     late : (turn : Turn) → turn_behind Setting field.tokens ≡ turn → end_place (Some field.label.span.start) turn ≡ Some field.label.span.start
-    late Setting t = absurd (h.1 t)
+    late Setting t = absurd (h.1 (whole_list field.tokens (none_departs field.tokens h.0) t))
     late Equals t = refl
     late Value t = refl
+
+-- where it departs nowhere and isn't broken off, it is a whole list
+pub no_departure : (field : Field) → departure field.tokens (Some field.label.span.start) ≡ None → IsConstantList field.tokens
+unfolding departure
+no_departure field e = by (first_place departs [] field.tokens) refl (turn_behind Setting field.tokens) refl e
+  where
+    by : (o : Option ℕ) → first_place departs [] field.tokens ≡ o → (turn : Turn) → turn_behind Setting field.tokens ≡ turn
+        → else_place o (end_place (Some field.label.span.start) turn) ≡ None → IsConstantList field.tokens
+    by (Some at) n turn t h = absurd (none-some _ (sym h))
+    by None n Setting t h = whole_list field.tokens (none_shown departs field.tokens n) t
+    by None n Equals t h = absurd (none-some _ (sym h))
+    by None n Value t h = absurd (none-some _ (sym h))
 
 constant_shown : (tokens : List Seen) (at : ℕ) → constant_place tokens ≡ Some at → Shows tokens (Constant at)
 unfolding constant_place

@@ -10,12 +10,13 @@ use Rattle.kn_lex.specs.Computed.{tokens_or_fault}
 use Rattle.kn_lex.specs.declared.fault.LexFault.{LexFault}
 use Rattle.kn_fields.specs.Fields.{is_label, field_of, is_this, is_label_of, Field, fields_of, field_with}
 use Rattle.kn_fields.specs.Faults.{is_second, is_repeat, HasNone, IsFirstFault, IsWellFielded}
-use Rattle.kn_fields.specs.Scanning.{fault_in, first_place}
+use Rattle.kn_fields.specs.Constants.{IsConstantList}
+use Rattle.kn_fields.specs.Scanning.{fault_in, first_place, departure}
 use Rattle.kn_fields.specs.Computed.{tokens_by, tokens_behind, fields_or_fault}
 use Rattle.kn_fields.specs.declared.fault.FieldFault.{FieldFault}
-use Rattle.kn_fields.specs.declared.fault.FieldFault.TheVariants.{TooLong, Lexical, FieldTwice, NoAuthorizer}
+use Rattle.kn_fields.specs.declared.fault.FieldFault.TheVariants.{TooLong, Lexical, FieldTwice, NoAuthorizer, Constant}
 use Rattle.kn_fields.proofs.Places.{none_shown, first_shown}
-use Rattle.kn_fields.proofs.Shown.{OneList, OneFault, no_fault, first_fault, too_long, first_lexical, one_first}
+use Rattle.kn_fields.proofs.Shown.{OneList, OneFault, no_fault, first_fault, too_long, first_lexical, one_first, departs_shown, no_departure}
 
 -- what the lexer's law says
 abbrev pub TokensTold : Type 0
@@ -195,3 +196,12 @@ one_in_text some text tokens c well before field behind e n numbered =
 pub some_authorizer : EveryText → (text : List ℕ) (tokens : List Seen) → Cuts text tokens → IsWellFielded text → field_with 1 tokens ≡ None → ⊥
 some_authorizer some text tokens c well none =
     well NoAuthorizer (record { tokens = tokens; cut = c; faultless = well_lexed some text well; shown = none })
+
+-- the tokens of the Local-Constants field are a list of constants
+pub listed : EveryText → (text : List ℕ) (tokens : List Seen) → Cuts text tokens → IsWellFielded text → (field : Field) → field_with 6 tokens ≡ Some field → IsConstantList field.tokens
+listed some text tokens c well field found = by (departure field.tokens (Some field.label.span.start)) refl
+  where
+    by : (o : Option ℕ) → departure field.tokens (Some field.label.span.start) ≡ o → IsConstantList field.tokens
+    by None e = no_departure field e
+    by (Some at) e =
+        absurd (well (Constant at) (record { tokens = tokens; cut = c; faultless = well_lexed some text well; shown = (field, found, departs_shown field at e) }))

@@ -1,14 +1,12 @@
 -- The list of a Local-Constants field (RFC 2704, section 4): names, each set by `=` to a literal.
-use Rattle.std.specs.Prelude.{ℕ, ◌==◌, Bool, true, false, not, ◌&&◌, List, [], ◌∷◌, slice_index, codes}
-use Rattle.std.specs.List.{list_any}
+use Rattle.std.specs.Prelude.{◌≡◌, ◌≢◌, ℕ, Bool, true, false, List, [], ◌∷◌, ◌++◌, map, slice_index, codes}
+use Rattle.std.specs.List.{IsDistinct}
 use Rattle.std.specs.Str.{bytes_eq}
 use Rattle.kn_env.specs.declared.constant.Constant.{Constant}
 use Rattle.kn_lex.specs.Cutting.{Seen}
 use Rattle.kn_lex.specs.Literal.{literal_value}
 use Rattle.kn_lex.specs.declared.token.Sort.{Sort}
 use Rattle.kn_lex.specs.declared.token.Sort.TheVariants.{Label, Body, Name, Number, Text, Sign}
-use Rattle.kn_fields.specs.declared.constants.Turn.{Turn}
-use Rattle.kn_fields.specs.declared.constants.Turn.TheVariants.{Setting, Equals, Value}
 
 abbrev pub is_name_sort : Sort → Bool
 is_name_sort Label = false
@@ -34,37 +32,47 @@ is_text_sort Number = false
 is_text_sort Text = true
 is_text_sort Sign = false
 
--- the token is this name
-abbrev pub is_name : List ℕ → Seen → Bool
-is_name name token = is_name_sort token.sort && bytes_eq token.text name
-
-abbrev pub next_turn : Turn → Turn
-next_turn Setting = Equals
-next_turn Equals = Value
-next_turn Value = Setting
-
--- what is due behind these tokens, where this was due before them
-unfoldable pub turn_behind : Turn → List Seen → Turn
-turn_behind turn [] = turn
-turn_behind turn (token ∷ tokens) = turn_behind (next_turn turn) tokens
-
--- the token is what is due: a name that doesn't begin with `_` and was not set before, `=`, or a literal
-abbrev pub fits : Turn → List Seen → Seen → Bool
-fits Setting before token =
-    is_name_sort token.sort && not (slice_index token.text 0 == 95) && not (list_any (is_name token.text) before)
-fits Equals before token = is_sign_sort token.sort && bytes_eq token.text (codes "=")
-fits Value before token = is_text_sort token.sort
-
--- the list departs with this token behind these
-abbrev pub departs : List Seen → Seen → Bool
-departs before token = not (fits (turn_behind Setting before) before token)
-
 abbrev pub constant_of : Seen → Seen → Constant
 constant_of name value = record { name = name.text; value = literal_value value.text }
 
--- the constants that a list of names, `=` and literals sets
+-- the constants of a list, of three tokens each
 unfoldable pub constants_of : List Seen → List Constant
 constants_of [] = []
 constants_of (name ∷ []) = []
 constants_of (name ∷ equals ∷ []) = []
 constants_of (name ∷ equals ∷ value ∷ tokens) = constant_of name value ∷ constants_of tokens
+
+-- a name that doesn't begin with `_`, the sign `=` and a literal
+pub record IsSetting (name equals value : Seen) : Type 0 where
+  pub name_sort : name.sort ≡ Name
+  pub own_name : slice_index name.text 0 ≢ 95
+  pub sign_sort : equals.sort ≡ Sign
+  pub sign : equals.text ≡ codes "="
+  pub literal : value.sort ≡ Text
+
+-- such three tokens in a row, any number of times
+abbrev pub AreSettings : List Seen → Type 0
+AreSettings [] = Unit {0}
+AreSettings (name ∷ []) = ⊥
+AreSettings (name ∷ equals ∷ []) = ⊥
+AreSettings (name ∷ equals ∷ value ∷ tokens) = IsSetting name equals value × AreSettings tokens
+
+-- a whole list of constants, each of another name
+pub record IsConstantList (tokens : List Seen) : Type 0 where
+  pub settings : AreSettings tokens
+  pub distinct : IsDistinct bytes_eq (map (λ constant. constant.name) (constants_of tokens))
+
+-- some list of constants begins with these tokens
+pub record BeginsConstantList (tokens : List Seen) : Type 0 where
+  pub behind : List Seen
+  pub list : IsConstantList (tokens ++ behind)
+
+-- the list of constants departs at this place: some list begins with the tokens before it, and none with its token too
+pub record HasDeparture (tokens : List Seen) (at : ℕ) : Type 0 where
+  pub before : List Seen
+  pub token : Seen
+  pub behind : List Seen
+  pub here : tokens ≡ before ++ token ∷ behind
+  pub begins : BeginsConstantList before
+  pub departs : BeginsConstantList (before ++ token ∷ []) → ⊥
+  pub place : at ≡ token.span.start

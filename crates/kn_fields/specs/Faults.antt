@@ -10,8 +10,7 @@ use Rattle.kn_lex.specs.Literal.{literal_value}
 use Rattle.kn_lex.specs.declared.token.Sort.{Sort}
 use Rattle.kn_lex.specs.declared.token.Sort.TheVariants.{Label, Body, Name, Number, Text, Sign}
 use Rattle.kn_fields.specs.Fields.{is_label, field_of, is_label_of, Field, field_with}
-use Rattle.kn_fields.specs.Constants.{turn_behind, departs, constants_of}
-use Rattle.kn_fields.specs.declared.constants.Turn.TheVariants.{Setting}
+use Rattle.kn_fields.specs.Constants.{constants_of, IsConstantList, BeginsConstantList, HasDeparture}
 use Rattle.kn_fields.specs.declared.fault.FieldFault.{FieldFault}
 use Rattle.kn_fields.specs.declared.fault.FieldFault.TheVariants.{TooLong, Lexical, BadField, FieldTwice, FieldOrder, NoAuthorizer, Version, Constant, NoMemory}
 
@@ -71,8 +70,8 @@ is_version (token ∷ next ∷ tokens) = false
 -- the list of constants departs at this place, or breaks off at its end, which is told by the label's place
 abbrev pub DepartsAt : Field → ℕ → Type 0
 DepartsAt field at =
-    HasFirst departs field.tokens at
-    ⊎ (HasNone departs field.tokens × (turn_behind Setting field.tokens ≡ Setting → ⊥) × (at ≡ field.label.span.start))
+    HasDeparture field.tokens at
+    ⊎ (BeginsConstantList field.tokens × (IsConstantList field.tokens → ⊥) × (at ≡ field.label.span.start))
 
 -- there is a field of this number, and it is so
 abbrev pub HasField : ℕ → List Seen → (Field → Type 0) → Type 0

@@ -1,5 +1,6 @@
 pub mod Fields
 pub mod Constants
+pub mod Turns
 pub mod Faults
 pub mod Depth
 pub mod Scanning

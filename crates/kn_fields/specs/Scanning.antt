@@ -4,7 +4,7 @@ use Rattle.kn_lex.specs.Cutting.{Seen}
 use Rattle.kn_lex.specs.declared.fault.LexFault.{LexFault}
 use Rattle.kn_lex.specs.declared.fault.LexFault.TheVariants.{NotText, BadString, BadToken, Float, Regex, Number, Blank, NoMemory as NoLexMemory}
 use Rattle.kn_fields.specs.Fields.{Field, field_with}
-use Rattle.kn_fields.specs.Constants.{turn_behind, departs}
+use Rattle.kn_fields.specs.Turns.{turn_behind, departs}
 use Rattle.kn_fields.specs.Depth.{depth_behind, run_behind}
 use Rattle.kn_fields.specs.Faults.{is_bad_field, is_second, is_late_version, is_behind_signature, is_version}
 use Rattle.kn_fields.specs.declared.constants.Turn.{Turn}

@@ -3,7 +3,8 @@ ghost use Rattle.std.specs.List.{list_any};
 ghost use Rattle.kn_lex.specs.Cutting.{Seen};
 ghost use Rattle.kn_lex.specs.Seeing.{seen};
 ghost use Rattle.kn_fields.specs.Fields.{between, field_with};
-ghost use Rattle.kn_fields.specs.Constants.{is_name, next_turn, turn_behind, fits, departs, constant_of, constants_of};
+ghost use Rattle.kn_fields.specs.Constants.{constant_of, constants_of};
+ghost use Rattle.kn_fields.specs.Turns.{is_name, next_turn, turn_behind, fits, departs};
 ghost use Rattle.kn_fields.specs.Faults.{constants_in};
 ghost use Rattle.kn_fields.specs.Scanning.{first_place, end_place, departure, constant_place};
 

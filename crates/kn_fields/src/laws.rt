@@ -4,6 +4,7 @@ ghost use Rattle.std.specs.Prelude.{◌≡◌, ◌↔◌, ◌⊎◌, ℕ, true, 
 ghost use Rattle.kn_lex.specs.Cutting.{Seen, Cuts};
 ghost use Rattle.kn_lex.specs.Faults.{IsFaultless};
 ghost use Rattle.kn_fields.specs.Fields.{Field, fields_of, field_of, field_with};
+ghost use Rattle.kn_fields.specs.Constants.{IsConstantList};
 ghost use Rattle.kn_fields.specs.Faults.{IsWellFielded, IsFirstFault};
 ghost use Rattle.kn_fields.specs.Depth.{IsTooDeep};
 ghost use Rattle.kn_fields.specs.Scanning.{goes_deep};
@@ -36,9 +37,11 @@ pub fn depth_is_computed()
     ensures not_deep { (tokens : List Seen) → goes_deep 0 0 tokens ≡ false → IsTooDeep tokens → ⊥ }
 {}
 
-/// In a text without these faults each field is the one of its number, and there is an Authorizer.
+/// In a text without these faults each field is the one of its number, there is an Authorizer, and the tokens
+/// of Local-Constants are a list of constants.
 pub fn one_field_of_each_number()
     ensures one { (text : List ℕ) (tokens : List Seen) → Cuts text tokens → IsWellFielded text → (before : List Field) (field : Field) (behind : List Field) → fields_of tokens ≡ before ++ field ∷ behind → (number : ℕ) → field_of field.label ≡ Some number → field_with number tokens ≡ Some field }
+    ensures constants { (text : List ℕ) (tokens : List Seen) → Cuts text tokens → IsWellFielded text → (field : Field) → field_with 6 tokens ≡ Some field → IsConstantList field.tokens }
     ensures authorizer { (text : List ℕ) (tokens : List Seen) → Cuts text tokens → IsWellFielded text → field_with 1 tokens ≡ None → ⊥ }
 {
     kn_lex::laws::tokens_or_first_fault();

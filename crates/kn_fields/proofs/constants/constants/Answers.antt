@@ -1,7 +1,8 @@
 use Rattle.std.proofs.Common.{◌≡◌, [], None, List, ◌∙◌, IfOk, ap, sym, subst}
 use Rattle.kn_lex.specs.Cutting.{Seen}
 use Rattle.kn_env.specs.declared.constant.Constant.{Constant}
-use Rattle.kn_fields.specs.Constants.{departs, constants_of}
+use Rattle.kn_fields.specs.Constants.{constants_of}
+use Rattle.kn_fields.specs.Turns.{departs}
 use Rattle.kn_fields.specs.Faults.{constants_in}
 use Rattle.kn_fields.specs.Scanning.{first_place}
 use Rattle.kn_fields.proofs.Shown.{sound_list}

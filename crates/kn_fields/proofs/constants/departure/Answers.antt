@@ -1,7 +1,7 @@
 use Rattle.std.proofs.Common.{◌≡◌, ℕ, ◌<◌, ◌≤◌, false, true, length, sym, ◌∙◌, subst, arith}
 use Rattle.kn_lex.specs.Seeing.{seen}
 use Rattle.kn_fields.specs.Fields.{between}
-use Rattle.kn_fields.specs.Constants.{fits, departs, turn_behind}
+use Rattle.kn_fields.specs.Turns.{fits, departs, turn_behind}
 use Rattle.kn_fields.specs.declared.constants.Turn.TheVariants.{Setting}
 use Rattle.kn_fields.proofs.Between.{scan_passed, scan_found, scan_over, never_none}
 use Rattle.kn_fields.proofs.Settings.{turn_passed, begin_left, begin_due, departs_by, departure_found, departure_over}

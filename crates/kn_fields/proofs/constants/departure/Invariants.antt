@@ -1,6 +1,6 @@
 use Rattle.std.proofs.Common.{◌≡◌, []}
 use Rattle.kn_fields.specs.Fields.{between}
-use Rattle.kn_fields.specs.Constants.{departs, turn_behind}
+use Rattle.kn_fields.specs.Turns.{departs, turn_behind}
 use Rattle.kn_fields.specs.Scanning.{first_place}
 use Rattle.kn_fields.specs.declared.constants.Turn.TheVariants.{Setting}
 use Rattle.kn_fields.proofs.constants.departure.Given as goal

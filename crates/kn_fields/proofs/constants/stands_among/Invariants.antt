@@ -1,7 +1,7 @@
 use Rattle.std.proofs.Common.{◌≡◌}
 use Rattle.std.specs.List.{list_any}
 use Rattle.kn_fields.specs.Fields.{between}
-use Rattle.kn_fields.specs.Constants.{is_name}
+use Rattle.kn_fields.specs.Turns.{is_name}
 use Rattle.kn_fields.proofs.constants.stands_among.Given as goal
 
 -- what is left decides
