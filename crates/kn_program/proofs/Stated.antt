@@ -1,5 +1,6 @@
 -- What the tokens of a field state is what is read of them.
-use Rattle.std.proofs.Common.{◌≡◌, ℕ, ◌+◌, ◌*◌, ◌<◌, ◌≤◌, Bool, true, false, List, [], ◌∷◌, length, Option, Some, None, Result, Ok, Err, refl, sym, ap, subst, ◌∙◌, arith, append-nil}
+use Rattle.std.proofs.Common.{◌≡◌, ℕ, ◌+◌, ◌*◌, ◌<◌, ◌≤◌, ◌⊎◌, inl, inr, Bool, true, false, List, [], ◌∷◌, length, Option, Some, None, Result, Ok, Err, refl, sym, ap, subst, ◌∙◌, arith, append-nil}
+use Rattle.std.specs.Prelude.{IfOk, IfErr}
 use Rattle.std.proofs.lemmas.Bool.{cond-true, cond-false}
 use Rattle.kn_lex.specs.Cutting.{Seen}
 use Rattle.kn_fields.specs.Fields.{between}
@@ -153,3 +154,31 @@ program_given tokens from end program some within read well = judged_between tok
 pub kind_given : (tokens : List Seen) (from end : ℕ) (program : ProgramTree) → from < end → end ≤ length tokens → read_program (words_between from end tokens) ≡ Some program
     → is_well_kinded program ≡ false → program_of (between from end tokens) ≡ Err Kind
 kind_given tokens from end program some within read bad = judged_between tokens from end some within ∙ ap judged_read read ∙ judged_bad program bad
+
+-- what is given, in the words of the grammar
+
+pub given_program : (tokens : List Seen) (r : Result (Option ProgramTree) ProgramFault) → Gives r (program_of tokens) → IfOk r (λ p. IsConditions tokens p)
+given_program tokens (Ok p) g = program_stands tokens p g
+given_program tokens (Err fault) g = tt
+
+pub given_fault : (tokens : List Seen) (r : Result (Option ProgramTree) ProgramFault) → Gives r (program_of tokens)
+    → IfErr r (λ fault. (fault ≡ NoMemory) ⊎ Shows tokens fault)
+given_fault tokens (Ok p) g = tt
+given_fault tokens (Err Syntax) g = inr (fault_stands tokens Syntax g)
+given_fault tokens (Err Kind) g = inr (fault_stands tokens Kind g)
+given_fault tokens (Err NoMemory) g = inl refl
+
+-- whatever is found is given, if there is memory
+found_given : (r found : Result (Option ProgramTree) ProgramFault) → Gives r found → (r ≡ found) ⊎ (r ≡ Err NoMemory)
+found_given (Ok p) found g = inl (sym g)
+found_given (Err Syntax) found g = inl (sym g)
+found_given (Err Kind) found g = inl (sym g)
+found_given (Err NoMemory) found g = inr refl
+
+pub program_there : (tokens : List Seen) (r : Result (Option ProgramTree) ProgramFault) → Gives r (program_of tokens) → (p : Option ProgramTree) → IsConditions tokens p
+    → (r ≡ Ok p) ⊎ (r ≡ Err NoMemory)
+program_there tokens r g p h = found_given r (Ok p) (subst (Gives r) (program_is_found tokens p h) g)
+
+pub fault_there : (tokens : List Seen) (r : Result (Option ProgramTree) ProgramFault) → Gives r (program_of tokens) → (fault : ProgramFault) → Shows tokens fault
+    → (r ≡ Err fault) ⊎ (r ≡ Err NoMemory)
+fault_there tokens r g fault h = found_given r (Err fault) (subst (Gives r) (fault_is_found tokens fault h) g)

@@ -1,8 +1,11 @@
-ghost use Rattle.std.specs.Prelude.{◌≡◌, ◌+◌, ◌≤◌, ◌<◌, IfOk, IfSome, length, true};
+ghost use Rattle.std.specs.Prelude.{◌≡◌, ◌+◌, ◌≤◌, ◌<◌, ◌⊎◌, Option, IfOk, IfErr, IfSome, length, true};
 ghost use Rattle.kn_trees.specs.Kinds.{is_well_kinded};
 ghost use Rattle.kn_fields.specs.Fields.{between};
 ghost use Rattle.kn_fields.specs.Depth.{IsTooDeep};
-ghost use Rattle.kn_program.specs.Conditions.{program_of, Gives};
+ghost use Rattle.kn_trees.specs.declared.program.Program.{Program};
+ghost use Rattle.kn_program.specs.Conditions.{IsConditions, Shows, program_of, Gives};
+ghost use Rattle.kn_program.specs.declared.fault.ProgramFault.{ProgramFault};
+ghost use Rattle.kn_program.specs.declared.fault.ProgramFault.TheVariants.{NoMemory};
 
 use crate::clauses::program;
 use crate::fault::ProgramFault;
@@ -23,6 +26,24 @@ pub fn conditions(
     requires before { part.label < part.end }
     requires within { part.end ≤ length tokens.now }
     requires shallow { IsTooDeep (between (part.label + 1) part.end tokens.now) → ⊥ }
+    ensures program { IfOk result (λ conditions. IsConditions (between (part.label + 1) part.end tokens.now) conditions) }
+    ensures fault { IfErr result (λ fault. (fault ≡ NoMemory) ⊎ Shows (between (part.label + 1) part.end tokens.now) fault) }
+    ensures each_program { (conditions : Option Program) → IsConditions (between (part.label + 1) part.end tokens.now) conditions → (result ≡ Ok conditions) ⊎ (result ≡ Err NoMemory) }
+    ensures each_fault { (fault : ProgramFault) → Shows (between (part.label + 1) part.end tokens.now) fault → (result ≡ Err fault) ⊎ (result ≡ Err NoMemory) }
+    ensures given { Gives result (program_of (between (part.label + 1) part.end tokens.now)) }
+    ensures well_kinded { IfOk result (λ conditions. IfSome conditions (λ program. is_well_kinded program ≡ true)) }
+{
+    read_conditions(alloc, tokens, part)
+}
+
+/// The program that is read of the field, or its fault.
+fn read_conditions(
+    alloc: Global,
+    tokens: &Tokens<'_>,
+    part: Part,
+) -> Result<Option<Program>, ProgramFault>
+    requires before { part.label < part.end }
+    requires within { part.end ≤ length tokens.now }
     ensures given { Gives result (program_of (between (part.label + 1) part.end tokens.now)) }
     ensures well_kinded { IfOk result (λ conditions. IfSome conditions (λ program. is_well_kinded program ≡ true)) }
 {
