@@ -186,3 +186,23 @@ fault_told text read (inr e) = inr (ap fault_in e)
 pub fault_first : FirstTold → (text : List ℕ) (read : ReadFault) → (read ≡ NoMemory) ⊎ (reading_of text ≡ Err read) → (read ≡ NoMemory) ⊎ IsFirstReadFault text read
 fault_first told text read (inl none) = inl none
 fault_first told text read (inr e) = inr ((told text read).0 e)
+
+-- whatever there is of the text is answered, if there is memory
+
+pub each_told : ReadingTold → (text : List ℕ) (r : Result Assertion ReadFault) → reading_of text ≡ r → (assertion : Assertion) → IsReading text assertion
+    → (r ≡ Ok assertion) ⊎ (r ≡ Err NoMemory)
+each_told told text r e assertion h = inl (sym e ∙ (told text assertion).1 h)
+
+pub each_fault_told : FirstTold → (text : List ℕ) (r : Result Assertion ReadFault) → reading_of text ≡ r → (fault : ReadFault) → IsFirstReadFault text fault
+    → (r ≡ Err fault) ⊎ (r ≡ Err NoMemory)
+each_fault_told told text r e fault h = inl (sym e ∙ (told text fault).1 h)
+
+pub each_refused : ReadingTold → (text : List ℕ) (read : ReadFault) (r : Result Assertion ReadFault) → r ≡ Err read → (read ≡ NoMemory) ⊎ (reading_of text ≡ Err read)
+    → (assertion : Assertion) → IsReading text assertion → (r ≡ Ok assertion) ⊎ (r ≡ Err NoMemory)
+each_refused told text read r is (inl none) assertion h = inr (is ∙ ap Err none)
+each_refused told text read r is (inr e) assertion h = each_told told text r (e ∙ sym is) assertion h
+
+pub each_fault_refused : FirstTold → (text : List ℕ) (read : ReadFault) (r : Result Assertion ReadFault) → r ≡ Err read → (read ≡ NoMemory) ⊎ (reading_of text ≡ Err read)
+    → (fault : ReadFault) → IsFirstReadFault text fault → (r ≡ Err fault) ⊎ (r ≡ Err NoMemory)
+each_fault_refused told text read r is (inl none) fault h = inr (is ∙ ap Err none)
+each_fault_refused told text read r is (inr e) fault h = each_fault_told told text r (e ∙ sym is) fault h

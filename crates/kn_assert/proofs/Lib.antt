@@ -1,4 +1,5 @@
 pub mod FieldLemmas
+pub mod Agreement
 pub mod Orders
 pub mod Stated
 pub mod Readings

@@ -1,7 +1,7 @@
 -- What the fields of an assertion state, each by its own tokens (RFC 2704, section 4). What isn't said there is
 -- keynoted's own choice: that an Authorizer is one principal and a Signature one literal, which principals there
 -- are, and the faults.
-use Rattle.std.specs.Prelude.{ℕ, Bool, ◌&&◌, ◌||◌, nat_lt, nat_le, bytes_eq, List, [], ◌∷◌, length, find, Option, Some, None, Result, Ok, Err, if◌then◌else◌}
+use Rattle.std.specs.Prelude.{ℕ, Bool, ◌&&◌, ◌||◌, nat_lt, nat_le, List, [], ◌∷◌, length, Option, Some, None, Result, Ok, Err, if◌then◌else◌}
 use Rattle.kn_env.specs.declared.constant.Constant.{Constant}
 use Rattle.kn_lex.specs.Cutting.{Seen}
 use Rattle.kn_lex.specs.Literal.{literal_value}
@@ -10,31 +10,22 @@ use Rattle.kn_lex.specs.declared.token.Sort.TheVariants.{Label, Body, Name as Na
 use Rattle.kn_fields.specs.Constants.{is_name_sort, is_text_sort}
 use Rattle.kn_trees.specs.declared.formula.Formula.{Formula}
 use Rattle.kn_trees.specs.declared.program.Program.{Program}
+use Rattle.kn_formula.specs.Trees.{principal_text}
+use Rattle.kn_formula.specs.declared.written.Principal.TheVariants.{Literal as Quoted, Name as Unquoted}
 use Rattle.kn_formula.specs.declared.fault.FormulaFault.{FormulaFault}
 use Rattle.kn_formula.specs.declared.fault.FormulaFault.TheVariants.{Syntax as NoFormula, Threshold as WrongThreshold, Name as NoName, NoMemory as NoFormulaMemory}
 use Rattle.kn_program.specs.declared.fault.ProgramFault.{ProgramFault}
 use Rattle.kn_program.specs.declared.fault.ProgramFault.TheVariants.{Syntax as NoProgram, Kind as WrongKind, NoMemory as NoProgramMemory}
-use Rattle.kn_principal.specs.Principals.{policy, normal_form}
+use Rattle.kn_principal.specs.Principals.{normal_form}
 use Rattle.kn_assert.specs.declared.fault.ReadFault.{ReadFault}
 use Rattle.kn_assert.specs.declared.fault.ReadFault.TheVariants.{Syntax, Kind, Threshold, Name, NoMemory}
-
-abbrev pub is_named : List ℕ → Constant → Bool
-is_named name constant = bytes_eq constant.name name
-
-abbrev pub value_in : Option Constant → Option (List ℕ)
-value_in None = None
-value_in (Some constant) = Some constant.value
-
--- the text that a name without quotes stands for: always the local policy, or the value of a local constant
-abbrev pub name_text : List Constant → List ℕ → Option (List ℕ)
-name_text constants name = if bytes_eq name policy then Some policy else value_in (find (is_named name) constants)
 
 abbrev pub text_by : List Constant → Sort → List ℕ → Option (List ℕ)
 text_by constants Label bytes = None
 text_by constants Body bytes = None
-text_by constants NameSort bytes = name_text constants bytes
+text_by constants NameSort bytes = principal_text constants (Unquoted bytes)
 text_by constants Number bytes = None
-text_by constants Text bytes = Some (literal_value bytes)
+text_by constants Text bytes = principal_text constants (Quoted (literal_value bytes))
 text_by constants Sign bytes = None
 
 abbrev pub normal_in : Option (List ℕ) → Option (List ℕ)

@@ -1,6 +1,11 @@
 //! What holds of the definitions. Each law is the contract of a function that does nothing, and a crate
 //! above gets it by a call.
 ghost use Rattle.std.specs.Prelude.{◌≡◌, ◌↔◌, ◌⊎◌, ℕ, List, Ok, Err};
+ghost use Rattle.kn_env.specs.Attributes.{is_attribute_name};
+ghost use Rattle.kn_env.specs.Environment.{constant_value};
+ghost use Rattle.kn_env.specs.declared.constant.Constant.{Constant};
+ghost use Rattle.kn_lex.specs.Spelling.{is_name};
+ghost use Rattle.kn_formula.specs.Trees.{constant_value as constant_text};
 ghost use Rattle.kn_trees.specs.declared.assertion.Assertion.{Assertion};
 ghost use Rattle.kn_assert.specs.Reading.{reading_of};
 ghost use Rattle.kn_assert.specs.Spelled.{IsReading, IsFirstReadFault};
@@ -30,3 +35,9 @@ pub fn assertion_or_first_fault()
 {
     readings_are_computed();
 }
+
+/// A name is an attribute name, and the value of a constant is one for principals and for conditions.
+pub fn names_agree()
+    ensures names { (text : List ℕ) → is_name text ≡ is_attribute_name text }
+    ensures constants { (constants : List Constant) (name : List ℕ) → constant_text constants name ≡ constant_value name constants }
+{}

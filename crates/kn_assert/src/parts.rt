@@ -1,13 +1,16 @@
 ghost use Rattle.std.specs.Prelude.{◌≡◌, ◌+◌, ◌≤◌, ◌<◌, Some, length, find, IfOk, IfSome};
 ghost use Rattle.std.specs.Option.{option_copied, option_map};
+ghost use Rattle.std.specs.Str.{bytes_eq};
 ghost use Rattle.kn_lex.specs.Seeing.{seen};
 ghost use Rattle.kn_trees.specs.Formulas.{IsReadable};
 ghost use Rattle.kn_fields.specs.Depth.{IsTooDeep};
 ghost use Rattle.kn_fields.specs.Fields.{between, field_with, PartIs};
 ghost use Rattle.kn_fields.specs.Scanning.{goes_deep};
+ghost use Rattle.kn_formula.specs.Trees.{constant_value, principal_text};
+ghost use Rattle.kn_formula.specs.declared.written.Principal.TheVariants.{Name as Unquoted};
 ghost use Rattle.kn_formula.specs.Licensing.{licensees_of};
 ghost use Rattle.kn_program.specs.Conditions.{program_of};
-ghost use Rattle.kn_assert.specs.Parts.{name_text, normal_in, named, only_of, authorizer_by, conditions_by, licensees_by, signature_by, is_named};
+ghost use Rattle.kn_assert.specs.Parts.{normal_in, named, only_of, authorizer_by, conditions_by, licensees_by, signature_by};
 ghost use Rattle.kn_assert.specs.Reading.{authorizer_in, conditions_in, licensees_in, signature_in};
 
 use crate::fault::ReadFault;
@@ -62,20 +65,24 @@ fn principal_in(alloc: Global, text: &[u8]) -> Result<Option<Octets>, NoMemory>
     }
 }
 
-fn is_named(constant: &Constant, name: &[u8]) -> bool
-    ensures { result ≡ is_named name.now constant.now }
-{
-    constant.name.as_slice() == name
-}
-
 /// The local constant of this name.
 fn constant_of<'a>(constants: &'a List<Constant>, name: &[u8]) -> Option<&'a Constant>
-    ensures { option_copied result ≡ find (is_named name.now) constants.now }
+    ensures { option_copied result ≡ find (λ constant. bytes_eq name.now constant.name) constants.now }
 {
     constants
         .as_slice()
         .iter()
-        .find(|constant| is_named(constant, name))
+        .find(|constant| name == constant.name.as_slice())
+}
+
+/// The value of the local constant of this name.
+fn constant_value<'a>(constants: &'a List<Constant>, name: &[u8]) -> Option<&'a [u8]>
+    ensures { option_map (λ value. value.now) result ≡ constant_value constants.now name.now }
+{
+    match constant_of(constants, name) {
+        Some(constant) => Some(constant.value.as_slice()),
+        None => None,
+    }
 }
 
 /// The principal that a name without quotes stands for.
@@ -84,13 +91,13 @@ fn principal_named(
     constants: &List<Constant>,
     name: &[u8],
 ) -> Result<Option<Octets>, NoMemory>
-    ensures { IfOk result (λ principal. principal ≡ normal_in (name_text constants.now name.now)) }
+    ensures { IfOk result (λ principal. principal ≡ normal_in (principal_text constants.now (Unquoted name.now))) }
 {
     if name == b"POLICY".as_slice() {
         return principal_in(alloc, name);
     }
-    match constant_of(constants, name) {
-        Some(constant) => principal_in(alloc, constant.value.as_slice()),
+    match constant_value(constants, name) {
+        Some(value) => principal_in(alloc, value),
         None => Ok(None),
     }
 }

@@ -3,6 +3,8 @@ ghost use Rattle.kn_trees.specs.Formulas.{IsReadable};
 ghost use Rattle.kn_fields.specs.Fields.{signed_to};
 ghost use Rattle.kn_assert.specs.Reading.{of_lexical, of_fields, assembled, reading_with, assertion_of, fault_of, IsSound};
 ghost use Rattle.kn_assert.specs.Spelled.{IsReading, IsFirstReadFault};
+ghost use Rattle.kn_trees.specs.declared.assertion.Assertion.{Assertion};
+ghost use Rattle.kn_assert.specs.declared.fault.ReadFault.{ReadFault};
 ghost use Rattle.kn_assert.specs.declared.fault.ReadFault.TheVariants.{NoMemory};
 
 use crate::fault::ReadFault;
@@ -93,6 +95,8 @@ pub fn read(alloc: Global, text: &[u8]) -> Result<Assertion, ReadFault>
     ensures err { IfErr result (λ fault. (fault ≡ NoMemory) ⊎ (fault_of text.now ≡ Some fault)) }
     ensures reading { IfOk result (λ assertion. IsReading text.now assertion) }
     ensures first { IfErr result (λ fault. (fault ≡ NoMemory) ⊎ IsFirstReadFault text.now fault) }
+    ensures each_reading { (assertion : Assertion) → IsReading text.now assertion → (result ≡ Ok assertion) ⊎ (result ≡ Err NoMemory) }
+    ensures each_fault { (fault : ReadFault) → IsFirstReadFault text.now fault → (result ≡ Err fault) ⊎ (result ≡ Err NoMemory) }
     ensures sound { IfOk result (λ assertion. IsSound (length text.now) assertion) }
     ensures short { IfOk result (λ assertion. length text.now ≤ 16384) }
 {

@@ -1,6 +1,6 @@
-use Rattle.std.proofs.Common.{◌≡◌}
+use Rattle.std.proofs.Common.{◌≡◌, Err, refl}
 use Rattle.kn_assert.specs.Reading.{reading_of}
-use Rattle.kn_assert.proofs.Answered.{well_short, reading_here, ok_told, err_told, reading_told, first_told, sound_told, short_told, fields_fault, fault_told, fault_first}
+use Rattle.kn_assert.proofs.Answered.{well_short, reading_here, ok_told, err_told, reading_told, first_told, sound_told, short_told, fields_fault, fault_told, fault_first, each_told, each_fault_told, each_refused, each_fault_refused}
 use Rattle.kn_assert.proofs.reader.read.Goals as goal
 
 pub returns-in-Err-clause-err : goal.returns-in-Err-clause-err
@@ -11,6 +11,16 @@ returns-in-Err-clause-err c =
 pub returns-in-Err-clause-first : goal.returns-in-Err-clause-first
 returns-in-Err-clause-first c =
     fault_first c.readings_are_computed.ensures.fault c.args.text.now c.of_fields.result
+    (fields_fault c.fields_are_computed.ensures.fault c.args.text.now c.in-Err.fault c.of_fields.result c.in-Err.ensures.fault c.of_fields.ensures)
+
+pub returns-in-Err-clause-each_reading : goal.returns-in-Err-clause-each_reading
+returns-in-Err-clause-each_reading c =
+    each_refused c.readings_are_computed.ensures.reading c.args.text.now c.of_fields.result (Err c.of_fields.result) refl
+    (fields_fault c.fields_are_computed.ensures.fault c.args.text.now c.in-Err.fault c.of_fields.result c.in-Err.ensures.fault c.of_fields.ensures)
+
+pub returns-in-Err-clause-each_fault : goal.returns-in-Err-clause-each_fault
+returns-in-Err-clause-each_fault c =
+    each_fault_refused c.readings_are_computed.ensures.fault c.args.text.now c.of_fields.result (Err c.of_fields.result) refl
     (fields_fault c.fields_are_computed.ensures.fault c.args.text.now c.in-Err.fault c.of_fields.result c.in-Err.ensures.fault c.of_fields.ensures)
 
 -- what was read is what is computed of the text
@@ -39,3 +49,9 @@ returns-in-Ok-assertion-clause-sound c =
 
 pub returns-in-Ok-assertion-clause-short : goal.returns-in-Ok-assertion-clause-short
 returns-in-Ok-assertion-clause-short c = short_told c.args.text.now c.in-Ok-assertion.read (well_short c.args.text.now c.in-Ok.ensures.faultless)
+
+pub returns-in-Ok-assertion-clause-each_reading : goal.returns-in-Ok-assertion-clause-each_reading
+returns-in-Ok-assertion-clause-each_reading c = each_told c.readings_are_computed.ensures.reading c.args.text.now c.in-Ok-assertion.read (read_is c)
+
+pub returns-in-Ok-assertion-clause-each_fault : goal.returns-in-Ok-assertion-clause-each_fault
+returns-in-Ok-assertion-clause-each_fault c = each_fault_told c.readings_are_computed.ensures.fault c.args.text.now c.in-Ok-assertion.read (read_is c)
