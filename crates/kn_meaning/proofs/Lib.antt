@@ -7,3 +7,4 @@ pub mod Tables
 pub mod Walks
 pub mod Loading
 pub mod Valid
+pub mod Readings

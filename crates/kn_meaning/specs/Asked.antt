@@ -7,7 +7,7 @@ use Rattle.kn_meaning.specs.Replies.{NoMemory}
 use Rattle.kn_meaning.specs.Daemon.{Grounds, State, first_state}
 use Rattle.kn_meaning.specs.Linearized.{Exchange, Along, requests_in, texts_in}
 
--- Without a key file the secret is empty, and no text is admitted. None comes before an authenticator, since ADMIN is never right.
+-- Without a key file the secret is empty, so ADMIN is never right and no verdict is asked for: which number stands here doesn't matter.
 abbrev pub no_grounds : Grounds
 no_grounds = record { secret = []; verdict = λ text a. 1 }
 

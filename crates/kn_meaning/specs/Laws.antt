@@ -5,11 +5,16 @@ use Rattle.kn_meaning.specs.declared.script.Script.{Script}
 use Rattle.kn_meaning.specs.History.{StoreRefusal, is_valid_history, loaded_history}
 use Rattle.kn_meaning.specs.Loading.{IsLoadable, IsFaultyAt, IsFullAt}
 use Rattle.kn_meaning.specs.FirstInput.{IsFirstInput, requests_of}
-use Rattle.kn_meaning.specs.Requests.{Takes, first_of, first_of_line, line_of, line_length, without_return}
+use Rattle.kn_meaning.specs.Requests.{Request, Takes, AreRequests, first_of, first_of_line, line_of, line_length, without_return}
 
 -- the first request of a text that begins with a line and a newline is that of the line
 abbrev pub LineIsFirst : Type 0
 LineIsFirst = (line rest : List ℕ) → line_length line ≡ length line → length line ≤ 8192 → first_of (line ++ 10 ∷ rest) ≡ first_of_line (line_of (without_return line)) rest
+
+-- a text has one list of requests, and one rest
+abbrev pub OneReading : Type 0
+OneReading = (text : List ℕ) (requests others : List Request) (rest other_rest : List ℕ) → AreRequests text requests rest → AreRequests text others other_rest
+    → (requests ≡ others) × (rest ≡ other_rest)
 
 -- an input of the first form requests what its lines ask, and nothing else
 abbrev pub InputIsTaken : Type 0
