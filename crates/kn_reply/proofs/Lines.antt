@@ -4,7 +4,8 @@ use Rattle.std.specs.List.{list_any, list_all}
 use Rattle.std.proofs.lemmas.Bool.{and_parts, or_cases, eqb-true, ne_eqb, leb-true, false≢true}
 use Rattle.std.proofs.lemmas.List.{append_cancel_left}
 use Rattle.kn_meaning.specs.Replies.{quoted_byte}
-use Rattle.kn_reply.specs.Lines.{HeaderTexts, RowTexts, IsHeaderForm, IsRowForm, header_line, row_line, is_numeral, is_name, is_name_byte, is_id, AreBytes, IsSmall}
+use Rattle.kn_reply.specs.Lines.{HeaderTexts, RowTexts, IsHeaderForm, IsRowForm, header_line, row_line, is_numeral, is_name, is_id, AreBytes, IsSmall}
+use Rattle.kn_env.specs.Values.{is_value_name}
 use Rattle.kn_reply.specs.Quoting.{HasNoByte}
 use Rattle.kn_reply.specs.Reading.{HasNoHeader, HasNoRow, HasLargeRow}
 use Rattle.kn_reply.specs.Words.{IsCutHeader, IsCutRow, AreHeaderWords, AreRowWords, row_front}
@@ -14,12 +15,12 @@ use Rattle.kn_reply.proofs.Quotes.{one_principal, closed}
 
 pub name_lacks : (at : ℕ) (name : List ℕ) → at < 33 → is_name name ≡ true → list_any (λ b. b == at) name ≡ false
 name_lacks at name below h =
-    lacks_by is_name_byte at
+    let value = (and_parts (is_value_name name) (not (list_any (λ b. b == 44) name)) h).0 in
+    lacks_by (λ b. nat_le 33 b && nat_le b 126) at
     (λ b byte e.
-    let outer = and_parts (nat_le 33 b && nat_le b 126) (not (b == 44)) byte in
-    let low : 33 ≤ b = leb-true 33 b (and_parts (nat_le 33 b) (nat_le b 126) outer.0).0 in
+    let low : 33 ≤ b = leb-true 33 b (and_parts (nat_le 33 b) (nat_le b 126) byte).0 in
     absurd (omega arith))
-    name (and_parts (nat_le 1 (length name) && nat_le (length name) 128) (list_all is_name_byte name) h).1
+    name (and_parts (nat_le 1 (length name) && nat_le (length name) 128) (list_all (λ b. nat_le 33 b && nat_le b 126) name) value).1
 
 pub cut_header : (texts : HeaderTexts) → IsHeaderForm texts → IsCutHeader texts
 cut_header texts form = record {

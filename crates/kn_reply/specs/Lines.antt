@@ -2,19 +2,16 @@
 use Rattle.std.specs.Prelude.{ℕ, ◌≡◌, ◌≤◌, ◌<◌, Bool, true, false, not, ◌&&◌, ◌||◌, ◌==◌, nat_le, List, [], ◌∷◌, ◌++◌, length, codes, flat_map, slice_index, All}
 use Rattle.std.specs.List.{list_all, list_any}
 use Rattle.kn_base.specs.Decimal.{is_digit, digits_value}
+use Rattle.kn_env.specs.Values.{is_value_name}
 use Rattle.kn_meaning.specs.Replies.{quoted_byte}
 
 -- a decimal number of any length: digits, of which the first is 0 only where it is the only one
 abbrev pub is_numeral : List ℕ → Bool
 is_numeral text = nat_le 1 (length text) && list_all is_digit text && (length text == 1 || not (slice_index text 0 == 48))
 
--- a printing character of ASCII that is neither a space nor a comma
-abbrev pub is_name_byte : ℕ → Bool
-is_name_byte byte = nat_le 33 byte && nat_le byte 126 && not (byte == 44)
-
--- the name of a compliance value, of 1 to 128 bytes
+-- the name of a compliance value, which stood between commas and so has none
 abbrev pub is_name : List ℕ → Bool
-is_name name = nat_le 1 (length name) && nat_le (length name) 128 && list_all is_name_byte name
+is_name name = is_value_name name && not (list_any (λ byte. byte == 44) name)
 
 -- the letter of a shared or of a private assertion, and its number
 abbrev pub is_id : List ℕ → Bool

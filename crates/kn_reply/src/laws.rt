@@ -1,11 +1,13 @@
 //! Laws of the definitions, for the crates above: each is the contract of a function that does nothing.
 
-ghost use Rattle.std.specs.Prelude.{◌≡◌};
+ghost use Rattle.std.specs.Prelude.{◌≡◌, ℕ, List as Of};
 ghost use Rattle.kn_proof.specs.declared.named.NamedRow.{NamedRow};
+ghost use Rattle.kn_proof.specs.declared.reply.ReadReply.{ReadReply};
 ghost use Rattle.kn_meaning.specs.Replies.{row_text};
 ghost use Rattle.kn_reply.specs.declared.header.Header.{Header};
 ghost use Rattle.kn_reply.specs.Lines.{HeaderTexts, IsHeaderForm, IsHeaderInRange, IsLine, IsRowForm, IsRowInRange, RowTexts, header_line, row_line};
-ghost use Rattle.kn_reply.specs.Reading.{IsHeader, IsRow, header_text};
+ghost use Rattle.kn_reply.specs.Reading.{IsFirstFault, IsHeader, IsReply, IsRow, header_text};
+ghost use Rattle.kn_reply.specs.declared.fault.ProofFault.{ProofFault};
 
 /// What has the form of line 1 or of a ROW line is one line: its one newline is its last byte. So what is left behind a
 /// line 1 and so many rows begins with the line of the number of these rows and 2.
@@ -18,4 +20,11 @@ pub fn forms_are_lines()
 pub fn replies_have_the_forms()
     ensures header { (header : Header) → IsHeader header → (texts : HeaderTexts) × (header_text header ≡ header_line texts) × IsHeaderForm texts × IsHeaderInRange texts }
     ensures row { (row : NamedRow) → IsRow row → (texts : RowTexts) × (row_text row ≡ row_line texts) × IsRowForm texts × IsRowInRange texts }
+{}
+
+/// A text is that of one reply at most, it has one first fault at most, and never both.
+pub fn one_reply_or_fault()
+    ensures not_both { (text : Of ℕ) (reply : ReadReply) (fault : ProofFault) → IsReply text reply → ¬ IsFirstFault text fault }
+    ensures one_reply { (text : Of ℕ) (reply other : ReadReply) → IsReply text reply → IsReply text other → reply ≡ other }
+    ensures one_fault { (text : Of ℕ) (fault other : ProofFault) → IsFirstFault text fault → IsFirstFault text other → fault ≡ other }
 {}

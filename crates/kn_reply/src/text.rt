@@ -1,8 +1,8 @@
 //! The words of a line.
-ghost use Rattle.std.specs.Prelude.{◌≡◌, ◌≢◌, ◌==◌, ◌∷◌, ◌++◌, ℕ, List, true, false, MatchOption, IfSome, length, decimal, ◌<◌, ◌≤◌, IfNone};
+ghost use Rattle.std.specs.Prelude.{◌≡◌, ◌≢◌, ◌==◌, ◌&&◌, nat_le, ◌∷◌, ◌++◌, ℕ, List, true, false, MatchOption, IfSome, length, decimal, ◌<◌, ◌≤◌, IfNone};
 ghost use Rattle.std.specs.List.{list_any, list_all};
 ghost use Rattle.kn_base.specs.Decimal.{is_digit};
-ghost use Rattle.kn_reply.specs.Lines.{is_numeral, is_name, is_name_byte, IsShort, IsSmall};
+ghost use Rattle.kn_reply.specs.Lines.{is_numeral, is_name, IsShort, IsSmall};
 
 use kn_base::decimal;
 use kn_base::limits::COMPLIANCE_VALUE_BYTES;
@@ -70,21 +70,24 @@ pub(crate) fn small_number(numeral: &[u8]) -> Option<u8>
     Some(n as u8)
 }
 
-fn is_name_byte(byte: u8) -> bool
-    ensures { result ≡ is_name_byte byte }
+fn are_printing(text: &[u8]) -> bool
+    ensures { result ≡ list_all (λ byte. nat_le 33 byte && nat_le byte 126) text.now }
 {
-    33 <= byte && byte <= 126 && byte != b','
+    text.iter().all(|byte| 33 <= *byte && *byte <= 126)
 }
 
-fn are_name_bytes(text: &[u8]) -> bool
-    ensures { result ≡ list_all is_name_byte text.now }
+fn has_comma(text: &[u8]) -> bool
+    ensures { result ≡ list_any (λ byte. byte == 44) text.now }
 {
-    text.iter().all(|byte| is_name_byte(*byte))
+    text.iter().any(|byte| *byte == b',')
 }
 
 /// Whether a reply may name a compliance value so.
 pub(crate) fn is_name(text: &[u8]) -> bool
     ensures { result ≡ is_name text.now }
 {
-    1 <= text.len() && text.len() <= COMPLIANCE_VALUE_BYTES && are_name_bytes(text)
+    1 <= text.len()
+        && text.len() <= COMPLIANCE_VALUE_BYTES
+        && are_printing(text)
+        && !has_comma(text)
 }
