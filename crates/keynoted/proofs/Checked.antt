@@ -26,7 +26,7 @@ use Rattle.kn_commands.specs.Names.{Names, in_order}
 use Rattle.kn_commands.specs.Seen.{FilesSeen, LinkSeen, SinkSeen, HasContent, IsTooLarge}
 use Rattle.kn_commands.specs.Loaded.{IsLimitAt}
 use Rattle.kn_commands.specs.Asking.{status_of, line_of}
-use Rattle.kn_commands.specs.Checking.{IsQuery, HasQuery, HasNoQuery, name_of, count_to, StopsAt, IsFaultyText, IsUnprovedText, IsShown, CheckCause, line_of_ending, status_of_ending}
+use Rattle.kn_commands.specs.Checking.{IsQuery, HasQuery, HasNoQuery, name_of, count_before, count_to, StopsAt, IsFaultyText, IsUnprovedText, IsShown, CheckCause, line_of_ending, status_of_ending}
 use Rattle.keynoted.specs.Running.{IsTold, IsCheckRun, EndsBy}
 use Rattle.keynoted.proofs.Ended.{told-whole, another, due_or_nine}
 use Rattle.keynoted.proofs.Complete.{content_is, not_too_large}
@@ -79,6 +79,11 @@ ending_status f f' names (Proved value name) cause = record { not_words = λ e. 
 take_all_three : (names : Names) → take 3 (in_order names) ≡ in_order names
 take_all_three names = refl
 
+few_before : (source : Source) → count_before source ≤ 3
+few_before Policy = omega arith
+few_before TheScript = omega arith
+few_before Reply = omega arith
+
 few_to : (source : Source) → count_to source ≤ 3
 few_to Policy = omega arith
 few_to TheScript = omega arith
@@ -92,7 +97,10 @@ stop_asked f f' names source FileFailed cause = (count_to source, few_to source,
 stop_asked f f' names source FileTooLarge cause = (count_to source, few_to source, cause.0.asked)
 stop_asked f f' names source (S.Policy n fault) cause = (1, omega arith, cause.2.asked)
 stop_asked f f' names source (Limit n word count) cause = (1, omega arith, cause.2.asked)
-stop_asked f f' names source Memory cause = cause
+stop_asked f f' names source Memory cause =
+    ⊎_elim (λ (e : f'.asked ≡ f.asked ++ take (count_before source) (in_order names)). (count_before source, few_before source, e))
+    (λ (e : f'.asked ≡ f.asked ++ take (count_to source) (in_order names)). (count_to source, few_to source, e))
+    cause.asked
 stop_asked f f' names source Words cause = absurd cause
 stop_asked f f' names source ReadFailed cause = absurd cause
 stop_asked f f' names source InputForm cause = absurd cause

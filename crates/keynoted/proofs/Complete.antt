@@ -20,7 +20,7 @@ use Rattle.kn_commands.specs.Asking.{IsWrongInput, IsAnswering, Cause, status_of
 use Rattle.keynoted.specs.Commands.{AskFor}
 use Rattle.keynoted.specs.Running.{WordsFit, IsTold, IsRun, IsFront}
 use Rattle.kn_commands.proofs.Due.{input-short}
-use Rattle.keynoted.proofs.Ended.{due_or_nine, another, told-whole}
+use Rattle.keynoted.proofs.Ended.{due_or_nine, another, told-whole, memory_keeps}
 
 -- the file that the words name
 same_name : (given : List (List ℕ)) (a b : List ℕ) → AskFor given a → AskFor given b → a ≡ b
@@ -339,7 +339,7 @@ module _ (given : List (List ℕ)) (f f' : FilesSeen) (o o' : LinkSeen) (s s' : 
   nothing_written name (Some WriteFailed) fit cause told other calm_link =
       absurd (calm_link cause.answering.5)
   nothing_written name (Some Memory) fit cause told other calm_link =
-      cause.1
+      memory_keeps name f f' o o' cause
 
   pub run-nothing_written : IsRun given f f' o o' s s' status →
       (status ≡ 0 → ⊥) → (Rose o.faults o'.faults → ⊥) → o'.written ≡ o.written

@@ -6,7 +6,7 @@ use Rattle.kn_outside.specs.Faults.{Rose}
 use Rattle.kn_commands.specs.declared.stop.Stop.{Stop}
 use Rattle.kn_commands.specs.declared.stop.Stop.TheVariants.{Words, FileFailed, FileTooLarge, Policy, Limit, ReadFailed, InputForm, WriteFailed, Memory}
 use Rattle.kn_commands.specs.Seen.{FilesSeen, LinkSeen, SinkSeen}
-use Rattle.kn_commands.specs.Asking.{Cause, status_of, line_of}
+use Rattle.kn_commands.specs.Asking.{IsAnswering, Cause, status_of, line_of}
 use Rattle.keynoted.specs.Commands.{AskFor}
 use Rattle.keynoted.specs.Running.{WordsFit, IsTold, IsRun, IsDone, IsRefused, IsFileFault, IsNoPolicy, IsLinkFault}
 
@@ -29,6 +29,14 @@ due_or_nine line s s' due status told =
     ⊎_elim (λ (t : (status ≡ due) × (s'.written ≡ more line s.written)). inl t.0)
     (λ (t : (status ≡ 9) × Rose s.faults s'.faults × (n : ℕ) × (n < length line) × (s'.written ≡ more (take n line) s.written)). inr (t.0, t.1))
     told
+
+-- want of memory leaves what was written
+pub memory_keeps : (name : List ℕ) (f f' : FilesSeen) (o o' : LinkSeen) → Cause name f f' o o' (Some Memory) → o'.written ≡ o.written
+memory_keeps name f f' o o' cause =
+    ⊎_elim
+    (λ (early : ((f'.asked ≡ f.asked) ⊎ (f'.asked ≡ f.asked ++ name ∷ [])) × (o' ≡ o)). ap (λ (l : LinkSeen). l.written) early.1)
+    (λ (late : IsAnswering name f f' o o' (Some Memory)). late.answering)
+    cause
 
 module _ (given : List (List ℕ)) (f f' : FilesSeen) (o o' : LinkSeen) (s s' : SinkSeen) (status : ℕ) where
   done : (name : List ℕ) (due : Option Stop) → WordsFit given name due → Cause name f f' o o' due → IsTold (line_of name due) s s' (status_of due) status → status ≡ 0 →
@@ -147,7 +155,7 @@ module _ (given : List (List ℕ)) (f f' : FilesSeen) (o o' : LinkSeen) (s s' : 
   memory name (Some WriteFailed) fit cause told at = absurd (another (line_of name (Some WriteFailed)) s s' 4 status 5 told at (λ q. omega arith) (λ q. omega arith))
   memory name (Some Memory) fit cause told at =
       let whole = told-whole (line_of name (Some Memory)) s s' 5 status told (λ nine. absurd (omega arith)) in
-      (cause.1, whole.1)
+      (memory_keeps name f f' o o' cause, whole.1)
 
   pub run-memory : IsRun given f f' o o' s s' status → status ≡ 5 →
       (o'.written ≡ o.written) × (s'.written ≡ more (codes "error memory\n") s.written)
@@ -200,7 +208,12 @@ module _ (given : List (List ℕ)) (f f' : FilesSeen) (o o' : LinkSeen) (s s' : 
   asks name (Some ReadFailed) fit cause = inr (name, fit, cause.asked)
   asks name (Some InputForm) fit cause = inr (name, fit, cause.asked)
   asks name (Some WriteFailed) fit cause = inr (name, fit, cause.asked)
-  asks name (Some Memory) fit cause = ⊎_elim (λ (same : f'.asked ≡ f.asked). inl same) (λ (one : f'.asked ≡ f.asked ++ name ∷ []). inr (name, fit, one)) cause.0
+  asks name (Some Memory) fit cause =
+      ⊎_elim
+      (λ (early : ((f'.asked ≡ f.asked) ⊎ (f'.asked ≡ f.asked ++ name ∷ [])) × (o' ≡ o)).
+      ⊎_elim (λ (same : f'.asked ≡ f.asked). inl same) (λ (one : f'.asked ≡ f.asked ++ name ∷ []). inr (name, fit, one)) early.0)
+      (λ (late : IsAnswering name f f' o o' (Some Memory)). inr (name, fit, late.asked))
+      cause
 
   pub run-asks : IsRun given f f' o o' s s' status → (f'.asked ≡ f.asked) ⊎ ((file : List ℕ) × AskFor given file × (f'.asked ≡ f.asked ++ file ∷ []))
   run-asks r = asks r.name r.due r.words r.cause

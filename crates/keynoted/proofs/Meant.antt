@@ -5,7 +5,6 @@ use Rattle.kn_meaning.specs.Requests.{Request, Query}
 use Rattle.kn_meaning.specs.Daemon.{State, Session, first_state}
 use Rattle.kn_meaning.specs.Asked.{no_grounds}
 use Rattle.kn_meaning.specs.History.{loaded_history}
-use Rattle.kn_meaning.specs.FirstInput.{requests_of}
 use Rattle.kn_meaning.specs.Played.{IsAsking, IsMeant, played, up_to_end}
 use Rattle.kn_commands.specs.Checking.{IsQuery}
 use Rattle.kn_commands.proofs.Reached.{requests_once}
@@ -76,5 +75,5 @@ meant_once history requests s s' v v' m m' =
 -- and so does a script
 pub query_once : (texts : List (List ℕ)) (script : List ℕ) (s s' : Session) (v v' : List (List ℕ)) → IsQuery texts script s v → IsQuery texts script s' v' → (s ≡ s') × (v ≡ v')
 query_once texts script s s' v v' q q' =
-    meant_once (loaded_history texts) (requests_of q'.parsed) s s' v v'
-    (subst (λ (requests : List Request). IsMeant (loaded_history texts) requests s v) (requests_once script q.parsed q'.parsed q.form q'.form) q.meant) q'.meant
+    meant_once (loaded_history texts) q'.requests s s' v v'
+    (subst (λ (requests : List Request). IsMeant (loaded_history texts) requests s v) (requests_once script q.requests q'.requests q.whole q'.whole) q.meant) q'.meant

@@ -1,5 +1,5 @@
 -- Files that are read one after another while a reply is checked, and what they hold.
-use Rattle.std.proofs.Common.{◌≡◌, ℕ, ◌≤◌, List, [], ◌∷◌, ◌++◌, length, take, refl, sym, ap, ◌∙◌, subst, arith, append_assoc, append-nil, Option, Some, None}
+use Rattle.std.proofs.Common.{◌≡◌, ℕ, ◌≤◌, List, [], ◌∷◌, ◌++◌, length, take, refl, sym, ap, ◌∙◌, subst, arith, append_assoc, append-nil, Option, Some, inl, inr}
 use Rattle.std.specs.Prelude.{IfSome, IsSomeAnd, ◌<◌}
 use Rattle.kn_base.specs.declared.limits.TheConstants.{FILE_BYTES}
 use Rattle.kn_outside.specs.Faults.{Rose}
@@ -7,11 +7,12 @@ use Rattle.kn_files.specs.Pieces.{pieces_of}
 use Rattle.kn_trees.specs.declared.assertion.Assertion.{Assertion}
 use Rattle.kn_meaning.specs.declared.script.Script.{Script}
 use Rattle.kn_meaning.specs.History.{loaded_history}
-use Rattle.kn_meaning.specs.Requests.{Request, Takes, first_of}
+use Rattle.kn_meaning.specs.Requests.{Request, Takes}
 use Rattle.kn_meaning.specs.Daemon.{Session}
 use Rattle.kn_meaning.specs.FirstInput.{IsFirstInput, requests_of}
 use Rattle.kn_meaning.specs.Played.{IsMeant}
 use Rattle.kn_meaning.proofs.Asked.{input_is_taken}
+use Rattle.kn_meaning.proofs.Readings.{takes_once}
 use Rattle.kn_commands.specs.declared.stop.Stop.{Stop}
 use Rattle.kn_commands.specs.declared.stop.Stop.TheVariants.{Words, FileFailed, FileTooLarge, Limit, ReadFailed, InputForm, WriteFailed, Memory}
 use Rattle.kn_commands.specs.declared.stop.Stop.TheVariants as S
@@ -22,7 +23,7 @@ use Rattle.kn_commands.specs.declared.ending.Ending.TheVariants.{Stopped, NoQuer
 use Rattle.kn_commands.specs.Names.{Names, in_order}
 use Rattle.kn_commands.specs.Seen.{FilesSeen, HasContent, IsTooLarge, IsPolicy}
 use Rattle.kn_commands.specs.Loaded.{IsLoaded, StopsLoading}
-use Rattle.kn_commands.specs.Checking.{IsQuery, HasQuery, HasNoQuery, name_of, count_before, count_to, Reached, StopsAt, Shows, CheckCause, IsUnread, HaveAsked}
+use Rattle.kn_commands.specs.Checking.{IsQuery, HasQuery, HasNoQuery, name_of, count_before, count_to, Reached, HasComeTo, StopsAt, Shows, CheckCause, IsUnread, HaveAsked}
 use Rattle.kn_commands.proofs.Read.{rose-earlier}
 
 -- what a file holds was there before
@@ -43,11 +44,6 @@ one_more : (names : Names) (source : Source) → take (count_before source) (in_
 one_more names Policy = refl
 one_more names TheScript = refl
 one_more names Reply = refl
-
-few_before : (source : Source) → count_before source ≤ 3
-few_before Policy = omega arith
-few_before TheScript = omega arith
-few_before Reply = omega arith
 
 asked_more : (f f' f'' : FilesSeen) (names : Names) (source : Source) → HaveAsked f f' names (count_before source) →
     f''.asked ≡ f'.asked ++ name_of names source ∷ [] → f''.asked ≡ f.asked ++ take (count_to source) (in_order names)
@@ -70,7 +66,7 @@ unread_stops f f' f'' names source FileFailed before reached unread =
     (record { asked = asked_more f f' f'' names source before unread.0; reached = reached }, rose-earlier f.faults f'.faults f''.faults before.later unread.1)
 unread_stops f f' f'' names source FileTooLarge before reached unread =
     (record { asked = asked_more f f' f'' names source before unread.0; reached = reached }, too_large_there f f' (name_of names source) before.content unread.1)
-unread_stops f f' f'' names source Memory before reached unread = (count_before source, few_before source, unread ∙ before.asked)
+unread_stops f f' f'' names source Memory before reached unread = record { asked = inl (unread ∙ before.asked); reached = reached }
 unread_stops f f' f'' names source Words before reached unread = absurd unread
 unread_stops f f' f'' names source (S.Policy n fault) before reached unread = absurd unread
 unread_stops f f' f'' names source (Limit n word count) before reached unread = absurd unread
@@ -83,7 +79,7 @@ pub load_stops : (f f' : FilesSeen) (names : Names) (bytes : List ℕ) (stop : S
     StopsLoading (pieces_of bytes) stop → StopsAt f f' names Policy stop
 load_stops f f' names bytes (S.Policy n fault) before has stops = (refl, bytes, record { asked = before.asked; content = has }, stops)
 load_stops f f' names bytes (Limit n word count) before has stops = (refl, bytes, record { asked = before.asked; content = has }, stops)
-load_stops f f' names bytes Memory before has stops = (1, omega arith, before.asked)
+load_stops f f' names bytes Memory before has stops = record { asked = inr before.asked; reached = tt }
 load_stops f f' names bytes Words before has stops = absurd stops
 load_stops f f' names bytes FileFailed before has stops = absurd stops
 load_stops f f' names bytes FileTooLarge before has stops = absurd stops
@@ -91,28 +87,15 @@ load_stops f f' names bytes ReadFailed before has stops = absurd stops
 load_stops f f' names bytes InputForm before has stops = absurd stops
 load_stops f f' names bytes WriteFailed before has stops = absurd stops
 
-no_request : (first : Request × List ℕ) → None ≡ Some first → ⊥
-no_request first e = cc
-
-same_first : (a b : Request × List ℕ) → Some a ≡ Some b → a ≡ b
-same_first a b e = cc
+-- a script of the form means what its lines request
+pub query_there : (texts : List (List ℕ)) (script : List ℕ) (parsed : Option Script) (session : Session) (values : List (List ℕ)) → IsFirstInput script parsed →
+    IsMeant (loaded_history texts) (requests_of parsed) session values → IsQuery texts script session values
+query_there texts script parsed session values form meant =
+    record { parsed = parsed; form = form; requests = requests_of parsed; whole = input_is_taken script parsed form; meant = meant }
 
 -- a text requests one list of requests
-takes_once : (text : List ℕ) (requests others : List Request) → Takes text requests [] → Takes text others [] → requests ≡ others
-takes_once text [] [] a b = refl
-takes_once text [] (other ∷ others) a b = absurd (no_request (other, b.0) (ap first_of (sym a) ∙ b.1))
-takes_once text (request ∷ requests) [] a b = absurd (no_request (request, a.0) (ap first_of (sym b) ∙ a.1))
-takes_once text (request ∷ requests) (other ∷ others) a b =
-    let both = same_first (request, a.0) (other, b.0) (sym a.1 ∙ b.1) in
-    let same : request ≡ other = ap (λ (p : Request × List ℕ). p.0) both in
-    let left : a.0 ≡ b.0 = ap (λ (p : Request × List ℕ). p.1) both in
-    let rest : requests ≡ others = takes_once b.0 requests others (subst (λ (t : List ℕ). Takes t requests []) left a.2) b.2 in
-    ap (λ (r : Request). r ∷ requests) same ∙ ap (λ (rs : List Request). other ∷ rs) rest
-
--- an input of the first form requests the same however it is read
-pub requests_once : (input : List ℕ) (a b : Option Script) → IsFirstInput input a → IsFirstInput input b → requests_of a ≡ requests_of b
-requests_once input a b first second =
-    takes_once input (requests_of a) (requests_of b) (input_is_taken input a first) (input_is_taken input b second)
+pub requests_once : (text : List ℕ) (requests others : List Request) → Takes text requests [] → Takes text others [] → requests ≡ others
+requests_once text requests others a b = (takes_once text requests others [] [] a b refl refl).0
 
 -- a script that means nothing in one reading means nothing
 pub no_query : (texts : List (List ℕ)) (script : List ℕ) (parsed : Option Script) → IsFirstInput script parsed →
@@ -120,7 +103,8 @@ pub no_query : (texts : List (List ℕ)) (script : List ℕ) (parsed : Option Sc
     (session : Session) (values : List (List ℕ)) → ¬ IsQuery texts script session values
 no_query texts script parsed form none session values query =
     none session values
-    (subst (λ (requests : List Request). IsMeant (loaded_history texts) requests session values) (requests_once script query.parsed parsed query.form form) query.meant)
+    (subst (λ (requests : List Request). IsMeant (loaded_history texts) requests session values)
+    (requests_once script query.requests (requests_of parsed) query.whole (input_is_taken script parsed form)) query.meant)
 
 -- a policy that was read and loaded
 pub policy_there : (f : FilesSeen) (name bytes : List ℕ) (assertions : List Assertion) → HasContent f name bytes → IsLoaded (pieces_of bytes) assertions → IsPolicy f name bytes
@@ -130,7 +114,8 @@ policy_there f name bytes assertions has loaded = record { content = has; loadab
 pub shown_cause : (f f' : FilesSeen) (names : Names) (session : Session) (values : List (List ℕ)) (text : List ℕ) (ending : Ending) → HaveAsked f f' names 3 →
     HasQuery f names session values → HasContent f names.reply text → Shows session values text ending → CheckCause f f' names ending
 shown_cause f f' names session values text (Stopped source stop) asked query has shows =
-    subst (λ (s : Stop). StopsAt f f' names source s) (sym shows.1) (3, omega arith, asked.asked)
+    subst (λ (s : Stop). StopsAt f f' names source s) (sym shows.1)
+    (subst (λ (at : Source). HasComeTo f f' names at) (sym shows.0) (record { asked = inr asked.asked; reached = (session, values, query) }))
 shown_cause f f' names session values text NoQuery asked query has shows = absurd shows
 shown_cause f f' names session values text (Faulty fault line) asked query has shows =
     record { asked = asked.asked; session = session; values = values; query = query; text = text; content = has; shows = shows }

@@ -60,7 +60,7 @@ pub record IsAnswering (name : List ℕ) (f f' : FilesSeen) (o o' : LinkSeen) (d
   pub policy : IsPolicy f name bytes
   pub answering : Answering bytes o o' due
 
--- why a run ends so, and what it leaves of the files and of the link
+-- Why a run ends so, and what it leaves of the files and of the link. Before the policy is loaded the link is untouched.
 abbrev pub Cause : List ℕ → FilesSeen → FilesSeen → LinkSeen → LinkSeen → Option Stop → Type 0
 Cause name f f' o o' (Some Words) = (f' ≡ f) × (o' ≡ o)
 Cause name f f' o o' (Some FileFailed) = (f'.asked ≡ f.asked ++ name ∷ []) × Rose f.faults f'.faults × (o' ≡ o)
@@ -72,7 +72,7 @@ Cause name f f' o o' (Some (Limit n word count)) = (bytes : List ℕ) × (f'.ask
 Cause name f f' o o' (Some ReadFailed) = IsAnswering name f f' o o' (Some ReadFailed)
 Cause name f f' o o' (Some InputForm) = IsAnswering name f f' o o' (Some InputForm)
 Cause name f f' o o' (Some WriteFailed) = IsAnswering name f f' o o' (Some WriteFailed)
-Cause name f f' o o' (Some Memory) = ((f'.asked ≡ f.asked) ⊎ (f'.asked ≡ f.asked ++ name ∷ [])) × (o'.written ≡ o.written)
+Cause name f f' o o' (Some Memory) = (((f'.asked ≡ f.asked) ⊎ (f'.asked ≡ f.asked ++ name ∷ [])) × (o' ≡ o)) ⊎ IsAnswering name f f' o o' (Some Memory)
 Cause name f f' o o' None = IsAnswering name f f' o o' None
 
 abbrev pub status_of : Option Stop → ℕ

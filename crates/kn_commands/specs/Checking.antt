@@ -9,7 +9,8 @@ use Rattle.kn_meaning.specs.declared.script.Script.{Script}
 use Rattle.kn_meaning.specs.History.{loaded_history}
 use Rattle.kn_meaning.specs.Loading.{IsFaultyAt}
 use Rattle.kn_meaning.specs.Daemon.{Session, equations_of}
-use Rattle.kn_meaning.specs.FirstInput.{IsFirstInput, requests_of}
+use Rattle.kn_meaning.specs.FirstInput.{IsFirstInput}
+use Rattle.kn_meaning.specs.Requests.{Request, Takes}
 use Rattle.kn_meaning.specs.Played.{IsMeant}
 use Rattle.kn_reply.specs.declared.fault.ProofFault.{ProofFault}
 use Rattle.kn_reply.specs.declared.fault.ProofFault.TheVariants as F
@@ -27,11 +28,13 @@ use Rattle.kn_commands.specs.Loaded.{IsLimitAt}
 use Rattle.kn_commands.specs.Seen.{FilesSeen, HasContent, IsTooLarge, IsPolicy}
 use Rattle.kn_commands.specs.Asking.{line_of, status_of}
 
--- the script has the form of an input, and means this query over the policy of these texts
+-- the script has the form of an input, and its requests mean this query over the policy of these texts
 pub record IsQuery (texts : List (List ℕ)) (script : List ℕ) (session : Session) (values : List (List ℕ)) : Type 0 where
   pub parsed : Option Script
   pub form : IsFirstInput script parsed
-  pub meant : IsMeant (loaded_history texts) (requests_of parsed) session values
+  pub requests : List Request
+  pub whole : Takes script requests []
+  pub meant : IsMeant (loaded_history texts) requests session values
 
 -- the files hold a policy, and a script that means this query over it
 pub record HasQuery (f : FilesSeen) (names : Names) (session : Session) (values : List (List ℕ)) : Type 0 where
@@ -74,8 +77,13 @@ Reached f names TheScript = (bytes : List ℕ) × IsPolicy f names.policy bytes
 Reached f names Reply = (session : Session) × (values : List (List ℕ)) × HasQuery f names session values
 
 -- a file was asked for after those before it, and they held what they have to
-pub record IsAsked (f f' : FilesSeen) (names : Names) (source : Source) : Type 0 where
+pub record HasAskedFor (f f' : FilesSeen) (names : Names) (source : Source) : Type 0 where
   pub asked : f'.asked ≡ f.asked ++ take (count_to source) (in_order names)
+  pub reached : Reached f names source
+
+-- a file was about to be asked for, or was, and those before it held what they have to
+pub record HasComeTo (f f' : FilesSeen) (names : Names) (source : Source) : Type 0 where
+  pub asked : (f'.asked ≡ f.asked ++ take (count_before source) (in_order names)) ⊎ (f'.asked ≡ f.asked ++ take (count_to source) (in_order names))
   pub reached : Reached f names source
 
 -- the policy file was read, and holds this
@@ -85,11 +93,11 @@ pub record IsPolicyRead (f f' : FilesSeen) (names : Names) (bytes : List ℕ) : 
 
 -- why reading a file, or loading the policy, stops a run
 abbrev pub StopsAt : FilesSeen → FilesSeen → Names → Source → Stop → Type 0
-StopsAt f f' names source FileFailed = IsAsked f f' names source × Rose f.faults f'.faults
-StopsAt f f' names source FileTooLarge = IsAsked f f' names source × IsTooLarge f (name_of names source)
+StopsAt f f' names source FileFailed = HasAskedFor f f' names source × Rose f.faults f'.faults
+StopsAt f f' names source FileTooLarge = HasAskedFor f f' names source × IsTooLarge f (name_of names source)
 StopsAt f f' names source (S.Policy n fault) = (source ≡ Policy) × (bytes : List ℕ) × IsPolicyRead f f' names bytes × IsFaultyAt (pieces_of bytes) n fault
 StopsAt f f' names source (Limit n word count) = (source ≡ Policy) × (bytes : List ℕ) × IsPolicyRead f f' names bytes × IsLimitAt (pieces_of bytes) n word count
-StopsAt f f' names source Memory = (n : ℕ) × (n ≤ 3) × (f'.asked ≡ f.asked ++ take n (in_order names))
+StopsAt f f' names source Memory = HasComeTo f f' names source
 StopsAt f f' names source Words = ⊥
 StopsAt f f' names source ReadFailed = ⊥
 StopsAt f f' names source InputForm = ⊥

@@ -1,17 +1,17 @@
-//! What stops the program before its work is done.
+//! What stops a command.
 ghost use Rattle.std.specs.Prelude.{◌≡◌, Some};
 
 use kn_assert::ReadFault;
 use kn_meaning::refusal::LimitWord;
 
-/// Why `ask` writes no reply, or only a part of it.
+/// What stops a command before its work is done.
 #[derive(Debug, Clone, Copy, PartialEq, Eq)]
 pub enum Stop {
-    /// The words match no form.
+    /// The words are those of no command.
     Words,
-    /// The policy file could not be read.
+    /// The file could not be read.
     FileFailed,
-    /// The policy file is larger than any that is read.
+    /// The file is larger than any that is read.
     FileTooLarge,
     /// The assertion of this number in the policy file, counted from 1, has this fault.
     Policy {
@@ -25,11 +25,11 @@ pub enum Stop {
         word: LimitWord,
         count: u32,
     },
-    /// Reading the link failed.
+    /// `ask`: reading the link failed.
     ReadFailed,
-    /// The input hasn't the first input form.
+    /// `ask`: the input hasn't the first form.
     InputForm,
-    /// Writing to the link failed.
+    /// `ask`: writing to the link failed.
     WriteFailed,
     /// There was no memory.
     Memory,

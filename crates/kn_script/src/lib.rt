@@ -1,4 +1,4 @@
-//! The input of `keynoted ask`: one session that enters attributes, names requesters and asks.
+//! The input of `ask`, which is the script of `check`: one session that enters attributes, names requesters and asks.
 #![tactic(auto)]
 
 mod attributes;

@@ -1,4 +1,4 @@
-use Rattle.std.proofs.Common.{◌≡◌, ◌∷◌, [], ◌++◌, arith}
+use Rattle.std.proofs.Common.{◌≡◌, ◌∷◌, [], ◌++◌, inr}
 use Rattle.kn_files.specs.Pieces.{pieces_of}
 use Rattle.kn_meaning.specs.FirstInput.{IsFirstInput}
 use Rattle.kn_meaning.specs.History.{loaded_history}
@@ -6,7 +6,7 @@ use Rattle.kn_play.specs.Answering.{session_at}
 use Rattle.kn_commands.specs.declared.ending.Source.TheVariants.{Script as TheScript}
 use Rattle.kn_commands.specs.Seen.{FilesSeen, HasContent}
 use Rattle.kn_commands.specs.Checking.{HasQuery, HaveAsked, IsUnread}
-use Rattle.kn_commands.proofs.Reached.{content_there, read_more, unread_stops, no_query, policy_there}
+use Rattle.kn_commands.proofs.Reached.{content_there, read_more, unread_stops, query_there, no_query, policy_there}
 use Rattle.kn_commands.proofs.checking.check_script.Goals as goal
 
 pub returns-in-Err-clause-cause : goal.returns-in-Err-clause-cause
@@ -22,7 +22,7 @@ returns-in-Err-NoMemory-clause-cause g c = λ f bytes has loaded before.
     let f2 : FilesSeen = record { content = g.F.Files.content c.read_file.new.files; asked = g.F.Files.asked c.read_file.new.files; faults = g.F.Files.faults c.read_file.new.files } in
     let asked : f2.asked ≡ f1.asked ++ c.args.names.now.script ∷ [] = rw c.name.ensures at c.in-Ok.ensures.asked in
     let all : HaveAsked f f2 c.args.names.now 2 = read_more f f1 f2 c.args.names.now TheScript before asked c.in-Ok.ensures.keeps_content c.in-Ok.ensures.later in
-    (2, omega arith, all.asked)
+    record { asked = inr all.asked; reached = (bytes, policy_there f c.args.names.now.policy bytes c.args.assertions.now has loaded) }
 
 pub returns-in-Some-clause-cause : goal.returns-in-Some-clause-cause
 returns-in-Some-clause-cause g c = λ f bytes has loaded before.
@@ -37,7 +37,9 @@ returns-in-Some-clause-cause g c = λ f bytes has loaded before.
       policy = policy_there f c.args.names.now.policy bytes c.args.assertions.now has loaded;
       script = c.in-Ok.text;
       content = has_script;
-      query = record { parsed = c.in-Ok-read_script.script; form = form; meant = rw c.in-Some.is at (c.in-Ok-meant.ensures.some (loaded_history (pieces_of bytes))) };
+      query =
+          query_there (pieces_of bytes) c.in-Ok.text c.in-Ok-read_script.script (session_at (loaded_history (pieces_of bytes)) c.in-Some.meant.session) c.in-Some.meant.values.now form
+          (rw c.in-Some.is at (c.in-Ok-meant.ensures.some (loaded_history (pieces_of bytes))));
     } in
     c.check_reply.ensures.cause f (pieces_of bytes) loaded query all
 
@@ -65,4 +67,4 @@ returns-in-Err-meant-clause-cause g c = λ f bytes has loaded before.
     let f2 : FilesSeen = record { content = g.F.Files.content c.read_file.new.files; asked = g.F.Files.asked c.read_file.new.files; faults = g.F.Files.faults c.read_file.new.files } in
     let asked : f2.asked ≡ f1.asked ++ c.args.names.now.script ∷ [] = rw c.name.ensures at c.in-Ok.ensures.asked in
     let all : HaveAsked f f2 c.args.names.now 2 = read_more f f1 f2 c.args.names.now TheScript before asked c.in-Ok.ensures.keeps_content c.in-Ok.ensures.later in
-    (2, omega arith, all.asked)
+    record { asked = inr all.asked; reached = (bytes, policy_there f c.args.names.now.policy bytes c.args.assertions.now has loaded) }
