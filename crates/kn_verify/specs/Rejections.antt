@@ -1,15 +1,17 @@
 -- Why the rows of a reply are no proof of its value (keynoted's own): the first item that fails, in one order.
-use Rattle.std.specs.Prelude.{ℕ, ◌<◌, ◌≤◌, ◌≡◌, ◌≢◌, true, false, List, [], All, Any, take, slice_get, Some}
+use Rattle.std.specs.Prelude.{ℕ, ◌<◌, ◌≤◌, ◌≡◌, ◌≢◌, true, false, List, [], All, Any, map, take, slice_get, Some}
 use Rattle.std.specs.List.{list_any}
 use Rattle.std.specs.Str.{bytes_eq}
 use Rattle.kn_principal.specs.Principals.{policy}
 use Rattle.kn_proof.specs.declared.named.NamedRow.{NamedRow}
+use Rattle.kn_check.specs.Rejects.{reason_number, reason_row, reason_found}
 use Rattle.kn_check.specs.declared.reject.Reject.{Reject}
 use Rattle.kn_check.specs.declared.reject.Reject.TheVariants.{Range, Requester, Again, Zero, Foreign, Unsupported, Unclosed, Claim}
 use Rattle.kn_meaning.specs.Formulas.{Levels}
 use Rattle.kn_meaning.specs.Equations.{Equations, Statement, is_requester, worth}
 use Rattle.kn_meaning.specs.Occurring.{occurring}
-use Rattle.kn_meaning.specs.Proofs.{levels_by, AreRows, IsClosed}
+use Rattle.kn_meaning.specs.Proofs.{levels_by, AreRows, IsClosed, IsProof}
+use Rattle.kn_answer.specs.Numbering.{AreDistinct}
 
 -- the row's principal and assertion occur in the query, and its level is one of the query's
 pub record IsInRange (e : Equations) (row : NamedRow) : Type 0 where
@@ -85,3 +87,21 @@ abbrev pub IsRejected : Equations → List NamedRow → ℕ → Reject → Type 
 IsRejected e rows claimed (Unclosed i found) = AreRows e [] rows × IsUnclosed e (levels_by e rows) i found
 IsRejected e rows claimed (Claim found) = AreRows e [] rows × IsOtherClaim e (levels_by e rows) claimed found
 IsRejected e rows claimed reject = IsRowFault e rows reject
+
+-- two reasons are told alike: by their number, row and level
+pub record SameReason (reject other : Reject) : Type 0 where
+  pub number : reason_number reject ≡ reason_number other
+  pub row : reason_row reject ≡ reason_row other
+  pub found : reason_found reject ≡ reason_found other
+
+-- where the ids of assertions differ, rows that are refused are told one reason
+abbrev pub OneReason : Type 0
+OneReason =
+    (e : Equations) → AreDistinct (map (λ s. s.id) e.statements)
+    → (rows : List NamedRow) (level : ℕ) (reject other : Reject) → IsRejected e rows level reject → IsRejected e rows level other → SameReason reject other
+
+-- and are no proof
+abbrev pub NotBoth : Type 0
+NotBoth =
+    (e : Equations) → AreDistinct (map (λ s. s.id) e.statements)
+    → (rows : List NamedRow) (level : ℕ) (reject : Reject) → IsProof e rows level → IsRejected e rows level reject → ⊥

@@ -2,6 +2,7 @@
 //! assertions of a policy.
 #![tactic(auto)]
 
+pub mod laws;
 mod query;
 #[cfg(test)]
 mod tests;
