@@ -1,6 +1,6 @@
 -- The paragraphs of a file are the parts between its cuts.
-use Rattle.std.proofs.Common.{◌≡◌, ℕ, zero, suc, true, false, Bool, ◌+◌, ◌<◌, ◌≤◌, ◌⊎◌, inl, inr, List, [], ◌∷◌, ◌++◌, cond, length, take, get_or, map, arith, refl, sym, ◌∙◌, ap, ap₂, subst, append-nil, append_assoc, length-append, if◌then◌else◌}
-use Rattle.std.specs.Prelude.{not, ◌&&◌, ◌||◌, filter, fold, Contains}
+use Rattle.std.proofs.Common.{◌≡◌, ℕ, zero, suc, true, false, Bool, ◌+◌, ◌<◌, ◌⊎◌, inl, inr, List, [], ◌∷◌, ◌++◌, cond, length, take, get_or, map, arith, refl, sym, ◌∙◌, ap, subst, append-nil, append_assoc, length-append, if◌then◌else◌}
+use Rattle.std.specs.Prelude.{◌||◌, filter, fold, Contains}
 use Rattle.std.specs.List.{slice_split, onto_first, list_any, list_all}
 use Rattle.std.proofs.lemmas.Bool.{false≢true}
 use Rattle.std.proofs.lemmas.Grind.{flat_map-append}
@@ -8,7 +8,7 @@ use Rattle.kn_base.specs.declared.span.Span.{Span}
 use Rattle.kn_lex.specs.Spelling.{is_continuation}
 use Rattle.kn_lex.specs.Cutting.{is_comment_label}
 use Rattle.kn_lex.proofs.Spelled.{both}
-use Rattle.kn_files.specs.Lines.{Line, lines_of, placed, is_cut, is_literal, is_of_comment, after_byte, after_line}
+use Rattle.kn_files.specs.Lines.{Line, lines_of, placed, is_cut, is_literal, after_byte, after_line}
 use Rattle.kn_files.specs.Pieces.{is_assertion, text_of, span_of, spans_of}
 use Rattle.kn_files.specs.Paragraphs.{lines_in, ends_at_cut, begins_at_cut, IsParagraph, IsOfParagraph, IsOfLines, HasLine, LacksLine, AreOfComment}
 use Rattle.kn_files.specs.declared.within.Within.{Within}

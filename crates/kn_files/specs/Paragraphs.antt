@@ -5,7 +5,7 @@ use Rattle.kn_base.specs.declared.span.Span.{Span}
 use Rattle.kn_lex.specs.Spelling.{is_continuation}
 use Rattle.kn_lex.specs.Cutting.{is_comment_label}
 use Rattle.kn_files.specs.Lines.{Line, lines_of, placed, is_cut, is_literal}
-use Rattle.kn_files.specs.Pieces.{is_assertion, text_of, span_of, spans_of}
+use Rattle.kn_files.specs.Pieces.{is_assertion, text_of, span_of}
 use Rattle.kn_files.specs.declared.within.Within.TheVariants.{Plain}
 
 -- the lines of a file, each with its place and what it begins in

@@ -1,5 +1,5 @@
 -- What the tokens of a field state is what is read of them.
-use Rattle.std.proofs.Common.{◌≡◌, ◌*◌, Bool, true, false, List, [], ◌∷◌, length, Option, Some, None, Result, Ok, Err, refl, sym, ap, subst, ◌∙◌, arith, append-nil}
+use Rattle.std.proofs.Common.{◌≡◌, ◌*◌, Bool, true, false, List, [], ◌∷◌, length, Option, Some, None, Result, Ok, Err, ◌⊎◌, inl, inr, IfOk, IfErr, refl, sym, ap, subst, ◌∙◌, arith, append-nil}
 use Rattle.std.proofs.lemmas.Bool.{cond-true, cond-false}
 use Rattle.kn_env.specs.declared.constant.Constant.{Constant}
 use Rattle.kn_lex.specs.Cutting.{Seen}
@@ -8,7 +8,7 @@ use Rattle.kn_formula.specs.Words.{Word, words_of}
 use Rattle.kn_formula.specs.Trees.{joined, has_bad_threshold, has_bad_name, formula_of}
 use Rattle.kn_formula.specs.Grammar.{form_words, Spells}
 use Rattle.kn_formula.specs.Reading.{Part, join_read, ors_at, whole, read_words}
-use Rattle.kn_formula.specs.Licensing.{AreLicensees, HasNoForm, Shows, named, judged, judged_read, licensees_of}
+use Rattle.kn_formula.specs.Licensing.{AreLicensees, HasNoForm, Shows, named, judged, judged_read, licensees_of, Gives}
 use Rattle.kn_formula.specs.declared.fault.FormulaFault.{FormulaFault}
 use Rattle.kn_formula.specs.declared.fault.FormulaFault.TheVariants.{Syntax, Threshold, Name, NoMemory}
 use Rattle.kn_formula.specs.declared.written.Rule.TheVariants.{Any}
@@ -119,3 +119,17 @@ formula_stands constants tokens f e = subst (Says constants tokens) e (found_say
 
 pub fault_stands : (constants : List Constant) (tokens : List Seen) (fault : FormulaFault) → licensees_of constants tokens ≡ Err fault → Shows constants tokens fault
 fault_stands constants tokens fault e = subst (Says constants tokens) e (found_says constants tokens)
+
+-- what is given is stated by the tokens, and a fault is shown by them
+pub given_stated : (constants : List Constant) (tokens : List Seen) (r : Result (Option Formula) FormulaFault) → Gives r (licensees_of constants tokens)
+    → IfOk r (λ formula. AreLicensees constants tokens formula)
+given_stated constants tokens (Ok formula) h = formula_stands constants tokens formula h
+given_stated constants tokens (Err fault) h = tt
+
+pub given_shown : (constants : List Constant) (tokens : List Seen) (r : Result (Option Formula) FormulaFault) → Gives r (licensees_of constants tokens)
+    → IfErr r (λ fault. (fault ≡ NoMemory) ⊎ Shows constants tokens fault)
+given_shown constants tokens (Ok formula) h = tt
+given_shown constants tokens (Err Syntax) h = inr (fault_stands constants tokens Syntax h)
+given_shown constants tokens (Err Threshold) h = inr (fault_stands constants tokens Threshold h)
+given_shown constants tokens (Err Name) h = inr (fault_stands constants tokens Name h)
+given_shown constants tokens (Err NoMemory) h = inl refl

@@ -1,8 +1,8 @@
-ghost use Rattle.std.specs.Prelude.{◌≡◌, ◌+◌, ◌≤◌, ◌<◌, IfOk, IfSome, length, false, All};
+ghost use Rattle.std.specs.Prelude.{◌≡◌, ◌⊎◌, ◌+◌, ◌≤◌, ◌<◌, IfOk, IfErr, IfSome, length, false, All};
 ghost use Rattle.kn_trees.specs.Formulas.{IsReadable};
 ghost use Rattle.kn_fields.specs.Fields.{between};
 ghost use Rattle.kn_fields.specs.Depth.{IsTooDeep};
-ghost use Rattle.kn_formula.specs.Licensing.{licensees_of, Gives};
+ghost use Rattle.kn_formula.specs.Licensing.{licensees_of, Gives, AreLicensees, Shows};
 
 use crate::fault::FormulaFault;
 use crate::grammar::written;
@@ -28,6 +28,8 @@ pub fn licensees(
     requires within { part.end ≤ length tokens.now }
     requires shallow { IsTooDeep (between (part.label + 1) part.end tokens.now) → ⊥ }
     ensures given { Gives result (licensees_of constants.now (between (part.label + 1) part.end tokens.now)) }
+    ensures stated { IfOk result (λ licensees. AreLicensees constants.now (between (part.label + 1) part.end tokens.now) licensees) }
+    ensures shown { IfErr result (λ fault. (fault ≡ FormulaFault.NoMemory) ⊎ Shows constants.now (between (part.label + 1) part.end tokens.now) fault) }
     ensures readable { IfOk result (λ licensees. IfSome licensees (λ formula. IsReadable (length tokens.now) formula)) }
 {
     let from = part.label + 1;
