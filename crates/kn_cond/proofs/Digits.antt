@@ -1,12 +1,12 @@
 -- The digits that a text begins with, and their number.
-use Rattle.std.proofs.Common.{◌≡◌, ℕ, ℤ, pos, negsuc, neg_ℤ, suc, zero, ◌+◌, ◌-◌, ◌*◌, ◌^◌, ◌<◌, ◌≤◌, ◌⊎◌, inl, inr, min, Bool, true, false, ◌&&◌, cond, List, [], ◌∷◌, length, take, drop, get_or, refl, sym, ap, ◌∙◌, arith, lit<, if◌then◌else◌}
+use Rattle.std.proofs.Common.{◌≡◌, ℕ, pos, negsuc, neg_ℤ, suc, zero, ◌+◌, ◌-◌, ◌*◌, ◌^◌, ◌<◌, ◌≤◌, ◌⊎◌, inl, inr, min, Bool, true, false, ◌&&◌, cond, List, [], ◌∷◌, length, take, drop, get_or, refl, sym, ap, ◌∙◌, arith, lit<, if◌then◌else◌}
 use Rattle.std.specs.Prelude.{nat_le}
 use Rattle.std.proofs.Math.Nat.{pow-le-pow_right, mul-le-mul_left}
 use Rattle.std.proofs.lemmas.Bool.{cases_lt, lt-leb, leb-true, and_parts}
 use Rattle.std.specs.List.{list_all, prefix_len}
 use Rattle.kn_base.specs.Decimal.{is_digit, digits_value}
 use Rattle.kn_base.proofs.Digits.{rest_at}
-use Rattle.kn_cond.specs.Meaning.{Meaning, whole, fault, whole_in_range, front_digits}
+use Rattle.kn_cond.specs.Meaning.{whole, fault, whole_in_range, front_digits}
 
 above_range : (v : ℕ) → 2147483647 < v → whole_in_range (pos v) ≡ fault
 above_range v beyond = ap (λ b. if b then whole (pos v) else fault) (lt-leb v 2147483647 beyond)

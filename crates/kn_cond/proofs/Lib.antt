@@ -2,3 +2,4 @@ pub mod Orders
 pub mod Digits
 pub mod Meanings
 pub mod Valued
+pub mod Joined

@@ -1,10 +1,9 @@
 -- The value of a program, by the values of its parts.
-use Rattle.std.proofs.Common.{◌≡◌, ℕ, ◌+◌, max, List, [], ◌∷◌, map, get_or, drop, length, refl, sym, ap, ◌∙◌, arith}
+use Rattle.std.proofs.Common.{◌≡◌, ℕ, map}
 use Rattle.kn_env.specs.Environment.{Environment}
 use Rattle.kn_trees.specs.declared.program.Expr.{Expr}
 use Rattle.kn_trees.specs.declared.program.Program.{Program, out-Program}
 use Rattle.kn_trees.specs.declared.program.Clause.{Clause}
-use Rattle.kn_trees.specs.declared.program.Then.{Then}
 use Rattle.kn_trees.specs.declared.program.Then.TheVariants.{Top, Value, Block}
 use Rattle.kn_trees.proofs.Folds.{fold-Top, fold-Value, fold-Block, fold-one_clause, fold-whole_program}
 use Rattle.kn_cond.specs.Meaning.{meaning_of}

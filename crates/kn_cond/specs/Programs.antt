@@ -1,6 +1,6 @@
 -- The value of a conditions program (RFC 2704, section 4, the Conditions field, and section 5), by its index among the
 -- compliance values of the query.
-use Rattle.std.specs.Prelude.{ℕ, ◌-◌, max, List, [], ◌∷◌, length, Bool, true, false, Option, Some, None}
+use Rattle.std.specs.Prelude.{ℕ, ◌-◌, max, List, [], ◌∷◌, length, true, false, Option, Some, None}
 use Rattle.std.specs.Option.{option_map_or}
 use Rattle.kn_env.specs.Environment.{Environment}
 use Rattle.kn_env.specs.Values.{index_of}

@@ -1,7 +1,9 @@
 //! The value of an expression.
-ghost use Rattle.std.specs.Prelude.{◌≡◌, map, ◌++◌, IfOk};
+ghost use Rattle.std.specs.Prelude.{◌≡◌, true, map, ◌++◌, IfOk, IfErr};
+ghost use Rattle.std.specs.List.{list_any};
 ghost use Rattle.kn_cond.specs.Meaning.{Meaning, whole, text, text_in_range, negated, minus, number_of, value_named, conjunction, disjunction, comparison, holds_of_texts, operation, operation_of_texts, chained, links_of, meaning_of};
 ghost use Rattle.kn_cond.specs.Results.{meant, or_fault};
+ghost use Rattle.kn_cond.specs.Joining.{is_join, joins, link_joins};
 
 use crate::numbers;
 use crate::results::Outcome;
@@ -14,13 +16,14 @@ use std::alloc::Global;
 
 /// What an expression gives in an environment. `Err` says that there was no memory for a joined text.
 #[cycle(outcomes)]
-#[tactic(auto, using(crate::proofs::Meanings::meanings))]
+#[tactic(auto, using(crate::proofs::Meanings::meanings, crate::proofs::Joined::joined, crate::proofs::Joined::or_right, crate::proofs::Joined::or_third))]
 pub(crate) fn outcome<'e>(
     alloc: Global,
     expr: &'e Expr,
     env: &'e Env<'e>,
 ) -> Result<Outcome<'e>, NoMemory>
-    ensures { IfOk result (λ outcome. meant outcome ≡ meaning_of env.now expr.now) }
+    ensures value { IfOk result (λ outcome. meant outcome ≡ meaning_of env.now expr.now) }
+    ensures memory { IfErr result (λ none. joins expr.now ≡ true) }
 {
     match expr {
         Expr::Truth(value) => Ok(Outcome::Truth(*value)),
@@ -52,7 +55,8 @@ fn conjunction<'e>(
     parts: &'e List<Expr>,
     env: &'e Env<'e>,
 ) -> Result<Outcome<'e>, NoMemory>
-    ensures { IfOk result (λ outcome. meant outcome ≡ conjunction (map (meaning_of env.now) parts.now)) }
+    ensures value { IfOk result (λ outcome. meant outcome ≡ conjunction (map (meaning_of env.now) parts.now)) }
+    ensures memory { IfErr result (λ none. list_any joins parts.now ≡ true) }
 {
     for part in parts.as_slice() {
         match outcome(alloc, part, env)? {
@@ -71,7 +75,8 @@ fn disjunction<'e>(
     parts: &'e List<Expr>,
     env: &'e Env<'e>,
 ) -> Result<Outcome<'e>, NoMemory>
-    ensures { IfOk result (λ outcome. meant outcome ≡ disjunction (map (meaning_of env.now) parts.now)) }
+    ensures value { IfOk result (λ outcome. meant outcome ≡ disjunction (map (meaning_of env.now) parts.now)) }
+    ensures memory { IfErr result (λ none. list_any joins parts.now ≡ true) }
 {
     for choice in parts.as_slice() {
         match outcome(alloc, choice, env)? {
@@ -91,7 +96,8 @@ fn chained<'e>(
     links: &'e List<Link2>,
     env: &'e Env<'e>,
 ) -> Result<Outcome<'e>, NoMemory>
-    ensures { IfOk result (λ outcome. meant outcome ≡ chained (meant first.entry) (links_of env.now links.now)) }
+    ensures value { IfOk result (λ outcome. meant outcome ≡ chained (meant first.entry) (links_of env.now links.now)) }
+    ensures memory { IfErr result (λ none. list_any link_joins links.now ≡ true) }
 {
     let mut left = first;
     for link in links.as_slice() {
@@ -197,7 +203,8 @@ fn operation<'e>(
     left: Outcome<'e>,
     right: Outcome<'e>,
 ) -> Result<Outcome<'e>, NoMemory>
-    ensures { IfOk result (λ outcome. meant outcome ≡ operation sign (meant left.entry) (meant right.entry)) }
+    ensures value { IfOk result (λ outcome. meant outcome ≡ operation sign (meant left.entry) (meant right.entry)) }
+    ensures memory { IfErr result (λ none. is_join sign ≡ true) }
 {
     match left {
         Outcome::Whole(a) => match right {
@@ -218,7 +225,8 @@ fn operation_of_texts<'e>(
     left: Text<'e>,
     right: Text<'e>,
 ) -> Result<Outcome<'e>, NoMemory>
-    ensures { IfOk result (λ outcome. meant outcome ≡ operation_of_texts sign left.entry right.entry) }
+    ensures value { IfOk result (λ outcome. meant outcome ≡ operation_of_texts sign left.entry right.entry) }
+    ensures memory { IfErr result (λ none. is_join sign ≡ true) }
 {
     match sign {
         Operation::Join => joined(alloc, left, right.as_slice()),

@@ -1,8 +1,9 @@
 //! The compliance value of a program.
-ghost use Rattle.std.specs.Prelude.{◌≡◌, ◌<◌, ◌≤◌, map, length, IfOk};
+ghost use Rattle.std.specs.Prelude.{◌≡◌, ◌<◌, ◌≤◌, true, map, length, IfOk, IfErr};
 ghost use Rattle.std.specs.Option.{option_map_or};
 ghost use Rattle.kn_env.specs.Values.{index_of};
 ghost use Rattle.kn_cond.specs.Meaning.{meaning_of};
+ghost use Rattle.kn_cond.specs.Joining.{joins, program_joins, clause_joins, then_joins, field_joins};
 ghost use Rattle.kn_cond.specs.Programs.{value_of, where_true, highest, program_value, clause_value, then_value, field_value};
 
 use crate::evaluation::outcome;
@@ -21,6 +22,7 @@ pub fn field_value<'e>(
 ) -> Result<u8, NoMemory>
     ensures value { IfOk result (λ level. level ≡ field_value env.now conditions.now) }
     ensures within { IfOk result (λ level. 0 < length env.now.asked.values → level < length env.now.asked.values) }
+    ensures memory { IfErr result (λ none. field_joins conditions.now ≡ true) }
 {
     match conditions {
         Some(program) => conditions_value(alloc, program, env),
@@ -32,7 +34,7 @@ pub fn field_value<'e>(
 /// Conditions field). A fault of a test or a value is part of its meaning. `Err` says that there was no memory for a
 /// joined text.
 #[cycle(programs)]
-#[tactic(auto, using(crate::proofs::Valued::values))]
+#[tactic(auto, using(crate::proofs::Valued::values, crate::proofs::Joined::joined, crate::proofs::Joined::or_right, crate::proofs::Joined::or_third))]
 pub fn conditions_value<'e>(
     alloc: Global,
     program: &'e Program,
@@ -40,6 +42,7 @@ pub fn conditions_value<'e>(
 ) -> Result<u8, NoMemory>
     ensures value { IfOk result (λ level. level ≡ program_value env.now program.now) }
     ensures within { IfOk result (λ level. 0 < length env.now.asked.values → level < length env.now.asked.values) }
+    ensures memory { IfErr result (λ none. program_joins program.now ≡ true) }
 {
     let mut highest = 0;
     for clause in program.clauses.as_slice() {
@@ -49,10 +52,11 @@ pub fn conditions_value<'e>(
 }
 
 #[cycle(programs)]
-#[tactic(auto, using(crate::proofs::Valued::values))]
+#[tactic(auto, using(crate::proofs::Valued::values, crate::proofs::Joined::joined, crate::proofs::Joined::or_right, crate::proofs::Joined::or_third))]
 fn clause_value<'e>(alloc: Global, clause: &'e Clause, env: &'e Env<'e>) -> Result<u8, NoMemory>
     ensures value { IfOk result (λ level. level ≡ clause_value env.now clause.now) }
     ensures within { IfOk result (λ level. 0 < length env.now.asked.values → level < length env.now.asked.values) }
+    ensures memory { IfErr result (λ none. clause_joins clause.now ≡ true) }
 {
     match outcome(alloc, &clause.test, env)? {
         Outcome::Truth(true) => then_value(alloc, &clause.then, env),
@@ -61,10 +65,11 @@ fn clause_value<'e>(alloc: Global, clause: &'e Clause, env: &'e Env<'e>) -> Resu
 }
 
 #[cycle(programs)]
-#[tactic(auto, using(crate::proofs::Valued::values))]
+#[tactic(auto, using(crate::proofs::Valued::values, crate::proofs::Joined::joined, crate::proofs::Joined::or_right, crate::proofs::Joined::or_third))]
 fn then_value<'e>(alloc: Global, then: &'e Then, env: &'e Env<'e>) -> Result<u8, NoMemory>
     ensures value { IfOk result (λ level. level ≡ then_value env.now then.now) }
     ensures within { IfOk result (λ level. 0 < length env.now.asked.values → level < length env.now.asked.values) }
+    ensures memory { IfErr result (λ none. then_joins then.now ≡ true) }
 {
     match then {
         Then::Top => Ok(env.values().highest()),
@@ -77,6 +82,7 @@ fn then_value<'e>(alloc: Global, then: &'e Then, env: &'e Env<'e>) -> Result<u8,
 fn named_value<'e>(alloc: Global, name: &'e Expr, env: &'e Env<'e>) -> Result<u8, NoMemory>
     ensures value { IfOk result (λ level. level ≡ value_of env.now (meaning_of env.now name.now)) }
     ensures within { IfOk result (λ level. 0 < length env.now.asked.values → level < length env.now.asked.values) }
+    ensures memory { IfErr result (λ none. joins name.now ≡ true) }
 {
     match outcome(alloc, name, env)? {
         Outcome::Text(text) => Ok(value_or_lowest(env, text.as_slice())),

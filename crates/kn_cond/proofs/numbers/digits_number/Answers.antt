@@ -1,5 +1,4 @@
-use Rattle.std.proofs.Common.{◌≡◌, ◌≤◌, ◌-◌, min, true, get_or, arith}
-use Rattle.kn_base.specs.Decimal.{is_digit, digits_value}
+use Rattle.std.proofs.Common.{◌≤◌, ◌-◌, get_or, arith}
 use Rattle.kn_base.proofs.Digits.{digit_read_at, digits_left}
 use Rattle.kn_cond.proofs.Digits.{read_within, digit_here, digit_small}
 use Rattle.kn_cond.proofs.numbers.digits_number.Goals as goal

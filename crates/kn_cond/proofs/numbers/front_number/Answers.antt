@@ -1,7 +1,7 @@
-use Rattle.std.proofs.Common.{◌≡◌, true, ap, ◌∙◌}
+use Rattle.std.proofs.Common.{ap, ◌∙◌}
 use Rattle.std.specs.List.{list_all}
 use Rattle.kn_base.specs.Decimal.{is_digit}
-use Rattle.kn_cond.proofs.Digits.{all_digits, whole_capped, whole_capped_below}
+use Rattle.kn_cond.proofs.Digits.{all_digits}
 use Rattle.kn_cond.proofs.numbers.front_number.Goals as goal
 
 pub digits_number-requires : goal.digits_number-requires
