@@ -1,5 +1,6 @@
 pub mod Values
 pub mod Table
+pub mod Order
 pub mod Literals
 pub mod Faulty
 pub mod Along

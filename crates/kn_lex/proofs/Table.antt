@@ -1,7 +1,7 @@
 -- The value of a literal has the rows of the table of escapes, and no other function of literals has them.
-use Rattle.std.proofs.Common.{◌≡◌, ◌≢◌, ℕ, zero, suc, ◌+◌, ◌-◌, ◌*◌, ◌≤◌, ◌<◌, Bool, true, false, ◌&&◌, List, [], ◌∷◌, ◌++◌, length, take, drop, cond, get_or, codes, arith, refl, sym, ◌∙◌, ap, subst, eq-eqb, append_assoc, length-append}
-use Rattle.std.specs.Prelude.{not, ◌||◌, ◌==◌, nat_le, Some, None, if◌then◌else◌}
-use Rattle.std.specs.List.{prefix_len, list_all, list_any}
+use Rattle.std.proofs.Common.{◌≡◌, ◌≢◌, ℕ, zero, suc, ◌+◌, ◌-◌, ◌≤◌, Bool, true, false, ◌&&◌, List, [], ◌∷◌, ◌++◌, length, drop, get_or, arith, refl, sym, ◌∙◌, ap, subst, eq-eqb, append_assoc, length-append}
+use Rattle.std.specs.Prelude.{not, ◌||◌, ◌==◌, nat_le, Some, if◌then◌else◌}
+use Rattle.std.specs.List.{prefix_len, list_all}
 use Rattle.std.proofs.Math.Numerals.{one-add}
 use Rattle.std.proofs.lemmas.Bool.{ne_eqb, false≢true}
 use Rattle.std.proofs.lemmas.List.{take_at}

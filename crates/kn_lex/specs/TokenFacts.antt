@@ -1,8 +1,8 @@
 -- What holds of each token of a text without faults.
-use Rattle.std.specs.Prelude.{◌≡◌, ℕ, ◌+◌, ◌<◌, ◌≤◌, true, List, length, take, drop}
+use Rattle.std.specs.Prelude.{◌≡◌, ℕ, ◌+◌, ◌<◌, ◌≤◌, Bool, true, ◌||◌, ◌==◌, List, [], ◌∷◌, length, take, drop}
 use Rattle.kn_base.specs.Decimal.{digits_value}
 use Rattle.kn_lex.specs.Spelling.{is_label, is_body, is_name, is_number, is_sign, IsLiteral}
-use Rattle.kn_lex.specs.Cutting.{Seen}
+use Rattle.kn_lex.specs.Cutting.{Seen, ends_line}
 use Rattle.kn_lex.specs.Faults.{number_max}
 use Rattle.kn_lex.specs.declared.token.Sort.{Sort}
 use Rattle.kn_lex.specs.declared.token.Sort.TheVariants.{Label, Body, Name, Number, Text, Sign}
@@ -23,3 +23,12 @@ pub record IsTokenOf (text : List ℕ) (token : Seen) : Type 0 where
   pub within : token.span.end ≤ length text
   pub slice : token.text ≡ take (length token.text) (drop token.span.start text)
   pub spelled : IsSpelled token.sort token.text
+
+-- the tokens stand in their order from this place on, none over the next
+abbrev pub StandInOrder : ℕ → List Seen → Type 0
+StandInOrder from [] = Unit {0}
+StandInOrder from (token ∷ tokens) = (from ≤ token.span.start) × (token.span.start < token.span.end) × StandInOrder token.span.end tokens
+
+-- a line of the text begins at this place
+abbrev pub begins_line : List ℕ → ℕ → Bool
+begins_line text at = at == 0 || ends_line (take at text)

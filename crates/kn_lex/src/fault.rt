@@ -7,7 +7,7 @@ ghost use Rattle.kn_lex.specs.Faults.{fault_number};
 pub enum LexFault {
     /// Fault 1: byte 0, or a byte above 127 outside literals, comments and bodies.
     NotText { at: u32 },
-    /// Fault 2: the opening quote of a literal that isn't closed in its line.
+    /// Fault 2: the opening quote of a literal that isn't closed.
     BadString { at: u32 },
     /// Fault 3: a byte where no token, white space or comment begins.
     BadToken { at: u32 },

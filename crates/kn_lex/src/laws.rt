@@ -3,7 +3,7 @@
 ghost use Rattle.std.specs.Prelude.{◌≡◌, ◌≤◌, ◌↔◌, ◌⊎◌, ℕ, List, length, Ok, Err, All};
 ghost use Rattle.kn_lex.specs.Cutting.{Seen, Cuts};
 ghost use Rattle.kn_lex.specs.Faults.{IsFaultless, IsFirstLexicalFault};
-ghost use Rattle.kn_lex.specs.TokenFacts.{IsTokenOf};
+ghost use Rattle.kn_lex.specs.TokenFacts.{IsTokenOf, StandInOrder, begins_line};
 ghost use Rattle.kn_lex.specs.Computed.{tokens_or_fault};
 ghost use Rattle.kn_lex.specs.Spelling.{IsLiteral};
 ghost use Rattle.kn_lex.specs.Literal.{value_behind, inside, literal_value};
@@ -23,6 +23,12 @@ pub fn tokens_or_first_fault()
 /// spell its sort, and no number is too large.
 pub fn token_facts()
     ensures { (text : List ℕ) (tokens : List Seen) → Cuts text tokens → IsFaultless text → All (IsTokenOf text) tokens }
+{}
+
+/// The tokens that cut a text stand in their order, and `first` tells of each whether a line begins where it does.
+pub fn tokens_in_order()
+    ensures order { (text : List ℕ) (tokens : List Seen) → Cuts text tokens → StandInOrder 0 tokens }
+    ensures first { (text : List ℕ) (tokens : List Seen) → Cuts text tokens → All (λ token. token.first ≡ begins_line text token.span.start) tokens }
 {}
 
 /// What is computed of a text is the list of tokens that cuts it where it has no fault, and else its first
