@@ -36,6 +36,20 @@ fn show_digits(number: u32, out: &mut Vec<u8>) -> Result<(), AllocError> {
     Ok(())
 }
 
+fn show_whole(number: i32, out: &mut Vec<u8>) -> Result<(), AllocError> {
+    if number < 0 {
+        out.push(b'~')?;
+    }
+    show_digits(number.unsigned_abs(), out)
+}
+
+fn show_text(text: &[u8], out: &mut Vec<u8>) -> Result<(), AllocError> {
+    out.push(b'"')?;
+    out.extend_from_slice(text)?;
+    out.push(b'"')?;
+    Ok(())
+}
+
 #[cycle(show)]
 fn show_one(sign: u8, part: &Expr, out: &mut Vec<u8>) -> Result<(), AllocError> {
     out.push(sign)?;
@@ -62,17 +76,8 @@ fn show_list(sign: u8, parts: &[Expr], out: &mut Vec<u8>) -> Result<(), AllocErr
 fn show(expr: &Expr, out: &mut Vec<u8>) -> Result<(), AllocError> {
     match expr {
         Expr::Truth(value) => out.push(if *value { b'T' } else { b'F' })?,
-        Expr::Whole(value) => {
-            if *value < 0 {
-                out.push(b'~')?;
-            }
-            show_digits(value.unsigned_abs(), out)?;
-        }
-        Expr::Text(value) => {
-            out.push(b'"')?;
-            out.extend_from_slice(value.as_slice())?;
-            out.push(b'"')?;
-        }
+        Expr::Whole(value) => show_whole(*value, out)?,
+        Expr::Text(value) => show_text(value.as_slice(), out)?,
         Expr::Name(name) => out.extend_from_slice(name.as_slice())?,
         Expr::Not(part) => show_one(b'!', part.get(), out)?,
         Expr::Minus(part) => show_one(b'-', part.get(), out)?,
@@ -183,7 +188,7 @@ fn check_faults(
 }
 
 #[test]
-fn each_level_binds_tighter_than_the_one_above(rt: HostRuntime) -> Result<(), Fail> {
+fn tests_bind_looser_than_comparisons(rt: HostRuntime) -> Result<(), Fail> {
     check_programs(
         &rt,
         rt.alloc(),
@@ -198,6 +203,22 @@ fn each_level_binds_tighter_than_the_one_above(rt: HostRuntime) -> Result<(), Fa
                 b"|(&(!(T) F ) T );".as_slice(),
             ),
             (b"!a == b".as_slice(), b"!(=(a b));".as_slice()),
+            (
+                b"(true || false) && true".as_slice(),
+                b"&(|(T F ) T );".as_slice(),
+            ),
+            (b"((true))".as_slice(), b"T;".as_slice()),
+        ]
+        .as_slice(),
+    )
+}
+
+#[test]
+fn operations_bind_by_their_levels(rt: HostRuntime) -> Result<(), Fail> {
+    check_programs(
+        &rt,
+        rt.alloc(),
+        [
             (
                 b"@a + 1 < 2 - @b".as_slice(),
                 b"<([@(a) +1] [2 -@(b)]);".as_slice(),
@@ -217,14 +238,9 @@ fn each_level_binds_tighter_than_the_one_above(rt: HostRuntime) -> Result<(), Fa
             ),
             (b"@$a >= 1".as_slice(), b">=(@($(a)) 1);".as_slice()),
             (
-                b"(true || false) && true".as_slice(),
-                b"&(|(T F ) T );".as_slice(),
-            ),
-            (
                 b"(1 + 2) * 3 <= 9".as_slice(),
                 b"<=([[1 +2] *3] 9);".as_slice(),
             ),
-            (b"((true))".as_slice(), b"T;".as_slice()),
         ]
         .as_slice(),
     )
