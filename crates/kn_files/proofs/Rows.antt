@@ -398,3 +398,24 @@ pub comment_opens_nothing : (file : List ℕ) (before comment : List Line) (next
 comment_opens_nothing file before [] next behind here c = absurd c
 comment_opens_nothing file before (line ∷ comment) next behind here c =
     ap is_literal (body_goes_on file comment before line next behind (here ∙ append_assoc before (line ∷ comment) (next ∷ behind)) (label_line line.within line.bytes c.0 c.1) c.2)
+
+-- other lines
+
+pub body_ends : (line : List ℕ) → is_continuation line ≡ false → is_comment_label (take 8 line) ≡ false → after_line Body line ≡ fold after_byte Plain line
+unfolding after_line
+body_ends line over label = rw (label, over) refl
+
+pub other_line : (within : Within) (line : List ℕ) → is_literal within ≡ false → (within ≡ Body → ⊥) → is_comment_label (take 8 line) ≡ false
+    → after_line within line ≡ fold after_byte Plain line
+unfolding after_line
+other_line Plain line outside other label = rw label refl
+other_line Comment line outside other label = rw label refl
+other_line Body line outside other label = absurd (other refl)
+other_line (Literal quote) line outside other label = absurd (false≢true (sym outside))
+
+pub open_line : (within : Within) (line : List ℕ) → is_literal within ≡ true → after_line within line ≡ fold after_byte within line
+unfolding after_line
+open_line Plain line inside = absurd (false≢true inside)
+open_line Comment line inside = absurd (false≢true inside)
+open_line Body line inside = absurd (false≢true inside)
+open_line (Literal quote) line inside = refl

@@ -1,12 +1,12 @@
 //! Laws of the definitions, for the crates above: each is the contract of a function that does nothing.
 
-ghost use Rattle.std.specs.Prelude.{◌≡◌, ◌⊎◌, ℕ, List, [], ◌∷◌, ◌++◌, length, All, Contains, fold, true, false, not, ◌||◌, ◌==◌};
+ghost use Rattle.std.specs.Prelude.{◌≡◌, ◌⊎◌, ℕ, List, [], ◌∷◌, ◌++◌, length, take, All, Contains, fold, true, false, not, ◌||◌, ◌==◌};
 ghost use Rattle.std.specs.List.{list_all};
-ghost use Rattle.kn_lex.specs.Spelling.{Item, is_item, items_bytes, IsLiteral};
-ghost use Rattle.kn_lex.specs.Cutting.{Seen, Cuts};
+ghost use Rattle.kn_lex.specs.Spelling.{is_continuation, Item, is_item, items_bytes, IsLiteral};
+ghost use Rattle.kn_lex.specs.Cutting.{Seen, Cuts, is_comment_label};
 ghost use Rattle.kn_lex.specs.Faults.{IsFaultless};
 ghost use Rattle.kn_base.specs.declared.span.Span.{Span};
-ghost use Rattle.kn_files.specs.Lines.{Line, lines_of, are_lines, joined, after_byte, is_literal, is_cut};
+ghost use Rattle.kn_files.specs.Lines.{Line, lines_of, are_lines, joined, after_byte, after_line, is_literal, is_cut};
 ghost use Rattle.kn_files.specs.Literals.{leaves_out};
 ghost use Rattle.kn_files.specs.Paragraphs.{lines_in, IsParagraph, IsOfParagraph, IsOfLines, HasLine, LacksLine, AreOfComment};
 ghost use Rattle.kn_files.specs.Pieces.{is_assertion, text_of, span_of, spans_of, IsWithin, StandApart, HasWholeLines};
@@ -64,7 +64,12 @@ pub fn spans_by_lines()
 {}
 
 /// A line with the label of a comment that begins outside literals, and each line that goes on with its body,
-/// opens no literal, whatever quotes it has: the next line begins outside literals.
+/// opens no literal, whatever quotes it has: the next line begins outside literals. Behind a comment's line a line
+/// that neither goes on with the body nor has such a label is read as any other. A line on which a literal goes on
+/// has no labels, and is read from within that literal on.
 pub fn comments_in_files()
-    ensures { (file : List ℕ) (before comment : List Line) (next : Line) (behind : List Line) → lines_in file ≡ before ++ comment ++ next ∷ behind → AreOfComment comment → is_literal next.within ≡ false }
+    ensures opens_nothing { (file : List ℕ) (before comment : List Line) (next : Line) (behind : List Line) → lines_in file ≡ before ++ comment ++ next ∷ behind → AreOfComment comment → is_literal next.within ≡ false }
+    ensures body_ends { (line : List ℕ) → is_continuation line ≡ false → is_comment_label (take 8 line) ≡ false → after_line Within.Body line ≡ fold after_byte Within.Plain line }
+    ensures other_line { (within : Within) (line : List ℕ) → is_literal within ≡ false → (within ≡ Within.Body → ⊥) → is_comment_label (take 8 line) ≡ false → after_line within line ≡ fold after_byte Within.Plain line }
+    ensures open_line { (within : Within) (line : List ℕ) → is_literal within ≡ true → after_line within line ≡ fold after_byte within line }
 {}
