@@ -58,7 +58,7 @@ fn faults_before_the_fields(rt: HostRuntime) {
 }
 
 #[test]
-fn faults_of_the_fields(rt: HostRuntime) {
+fn labels_that_are_wrong(rt: HostRuntime) {
     check_faults(
         &rt,
         rt.alloc(),
@@ -82,6 +82,17 @@ fn faults_of_the_fields(rt: HostRuntime) {
                 (11, 16),
             ),
             (b"Licensees: \"a\"\n".as_slice(), (12, 0)),
+        ]
+        .as_slice(),
+    );
+}
+
+#[test]
+fn versions(rt: HostRuntime) {
+    check_faults(
+        &rt,
+        rt.alloc(),
+        [
             (
                 b"KeyNote-Version: 02\nAuthorizer: \"a\"\n".as_slice(),
                 (13, 0),
@@ -103,6 +114,17 @@ fn faults_of_the_fields(rt: HostRuntime) {
                 b"keynote-version: \"2\"\nAuthorizer: \"a\"\n".as_slice(),
                 NO_FAULT,
             ),
+        ]
+        .as_slice(),
+    );
+}
+
+#[test]
+fn constants_that_are_wrong(rt: HostRuntime) {
+    check_faults(
+        &rt,
+        rt.alloc(),
+        [
             (
                 b"Authorizer: \"a\"\nLocal-Constants: A=\"x\" _B=\"y\"\n".as_slice(),
                 (14, 39),
@@ -237,7 +259,7 @@ fn faults_of_what_fields_state(rt: HostRuntime) {
 }
 
 #[test]
-fn first_of_two_faults(rt: HostRuntime) {
+fn first_field_with_a_fault(rt: HostRuntime) {
     check_faults(
         &rt,
         rt.alloc(),
@@ -271,6 +293,17 @@ fn first_of_two_faults(rt: HostRuntime) {
                 b"Authorizer:\nConditions: !!!!!!!!!true;\n".as_slice(),
                 (16, 1),
             ),
+        ]
+        .as_slice(),
+    );
+}
+
+#[test]
+fn faults_of_labels_and_tokens_come_first(rt: HostRuntime) {
+    check_faults(
+        &rt,
+        rt.alloc(),
+        [
             (
                 b"Conditions: true;\nAuthorizer: \"a\"\nFoo: b\n".as_slice(),
                 (9, 34),
@@ -462,6 +495,17 @@ fn faults_of_licensees(rt: HostRuntime) {
                 b"Authorizer: \"a\"\nLicensees: 2-of(\"x\") Q\n".as_slice(),
                 (16, 5),
             ),
+        ]
+        .as_slice(),
+    );
+}
+
+#[test]
+fn licensees_and_another_field_with_faults(rt: HostRuntime) {
+    check_faults(
+        &rt,
+        rt.alloc(),
+        [
             (
                 b"Authorizer: A\nLicensees: 2-of(\"x\")\n".as_slice(),
                 (19, 1),
@@ -484,7 +528,7 @@ fn faults_of_licensees(rt: HostRuntime) {
 }
 
 #[test]
-fn faults_of_conditions(rt: HostRuntime) {
+fn conditions_without_a_fault(rt: HostRuntime) {
     check_faults(
         &rt,
         rt.alloc(),
@@ -502,6 +546,17 @@ fn faults_of_conditions(rt: HostRuntime) {
                 b"Authorizer: \"a\"\nConditions: true -> {};\n".as_slice(),
                 NO_FAULT,
             ),
+        ]
+        .as_slice(),
+    );
+}
+
+#[test]
+fn misspelled_conditions(rt: HostRuntime) {
+    check_faults(
+        &rt,
+        rt.alloc(),
+        [
             (b"Authorizer: \"a\"\nConditions: {}\n".as_slice(), (16, 3)),
             (
                 b"Authorizer: \"a\"\nConditions: 1 < 2 < 3;\n".as_slice(),
@@ -519,6 +574,17 @@ fn faults_of_conditions(rt: HostRuntime) {
                 b"Authorizer: \"a\"\nConditions: true -> {true;\n".as_slice(),
                 (16, 3),
             ),
+        ]
+        .as_slice(),
+    );
+}
+
+#[test]
+fn conditions_of_wrong_kinds(rt: HostRuntime) {
+    check_faults(
+        &rt,
+        rt.alloc(),
+        [
             (
                 b"Authorizer: \"a\"\nConditions: \"a\";\n".as_slice(),
                 (17, 3),
@@ -535,6 +601,17 @@ fn faults_of_conditions(rt: HostRuntime) {
                 b"Authorizer: \"a\"\nConditions: true -> { @1 == 1; };\n".as_slice(),
                 (17, 3),
             ),
+        ]
+        .as_slice(),
+    );
+}
+
+#[test]
+fn prefix_signs_of_conditions(rt: HostRuntime) {
+    check_faults(
+        &rt,
+        rt.alloc(),
+        [
             (
                 b"Authorizer: \"a\"\nConditions: !!!!!!!!true;\n".as_slice(),
                 NO_FAULT,
