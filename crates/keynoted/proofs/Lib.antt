@@ -4,3 +4,4 @@ pub mod Complete
 pub mod Meant
 pub mod Checked
 pub mod Commanded
+pub mod Contents

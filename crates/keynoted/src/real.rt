@@ -2,7 +2,7 @@
 //!
 //! No clause can tell what the system holds, so these tell of nothing but their faults and the names
 //! that were asked for.
-ghost use Rattle.std.specs.Prelude.{◌≡◌, ◌≢◌, ◌≤◌, [], length, IfOk};
+ghost use Rattle.std.specs.Prelude.{◌≡◌, ◌≢◌, ◌≤◌, ◌<◌, [], length, IfOk, IfSome};
 ghost use Rattle.std.specs.IoError.{error_kind};
 ghost use Rattle.std.specs.declared.io.ErrorKind.{ErrorKind};
 ghost use Rattle.kn_outside.specs.declared.files.FileFault.{FileFault};
@@ -174,6 +174,8 @@ fn read_file(rt: &HostRuntime, path: &[u8]) -> Result<Octets, FileFault>
 /// What a reader has left. Of more than `FILE_BYTES` one byte too many is read.
 fn read_to_limit<R: Read>(alloc: Global, reader: &mut R) -> Result<Octets, FileFault>
     ensures within { IfOk result (λ octets. length octets ≤ FILE_BYTES) }
+    ensures whole { IfOk result (λ octets. IfSome (R.remaining reader.old) (λ bytes. octets ≡ bytes)) }
+    ensures large { result ≡ Err FileFault.TooLarge → IfSome (R.remaining reader.old) (λ bytes. FILE_BYTES < length bytes) }
 {
     let mut content = Octets::new(alloc);
     let mut buf = [0; PIECE];
