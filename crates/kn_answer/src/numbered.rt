@@ -44,7 +44,7 @@ pub(super) fn numbered_query(
     ensures principals { IfOk result (λ numbered. AreNamesOf (occurring (equations_over query.now list.now)) numbered.names) }
     ensures levels { IfOk result (λ numbered. numbered.system.levels ≡ length query.now.values) }
 {
-    let mut numbered = Numbered::of_policy(alloc, query.values().len() as u8)?;
+    let mut numbered = Numbered::of_policy(alloc, query.values().len())?;
     numbered.add_requesters(query.requesters())?;
     numbered.add_statements(alloc, list, query)?;
     Ok(numbered)

@@ -12,5 +12,7 @@ mod tests;
 pub use fault::ReadFault;
 pub use kn_env::Constant;
 pub use kn_principal::{PrincipalFault, normal, same};
-pub use kn_trees::{Assertion, Clause, Comparison, Expr, Formula, Link2, Operation, Program, Then};
+pub use kn_trees::{
+    Assertion, Clause, Comparison, Expr, Formula, Kind, Link2, Operation, Program, Then, kind,
+};
 pub use reader::read;

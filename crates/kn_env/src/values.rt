@@ -82,12 +82,12 @@ impl Values {
     }
 
     /// How many values there are.
-    pub fn len(&self) -> u32
+    pub fn len(&self) -> u8
         ensures count { result ≡ length self.now }
         ensures at_least_two { 2 ≤ length self.now }
         ensures at_most { length self.now ≤ 64 }
     {
-        self.names.len()
+        self.names.len() as u8
     }
 
     /// The index of the highest value.

@@ -86,7 +86,7 @@ fn is_reply_to(reply: &ReadReply, version: u32, values: &Values) -> bool
     ensures { IsTrue result ↔ IsReplyTo version values.now reply.now }
 {
     reply.version == version
-        && (reply.value as u32) < values.len()
+        && reply.value < values.len()
         && reply.name.as_slice() == values.name(reply.value)
 }
 
