@@ -12,7 +12,7 @@ use Rattle.kn_fields.specs.declared.part.Part.{Part}
 use Rattle.kn_fields.proofs.Between.{between_here, between_none}
 use Rattle.kn_fields.proofs.Places.{some_same}
 
-either : (a b : Bool) → (a || b) ≡ true → (a ≡ true) ⊎ (b ≡ true)
+pub either : (a b : Bool) → (a || b) ≡ true → (a ≡ true) ⊎ (b ≡ true)
 either true b h = inl refl
 either false b h = inr h
 

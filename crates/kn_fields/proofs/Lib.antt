@@ -6,3 +6,4 @@ pub mod Places
 pub mod Shown
 pub mod Deep
 pub mod Told
+pub mod Stretches

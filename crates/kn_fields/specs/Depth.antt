@@ -1,5 +1,6 @@
 -- How deep the tokens of a field go. Both bounds are keynoted's own.
-use Rattle.std.specs.Prelude.{◌≡◌, ℕ, ◌+◌, ◌-◌, ◌<◌, ◌⊎◌, Bool, ◌&&◌, ◌||◌, List, ◌++◌, fold, codes, if◌then◌else◌}
+use Rattle.std.specs.Prelude.{◌≡◌, ℕ, ◌+◌, ◌-◌, ◌<◌, ◌⊎◌, Bool, true, ◌&&◌, ◌||◌, List, ◌++◌, All, fold, length, codes, if◌then◌else◌}
+use Rattle.std.specs.List.{filter}
 use Rattle.std.specs.Str.{bytes_eq}
 use Rattle.kn_lex.specs.Cutting.{Seen}
 use Rattle.kn_fields.specs.Constants.{is_sign_sort}
@@ -31,3 +32,20 @@ pub record IsTooDeep (tokens : List Seen) : Type 0 where
   pub rest : List Seen
   pub split : tokens ≡ front ++ rest
   pub deep : (64 < fold depth_behind 0 front) ⊎ (8 < fold run_behind 0 front)
+
+-- some of these tokens in a row have more than 64 opening brackets more than closing ones
+pub record HasOpenBrackets (tokens : List Seen) : Type 0 where
+  pub before : List Seen
+  pub stretch : List Seen
+  pub behind : List Seen
+  pub split : tokens ≡ before ++ stretch ++ behind
+  pub unclosed : length (filter is_closing stretch) + 64 < length (filter is_opening stretch)
+
+-- more than 8 of these tokens in a row are prefix signs
+pub record HasPrefixRun (tokens : List Seen) : Type 0 where
+  pub before : List Seen
+  pub run : List Seen
+  pub behind : List Seen
+  pub split : tokens ≡ before ++ run ++ behind
+  pub long : 8 < length run
+  pub signs : All (λ token. is_prefix token ≡ true) run

@@ -6,7 +6,7 @@ ghost use Rattle.kn_lex.specs.Faults.{IsFaultless};
 ghost use Rattle.kn_fields.specs.Fields.{Field, fields_of, field_of, field_with};
 ghost use Rattle.kn_fields.specs.Constants.{IsConstantList};
 ghost use Rattle.kn_fields.specs.Faults.{IsWellFielded, IsFirstFault};
-ghost use Rattle.kn_fields.specs.Depth.{IsTooDeep};
+ghost use Rattle.kn_fields.specs.Depth.{IsTooDeep, HasOpenBrackets, HasPrefixRun};
 ghost use Rattle.kn_fields.specs.Scanning.{goes_deep};
 ghost use Rattle.kn_fields.specs.Computed.{fields_or_fault};
 ghost use Rattle.kn_fields.specs.declared.fault.FieldFault.{FieldFault};
@@ -35,6 +35,12 @@ pub fn fields_are_computed()
 pub fn depth_is_computed()
     ensures deep { (tokens : List Seen) → goes_deep 0 0 tokens ≡ true → IsTooDeep tokens }
     ensures not_deep { (tokens : List Seen) → goes_deep 0 0 tokens ≡ false → IsTooDeep tokens → ⊥ }
+{}
+
+/// Tokens go too deep exactly where some of them in a row have more than 64 opening brackets more than closing ones, or
+/// more than 8 in a row are prefix signs.
+pub fn depth_by_stretches()
+    ensures { (tokens : List Seen) → IsTooDeep tokens ↔ (HasOpenBrackets tokens ⊎ HasPrefixRun tokens) }
 {}
 
 /// In a text without these faults each field is the one of its number, there is an Authorizer, and the tokens
