@@ -11,7 +11,11 @@ use Rattle.kn_meaning.specs.Requests.{Request, Takes, AreRequests, first_of, fir
 abbrev pub LineIsFirst : Type 0
 LineIsFirst = (line rest : List ℕ) → line_length line ≡ length line → length line ≤ 8192 → first_of (line ++ 10 ∷ rest) ≡ first_of_line (line_of (without_return line)) rest
 
--- a text has one list of requests, and one rest
+-- a text has a list of requests, and a rest
+abbrev pub SomeReading : Type 0
+SomeReading = (text : List ℕ) → (requests : List Request) × (rest : List ℕ) × AreRequests text requests rest
+
+-- and no other
 abbrev pub OneReading : Type 0
 OneReading = (text : List ℕ) (requests others : List Request) (rest other_rest : List ℕ) → AreRequests text requests rest → AreRequests text others other_rest
     → (requests ≡ others) × (rest ≡ other_rest)

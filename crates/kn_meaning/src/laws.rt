@@ -1,7 +1,7 @@
 //! Laws of the definitions, each of them the contract of a function that does nothing.
 
 ghost use Rattle.std.specs.Prelude.{ℕ, List};
-ghost use Rattle.kn_meaning.specs.Laws.{LineIsFirst, OneReading, InputIsTaken, LoadingEnds, LoadingEndsOnce, LoadableIsValid};
+ghost use Rattle.kn_meaning.specs.Laws.{LineIsFirst, SomeReading, OneReading, InputIsTaken, LoadingEnds, LoadingEndsOnce, LoadableIsValid};
 
 /// The first request of a text that begins with a line of at most 8,192 bytes and its newline is that of the line.
 pub fn line_is_first()
@@ -10,7 +10,8 @@ pub fn line_is_first()
 
 /// A text has one list of requests, and one rest is left of it.
 pub fn one_reading()
-    ensures { OneReading }
+    ensures some { SomeReading }
+    ensures no_other { OneReading }
 {}
 
 /// An input of the first form requests what its lines ask, in their order, and nothing of it is left.
