@@ -1,6 +1,5 @@
 -- Attributes that are the entries of a map.
 use Rattle.std.proofs.Common.{◌≡◌, ℕ, suc, ◌+◌, ◌<◌, ◌≤◌, Bool, true, false, ◌||◌, ◌&&◌, not, cond, nat_le, nat_lt, List, [], ◌∷◌, length, find, map, Option, Some, None, Vec, Bor, refl, sym, ap, ◌∙◌, arith, if◌then◌else◌}
-use Rattle.std.specs.List.{list_any}
 use Rattle.std.specs.Option.{option_map, option_copied}
 use Rattle.std.specs.Prelude.{is_some}
 use Rattle.std.specs.Str.{bytes_eq}
@@ -33,12 +32,26 @@ has_found name (e ∷ entries) =
     elim (bytes_eq name e.0.items) as (λ b. is_some (cond b (Some e.1) (lookup (is_key name) entries)) ≡ (b || has_attribute name (map attribute_of entries)))
     [ true ↦ refl | false ↦ rest ]
 
-pub rest_without : (name : List ℕ) (entries : List (Bytes × Bytes)) → map attribute_of (remove_entry (is_key name) entries) ≡ without_attribute name (map attribute_of entries)
-rest_without name [] = refl
-rest_without name (e ∷ entries) =
-    let rest = rest_without name entries in
-    elim (bytes_eq name e.0.items) as (λ b. map attribute_of (cond b entries (e ∷ remove_entry (is_key name) entries)) ≡ cond b (map attribute_of entries) (attribute_of e ∷ without_attribute name (map attribute_of entries)))
-    [ true ↦ refl | false ↦ ap (λ others. attribute_of e ∷ others) rest ]
+-- entries of which none has this key are those of other names
+all_others : (name : List ℕ) (entries : List (Bytes × Bytes)) → lookup (is_key name) entries ≡ None → map attribute_of entries ≡ without_attribute name (map attribute_of entries)
+all_others name [] none = refl
+all_others name (e ∷ entries) none = by (bytes_eq name e.0.items) (all_others name entries) none
+  where
+    by : (b : Bool) → (lookup (is_key name) entries ≡ None → map attribute_of entries ≡ without_attribute name (map attribute_of entries)) → cond b (Some e.1) (lookup (is_key name) entries) ≡ None → attribute_of e ∷ map attribute_of entries ≡ cond (not b) (attribute_of e ∷ without_attribute name (map attribute_of entries)) (without_attribute name (map attribute_of entries))
+    by true rest none = cc
+    by false rest none = ap (λ others. attribute_of e ∷ others) (rest none)
+
+-- where no entry of this key is left, those left are the ones of other names
+pub rest_without : (name : List ℕ) (entries : List (Bytes × Bytes)) → lookup (is_key name) (remove_entry (is_key name) entries) ≡ None → map attribute_of (remove_entry (is_key name) entries) ≡ without_attribute name (map attribute_of entries)
+rest_without name [] none = refl
+rest_without name (e ∷ entries) none = by (bytes_eq name e.0.items) refl (rest_without name entries) none
+  where
+    by : (b : Bool) → bytes_eq name e.0.items ≡ b → (lookup (is_key name) (remove_entry (is_key name) entries) ≡ None → map attribute_of (remove_entry (is_key name) entries) ≡ without_attribute name (map attribute_of entries)) → lookup (is_key name) (cond b entries (e ∷ remove_entry (is_key name) entries)) ≡ None → map attribute_of (cond b entries (e ∷ remove_entry (is_key name) entries)) ≡ cond (not b) (attribute_of e ∷ without_attribute name (map attribute_of entries)) (without_attribute name (map attribute_of entries))
+    by true is rest none = all_others name entries none
+    by false is rest none =
+        let none_behind : lookup (is_key name) (remove_entry (is_key name) entries) ≡ None =
+        sym (ap (λ b. cond b (Some e.1) (lookup (is_key name) (remove_entry (is_key name) entries))) is) ∙ none in
+        ap (λ others. attribute_of e ∷ others) (rest none_behind)
 
 abbrev pub same_key : Bytes → Bytes → Bool
 same_key key other = bytes_eq key.items other.items

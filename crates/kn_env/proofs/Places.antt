@@ -1,10 +1,10 @@
 -- The first place at which a test passes, counted on from any place.
-use Rattle.std.proofs.Common.{◌≡◌, ℕ, suc, zero, ◌+◌, ◌-◌, ◌<◌, ◌≤◌, Bool, true, false, cond, List, [], ◌∷◌, length, Option, ◌++◌, append-nil, Some, None, take, get_or, refl, sym, ap, ◌∙◌, arith}
+use Rattle.std.proofs.Common.{◌≡◌, ℕ, suc, ◌+◌, ◌-◌, ◌<◌, ◌≤◌, Bool, true, false, cond, List, [], ◌∷◌, length, Option, ◌++◌, append-nil, Some, None, take, get_or, sym, ap, ◌∙◌, arith}
 use Rattle.std.proofs.lemmas.List.{get_or_read}
 use Rattle.std.specs.Str.{bytes_eq}
 use Rattle.std.specs.List.{list_any, join_with_byte, position, position_from, range_with_len}
 use Rattle.std.proofs.lemmas.Iterator.Adapters.{position_from-zero}
-use Rattle.kn_env.specs.Values.{stood_before, twice_place}
+use Rattle.kn_env.specs.Values.{stood_before}
 
 -- the first place from a on and below n
 abbrev pub place_from : (ℕ → Bool) → ℕ → ℕ → Option ℕ

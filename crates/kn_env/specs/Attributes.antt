@@ -1,5 +1,5 @@
 -- Action attributes (RFC 2704, section 3; their limits are keynoted's own), in the order in which they were entered.
-use Rattle.std.specs.Prelude.{ℕ, Bool, true, false, ◌==◌, ◌&&◌, ◌||◌, not, nat_le, nat_lt, List, [], ◌∷◌, length, find, Option, Some, None, if◌then◌else◌}
+use Rattle.std.specs.Prelude.{ℕ, Bool, false, ◌==◌, ◌&&◌, ◌||◌, not, nat_le, nat_lt, List, [], ◌∷◌, length, filter, find, Option, Some, None, if◌then◌else◌}
 use Rattle.std.specs.List.{list_all, list_any}
 use Rattle.std.specs.Option.{option_map}
 use Rattle.std.specs.Str.{bytes_eq}
@@ -47,10 +47,9 @@ with_attribute name value [] = record { name = name; value = value } ∷ []
 with_attribute name value (a ∷ attributes) =
     if bytes_eq name a.name then record a { value = value } ∷ attributes else a ∷ with_attribute name value attributes
 
--- the attributes without the one of this name; those behind it close up
+-- the attributes of other names, in their order
 abbrev pub without_attribute : List ℕ → List Attribute → List Attribute
-without_attribute name [] = []
-without_attribute name (a ∷ attributes) = if bytes_eq name a.name then attributes else a ∷ without_attribute name attributes
+without_attribute name attributes = filter (λ a. not (bytes_eq name a.name)) attributes
 
 -- why an attribute isn't set; the first that applies
 abbrev pub attribute_fault : List ℕ → List ℕ → List Attribute → Option EnvFault

@@ -1,5 +1,5 @@
 -- The compliance values of a query by their names (RFC 2704, section 5; their text is keynoted's own).
-use Rattle.std.specs.Prelude.{ℕ, ◌+◌, Bool, ◌==◌, ◌&&◌, ◌||◌, not, nat_le, nat_lt, List, [], ◌∷◌, ◌++◌, length, take, slice_index_or, Option, Some, None, if◌then◌else◌}
+use Rattle.std.specs.Prelude.{ℕ, Bool, ◌==◌, ◌&&◌, ◌||◌, not, nat_le, nat_lt, List, [], length, take, slice_index_or, Option, Some, None, if◌then◌else◌}
 use Rattle.std.specs.List.{list_all, list_any, slice_split, position, range_with_len}
 use Rattle.std.specs.Str.{bytes_eq}
 use Rattle.kn_env.specs.declared.values.ValuesFault.{ValuesFault}

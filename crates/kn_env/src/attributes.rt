@@ -160,7 +160,7 @@ impl Attributes {
         }
     }
 
-    /// Takes an attribute away; those behind it close up. Takes no memory.
+    /// Takes an attribute away; those of other names stay in their order. Takes no memory.
     pub fn unset(&mut self, name: &[u8]) -> Result<(), Absent>
         ensures ok { OnOk result (has_attribute name.now self.old ≡ true) }
         ensures err { OnErr result (has_attribute name.now self.old ≡ false) }

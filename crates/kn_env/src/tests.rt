@@ -6,11 +6,7 @@ use std::test::Fail;
 
 /// A text of this byte so many times.
 fn repeated(alloc: Global, byte: u8, count: usize) -> Result<Vec<u8>, AllocError> {
-    let mut text = Vec::new(alloc);
-    for _ in 0..count {
-        text.push(byte)?;
-    }
-    Ok(text)
+    vec![in alloc; byte; count]
 }
 
 /// An attempt to set a name to a value, and why it isn't set.
@@ -131,29 +127,21 @@ fn values_that_are_none(rt: HostRuntime) {
     }
 }
 
-/// So many different names with commas between them.
-fn names(alloc: Global, count: u8) -> Result<Vec<u8>, AllocError> {
-    let mut text = Vec::new(alloc);
-    for i in 0..count {
-        if i != 0 {
-            text.push(b',')?;
-        }
-        text.push(b'A' + i / 16)?;
-        text.push(b'a' + i % 16)?;
-    }
-    Ok(text)
-}
+/// As many names as there may be.
+const MOST: &[u8] =
+    b"A,B,C,D,E,F,G,H,I,J,K,L,M,N,O,P,Q,R,S,T,U,V,W,X,Y,Z,a,b,c,d,e,f,g,h,i,j,k,l,m,n,o,p,q,r,s,t,u,v,w,x,y,z,0,1,2,3,4,5,6,7,8,9,+,-";
 
 #[test]
 fn from_2_to_64_values(rt: HostRuntime) -> Result<(), Fail> {
     let alloc = rt.alloc();
-    let values = Values::of(alloc, names(alloc, 64)?.as_slice())?;
+    let values = Values::of(alloc, MOST)?;
     assert_eq!(rt; values.len(), 64);
     assert_eq!(rt; values.highest(), 63);
-    assert_eq!(rt; values.name(63), b"Dp".as_slice());
-    assert_eq!(rt; values.index_of(b"Dp"), Some(63));
-    assert_eq!(rt; values.index_of(b"D"), None);
-    let more = names(alloc, 65)?;
+    assert_eq!(rt; values.name(63), b"-".as_slice());
+    assert_eq!(rt; values.index_of(b"-"), Some(63));
+    assert_eq!(rt; values.index_of(b"--"), None);
+    let mut more = Vec::from_slice(alloc, MOST)?;
+    more.extend_from_slice(b",=")?;
     refuses(&rt, alloc, more.as_slice(), ValuesFault::Count { n: 65 });
     Ok(())
 }
@@ -164,22 +152,14 @@ fn names_of_values_at_their_limits(rt: HostRuntime) -> Result<(), Fail> {
     let mut text = repeated(alloc, b'~', 128)?;
     text.extend_from_slice(b",!")?;
     assert_eq!(rt; Values::of(alloc, text.as_slice())?.len(), 2);
+    let longer = repeated(alloc, b'x', 129)?;
     text.extend_from_slice(b",")?;
-    text.extend_from_slice(repeated(alloc, b'x', 129)?.as_slice())?;
+    text.extend_from_slice(longer.as_slice())?;
     refuses(&rt, alloc, text.as_slice(), ValuesFault::BadName { i: 2 });
     Ok(())
 }
 
-fn texts(alloc: Global, texts: &[&[u8]]) -> Result<List<Octets>, NoMemory> {
-    let mut list = List::new(alloc);
-    for text in texts {
-        match list.push(Octets::from_slice(alloc, text)?) {
-            Ok(()) => {}
-            Err(_) => return Err(NoMemory),
-        }
-    }
-    Ok(list)
-}
+const MEMORY: &str = "there is memory";
 
 /// The constant `Alice`.
 fn constants(alloc: Global) -> Result<List<Constant>, NoMemory> {
@@ -194,10 +174,26 @@ fn constants(alloc: Global) -> Result<List<Constant>, NoMemory> {
     }
 }
 
-fn gives(rt: &impl Abort, env: &Env, wanted: &[(&[u8], &[u8])]) {
+/// What names have for values where this is asked, with a constant `Alice`.
+fn gives(
+    rt: &impl Abort,
+    alloc: Global,
+    attributes: &Attributes,
+    requesters: &List<Octets>,
+    wanted: &[(&[u8], &[u8])],
+) {
+    let values = Values::of(alloc, b"no,log,yes").expect(rt, MEMORY);
+    let query = Query::of(alloc, attributes, &values, requesters).expect(rt, MEMORY);
+    let constants = constants(alloc).expect(rt, MEMORY);
+    let env = Env::of(&query, &constants);
+    assert_eq!(rt; env.values().len(), 3);
     for (name, value) in wanted {
         assert_eq!(rt; env.value(name), *value, "at {:?}", *name);
     }
+}
+
+fn request(rt: &impl Abort, requesters: &mut List<Octets>, requester: Octets) {
+    assert!(rt; requesters.push(requester).is_ok());
 }
 
 #[test]
@@ -209,14 +205,13 @@ fn names_have_values(rt: HostRuntime) -> Result<(), Fail> {
         (b"level", b"5", None),
     ];
     try_sets(&rt, &mut attributes, attempts.as_slice());
-    let values = Values::of(alloc, b"no,log,yes")?;
-    let requesters = texts(
-        alloc,
-        [b"alice".as_slice(), b"rsa-hex:10".as_slice()].as_slice(),
-    )?;
-    let query = Query::of(alloc, &attributes, &values, &requesters)?;
-    let constants = constants(alloc)?;
-    let env = Env::of(&query, &constants);
+    let mut requesters = List::new(alloc);
+    request(&rt, &mut requesters, Octets::from_slice(alloc, b"alice")?);
+    request(
+        &rt,
+        &mut requesters,
+        Octets::from_slice(alloc, b"rsa-hex:10")?,
+    );
     let wanted = [
         (b"Alice".as_slice(), b"constant".as_slice()),
         (b"level", b"5"),
@@ -227,24 +222,15 @@ fn names_have_values(rt: HostRuntime) -> Result<(), Fail> {
         (b"_ACTION_AUTHORIZERS", b"alice,rsa-hex:10"),
         (b"_other", b""),
     ];
-    gives(&rt, &env, wanted.as_slice());
-    assert_eq!(rt; env.values().len(), 3);
+    gives(&rt, alloc, &attributes, &requesters, wanted.as_slice());
     Ok(())
 }
 
 #[test]
-fn nobody_requests(rt: HostRuntime) -> Result<(), Fail> {
+fn nobody_requests(rt: HostRuntime) {
     let alloc = rt.alloc();
     let attributes = Attributes::new(alloc);
-    let values = Values::of(alloc, b"no,yes")?;
-    let requesters = texts(alloc, [].as_slice())?;
-    let query = Query::of(alloc, &attributes, &values, &requesters)?;
-    let constants = List::new(alloc);
-    let env = Env::of(&query, &constants);
-    gives(
-        &rt,
-        &env,
-        [(b"_ACTION_AUTHORIZERS".as_slice(), b"".as_slice())].as_slice(),
-    );
-    Ok(())
+    let requesters = List::new(alloc);
+    let wanted = [(b"_ACTION_AUTHORIZERS".as_slice(), b"".as_slice())];
+    gives(&rt, alloc, &attributes, &requesters, wanted.as_slice());
 }

@@ -1,6 +1,7 @@
 pub mod Values
 pub mod Table
 pub mod Order
+pub mod Between
 pub mod Literals
 pub mod Faulty
 pub mod Along

@@ -6,5 +6,6 @@ pub mod Literal
 pub mod Scanning
 pub mod Seeing
 pub mod TokenFacts
+pub mod Between
 pub mod Computed
 pub mod Escapes

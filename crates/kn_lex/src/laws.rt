@@ -4,6 +4,7 @@ ghost use Rattle.std.specs.Prelude.{◌≡◌, ◌≤◌, ◌↔◌, ◌⊎◌, 
 ghost use Rattle.kn_lex.specs.Cutting.{Seen, Cuts};
 ghost use Rattle.kn_lex.specs.Faults.{IsFaultless, IsFirstLexicalFault};
 ghost use Rattle.kn_lex.specs.TokenFacts.{IsTokenOf, StandInOrder, begins_line};
+ghost use Rattle.kn_lex.specs.Between.{StandApart};
 ghost use Rattle.kn_lex.specs.Computed.{tokens_or_fault};
 ghost use Rattle.kn_lex.specs.Spelling.{IsLiteral};
 ghost use Rattle.kn_lex.specs.Literal.{value_behind, inside, literal_value};
@@ -29,6 +30,12 @@ pub fn token_facts()
 pub fn tokens_in_order()
     ensures order { (text : List ℕ) (tokens : List Seen) → Cuts text tokens → StandInOrder 0 tokens }
     ensures first { (text : List ℕ) (tokens : List Seen) → Cuts text tokens → All (λ token. token.first ≡ begins_line text token.span.start) tokens }
+{}
+
+/// Before the first of the tokens that cut a text, between two of them and behind the last stand white space and
+/// comments alone, each comment up to the end of its line.
+pub fn between_tokens()
+    ensures { (text : List ℕ) (tokens : List Seen) → Cuts text tokens → StandApart text 0 tokens }
 {}
 
 /// What is computed of a text is the list of tokens that cuts it where it has no fault, and else its first

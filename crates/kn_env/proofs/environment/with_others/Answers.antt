@@ -1,4 +1,4 @@
-use Rattle.std.proofs.Common.{◌≡◌, ◌++◌, ap, ◌∙◌}
+use Rattle.std.proofs.Common.{◌++◌, ap, ◌∙◌}
 use Rattle.kn_env.proofs.Places.{each_behind, join_with_byte-each_behind}
 use Rattle.kn_env.proofs.environment.with_others.Goals as goal
 

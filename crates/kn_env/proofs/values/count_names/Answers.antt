@@ -1,4 +1,4 @@
-use Rattle.std.proofs.Common.{◌≡◌, ◌+◌, eqb, sym, ap, ◌∙◌}
+use Rattle.std.proofs.Common.{◌+◌, eqb, sym, ap, ◌∙◌}
 use Rattle.std.proofs.lemmas.List.Splits.{length-slice_split}
 use Rattle.kn_env.proofs.values.count_names.Goals as goal
 

@@ -1,5 +1,5 @@
-use Rattle.std.proofs.Common.{◌≡◌, true, false, Some, None, length, sym, ap, ◌∙◌}
-use Rattle.kn_env.specs.Values.{stood_before, twice_place}
+use Rattle.std.proofs.Common.{◌≡◌, true, false, length, sym, ◌∙◌}
+use Rattle.kn_env.specs.Values.{stood_before}
 use Rattle.kn_env.proofs.Places.{place_first, place_here, place_behind, place_nowhere, asked_at}
 use Rattle.kn_env.proofs.values.twice_place.Goals as goal
 

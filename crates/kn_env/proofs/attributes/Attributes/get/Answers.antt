@@ -1,4 +1,4 @@
-use Rattle.std.proofs.Common.{◌≡◌, Some, sym, ap, ◌∙◌}
+use Rattle.std.proofs.Common.{Some, ap, ◌∙◌}
 use Rattle.std.specs.Option.{option_map}
 use Rattle.kn_env.specs.Attributes.{attribute_value}
 use Rattle.kn_env.proofs.Keyed.{value_found}

@@ -1,6 +1,5 @@
-use Rattle.std.proofs.Common.{◌≡◌, sym, ap, ◌∙◌}
-use Rattle.std.specs.Prelude.{is_some, Option}
-use Rattle.std.specs.Option.{option_copied}
+use Rattle.std.proofs.Common.{ap, ◌∙◌}
+use Rattle.std.specs.Prelude.{is_some}
 use Rattle.kn_env.specs.Attributes.{has_attribute}
 use Rattle.kn_env.proofs.Keyed.{has_found, is_some-copied}
 use Rattle.kn_env.proofs.attributes.Attributes.has.Goals as goal

@@ -1,5 +1,5 @@
-use Rattle.std.proofs.Common.{◌≡◌, List, map, None, sym, ap, ◌∙◌}
-use Rattle.kn_env.specs.Attributes.{Attribute, with_attribute, attribute_fault}
+use Rattle.std.proofs.Common.{◌≡◌, map, None, ap, ◌∙◌}
+use Rattle.kn_env.specs.Attributes.{with_attribute, attribute_fault}
 use Rattle.kn_env.specs.Entries.{attribute_of}
 use Rattle.kn_env.proofs.Keyed.{with_inserted, few_inserted}
 use Rattle.kn_env.proofs.attributes.Attributes.insert.Goals as goal

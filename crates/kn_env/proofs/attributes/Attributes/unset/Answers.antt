@@ -1,8 +1,9 @@
-use Rattle.std.proofs.Common.{◌≡◌, map, true, false, sym, ap, ◌∙◌}
-use Rattle.std.specs.Prelude.{is_some, OnOk, OnErr}
+use Rattle.std.proofs.Common.{◌≡◌, map, None, sym, ap, ◌∙◌}
+use Rattle.std.specs.Prelude.{is_some}
 use Rattle.kn_env.specs.Entries.{attribute_of}
 use Rattle.kn_env.specs.Attributes.{has_attribute, without_attribute}
-use Rattle.kn_env.proofs.Keyed.{has_found, rest_without}
+use Rattle.std.specs.Map.{lookup, remove_entry}
+use Rattle.kn_env.proofs.Keyed.{is_key, has_found, rest_without}
 use Rattle.kn_env.proofs.attributes.Attributes.unset.Goals as goal
 use Rattle.kn_env.proofs.attributes.Attributes.unset.Goals.{in-Some, in-None}
 
@@ -26,6 +27,8 @@ returns-clause-err c =
 
 pub returns-clause-rest : goal.returns-clause-rest
 returns-clause-rest c =
+    let none_left : lookup (is_key c.args.name.now) (remove_entry (is_key c.args.name.now) c.self.inside.entries.entries) ≡ None =
+    ap (lookup (is_key c.args.name.now)) (sym c.shift_remove.ensures.entries) ∙ c.shift_remove.ensures.updates.1 in
     ap (map attribute_of) c.shift_remove.ensures.entries
-    ∙ rest_without c.args.name.now c.self.inside.entries.entries
+    ∙ rest_without c.args.name.now c.self.inside.entries.entries none_left
     ∙ ap (without_attribute c.args.name.now) c.self.view_is
