@@ -17,7 +17,9 @@ use Rattle.kn_trees.specs.declared.formula.Formula.{Formula}
 use Rattle.kn_trees.specs.declared.program.Program.{Program}
 use Rattle.kn_trees.specs.Formulas.{IsReadable}
 use Rattle.kn_trees.specs.Kinds.{is_well_kinded}
+use Rattle.kn_trees.specs.Levels.{program_depth}
 use Rattle.kn_program.specs.Conditions.{IsConditions}
+use Rattle.kn_program.proofs.Depths.{stated_shallow}
 use Rattle.kn_principal.specs.Principals.{lower_case, is_colon, normal_rest, with_algorithm, normal_form}
 use Rattle.kn_assert.specs.Parts.{text_by, normal_in, principal_of}
 use Rattle.kn_assert.specs.Reading.{of_fields, reading_with, reading_by, reading_of, assertion_in, fault_in, assertion_of, fault_of, IsSound}
@@ -152,6 +154,17 @@ pub sound_told : ReadingTold → (text : List ℕ) (n : ℕ) (r : Result Asserti
     → IfOk r (λ assertion. IfSome assertion.licensees (λ formula. IsReadable n formula)) → IfOk r (λ assertion. IsSound (length text) assertion)
 sound_told told text n (Ok assertion) e le readable = reading_sound text assertion n ((told text assertion).0 e) le readable
 sound_told told text n (Err fault) e le readable = tt
+
+-- a program that is spelled has at most 1,700 levels
+spelled_shallow : (field : Option Field) (conditions : Option Program) → MatchOption field (conditions ≡ None) (λ field. IsShallow field × IsConditions field.tokens conditions)
+    → IfSome conditions (λ program. program_depth program ≤ 1700)
+spelled_shallow None conditions h = subst (λ (conditions : Option Program). IfSome conditions (λ program. program_depth program ≤ 1700)) (sym h) tt
+spelled_shallow (Some field) conditions h = stated_shallow field.tokens conditions h.1 h.0
+
+pub shallow_told : ReadingTold → (text : List ℕ) (r : Result Assertion ReadFault) → reading_of text ≡ r
+    → IfOk r (λ assertion. IfSome assertion.conditions (λ program. program_depth program ≤ 1700))
+shallow_told told text (Ok assertion) e = let reading = (told text assertion).0 e in spelled_shallow (field_with 3 reading.tokens) assertion.conditions reading.spelled.conditions
+shallow_told told text (Err fault) e = tt
 
 pub short_told : (text : List ℕ) (r : Result Assertion ReadFault) → length text ≤ 16384 → IfOk r (λ assertion. length text ≤ 16384)
 short_told text (Ok assertion) le = le

@@ -1,5 +1,6 @@
 ghost use Rattle.std.specs.Prelude.{◌≡◌, ◌≤◌, ◌⊎◌, ℕ, List, length, Some, Ok, IfOk, IfErr, IfSome};
 ghost use Rattle.kn_trees.specs.Formulas.{IsReadable};
+ghost use Rattle.kn_trees.specs.Levels.{program_depth};
 ghost use Rattle.kn_fields.specs.Fields.{signed_to};
 ghost use Rattle.kn_assert.specs.Reading.{of_lexical, of_fields, assembled, reading_with, assertion_of, fault_of, IsSound};
 ghost use Rattle.kn_assert.specs.Spelled.{IsReading, IsFirstReadFault};
@@ -98,6 +99,7 @@ pub fn read(alloc: Global, text: &[u8]) -> Result<Assertion, ReadFault>
     ensures each_reading { (assertion : Assertion) → IsReading text.now assertion → (result ≡ Ok assertion) ⊎ (result ≡ Err NoMemory) }
     ensures each_fault { (fault : ReadFault) → IsFirstReadFault text.now fault → (result ≡ Err fault) ⊎ (result ≡ Err NoMemory) }
     ensures sound { IfOk result (λ assertion. IsSound (length text.now) assertion) }
+    ensures shallow { IfOk result (λ assertion. IfSome assertion.conditions (λ program. program_depth program ≤ 1700)) }
     ensures short { IfOk result (λ assertion. length text.now ≤ 16384) }
 {
     kn_lex::laws::no_more_tokens_than_bytes();

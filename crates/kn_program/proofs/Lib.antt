@@ -11,3 +11,5 @@ pub mod Numbers
 pub mod WordLemmas
 pub mod TreeLemmas
 pub mod Steps
+pub mod Nesting
+pub mod Depths

@@ -1,5 +1,6 @@
 ghost use Rattle.std.specs.Prelude.{◌≡◌, ◌+◌, ◌≤◌, ◌<◌, ◌⊎◌, Option, IfOk, IfErr, IfSome, length, true};
 ghost use Rattle.kn_trees.specs.Kinds.{is_well_kinded};
+ghost use Rattle.kn_trees.specs.Levels.{program_depth};
 ghost use Rattle.kn_fields.specs.Fields.{between};
 ghost use Rattle.kn_fields.specs.Depth.{IsTooDeep};
 ghost use Rattle.kn_trees.specs.declared.program.Program.{Program};
@@ -32,6 +33,7 @@ pub fn conditions(
     ensures each_fault { (fault : ProgramFault) → Shows (between (part.label + 1) part.end tokens.now) fault → (result ≡ Err fault) ⊎ (result ≡ Err NoMemory) }
     ensures given { Gives result (program_of (between (part.label + 1) part.end tokens.now)) }
     ensures well_kinded { IfOk result (λ conditions. IfSome conditions (λ program. is_well_kinded program ≡ true)) }
+    ensures shallow { IfOk result (λ conditions. IfSome conditions (λ program. program_depth program ≤ 1700)) }
 {
     read_conditions(alloc, tokens, part)
 }

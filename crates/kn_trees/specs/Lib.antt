@@ -1,2 +1,3 @@
 pub mod Formulas
 pub mod Kinds
+pub mod Levels

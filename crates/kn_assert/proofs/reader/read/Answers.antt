@@ -1,6 +1,6 @@
 use Rattle.std.proofs.Common.{◌≡◌, Err, refl}
 use Rattle.kn_assert.specs.Reading.{reading_of}
-use Rattle.kn_assert.proofs.Answered.{well_short, reading_here, ok_told, err_told, reading_told, first_told, sound_told, short_told, fields_fault, fault_told, fault_first, each_told, each_fault_told, each_refused, each_fault_refused}
+use Rattle.kn_assert.proofs.Answered.{well_short, reading_here, ok_told, err_told, reading_told, first_told, sound_told, shallow_told, short_told, fields_fault, fault_told, fault_first, each_told, each_fault_told, each_refused, each_fault_refused}
 use Rattle.kn_assert.proofs.reader.read.Goals as goal
 
 pub returns-in-Err-clause-err : goal.returns-in-Err-clause-err
@@ -46,6 +46,9 @@ pub returns-in-Ok-assertion-clause-sound : goal.returns-in-Ok-assertion-clause-s
 returns-in-Ok-assertion-clause-sound c =
     sound_told c.readings_are_computed.ensures.reading c.args.text.now _ c.in-Ok-assertion.read (read_is c)
     (c.no_more_tokens_than_bytes.ensures c.args.text.now c.in-Ok.fields.tokens c.in-Ok.ensures.tokens) c.in-Ok-assertion.ensures.readable
+
+pub returns-in-Ok-assertion-clause-shallow : goal.returns-in-Ok-assertion-clause-shallow
+returns-in-Ok-assertion-clause-shallow c = shallow_told c.readings_are_computed.ensures.reading c.args.text.now c.in-Ok-assertion.read (read_is c)
 
 pub returns-in-Ok-assertion-clause-short : goal.returns-in-Ok-assertion-clause-short
 returns-in-Ok-assertion-clause-short c = short_told c.args.text.now c.in-Ok-assertion.read (well_short c.args.text.now c.in-Ok.ensures.faultless)
