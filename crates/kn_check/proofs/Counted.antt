@@ -1,8 +1,7 @@
 -- How many nodes the formulas have that were read so far.
 use Rattle.std.proofs.Common.{◌≡◌, ℕ, zero, suc, ◌+◌, ◌<◌, ◌≤◌, List, [], ◌∷◌, get_or, take, length, ap, ◌∙◌, add-one, arith}
 use Rattle.kn_proof.specs.declared.row.Row.{Row as ProofRow}
-use Rattle.kn_system.specs.declared.rows.Row.{Row}
-use Rattle.kn_system.specs.Equations.{Equations, row_at, node_total}
+use Rattle.kn_system.specs.Equations.{Equations, row_at}
 use Rattle.kn_check.specs.Reads.{support_nodes}
 
 pub support_nodes-take : (s : Equations) (rows : List ProofRow) (k : ℕ) → support_nodes s (take k rows) ≤ support_nodes s rows
@@ -18,17 +17,3 @@ support_nodes-suc s (row ∷ rows) (suc k) d within = let rest = support_nodes-s
 
 pub support_nodes-more : (s : Equations) (rows : List ProofRow) (k : ℕ) (d : ProofRow) → k < length rows → support_nodes s (take (k + 1) rows) ≡ support_nodes s (take k rows) + length (row_at s.rows (get_or rows k d).by).formula
 support_nodes-more s rows k d within = ap (λ n. support_nodes s (take n rows)) (add-one k) ∙ support_nodes-suc s rows k d within
-
-pub node_total-take : (rows : List Row) (k : ℕ) → node_total (take k rows) ≤ node_total rows
-node_total-take [] zero = omega arith
-node_total-take [] (suc k) = omega arith
-node_total-take (row ∷ rows) zero = omega arith
-node_total-take (row ∷ rows) (suc k) = let rest : node_total (take k rows) ≤ node_total rows = node_total-take rows k in omega arith
-
-node_total-suc : (rows : List Row) (k : ℕ) → k < length rows → node_total (take (suc k) rows) ≡ node_total (take k rows) + length (row_at rows k).formula
-node_total-suc [] k within = absurd (omega arith)
-node_total-suc (row ∷ rows) zero within = omega arith
-node_total-suc (row ∷ rows) (suc k) within = let rest = node_total-suc rows k (omega arith) in omega (arith, rest)
-
-pub node_total-more : (rows : List Row) (k : ℕ) → k < length rows → node_total (take (k + 1) rows) ≡ node_total (take k rows) + length (row_at rows k).formula
-node_total-more rows k within = ap (λ n. node_total (take n rows)) (add-one k) ∙ node_total-suc rows k within

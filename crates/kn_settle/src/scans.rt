@@ -1,6 +1,7 @@
-ghost use Rattle.std.specs.Prelude.{◌≡◌, ◌<◌, ◌-◌, false, length, IfOk, IsTrue, OnOk, slice_index};
-ghost use Rattle.kn_system.specs.Counts.{IsLater};
-ghost use Rattle.kn_system.specs.Equations.{IsSystem};
+ghost use Rattle.std.specs.Prelude.{◌≡◌, ◌<◌, ◌≤◌, ◌+◌, ◌-◌, ◌*◌, false, length, IfOk, IsTrue, OnOk, slice_index};
+ghost use Rattle.kn_settle.specs.Scans.{most_nodes};
+ghost use Rattle.kn_system.specs.Counts.{IsWithin};
+ghost use Rattle.kn_system.specs.Equations.{IsSystem, node_total, row_at};
 ghost use Rattle.kn_system.specs.Least.{at_first, least_levels};
 ghost use Rattle.kn_system.specs.Proofs.{levels_after, HasOneRowEach, IsProof};
 ghost use Rattle.kn_system.specs.Settled.{IsSettled, GivesNothing, HasNoneBefore, unsettled};
@@ -23,6 +24,8 @@ pub struct Settled {
 ///
 /// Principals are settled from the highest level down: for each level the rows are scanned until a scan gives
 /// no principal that level any more.
+///
+/// A step is a node of a formula that is read.
 pub fn settle<L>(
     alloc: Global,
     system: &System<L>,
@@ -32,7 +35,7 @@ pub fn settle<L>(
     ensures proof { IfOk result (λ settled. IsProof system.now settled.proof.rows (slice_index (least_levels system.now) 0)) }
     ensures after { IfOk result (λ settled. levels_after (at_first system.now) settled.proof.rows ≡ least_levels system.now) }
     ensures rows { IfOk result (λ settled. HasOneRowEach system.now (least_levels system.now) settled.proof.rows) }
-    ensures later { IsLater steps.old steps.new }
+    ensures ticks { IsWithin (most_nodes system.now) steps.old steps.new }
 {
     let mut levels = zeros(alloc, system)?;
     settle_in(alloc, system, &mut levels, steps)
@@ -59,7 +62,7 @@ fn settle_in<L>(
     ensures proof { IfOk result (λ settled. IsProof system.now settled.proof.rows (slice_index (least_levels system.now) 0)) }
     ensures after { IfOk result (λ settled. levels_after (at_first system.now) settled.proof.rows ≡ least_levels system.now) }
     ensures rows { IfOk result (λ settled. HasOneRowEach system.now (least_levels system.now) settled.proof.rows) }
-    ensures later { IsLater steps.old steps.new }
+    ensures ticks { IsWithin (most_nodes system.now) steps.old steps.new }
 {
     system.first_levels(levels);
     let mut rows = List::new(alloc);
@@ -91,7 +94,8 @@ fn settle_level<L>(
     requires above_lowest { 0 < value }
     requires settled { IsSettled system.now value levels.old rows.old }
     ensures settled { OnOk result (IsSettled system.now (value - 1) levels.new rows.new) }
-    ensures later { IsLater steps.old steps.new }
+    ensures most { unsettled levels.new ≤ unsettled levels.old }
+    ensures ticks { IsWithin ((unsettled levels.old - unsettled levels.new + 1) * node_total system.now.rows) steps.old steps.new }
 {
     laws::settling_goes_down();
     loop {
@@ -115,7 +119,8 @@ fn scan<L>(
     ensures settled { OnOk result (IsSettled system.now value levels.new rows.new) }
     ensures fewer { IfOk result (λ changed. IsTrue changed → unsettled levels.new < unsettled levels.old) }
     ensures done { IfOk result (λ changed. changed ≡ false → HasNoneBefore system.now value levels.new (length system.now.rows)) }
-    ensures later { IsLater steps.old steps.new }
+    ensures most { unsettled levels.new ≤ unsettled levels.old }
+    ensures ticks { IsWithin (node_total system.now.rows) steps.old steps.new }
 {
     let mut changed = false;
     for row in 0..system.rows() {
@@ -143,7 +148,8 @@ fn try_row<L>(
     ensures fewer { IfOk result (λ granted. IsTrue granted → unsettled levels.new < unsettled levels.old) }
     ensures same { IfOk result (λ granted. granted ≡ false → levels.new ≡ levels.old) }
     ensures nothing { IfOk result (λ granted. granted ≡ false → GivesNothing system.now value levels.old row) }
-    ensures later { IsLater steps.old steps.new }
+    ensures most { unsettled levels.new ≤ unsettled levels.old }
+    ensures ticks { IsWithin (length (row_at system.now.rows row).formula) steps.old steps.new }
 {
     let principal = system.authorizer(row);
     if levels[principal as usize] > 0 {

@@ -10,3 +10,4 @@ pub mod Proven
 pub mod Granted
 pub mod Exists
 pub mod Counted
+pub mod Nodes

@@ -1,11 +1,11 @@
-use Rattle.kn_system.specs.Counts.{IsLater}
 use Rattle.kn_system.specs.Settled.{IsSettled}
+use Rattle.kn_settle.proofs.Scanned.{IsScannedAbove}
 use Rattle.kn_settle.proofs.scans.settle_in.Given as goal
 
 abbrev pub invariant-loop-value : goal.invariant-loop-value
 invariant-loop-value g l = record {
   settled : IsSettled l.system l.value l.levels l.rows;
-  later : IsLater l.initial.steps l.steps;
+  scanned : IsScannedAbove l.system l.value l.levels l.initial.steps l.steps;
 }
 
 abbrev pub decreases-loop-value : goal.decreases-loop-value
