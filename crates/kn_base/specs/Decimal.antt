@@ -1,3 +1,4 @@
+-- Decimal numbers of one to nine digits (keynoted's own).
 use Rattle.std.specs.Prelude.{ℕ, Bool, List, [], ◌∷◌, ◌+◌, ◌-◌, ◌*◌, ◌^◌, nat_le, ◌==◌, ◌&&◌, ◌||◌, not, length, slice_index, Option, Some, None, if◌then◌else◌}
 use Rattle.std.specs.List.{list_all}
 

@@ -2,6 +2,7 @@
 #![tactic(auto)]
 
 mod boxed;
+pub mod laws;
 pub mod limits;
 mod list;
 mod memory;

@@ -1,4 +1,4 @@
--- What a query asks, and the value of a name in it (RFC 2704, section 4, "Action Environment", and section 5).
+-- What a query asks, and the value of a name in it (RFC 2704, sections 4 and 5; which row is tried first is keynoted's own).
 use Rattle.std.specs.Prelude.{ℕ, ◌-◌, List, [], length, find, slice_index_or, codes, Option, if◌then◌else◌}
 use Rattle.std.specs.List.{join_with_byte}
 use Rattle.std.specs.Option.{option_map, option_map_or}
