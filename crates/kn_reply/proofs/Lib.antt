@@ -6,3 +6,4 @@ pub mod Written
 pub mod Only
 pub mod Whole
 pub mod OneLine
+pub mod Exists

@@ -30,7 +30,7 @@ cut_header texts form = record {
   count = numeral_lacks 10 texts.count (omega arith) form.count;
 }
 
-header_words : (texts : HeaderTexts) (rest : List ℕ) →
+pub header_words : (texts : HeaderTexts) (rest : List ℕ) →
     header_line texts ++ rest ≡ codes "VALUE " ++ (texts.value ++ 32 ∷ (texts.name ++ 32 ∷ (texts.version ++ 32 ∷ (texts.count ++ 10 ∷ rest))))
 header_words texts rest = simp append_assoc
 
@@ -68,7 +68,7 @@ id_lacks at (letter ∷ number) below h =
 pub cut_row : (texts : RowTexts) → IsRowForm texts → IsCutRow texts.value texts.id
 cut_row texts form = record { cut_value = numeral_lacks 32 texts.value (omega arith) form.value; cut_id = id_lacks 32 texts.id (omega arith) form.id }
 
-front_words : (value id rest : List ℕ) → row_front value id ++ rest ≡ codes "ROW " ++ (value ++ 32 ∷ (id ++ 32 ∷ 34 ∷ rest))
+pub front_words : (value id rest : List ℕ) → row_front value id ++ rest ≡ codes "ROW " ++ (value ++ 32 ∷ (id ++ 32 ∷ 34 ∷ rest))
 front_words value id rest = simp append_assoc
 
 pub front_once : (v i v' i' x y : List ℕ) → IsCutRow v i → IsCutRow v' i' → row_front v i ++ x ≡ row_front v' i' ++ y → (v ≡ v') × (i ≡ i') × (x ≡ y)
@@ -79,7 +79,7 @@ front_once v i v' i' x y cut cut' e =
     let rest : x ≡ y = append_cancel_left (34 ∷ []) x y id.1 in
     (value.0, id.0, rest)
 
-row_words : (texts : RowTexts) (rest : List ℕ) → row_line texts ++ rest ≡ row_front texts.value texts.id ++ (flat_map quoted_byte texts.principal ++ 34 ∷ 10 ∷ rest)
+pub row_words : (texts : RowTexts) (rest : List ℕ) → row_line texts ++ rest ≡ row_front texts.value texts.id ++ (flat_map quoted_byte texts.principal ++ 34 ∷ 10 ∷ rest)
 row_words texts rest = simp append_assoc
 
 -- a text begins with one ROW line, and one rest follows
@@ -96,7 +96,7 @@ row_once a b x y form form' e =
         made : List ℕ → List ℕ → List ℕ → RowTexts
         made value id principal = record { value = value; id = id; principal = principal }
 
-lacking : (at : ℕ) (text front rest : List ℕ) → list_any (λ b. b == at) text ≡ false → text ≢ front ++ at ∷ rest
+pub lacking : (at : ℕ) (text front rest : List ℕ) → list_any (λ b. b == at) text ≡ false → text ≢ front ++ at ∷ rest
 lacking at text front rest none e = no_cut at front rest (ap (list_any (λ b. b == at)) (sym e) ∙ none)
 
 -- the words of a line 1, as far as a text is cut
@@ -118,6 +118,10 @@ behind_version : (y version z : List ℕ) → y ≡ version ++ 32 ∷ z → list
 behind_version y version z cut clean texts rest form words = (cut_once 32 version texts.version _ _ clean (cut_header texts form).version (sym cut ∙ words)).1
 
 -- a text that is cut less often than a line 1
+pub no_value : (text w : List ℕ) → text ≡ codes "VALUE " ++ w → list_any (λ b. b == 32) w ≡ false → HasNoHeader text
+no_value text w begins none texts rest form e =
+    lacking 32 w texts.value _ none (append_cancel_left (codes "VALUE ") _ _ (sym begins ∙ e ∙ header_words texts rest))
+
 pub no_name : (text w value x : List ℕ) → text ≡ codes "VALUE " ++ w → w ≡ value ++ 32 ∷ x → list_any (λ b. b == 32) value ≡ false
     → list_any (λ b. b == 32) x ≡ false → HasNoHeader text
 no_name text w value x begins cut clean none texts rest form e =
@@ -149,6 +153,10 @@ behind_row_value text w value x begins cut clean texts rest form e =
     (cut_once 32 value texts.value _ _ clean (cut_row texts form).cut_value (sym cut ∙ words)).1
 
 -- a text that is cut less often than a ROW line
+pub no_row_value : (text w : List ℕ) → text ≡ codes "ROW " ++ w → list_any (λ b. b == 32) w ≡ false → HasNoRow text
+no_row_value text w begins none texts rest form e =
+    lacking 32 w texts.value _ none (append_cancel_left (codes "ROW ") _ _ (sym begins ∙ e ∙ row_words texts rest ∙ front_words texts.value texts.id _))
+
 pub no_id : (text w value x : List ℕ) → text ≡ codes "ROW " ++ w → w ≡ value ++ 32 ∷ x → list_any (λ b. b == 32) value ≡ false
     → list_any (λ b. b == 32) x ≡ false → HasNoRow text
 no_id text w value x begins cut clean none texts rest form e =

@@ -1,8 +1,10 @@
 -- A principal has one quoted text.
-use Rattle.std.proofs.Common.{◌≡◌, ◌≢◌, ℕ, ◌+◌, ◌-◌, ◌*◌, ◌/◌, ◌%◌, ◌<◌, false, ◌==◌, cond, List, [], ◌∷◌, ◌++◌, flat_map, refl, sym, ap, ◌∙◌, arith, inl, inr, append_assoc}
-use Rattle.std.proofs.lemmas.Bool.{cases_eq, cases_lt, cond-false, ne_eqb}
-use Rattle.std.proofs.lemmas.Bool.Decides.{nat_tests}
-use Rattle.std.proofs.lemmas.List.Elements.{All-head, All-tail}
+use Rattle.std.proofs.Common.{◌≡◌, ◌≢◌, ◌⊎◌, ℕ, suc, zero, ◌+◌, ◌-◌, ◌*◌, ◌/◌, ◌%◌, ◌<◌, ◌≤◌, false, ◌==◌, cond, List, [], ◌∷◌, ◌++◌, length, flat_map, refl, sym, ap, ◌∙◌, arith, inl, inr, append_assoc, length-append}
+use Rattle.std.specs.Str.{bytes_eq}
+use Rattle.std.proofs.lemmas.Bool.{cases_Bool, cases_eq, cases_lt, cond-false, ne_eqb}
+use Rattle.std.proofs.lemmas.Bool.Decides.{nat_tests, not_from_Decides}
+use Rattle.std.proofs.lemmas.List.Elements.{All-cons, All-head, All-nil, All-tail}
+use Rattle.std.proofs.lemmas.Slice.Eq.{bytes_eq-Decides}
 use Rattle.kn_meaning.specs.Replies.{quoted_byte}
 use Rattle.kn_reply.specs.Lines.{AreBytes}
 use Rattle.kn_reply.specs.Quoting.{HasNoByte, IsPlain, octal_digits}
@@ -117,3 +119,74 @@ one_principal (a ∷ p) (b ∷ q) r s bytes bytes' stop stop' e =
     let same : a ≡ b = byte.0 in
     let behind : p ≡ q = rest.0 in
     (cc, rest.1)
+
+-- a byte that is quoted at the front of a text, and what is behind
+pub record BeginsQuoted (text : List ℕ) : Type 0 where
+  pub byte : ℕ
+  pub rest : List ℕ
+  pub small : byte < 256
+  pub spelled : text ≡ quoted_byte byte ++ rest
+
+-- a text begins with a quoted byte, or with none
+pub byte_or_none : (text : List ℕ) → BeginsQuoted text ⊎ HasNoByte text
+byte_or_none text =
+    let byte : ℕ = (first text).0 in
+    let rest : List ℕ = (first text).1 in
+    let is : (b : ℕ) (behind : List ℕ) → b < 256 → text ≡ quoted_byte b ++ behind → first text ≡ (b, behind) = λ b behind small e. ap first e ∙ first_byte b behind small (quoting b) in
+    let test = bytes_eq-Decides text (quoted_byte byte ++ rest) in
+    elim (cases_lt byte 256) [
+      | inl small ↦ elim (cases_Bool (bytes_eq text (quoted_byte byte ++ rest))) [
+        | inl same ↦ inl (record { byte = byte; rest = rest; small = small; spelled = test.0 same })
+        | inr differs ↦ inr (λ b behind below e. not_from_Decides (bytes_eq text (quoted_byte byte ++ rest)) test differs (e ∙ ap (λ (p : ℕ × List ℕ). quoted_byte p.0 ++ p.1) (sym (is b behind below e))))
+      ]
+      | inr large ↦ inr (λ b behind below e. let same : byte ≡ b = ap (λ (p : ℕ × List ℕ). p.0) (is b behind below e) in absurd (omega arith))
+    ]
+
+pub quoted-some : (b : ℕ) → Quoting b → 1 ≤ length (quoted_byte b)
+quoted-some b (quote h) = rw h (omega arith)
+quoted-some b (backslash h) = rw h (omega arith)
+quoted-some b (low h) = rw (quoted_low b h) (omega arith)
+quoted-some b (high h) = rw (quoted_high b h) (omega arith)
+quoted-some b (plain h) = rw (quoted_plain b h) (omega arith)
+
+-- the bytes that are quoted at the front of a text, as many as there are, and what is behind
+pub record IsUnquoted (text : List ℕ) : Type 0 where
+  pub principal : List ℕ
+  pub rest : List ℕ
+  pub spelled : text ≡ flat_map quoted_byte principal ++ rest
+  pub bytes : AreBytes principal
+  pub all : HasNoByte rest
+
+unquoted_more : (text : List ℕ) (begins : BeginsQuoted text) → IsUnquoted begins.rest → IsUnquoted text
+unquoted_more text begins behind = record {
+  principal = begins.byte ∷ behind.principal;
+  rest = behind.rest;
+  spelled =
+      begins.spelled ∙ ap (λ (l : List ℕ). quoted_byte begins.byte ++ l) behind.spelled
+      ∙ sym (append_assoc (quoted_byte begins.byte) (flat_map quoted_byte behind.principal) behind.rest);
+  bytes = All-cons (λ c. c < 256) begins.byte behind.principal begins.small behind.bytes;
+  all = behind.all;
+}
+
+unquoted_none : (text : List ℕ) → HasNoByte text → IsUnquoted text
+unquoted_none text none = record { principal = []; rest = text; spelled = refl; bytes = All-nil (λ c. c < 256); all = none }
+
+shorter : (text : List ℕ) (begins : BeginsQuoted text) → length begins.rest < length text
+shorter text begins =
+    let some = quoted-some begins.byte (quoting begins.byte) in
+    let size : length text ≡ length (quoted_byte begins.byte) + length begins.rest = ap length begins.spelled ∙ length-append (quoted_byte begins.byte) begins.rest in
+    omega arith
+
+-- each text has such bytes
+unquoted_within : (most : ℕ) (text : List ℕ) → length text ≤ most → IsUnquoted text
+unquoted_within zero text within = elim (byte_or_none text) [
+  | inl begins ↦ let less = shorter text begins in absurd (omega arith)
+  | inr none ↦ unquoted_none text none
+]
+unquoted_within (suc most) text within = elim (byte_or_none text) [
+  | inl begins ↦ let less = shorter text begins in unquoted_more text begins (unquoted_within most begins.rest (omega arith))
+  | inr none ↦ unquoted_none text none
+]
+
+pub unquoted_of : (text : List ℕ) → IsUnquoted text
+unquoted_of text = unquoted_within (length text) text (omega arith)

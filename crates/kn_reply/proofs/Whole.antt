@@ -34,7 +34,7 @@ header_from h r lines are =
     made : ℕ → List ℕ → ℕ → ℕ → Header
     made value name version count = record { value = value; name = name; version = version; count = count }
 
-reply_from : (text lines : List ℕ) (h : Header) (r : ReadReply) → text ≡ header_text h ++ lines → IsHeader h → AreRows h lines r → IsReply text r
+pub reply_from : (text lines : List ℕ) (h : Header) (r : ReadReply) → text ≡ header_text h ++ lines → IsHeader h → AreRows h lines r → IsReply text r
 reply_from text lines h r spelled is are =
     let same = header_from h r lines are in
     let first : IsHeader (header_of r) = rw (sym same) is in
@@ -52,7 +52,7 @@ pub reply_told : (text lines : List ℕ) (h : Header) (r : Result ReadReply Proo
 reply_told text lines h (Ok r) spelled is are = reply_from text lines h r spelled is are
 reply_told text lines h (Err e) spelled is are = tt
 
-fault_from : (text lines : List ℕ) (h : Header) (fault : ProofFault) → text ≡ header_text h ++ lines → IsHeader h → IsFaultBehind h lines fault → IsFirstFault text fault
+pub fault_from : (text lines : List ℕ) (h : Header) (fault : ProofFault) → text ≡ header_text h ++ lines → IsHeader h → IsFaultBehind h lines fault → IsFirstFault text fault
 fault_from text lines h fault spelled is behind =
     inr (record {
       header = h;

@@ -1,6 +1,6 @@
 //! Laws of the definitions, for the crates above: each is the contract of a function that does nothing.
 
-ghost use Rattle.std.specs.Prelude.{◌≡◌, ℕ, List as Of};
+ghost use Rattle.std.specs.Prelude.{◌≡◌, ◌⊎◌, ℕ, List as Of};
 ghost use Rattle.kn_proof.specs.declared.named.NamedRow.{NamedRow};
 ghost use Rattle.kn_proof.specs.declared.reply.ReadReply.{ReadReply};
 ghost use Rattle.kn_meaning.specs.Replies.{row_text};
@@ -22,8 +22,9 @@ pub fn replies_have_the_forms()
     ensures row { (row : NamedRow) → IsRow row → (texts : RowTexts) × (row_text row ≡ row_line texts) × IsRowForm texts × IsRowInRange texts }
 {}
 
-/// A text is that of one reply at most, it has one first fault at most, and never both.
+/// A text is that of one reply or has one first fault, and never both.
 pub fn one_reply_or_fault()
+    ensures each { (text : Of ℕ) → ((reply : ReadReply) × IsReply text reply) ⊎ ((fault : ProofFault) × IsFirstFault text fault) }
     ensures not_both { (text : Of ℕ) (reply : ReadReply) (fault : ProofFault) → IsReply text reply → ¬ IsFirstFault text fault }
     ensures one_reply { (text : Of ℕ) (reply other : ReadReply) → IsReply text reply → IsReply text other → reply ≡ other }
     ensures one_fault { (text : Of ℕ) (fault other : ProofFault) → IsFirstFault text fault → IsFirstFault text other → fault ≡ other }

@@ -1,5 +1,9 @@
+use Rattle.kn_reply.proofs.Exists.{reply_or_fault}
 use Rattle.kn_reply.proofs.Only.{one_first_fault, one_reply, reply_without_fault}
 use Rattle.kn_reply.proofs.laws.one_reply_or_fault.Goals as goal
+
+pub returns-clause-each : goal.returns-clause-each
+returns-clause-each c = reply_or_fault
 
 pub returns-clause-not_both : goal.returns-clause-not_both
 returns-clause-not_both c = reply_without_fault
