@@ -1,5 +1,5 @@
 //! What the lines of a session enter.
-ghost use Rattle.std.specs.Prelude.{◌≡◌, None, OnOk};
+ghost use Rattle.std.specs.Prelude.{◌≡◌, None, OnOk, OnErr};
 ghost use Rattle.kn_env.specs.Attributes.{attribute_fault, with_attribute};
 ghost use Rattle.kn_meaning.specs.FirstInput.{IsAsk, IsAccepted};
 ghost use Rattle.kn_meaning.specs.Requests.{or_empty};
@@ -33,7 +33,8 @@ impl Session {
     pub fn enter(&mut self, alloc: Global, ask: &Ask) -> Result<(), NoMemory>
         requires right { IsAsk ask.now }
         requires accepted { IsAccepted self.old.attributes ask.now }
-        ensures { OnOk result (self.new ≡ entered_by ask.now self.old) }
+        ensures ok { OnOk result (self.new ≡ entered_by ask.now self.old) }
+        ensures err { OnErr result (self.new ≡ self.old) }
     {
         match ask {
             Ask::Auth(name) => enter(alloc, &mut self.requesters, name.as_slice()),
@@ -46,7 +47,8 @@ impl Session {
 /// Gives an attribute a value that is accepted.
 fn set(attributes: &mut Attributes, name: &[u8], value: &Option<Octets>) -> Result<(), NoMemory>
     requires accepted { attribute_fault name.now (or_empty value.now) attributes.old ≡ None }
-    ensures { OnOk result (attributes.new ≡ with_attribute name.now (or_empty value.now) attributes.old) }
+    ensures ok { OnOk result (attributes.new ≡ with_attribute name.now (or_empty value.now) attributes.old) }
+    ensures err { OnErr result (attributes.new ≡ attributes.old) }
 {
     match enter_attribute(attributes, name, value) {
         Ok(()) => Ok(()),
