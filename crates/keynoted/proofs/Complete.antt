@@ -61,7 +61,7 @@ not_wrong o o' input read script told form wrong =
     ⊎_elim
     (λ (w : IfSome o'.left (λ left. left ≡ []) × ((s : Option Script) → IsFirstInput read s → ⊥)).
     w.1 script (subst (λ (i : List ℕ). IsFirstInput i script) (read_is o o' input read told wrong.read.left w.0) form))
-    (λ (w : 65536 < length read).
+    (λ (w : length read ≡ 65537).
     let behind = left_behind read input o'.left (sym wrong.read.left ∙ told) in
     let short : length input ≤ 65536 = input-short input script form in
     let size : length input ≡ length read + length behind.0 = ap length behind.2 ∙ length-append read behind.0 in
@@ -107,7 +107,7 @@ module _ (given : List (List ℕ)) (f f' : FilesSeen) (o o' : LinkSeen) (s s' : 
       let limit = limit_there cause.0 bytes n word count (read_there name file bytes cause.0 content_of fit asks contents here cause.2) cause.3 in
       absurd ((ends_once (pieces_of bytes)).full n limit.refusal policy limit.full)
   complete name (Some ReadFailed) fit cause told file bytes input content_of script asks contents here within policy left form calm_files calm_link calm_sink =
-      absurd (calm_link cause.answering.0)
+      absurd (calm_link cause.answering.3)
   complete name (Some InputForm) fit cause told file bytes input content_of script asks contents here within policy left form calm_files calm_link calm_sink =
       absurd (not_wrong o o' input cause.answering.0 script left form cause.answering.1)
   complete name (Some WriteFailed) fit cause told file bytes input content_of script asks contents here within policy left form calm_files calm_link calm_sink =
@@ -278,7 +278,7 @@ module _ (given : List (List ℕ)) (f f' : FilesSeen) (o o' : LinkSeen) (s s' : 
       let limit = limit_there cause.0 bytes n word count (read_there name file bytes cause.0 content_of fit asks contents here cause.2) cause.3 in
       absurd ((ends_once (pieces_of bytes)).full n limit.refusal policy limit.full)
   wrong_input name (Some ReadFailed) fit cause told file bytes content_of asks contents here within policy input left none calm_files calm_link calm_sink =
-      absurd (calm_link cause.answering.0)
+      absurd (calm_link cause.answering.3)
   wrong_input name (Some InputForm) fit cause told file bytes content_of asks contents here within policy input left none calm_files calm_link calm_sink =
       inl (calm_whole (line_of name (Some InputForm)) 4 told calm_sink)
   wrong_input name (Some WriteFailed) fit cause told file bytes content_of asks contents here within policy input left none calm_files calm_link calm_sink =
@@ -306,7 +306,7 @@ module _ (given : List (List ℕ)) (f f' : FilesSeen) (o o' : LinkSeen) (s s' : 
   link_rose name (Some (Limit n word count)) fit cause told input script left form at =
       absurd (another (line_of name (Some (Limit n word count))) s s' 3 status 4 told at (λ q. omega arith) (λ q. omega arith))
   link_rose name (Some ReadFailed) fit cause told input script left form at =
-      cause.answering.0
+      cause.answering.3
   link_rose name (Some InputForm) fit cause told input script left form at =
       absurd (not_wrong o o' input cause.answering.0 script left form cause.answering.1)
   link_rose name (Some WriteFailed) fit cause told input script left form at =
@@ -333,7 +333,7 @@ module _ (given : List (List ℕ)) (f f' : FilesSeen) (o o' : LinkSeen) (s s' : 
   nothing_written name (Some (Limit n word count)) fit cause told other calm_link =
       ap (λ (l : LinkSeen). l.written) cause.4
   nothing_written name (Some ReadFailed) fit cause told other calm_link =
-      cause.answering.1
+      cause.answering.4
   nothing_written name (Some InputForm) fit cause told other calm_link =
       cause.answering.2
   nothing_written name (Some WriteFailed) fit cause told other calm_link =

@@ -35,7 +35,7 @@ pub memory_keeps : (name : List ℕ) (f f' : FilesSeen) (o o' : LinkSeen) → Ca
 memory_keeps name f f' o o' cause =
     ⊎_elim
     (λ (early : ((f'.asked ≡ f.asked) ⊎ (f'.asked ≡ f.asked ++ name ∷ [])) × (o' ≡ o)). ap (λ (l : LinkSeen). l.written) early.1)
-    (λ (late : IsAnswering name f f' o o' (Some Memory)). late.answering)
+    (λ (late : IsAnswering name f f' o o' (Some Memory)). late.answering.2)
     cause
 
 module _ (given : List (List ℕ)) (f f' : FilesSeen) (o o' : LinkSeen) (s s' : SinkSeen) (status : ℕ) where

@@ -5,3 +5,4 @@ pub mod Meant
 pub mod Checked
 pub mod Commanded
 pub mod Contents
+pub mod Taken

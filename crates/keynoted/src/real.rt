@@ -2,9 +2,11 @@
 //!
 //! No clause can tell what the system holds, so these tell of nothing but their faults and the names
 //! that were asked for.
-ghost use Rattle.std.specs.Prelude.{◌≡◌, ◌≢◌, ◌≤◌, ◌<◌, [], length, IfOk, IfSome};
+ghost use Rattle.std.specs.Prelude.{◌≡◌, ◌≢◌, ◌≤◌, ◌<◌, [], length, IfOk, IfSome, OnOk, OnErr};
 ghost use Rattle.std.specs.IoError.{error_kind};
 ghost use Rattle.std.specs.declared.io.ErrorKind.{ErrorKind};
+ghost use Rattle.kn_outside.specs.Asked.{asked_after};
+ghost use Rattle.kn_outside.specs.Faults.{raised};
 ghost use Rattle.kn_outside.specs.declared.files.FileFault.{FileFault};
 
 use kn_base::limits::FILE_BYTES;
@@ -47,7 +49,12 @@ impl Sink for StdOut {
 
     ghost faults = { λ out. out.faults };
 
-    fn write(&mut self, piece: &[u8]) -> Result<usize, Failed> {
+    fn write(&mut self, piece: &[u8]) -> Result<usize, Failed>
+        ensures count { IfOk result (λ n. (0 < n) × (n ≤ length piece.now)) }
+        ensures ok { OnOk result (self.new.faults ≡ self.old.faults) }
+        ensures err { OnErr result (self.new.faults ≡ raised self.old.faults) }
+        ensures later { self.old.faults ≤ self.new.faults }
+    {
         match self.output.write(piece) {
             Ok(bytes) if bytes > 0 => Ok(bytes),
             _ => {
@@ -87,13 +94,23 @@ impl Sink for StdLink {
 
     ghost faults = { λ link. link.out.faults };
 
-    fn write(&mut self, piece: &[u8]) -> Result<usize, Failed> {
+    fn write(&mut self, piece: &[u8]) -> Result<usize, Failed>
+        ensures count { IfOk result (λ n. (0 < n) × (n ≤ length piece.now)) }
+        ensures ok { OnOk result (self.new.out.faults ≡ self.old.out.faults) }
+        ensures err { OnErr result (self.new.out.faults ≡ raised self.old.out.faults) }
+        ensures later { self.old.out.faults ≤ self.new.out.faults }
+    {
         self.out.write(piece)
     }
 }
 
 impl Link for StdLink {
-    fn read(&mut self, buf: &mut [u8]) -> Result<usize, Failed> {
+    fn read(&mut self, buf: &mut [u8]) -> Result<usize, Failed>
+        ensures count { IfOk result (λ n. n ≤ length buf.new) }
+        ensures ok { OnOk result (self.new.out.faults ≡ self.old.out.faults) }
+        ensures err { OnErr result (self.new.out.faults ≡ raised self.old.out.faults) }
+        ensures later { self.old.out.faults ≤ self.new.out.faults }
+    {
         match self.input.read(buf) {
             Ok(bytes) => Ok(bytes),
             Err(_) => {
@@ -135,7 +152,13 @@ impl Files for RealFiles {
 
     ghost faults = { λ files. files.faults };
 
-    fn read(&mut self, name: &[u8]) -> Result<Octets, FileFault> {
+    fn read(&mut self, name: &[u8]) -> Result<Octets, FileFault>
+        ensures within { IfOk result (λ octets. length octets ≤ FILE_BYTES) }
+        ensures asks { self.new.asked ≡ asked_after result name.now self.old.asked }
+        ensures failed { result ≡ Err FileFault.Failed → self.new.faults ≡ raised self.old.faults }
+        ensures other { result ≢ Err FileFault.Failed → self.new.faults ≡ self.old.faults }
+        ensures later { self.old.faults ≤ self.new.faults }
+    {
         let copy = Octets::from_slice(self.rt.alloc(), name)?;
         // The name is kept before the file is opened, so that no file is read whose name can't be kept.
         match self.asked.push(copy) {

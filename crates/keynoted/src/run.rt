@@ -17,7 +17,7 @@ ghost use Rattle.kn_reply.specs.Reading.{IsReply};
 ghost use Rattle.kn_verify.specs.Verdicts.{IsReplyTo};
 ghost use Rattle.kn_commands.specs.Names.{Names, in_order};
 ghost use Rattle.kn_commands.specs.Loaded.{IsLimitAt};
-ghost use Rattle.kn_commands.specs.Asking.{line_of, fault_line, limit_line, status_of};
+ghost use Rattle.kn_commands.specs.Asking.{IsRead, line_of, fault_line, limit_line, status_of};
 ghost use Rattle.kn_commands.specs.Checking.{IsQuery, line_of_ending, status_of_ending};
 ghost use Rattle.keynoted.specs.Commands.{AskFor, CheckFor, IsNoCheck, IsNoCommand};
 ghost use Rattle.keynoted.specs.Running.{IsTold, IsRun, IsDone, IsRefused, IsFileFault, IsNoPolicy, IsLinkFault, IsFront, EndsBy, IsEnded};
@@ -209,7 +209,11 @@ pub fn run<F: Files, L: Link, O: Sink>(
         (record { written = O.written out.new; faults = O.faults out.new }) }
     ensures quiet { IsNoCheck words.now → result ≡ 0 → O.written out.new ≡ more [] (O.written out.old) }
 
-    // What is left of the link where no reply is written.
+    // What is left of the link: what is gone of its input was taken, and that is at most the first byte too many.
+    ensures takes { (input : List ℕ) × IsRead
+        (record { written = L.written own.old; taken = L.taken own.old; left = L.left own.old; faults = L.faults own.old })
+        (record { written = L.written own.new; taken = L.taken own.new; left = L.left own.new; faults = L.faults own.new })
+        input }
     ensures untouched { (1 ≤ result) × (result ≤ 3) →
         (L.written own.new ≡ L.written own.old) × (L.taken own.new ≡ L.taken own.old) × (L.left own.new ≡ L.left own.old) }
     ensures nothing_written { result ≢ 0 → ¬ Rose (L.faults own.old) (L.faults own.new) → L.written own.new ≡ L.written own.old }

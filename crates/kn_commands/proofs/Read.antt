@@ -1,5 +1,5 @@
 -- An input that is being read.
-use Rattle.std.proofs.Common.{◌≡◌, ℕ, ◌≤◌, List, [], ◌++◌, refl, sym, ap, ◌∙◌, append_assoc, append-nil, arith, Option, Some, None}
+use Rattle.std.proofs.Common.{◌≡◌, ℕ, ◌≤◌, List, [], ◌++◌, length, refl, sym, ap, ◌∙◌, append_assoc, append-nil, arith, Option, Some, None}
 use Rattle.kn_outside.specs.Told.{more, before}
 use Rattle.kn_outside.specs.Faults.{Rose}
 use Rattle.kn_commands.specs.Seen.{LinkSeen}
@@ -25,18 +25,19 @@ before-before a b None = refl
 before-before a b (Some x) = ap (λ (y : List ℕ). Some y) (sym (append_assoc a b x))
 
 pub reading-nothing : (o : LinkSeen) → IsReading o o []
-reading-nothing o = record { read = record { taken = more-nothing o.taken; left = before-nothing o.left }; written = refl; later = omega arith }
+reading-nothing o = record { read = record { taken = more-nothing o.taken; left = before-nothing o.left; within = omega arith }; written = refl; later = omega arith }
 
 -- one more piece
 pub reading-more : (o o' o'' : LinkSeen) (input piece : List ℕ) → IsReading o o' input →
     o''.taken ≡ more piece o'.taken → o'.left ≡ before piece o''.left → o''.written ≡ o'.written → o'.faults ≤ o''.faults →
-    IsReading o o'' (input ++ piece)
-reading-more o o' o'' input piece r taken left written later =
+    length (input ++ piece) ≤ 65537 → IsReading o o'' (input ++ piece)
+reading-more o o' o'' input piece r taken left written later within =
     let first = r.later in
     record {
       read = record {
         taken = taken ∙ ap (more piece) r.read.taken ∙ more-more input piece o.taken;
         left = r.read.left ∙ ap (before input) left ∙ before-before input piece o''.left;
+        within = within;
       };
       written = written ∙ r.written;
       later = omega arith;

@@ -1,5 +1,5 @@
 -- How answering a link ends: its status, the line that tells it, and what it leaves (keynoted's own).
-use Rattle.std.specs.Prelude.{ℕ, ◌≡◌, ◌<◌, List, [], ◌∷◌, ◌++◌, length, take, codes, decimal, Option, Some, None, IfSome, ◌⊎◌}
+use Rattle.std.specs.Prelude.{ℕ, ◌≡◌, ◌<◌, ◌≤◌, List, [], ◌∷◌, ◌++◌, length, take, codes, decimal, Option, Some, None, IfSome, ◌⊎◌}
 use Rattle.std.specs.Option.{unwrap_or}
 use Rattle.kn_outside.specs.Told.{more, before}
 use Rattle.kn_outside.specs.Faults.{Rose}
@@ -17,20 +17,23 @@ use Rattle.kn_commands.specs.Seen.{FilesSeen, LinkSeen, HasContent, IsTooLarge, 
 use Rattle.kn_commands.specs.declared.stop.Stop.{Stop}
 use Rattle.kn_commands.specs.declared.stop.Stop.TheVariants.{Words, FileFailed, FileTooLarge, Policy, Limit, ReadFailed, InputForm, WriteFailed, Memory}
 
--- this much of the input was read, if the link tells it
+-- This much of the input was read, if the link tells it: what is gone from what was left was added to what was taken. It is
+-- at most the first byte too many of an input.
 pub record IsRead (old new : LinkSeen) (input : List ℕ) : Type 0 where
   pub taken : new.taken ≡ more input old.taken
   pub left : old.left ≡ before input new.left
+  pub within : length input ≤ 65537
 
 -- the input was read to its end
 pub record IsReadWhole (old new : LinkSeen) (input : List ℕ) : Type 0 where
   pub read : IsRead old new input
   pub ended : IfSome new.left (λ left. left ≡ [])
 
--- the input hasn't the first form: what was read of it to its end, or it is longer than that form may be
+-- the input hasn't the first form: what was read of it to its end, or it is longer than that form may be, and was read to the
+-- first byte too many
 pub record IsWrongInput (old new : LinkSeen) (input : List ℕ) : Type 0 where
   pub read : IsRead old new input
-  pub wrong : (IfSome new.left (λ left. left ≡ []) × ((script : Option Script) → IsFirstInput input script → ⊥)) ⊎ (65536 < length input)
+  pub wrong : (IfSome new.left (λ left. left ≡ []) × ((script : Option Script) → IsFirstInput input script → ⊥)) ⊎ (length input ≡ 65537)
 
 -- the reply to the whole input over the policy file of these bytes
 pub record IsDue (bytes : List ℕ) (old new : LinkSeen) (reply : List ℕ) : Type 0 where
@@ -40,13 +43,14 @@ pub record IsDue (bytes : List ℕ) (old new : LinkSeen) (reply : List ℕ) : Ty
   pub form : IsFirstInput input script
   pub asked : IsAsked (pieces_of bytes) input reply
 
--- What answering the link over the policy file of these bytes does where this stops it. At None the reply was written whole.
+-- What answering the link over the policy file of these bytes does where this stops it. At None the reply was written whole. No
+-- read fails behind the first byte too many.
 abbrev pub Answering : List ℕ → LinkSeen → LinkSeen → Option Stop → Type 0
 Answering bytes o o' None = (reply : List ℕ) × IsDue bytes o o' reply × (o'.written ≡ more reply o.written)
 Answering bytes o o' (Some WriteFailed) = (reply : List ℕ) × (n : ℕ) × IsDue bytes o o' reply × (n < length reply) × (o'.written ≡ more (take n reply) o.written) × Rose o.faults o'.faults
 Answering bytes o o' (Some InputForm) = (input : List ℕ) × IsWrongInput o o' input × (o'.written ≡ o.written)
-Answering bytes o o' (Some ReadFailed) = Rose o.faults o'.faults × (o'.written ≡ o.written)
-Answering bytes o o' (Some Memory) = o'.written ≡ o.written
+Answering bytes o o' (Some ReadFailed) = (input : List ℕ) × IsRead o o' input × (length input ≤ 65536) × Rose o.faults o'.faults × (o'.written ≡ o.written)
+Answering bytes o o' (Some Memory) = (input : List ℕ) × IsRead o o' input × (o'.written ≡ o.written)
 Answering bytes o o' (Some Words) = ⊥
 Answering bytes o o' (Some FileFailed) = ⊥
 Answering bytes o o' (Some FileTooLarge) = ⊥

@@ -23,19 +23,22 @@ use kn_play::replies;
 use kn_script::{INPUT_BYTES, ScriptFault, read_script};
 use std::alloc::Global;
 
-/// The input of a link, to its end or past the bytes that an input may have.
+/// The input of a link, to its end or to the first byte too many.
 fn read_input<L: Link>(alloc: Global, own: &mut L) -> Result<Octets, Stop>
     ensures read { IfOk result (λ input. IsRead (record { written = L.written own.old; taken = L.taken own.old; left = L.left own.old; faults = L.faults own.old })
         (record { written = L.written own.new; taken = L.taken own.new; left = L.left own.new; faults = L.faults own.new }) input) }
     ensures ended { IfOk result (λ input. length input ≤ 65536 → IfSome (L.left own.new) (λ left. left ≡ [])) }
-    ensures err { IfErr result (λ stop. (stop ≡ S.Memory) ⊎ ((stop ≡ S.ReadFailed) × Rose (L.faults own.old) (L.faults own.new))) }
+    ensures err { IfErr result (λ stop. (input : List ℕ) × IsRead (record { written = L.written own.old; taken = L.taken own.old; left = L.left own.old; faults = L.faults own.old })
+        (record { written = L.written own.new; taken = L.taken own.new; left = L.left own.new; faults = L.faults own.new }) input
+        × ((stop ≡ S.Memory) ⊎ ((stop ≡ S.ReadFailed) × (length input ≤ 65536) × Rose (L.faults own.old) (L.faults own.new)))) }
     ensures keeps_written { L.written own.new ≡ L.written own.old }
     ensures later { L.faults own.old ≤ L.faults own.new }
 {
     let mut input = Octets::new(alloc);
     let mut buffer = [0u8; 4096];
     while input.len() <= INPUT_BYTES {
-        let read = match own.read(&mut buffer) {
+        let room = buffer.len().min(INPUT_BYTES + 1 - input.len());
+        let read = match own.read(buffer.split_at_mut(room).0) {
             Ok(read) => read,
             Err(Failed) => return Err(Stop::ReadFailed),
         };

@@ -3,6 +3,7 @@ pub mod Climb
 pub mod Turned
 pub mod Proven
 pub mod Settles
+pub mod Tabled
 pub mod Playing
 pub mod Followed
 pub mod Exists

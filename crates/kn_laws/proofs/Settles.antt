@@ -13,10 +13,10 @@ use Rattle.kn_laws.specs.Least.{each_once, principals, at_first, rounds, least_l
 use Rattle.kn_laws.proofs.Turned.{Below, round-below, round-le}
 use Rattle.kn_laws.proofs.Proven.{one_least}
 
-abbrev is_among : List ℕ → List (List ℕ) → Bool
+abbrev pub is_among : List ℕ → List (List ℕ) → Bool
 is_among name names = list_any (bytes_eq name) names
 
-bytes_eq-both : (x y : List ℕ) → bytes_eq x y ≡ true → bytes_eq y x ≡ true
+pub bytes_eq-both : (x y : List ℕ) → bytes_eq x y ≡ true → bytes_eq y x ≡ true
 bytes_eq-both x y same = (bytes_eq-Decides y x).1 (sym ((bytes_eq-Decides x y).0 same))
 
 -- who is among names is among them each once
@@ -31,10 +31,10 @@ among-each_once name (first ∷ names) h =
     by false is (inl same) rest = ap (λ t. t || is_among name (each_once names)) same
     by false is (inr later) rest = or_right (bytes_eq name first) (is_among name (each_once names)) (rest later)
 
-among-left : (name : List ℕ) (xs ys : List (List ℕ)) → is_among name xs ≡ true → is_among name (xs ++ ys) ≡ true
+pub among-left : (name : List ℕ) (xs ys : List (List ℕ)) → is_among name xs ≡ true → is_among name (xs ++ ys) ≡ true
 among-left name xs ys h = list_any-append (bytes_eq name) xs ys ∙ ap (λ t. t || is_among name ys) h
 
-among-right : (name : List ℕ) (xs ys : List (List ℕ)) → is_among name ys ≡ true → is_among name (xs ++ ys) ≡ true
+pub among-right : (name : List ℕ) (xs ys : List (List ℕ)) → is_among name ys ≡ true → is_among name (xs ++ ys) ≡ true
 among-right name xs ys h = list_any-append (bytes_eq name) xs ys ∙ or_right (is_among name xs) (is_among name ys) h
 
 -- who has an assertion that is worth something occurs
@@ -92,14 +92,14 @@ total-le top at low (name ∷ names) =
     omega arith
 
 -- all levels are these
-abbrev Same : Levels → Levels → Type 0
+abbrev pub Same : Levels → Levels → Type 0
 Same at other = (name : List ℕ) → at name ≡ other name
 
 Below-both : (at other : Levels) → Below at other → Below other at → Same at other
 Below-both at other below above name = let le = below name in let ge = above name in omega arith
 
 -- the same levels are the same after a round
-round-same : (e : Equations) (at other : Levels) → Same at other → Same (round e at) (round e other)
+pub round-same : (e : Equations) (at other : Levels) → Same at other → Same (round e at) (round e other)
 round-same e at other same =
     Below-both (round e at) (round e other)
     (round-below e at other (λ name. let is = same name in omega arith))
@@ -110,40 +110,45 @@ rounds-fixed : (e : Equations) (n : ℕ) (at : Levels) → Same (round e at) at 
 rounds-fixed e zero at fixed name = refl
 rounds-fixed e (suc n) at fixed name = rounds-fixed e n (round e at) (round-same e (round e at) at fixed) name ∙ fixed name
 
--- a round changes nothing, or the sum rises
-turn : (e : Equations) (at : Levels) → Below at (round e at) → Same at (round e at) ⊎ (total at (principals e) < total (round e at) (principals e))
-turn e at b = by (equal_or_less at (round e at) b (principals e))
-  where
-    same_at : ((name : List ℕ) → is_among name (principals e) ≡ true → at name ≡ round e at name) → (name : List ℕ) → at name ≡ round e at name
-    same_at same name =
-        let le = b name in
-        elim (cases_lt 0 (round e at name)) [
-          | inl some ↦ same name (among-each_once name (occurring e) (round-occurs e at name some))
-          | inr none ↦ omega arith
-        ]
+-- names among which is each principal that has a level after a round
+abbrev pub Covers : Equations → List (List ℕ) → Type 0
+Covers e names = (at : Levels) (name : List ℕ) → 0 < round e at name → is_among name names ≡ true
 
-    by : ((name : List ℕ) → is_among name (principals e) ≡ true → at name ≡ round e at name) ⊎ (total at (principals e) < total (round e at) (principals e)) → Same at (round e at) ⊎ (total at (principals e) < total (round e at) (principals e))
-    by (inl same) = inl (same_at same)
-    by (inr less) = inr less
+module _ (e : Equations) (names : List (List ℕ)) (covers : Covers e names) where
+  -- a round changes nothing, or the sum rises
+  turn : (at : Levels) → Below at (round e at) → Same at (round e at) ⊎ (total at names < total (round e at) names)
+  turn at b = by (equal_or_less at (round e at) b names)
+    where
+      same_at : ((name : List ℕ) → is_among name names ≡ true → at name ≡ round e at name) → (name : List ℕ) → at name ≡ round e at name
+      same_at same name =
+          let le = b name in
+          elim (cases_lt 0 (round e at name)) [
+            | inl some ↦ same name (covers at name some)
+            | inr none ↦ omega arith
+          ]
 
--- after n rounds that begin with a rise the levels stay, or the sum has risen by more than n
-stays_or_rises : (e : Equations) (n : ℕ) (at : Levels) → Below at (round e at)
-    → Same (round e (rounds e n at)) (rounds e n at) ⊎ (n + total at (principals e) < total (round e (rounds e n at)) (principals e))
-stays_or_rises e zero at b =
-    elim (turn e at b) [
-      | inl same ↦ inl (λ name. sym (same name))
-      | inr less ↦ inr (omega arith)
-    ]
-stays_or_rises e (suc n) at b =
-    let after : Levels = round e at in
-    let later = stays_or_rises e n after (round-below e at after b) in
-    elim (turn e at b) [
-      | inl same ↦
-          let fixed : Same (round e after) after = round-same e after at (λ name. sym (same name)) in
-          let all : Same (rounds e n after) after = rounds-fixed e n after fixed in
-          inl (λ name. round-same e (rounds e n after) after all name ∙ fixed name ∙ sym (all name))
-      | inr less ↦ elim later [ inl stays ↦ inl stays | inr rises ↦ inr (omega arith) ]
-    ]
+      by : ((name : List ℕ) → is_among name names ≡ true → at name ≡ round e at name) ⊎ (total at names < total (round e at) names) → Same at (round e at) ⊎ (total at names < total (round e at) names)
+      by (inl same) = inl (same_at same)
+      by (inr less) = inr less
+
+  -- after n rounds that begin with a rise the levels stay, or the sum has risen by more than n
+  stays_or_rises : (n : ℕ) (at : Levels) → Below at (round e at)
+      → Same (round e (rounds e n at)) (rounds e n at) ⊎ (n + total at names < total (round e (rounds e n at)) names)
+  stays_or_rises zero at b =
+      elim (turn at b) [
+        | inl same ↦ inl (λ name. sym (same name))
+        | inr less ↦ inr (omega arith)
+      ]
+  stays_or_rises (suc n) at b =
+      let after : Levels = round e at in
+      let later = stays_or_rises n after (round-below e at after b) in
+      elim (turn at b) [
+        | inl same ↦
+            let fixed : Same (round e after) after = round-same e after at (λ name. sym (same name)) in
+            let all : Same (rounds e n after) after = rounds-fixed e n after fixed in
+            inl (λ name. round-same e (rounds e n after) after all name ∙ fixed name ∙ sym (all name))
+        | inr less ↦ elim later [ inl stays ↦ inl stays | inr rises ↦ inr (omega arith) ]
+      ]
 
 rounds-le : (e : Equations) (n : ℕ) (at : Levels) → ((name : List ℕ) → at name ≤ e.top) → (name : List ℕ) → rounds e n at name ≤ e.top
 rounds-le e zero at low = low
@@ -164,11 +169,13 @@ at_first-le e name = by (is_requester e name)
     by true = omega arith
     by false = omega arith
 
-least_levels-solve : (e : Equations) → Same (round e (least_levels e)) (least_levels e)
-least_levels-solve e =
-    let n : ℕ = length (principals e) * e.top in
-    let most : total (round e (least_levels e)) (principals e) ≤ n = total-le e.top (round e (least_levels e)) (round-le e (least_levels e) (rounds-le e n (at_first e) (at_first-le e))) (principals e) in
-    elim (stays_or_rises e n (at_first e) (at_first-below e (at_first e))) [
+-- as many rounds as names that cover all levels, times the top, end where a round changes nothing
+rounds-solve : (e : Equations) (names : List (List ℕ)) → Covers e names → Same (round e (rounds e (length names * e.top) (at_first e))) (rounds e (length names * e.top) (at_first e))
+rounds-solve e names covers =
+    let n : ℕ = length names * e.top in
+    let at : Levels = rounds e n (at_first e) in
+    let most : total (round e at) names ≤ n = total-le e.top (round e at) (round-le e at (rounds-le e n (at_first e) (at_first-le e))) names in
+    elim (stays_or_rises e names covers n (at_first e) (at_first-below e (at_first e))) [
       | inl stays ↦ stays
       | inr rises ↦ absurd (omega arith)
     ]
@@ -179,11 +186,14 @@ rounds-below e zero at other b raised = b
 rounds-below e (suc n) at other b raised =
     rounds-below e n (round e at) other (λ name. let turned = round-below e at other b name in let le = raised name in omega arith) raised
 
-pub least_levels-is_least : (e : Equations) → IsLeast e (least_levels e)
-least_levels-is_least e = record {
-  solves = least_levels-solve e;
-  least = λ other raised. rounds-below e (length (principals e) * e.top) (at_first e) other (λ name. let first = at_first-below e other name in let le = raised name in omega arith) raised;
+pub rounds-are_least : (e : Equations) (names : List (List ℕ)) → Covers e names → IsLeast e (rounds e (length names * e.top) (at_first e))
+rounds-are_least e names covers = record {
+  solves = rounds-solve e names covers;
+  least = λ other raised. rounds-below e (length names * e.top) (at_first e) other (λ name. let first = at_first-below e other name in let le = raised name in omega arith) raised;
 }
+
+pub least_levels-is_least : (e : Equations) → IsLeast e (least_levels e)
+least_levels-is_least e = rounds-are_least e (principals e) (λ at name some. among-each_once name (occurring e) (round-occurs e at name some))
 
 pub has_level : (e : Equations) → (level : ℕ) × IsPolicyLevel e level
 has_level e = (least_levels e policy, record { levels = least_levels e; least = least_levels-is_least e; here = refl })

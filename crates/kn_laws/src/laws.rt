@@ -1,12 +1,19 @@
 //! Laws of the definitions, each of them the contract of a function that does nothing.
 
-ghost use Rattle.kn_laws.specs.Laws.{LeastLevelsAreLeast, EveryQueryHasALevel, EveryQueryHasOneLevel, LeastLevelsAreWithin, ProofDeterminesLevel, EveryQueryHasAProof};
+ghost use Rattle.kn_laws.specs.Laws.{LeastLevelsAreLeast, PlainLevelsAreLeast, PlainLevelIsThePolicys, EveryQueryHasALevel, EveryQueryHasOneLevel, LeastLevelsAreWithin, ProofDeterminesLevel, EveryQueryHasAProof};
 ghost use Rattle.kn_laws.specs.PlayedLaws.{PlayedIsPermitted, PlayedAlong, OneQueryIsMeant};
 
 /// As many rounds as a query has principals times the top, from the requesters at the top and all others at 0, give the
 /// least levels.
 pub fn least_levels_are_least()
     ensures { LeastLevelsAreLeast }
+{}
+
+/// The table of `kn_meaning`'s plain program `least_levels`, which has the requesters and the authorizers alone and takes as
+/// many rounds as it has entries times the top, tells the least levels of all principals, and so the policy's level.
+pub fn plain_levels_are_least()
+    ensures least { PlainLevelsAreLeast }
+    ensures policy { PlainLevelIsThePolicys }
 {}
 
 /// Each query gives the policy one level, and it is one of the query's compliance values.

@@ -1,5 +1,5 @@
 -- Between tokens stand white space and comments alone.
-use Rattle.std.proofs.Common.{◌≡◌, ℕ, suc, true, false, Bool, ◌+◌, ◌-◌, ◌≤◌, ◌&&◌, not, inl, inr, List, [], ◌∷◌, ◌++◌, length, take, drop, arith, refl, sym, ◌∙◌, ap, subst}
+use Rattle.std.proofs.Common.{◌≡◌, ℕ, true, false, Bool, ◌+◌, ◌-◌, ◌&&◌, not, inl, inr, List, [], ◌∷◌, ◌++◌, length, take, drop, arith, refl, sym, ◌∙◌, ap, subst}
 use Rattle.std.specs.Prelude.{◌==◌}
 use Rattle.std.specs.List.{list_all}
 use Rattle.std.proofs.Math.Seq.{take-add}

@@ -1,5 +1,5 @@
 -- Every text is that of a reply or has a first fault.
-use Rattle.std.proofs.Common.{◌≡◌, ◌≢◌, ◌⊎◌, ℕ, suc, zero, ◌+◌, ◌<◌, ◌≤◌, ◌==◌, ◌||◌, true, false, List, [], ◌∷◌, ◌++◌, All, length, codes, decimal, flat_map, refl, sym, ap, ◌∙◌, arith, inl, inr, append_assoc, length-append}
+use Rattle.std.proofs.Common.{◌≡◌, ◌≢◌, ◌⊎◌, ℕ, suc, zero, ◌+◌, ◌<◌, ◌≤◌, ◌==◌, ◌||◌, true, false, List, [], ◌∷◌, ◌++◌, length, codes, decimal, flat_map, refl, sym, ap, ◌∙◌, arith, inl, inr, append_assoc, length-append}
 use Rattle.std.specs.List.{list_any}
 use Rattle.std.proofs.lemmas.Bool.{and_parts, cases_Bool, cases_eq, cases_lt, eqb-true, false≢true, or_cases}
 use Rattle.std.proofs.lemmas.List.Elements.{All-cons, All-nil}
@@ -12,13 +12,13 @@ use Rattle.kn_meaning.specs.Replies.{id_text, row_text}
 use Rattle.kn_reply.specs.declared.fault.ProofFault.{ProofFault}
 use Rattle.kn_reply.specs.declared.fault.ProofFault.TheVariants.{Line, Number, Count}
 use Rattle.kn_reply.specs.declared.header.Header.{Header}
-use Rattle.kn_reply.specs.Lines.{HeaderTexts, IsHeaderForm, IsHeaderInRange, IsRowForm, IsRowInRange, IsShort, IsSmall, RowTexts, header_line, row_line, is_id, is_name, is_numeral}
-use Rattle.kn_reply.specs.Reading.{HasLargeHeader, HasLargeRow, HasNoEnd, HasNoHeader, HasNoRow, IsEnd, IsFirstFault, IsHeader, IsHeaderFault, IsReply, IsRow, IsRowFault, header_text, id_number}
-use Rattle.kn_reply.specs.Words.{AreHeaderWords, AreRows, AreRowsTo, AreRowWords, IsCutHeader, IsCutRow, IsFaultBehind}
+use Rattle.kn_reply.specs.Lines.{HeaderTexts, IsHeaderForm, IsHeaderInRange, IsRowForm, IsRowInRange, IsSmall, RowTexts, header_line, row_line, is_id, is_name, is_numeral}
+use Rattle.kn_reply.specs.Reading.{HasLargeRow, HasNoEnd, HasNoHeader, HasNoRow, IsEnd, IsFirstFault, IsHeader, IsHeaderFault, IsReply, IsRow, IsRowFault, header_text, id_number}
+use Rattle.kn_reply.specs.Words.{AreHeaderWords, AreRows, AreRowsTo, AreRowWords, IsFaultBehind}
 use Rattle.kn_reply.proofs.Cuts.{HasFront, IsCut, cut_or_none, front_or_none}
-use Rattle.kn_reply.proofs.Lines.{front_words, header_words, lacking, no_count, no_header_form, no_id, no_name, no_quote, no_row_form, no_row_value, no_value, no_version, not_closed, row_of_words, row_words}
+use Rattle.kn_reply.proofs.Lines.{front_words, header_words, no_count, no_header_form, no_id, no_name, no_quote, no_row_form, no_row_value, no_value, no_version, not_closed, row_of_words, row_words}
 use Rattle.kn_reply.proofs.Numerals.{numeral_written, short_value}
-use Rattle.kn_reply.proofs.Quotes.{IsUnquoted, unquoted_of}
+use Rattle.kn_reply.proofs.Quotes.{unquoted_of}
 use Rattle.kn_reply.proofs.Whole.{fault_from, reply_from}
 
 -- the words of a line 1, and what is behind it

@@ -1,5 +1,6 @@
 use Rattle.keynoted.proofs.Complete.{run-large, run-faulty, run-full, run-wrong_input, run-complete}
 use Rattle.keynoted.proofs.Commanded.{ask_words, ended-done, ended-words, ended-file, ended-policy, ended-link, ended-memory, ended-sink, ended-front, ended-quiet, ended-untouched, ended-nothing_written, ended-proved, ended-unproved, ended-no_query, ended-asks, ended-refused, ended-own, ended-in_order, ended-link_rose, ended-proves}
+use Rattle.keynoted.proofs.Taken.{ended-takes}
 use Rattle.keynoted.proofs.run.run.Goals as goal
 
 pub returns-clause-done : goal.returns-clause-done
@@ -31,6 +32,9 @@ returns-clause-quiet g c = ended-quiet _ _ _ _ _ _ _ _ c.carry_out.ensures.ends
 
 pub returns-clause-untouched : goal.returns-clause-untouched
 returns-clause-untouched g c = ended-untouched _ _ _ _ _ _ _ _ c.carry_out.ensures.ends
+
+pub returns-clause-takes : goal.returns-clause-takes
+returns-clause-takes g c = ended-takes _ _ _ _ _ _ _ _ c.carry_out.ensures.ends
 
 pub returns-clause-nothing_written : goal.returns-clause-nothing_written
 returns-clause-nothing_written g c = ended-nothing_written _ _ _ _ _ _ _ _ c.carry_out.ensures.ends

@@ -8,5 +8,5 @@ enter-requires-clause-accepted c =
 
 pub loop-ask-preserved : goal.loop-ask-preserved
 loop-ask-preserved c =
-    rw c.in_ok-enter.ensures
+    rw c.in_ok-enter.ensures.ok
     (reached_more c.args.asks.now c.loop-ask.ask-index c.ask-item.result c.loop-ask.session c.loop-ask-test.true c.ask-item.is c.requires.right c.loop-ask.invariant)
