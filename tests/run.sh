@@ -6,6 +6,7 @@
 #   input     standard input (no file: nothing)
 #   output    what standard output must be; nothing may be written to standard error
 #   status    the exit status
+#   memory    the KiB of address space that the program has (no file: as the shell has)
 #   make      a script that writes the large ones of these files into the copy
 #
 # An example is a folder with policy.kn, requests.txt and replies.txt: what `ask` writes for the requests.
@@ -17,6 +18,15 @@ top=$(cd "$(dirname "${BASH_SOURCE[0]}")/.." && pwd -P) || exit 1
 room=$(mktemp -d) || exit 1
 trap 'rm -rf "$room"' EXIT
 
+# Runs the program with these words. A limit of memory holds for the program alone, and not for the script that starts it.
+run_program() {
+    if [[ -e memory ]]; then
+        (ulimit -v "$(<memory)" && exec "$top/crates/keynoted/out/keynoted" "$@")
+    else
+        "$top/keynoted" "$@"
+    fi
+}
+
 # Runs the case in the current folder, and says why it fails.
 run_case() {
     local words=(ask p.kn) status
@@ -26,7 +36,7 @@ run_case() {
     [[ -e output && -e status ]] || { echo "it has no output or no status"; return; }
     [[ -e input ]] || : >input
     [[ -e words ]] && mapfile -t words <words
-    "$top/keynoted" "${words[@]}" <input >"$room/output" 2>"$room/errors"
+    run_program "${words[@]}" <input >"$room/output" 2>"$room/errors"
     status=$?
     [[ $status == "$(<status)" ]] || echo "status $status, and not $(<status)"
     cmp "$room/output" output 2>&1

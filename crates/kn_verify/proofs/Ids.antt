@@ -1,12 +1,15 @@
 -- The ids of assertions.
-use Rattle.std.proofs.Common.{◌≡◌, ℕ, suc, zero, ◌+◌, List, [], ◌∷◌, map, sym, ap, ◌∙◌, arith}
+use Rattle.std.proofs.Common.{◌≡◌, ℕ, suc, zero, ◌+◌, List, [], ◌∷◌, map, refl, sym, ap, subst, ◌∙◌, arith}
 use Rattle.std.proofs.lemmas.Option.{slice_get_within}
 use Rattle.kn_trees.specs.declared.assertion.Assertion.{Assertion}
 use Rattle.kn_proof.specs.declared.named.Id.{Id}
 use Rattle.kn_proof.specs.declared.named.Id.TheVariants.{Shared}
-use Rattle.kn_meaning.specs.Equations.{Part}
+use Rattle.kn_env.specs.Environment.{Asked}
+use Rattle.kn_meaning.specs.Equations.{Part, Statement, statement_of}
+use Rattle.kn_meaning.specs.Daemon.{Session, asked_of, equations_of, parts_of}
+use Rattle.kn_meaning.specs.History.{credentials_of}
 use Rattle.kn_answer.specs.Numbering.{IsNumber, AreDistinct}
-use Rattle.kn_play.specs.Answering.{numbered_after, parts_in}
+use Rattle.kn_play.specs.Answering.{numbered_after, parts_in, IsMadeBy}
 
 -- the assertion at a place is numbered by it
 id-at : (n : ℕ) (assertions : List Assertion) (p : ℕ) (id : Id) → IsNumber (map (λ (part : Part). part.id) (numbered_after n assertions)) id p → id ≡ Shared (n + p + 1)
@@ -25,3 +28,13 @@ ids_distinct assertions p q id here there =
     let one : Shared (0 + p + 1) ≡ Shared (0 + q + 1) = sym (id-at 0 assertions p id here) ∙ id-at 0 assertions q id there in
     let same : 0 + p + 1 ≡ 0 + q + 1 = cc in
     omega arith
+
+statement_ids : (asked : Asked) (parts : List Part) → map (λ (s : Statement). s.id) (map (statement_of asked) parts) ≡ map (λ (part : Part). part.id) parts
+statement_ids asked [] = refl
+statement_ids asked (part ∷ parts) = ap (λ (l : List Id). part.id ∷ l) (statement_ids asked parts)
+
+pub ids_differ : (session : Session) (assertions : List Assertion) → IsMadeBy session.pinned assertions → (values : List (List ℕ))
+    → AreDistinct (map (λ (s : Statement). s.id) (equations_of session values).statements)
+ids_differ session assertions made values =
+    let ids = statement_ids (asked_of session values) (parts_of (credentials_of session.pinned)) ∙ ap (map (λ (part : Part). part.id)) made.parts in
+    subst (λ (l : List Id). AreDistinct l) (sym ids) (ids_distinct assertions)
