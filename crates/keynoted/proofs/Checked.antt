@@ -1,5 +1,5 @@
 -- What each status of a run of `check` says, and that a proof is accepted.
-use Rattle.std.proofs.Common.{◌≡◌, ℕ, ◌+◌, ◌<◌, ◌≤◌, ◌⊎◌, inl, inr, List, [], ◌∷◌, ◌++◌, length, take, refl, sym, ap, ◌∙◌, subst, ⊎_elim, arith, Option, Some, None}
+use Rattle.std.proofs.Common.{◌≡◌, ℕ, ◌≤◌, ◌⊎◌, inl, inr, List, ◌++◌, length, take, refl, sym, ap, ◌∙◌, subst, ⊎_elim, arith, Option, Some}
 use Rattle.std.specs.Prelude.{codes}
 use Rattle.kn_base.specs.declared.limits.TheConstants.{FILE_BYTES}
 use Rattle.kn_outside.specs.Told.{more}
@@ -26,9 +26,9 @@ use Rattle.kn_commands.specs.Names.{Names, in_order}
 use Rattle.kn_commands.specs.Seen.{FilesSeen, LinkSeen, SinkSeen, HasContent, IsTooLarge}
 use Rattle.kn_commands.specs.Loaded.{IsLimitAt}
 use Rattle.kn_commands.specs.Asking.{status_of, line_of}
-use Rattle.kn_commands.specs.Checking.{IsQuery, HasQuery, HasNoQuery, name_of, count_before, count_to, StopsAt, IsFaultyText, IsUnprovedText, IsShown, CheckCause, line_of_ending, status_of_ending}
-use Rattle.keynoted.specs.Running.{IsTold, IsCheckRun, EndsBy}
-use Rattle.keynoted.proofs.Ended.{told-whole, another, due_or_nine}
+use Rattle.kn_commands.specs.Checking.{IsQuery, HasQuery, HasNoQuery, name_of, count_before, count_to, StopsAt, IsFaultyText, IsUnprovedText, CheckCause, line_of_ending, status_of_ending}
+use Rattle.keynoted.specs.Running.{IsCheckRun, EndsBy}
+use Rattle.keynoted.proofs.Ended.{told-whole, due_or_nine}
 use Rattle.keynoted.proofs.Complete.{content_is, not_too_large}
 use Rattle.keynoted.proofs.Meant.{query_once}
 

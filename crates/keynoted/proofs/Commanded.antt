@@ -1,5 +1,5 @@
 -- What a run of some words says, whether they are those of `check` or others.
-use Rattle.std.proofs.Common.{◌≡◌, ◌≢◌, ℕ, ◌<◌, ◌≤◌, ◌⊎◌, inl, inr, List, [], ◌∷◌, ◌++◌, length, take, refl, sym, ap, ◌∙◌, subst, ⊎_elim, Option, Some, None}
+use Rattle.std.proofs.Common.{◌≡◌, ◌≢◌, ℕ, ◌≤◌, ◌⊎◌, List, [], ◌∷◌, ◌++◌, take, sym, ap, ◌∙◌, subst, ⊎_elim, Option, Some, None}
 use Rattle.std.specs.Prelude.{codes}
 use Rattle.kn_outside.specs.Told.{more}
 use Rattle.kn_outside.specs.Faults.{Rose}
@@ -14,7 +14,7 @@ use Rattle.keynoted.specs.Commands.{AskFor, CheckFor, IsNoCheck, IsNoCommand}
 use Rattle.keynoted.specs.Running.{WordsFit, IsRun, IsCheckRun, IsEnded, EndsBy, IsDone, IsRefused, IsFileFault, IsNoPolicy, IsLinkFault, IsFront}
 use Rattle.keynoted.proofs.Ended.{run-done, run-words, run-file, run-policy, run-link, run-memory, run-sink, run-refused, run-asks}
 use Rattle.keynoted.proofs.Complete.{run-front, run-quiet, run-untouched, run-nothing_written, run-link_rose}
-use Rattle.keynoted.proofs.Checked.{AskedSome, EndsUnproved, HaveProof, check-not_words, check-not_link, check-sink, check-untouched, check-asks, check-memory, check-proved, check-unproved, check-no_query, check-proves}
+use Rattle.keynoted.proofs.Checked.{EndsUnproved, HaveProof, check-not_words, check-not_link, check-sink, check-untouched, check-asks, check-memory, check-proved, check-unproved, check-no_query, check-proves}
 
 -- the words of `ask` aren't those of `check`
 pub ask_is_no_check : (words : List (List ℕ)) (file : List ℕ) → AskFor words file → IsNoCheck words

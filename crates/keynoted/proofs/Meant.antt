@@ -1,11 +1,11 @@
 -- Requests mean one query at most.
-use Rattle.std.proofs.Common.{◌≡◌, ℕ, ◌⊎◌, inl, inr, List, [], ◌∷◌, ◌++◌, refl, sym, ap, ◌∙◌, subst, ⊎_elim, Option, Some}
+use Rattle.std.proofs.Common.{◌≡◌, ℕ, ◌⊎◌, inl, inr, List, [], ◌∷◌, ◌++◌, refl, sym, ap, ◌∙◌, subst, ⊎_elim, Some}
 use Rattle.kn_meaning.specs.declared.update.Update.{Update}
 use Rattle.kn_meaning.specs.Requests.{Request, Query}
 use Rattle.kn_meaning.specs.Daemon.{State, Session, first_state}
 use Rattle.kn_meaning.specs.Asked.{no_grounds}
 use Rattle.kn_meaning.specs.History.{loaded_history}
-use Rattle.kn_meaning.specs.Played.{IsAsking, IsMeant, played, up_to_end}
+use Rattle.kn_meaning.specs.Played.{IsAsking, IsMeant, played}
 use Rattle.kn_commands.specs.Checking.{IsQuery}
 use Rattle.kn_commands.proofs.Reached.{requests_once}
 

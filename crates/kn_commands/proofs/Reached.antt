@@ -2,7 +2,6 @@
 use Rattle.std.proofs.Common.{◌≡◌, ℕ, ◌≤◌, List, [], ◌∷◌, ◌++◌, length, take, refl, sym, ap, ◌∙◌, subst, arith, append_assoc, append-nil, Option, Some, inl, inr}
 use Rattle.std.specs.Prelude.{IfSome, IsSomeAnd, ◌<◌}
 use Rattle.kn_base.specs.declared.limits.TheConstants.{FILE_BYTES}
-use Rattle.kn_outside.specs.Faults.{Rose}
 use Rattle.kn_files.specs.Pieces.{pieces_of}
 use Rattle.kn_trees.specs.declared.assertion.Assertion.{Assertion}
 use Rattle.kn_meaning.specs.declared.script.Script.{Script}
@@ -23,7 +22,7 @@ use Rattle.kn_commands.specs.declared.ending.Ending.TheVariants.{Stopped, NoQuer
 use Rattle.kn_commands.specs.Names.{Names, in_order}
 use Rattle.kn_commands.specs.Seen.{FilesSeen, HasContent, IsTooLarge, IsPolicy}
 use Rattle.kn_commands.specs.Loaded.{IsLoaded, StopsLoading}
-use Rattle.kn_commands.specs.Checking.{IsQuery, HasQuery, HasNoQuery, name_of, count_before, count_to, Reached, HasComeTo, StopsAt, Shows, CheckCause, IsUnread, HaveAsked}
+use Rattle.kn_commands.specs.Checking.{IsQuery, HasQuery, name_of, count_before, count_to, Reached, HasComeTo, StopsAt, Shows, CheckCause, IsUnread, HaveAsked}
 use Rattle.kn_commands.proofs.Read.{rose-earlier}
 
 -- what a file holds was there before

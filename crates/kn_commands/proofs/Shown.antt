@@ -1,9 +1,8 @@
 -- What the verdict on a reply shows of the query that a script means over a loaded policy.
-use Rattle.std.proofs.Common.{◌≡◌, ℕ, List, length, refl, sym, ap, ◌∙◌, subst}
+use Rattle.std.proofs.Common.{◌≡◌, ℕ, List, length, sym, ap, subst}
 use Rattle.kn_trees.specs.declared.assertion.Assertion.{Assertion}
 use Rattle.kn_proof.specs.declared.reply.ReadReply.{ReadReply}
 use Rattle.kn_check.specs.declared.reject.Reject.{Reject}
-use Rattle.kn_meaning.specs.declared.update.Update.{Update}
 use Rattle.kn_meaning.specs.Equations.{Equations, Part, equations_over}
 use Rattle.kn_meaning.specs.History.{loaded_history}
 use Rattle.kn_meaning.specs.Daemon.{equations_of}

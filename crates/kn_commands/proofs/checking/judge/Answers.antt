@@ -1,4 +1,4 @@
-use Rattle.std.proofs.Common.{inl, inr, refl}
+use Rattle.std.proofs.Common.{inr, refl}
 use Rattle.kn_commands.proofs.Shown.{proved_there, unproved_there, other_there}
 use Rattle.kn_commands.proofs.checking.judge.Goals as goal
 

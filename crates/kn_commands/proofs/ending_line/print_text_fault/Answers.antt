@@ -1,4 +1,4 @@
-use Rattle.std.proofs.Common.{◌≡◌, ◌∙◌, [], ◌++◌, ap, codes}
+use Rattle.std.proofs.Common.{◌≡◌, ◌∙◌, [], ◌++◌, codes}
 use Rattle.std.specs.Prelude.{decimal}
 use Rattle.kn_commands.specs.Checking.{text_line}
 use Rattle.kn_commands.proofs.Told.{told_ok, told_err}
