@@ -3,6 +3,7 @@
 //! No clause can tell what the system holds, so these tell of nothing but their faults and the names
 //! that were asked for.
 ghost use Rattle.std.specs.Prelude.{◌≡◌, ◌≢◌, ◌≤◌, ◌<◌, [], length, IfOk, IfSome, OnOk, OnErr};
+ghost use Rattle.std.specs.Str.{IsUtf8};
 ghost use Rattle.std.specs.IoError.{error_kind};
 ghost use Rattle.std.specs.declared.io.ErrorKind.{ErrorKind};
 ghost use Rattle.kn_outside.specs.Asked.{asked_after};
@@ -182,12 +183,13 @@ impl Files for RealFiles {
 /// The whole content of the file at a path. A path that isn't UTF-8 is one that can't be opened.
 fn read_file(rt: &HostRuntime, path: &[u8]) -> Result<Octets, FileFault>
     ensures within { IfOk result (λ octets. length octets ≤ FILE_BYTES) }
+    ensures path { ¬ IsUtf8 path.now → result ≡ Err FileFault.Failed }
 {
-    let path = match str::from_utf8(path) {
-        Ok(path) => path,
+    let text = match str::from_utf8(path) {
+        Ok(text) => text,
         Err(_) => return Err(FileFault::Failed),
     };
-    let mut file = match File::open(rt, path) {
+    let mut file = match File::open(rt, text) {
         Ok(file) => file,
         Err(error) => return Err(fault_of(&error)),
     };
