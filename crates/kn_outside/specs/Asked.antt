@@ -1,10 +1,22 @@
-use Rattle.std.specs.Prelude.{ℕ, List, [], ◌∷◌, ◌++◌, Result, Ok, Err}
+-- What reading files changes.
+use Rattle.std.specs.Prelude.{ℕ, ◌≡◌, List, [], ◌∷◌, ◌++◌, Result, Ok, Err}
+use Rattle.kn_outside.specs.Faults.{Rose}
+use Rattle.kn_outside.specs.Seen.{FilesSeen}
 use Rattle.kn_outside.specs.declared.files.FileFault.{FileFault}
 use Rattle.kn_outside.specs.declared.files.FileFault.TheVariants.{Failed, TooLarge, NoMemory}
 
--- the names that were asked for once a read of this name gave this answer
-abbrev pub asked_after : Result (List ℕ) FileFault → List ℕ → List (List ℕ) → List (List ℕ)
-asked_after (Ok bytes) name names = names ++ name ∷ []
-asked_after (Err Failed) name names = names ++ name ∷ []
-asked_after (Err TooLarge) name names = names ++ name ∷ []
-asked_after (Err NoMemory) name names = names
+-- files of these names were asked for, and nothing else changed
+abbrev pub HasAsked : List (List ℕ) → FilesSeen → FilesSeen → Type 0
+HasAsked names f f' = f' ≡ record f { asked = f.asked ++ names }
+
+-- files of these names were asked for, the last of which couldn't be read, and nothing else changed
+pub record HasFailed (names : List (List ℕ)) (f f' : FilesSeen) : Type 0 where
+  pub asked : f' ≡ record f { asked = f.asked ++ names; faults = f'.faults }
+  pub rose : Rose f.faults f'.faults
+
+-- what a read of this name changes where it gives this answer
+abbrev pub Leaves : Result (List ℕ) FileFault → List ℕ → FilesSeen → FilesSeen → Type 0
+Leaves (Ok bytes) name f f' = HasAsked (name ∷ []) f f'
+Leaves (Err Failed) name f f' = HasFailed (name ∷ []) f f'
+Leaves (Err TooLarge) name f f' = HasAsked (name ∷ []) f f'
+Leaves (Err NoMemory) name f f' = f' ≡ f

@@ -1,4 +1,7 @@
 pub mod Asked
 pub mod Faults
 pub mod InMemory
+pub mod Printing
+pub mod Reading
+pub mod Seen
 pub mod Told

@@ -1,6 +1,5 @@
 ghost use Rattle.std.specs.Prelude.{◌≡◌, ◌<◌, ◌≤◌, length, IfOk, IfSome, IsSomeAnd};
-ghost use Rattle.kn_outside.specs.Asked.{asked_after};
-ghost use Rattle.kn_outside.specs.Faults.{Rose};
+ghost use Rattle.kn_outside.specs.Asked.{Leaves};
 
 use kn_base::limits::FILE_BYTES;
 use kn_base::{NoMemory, Octets};
@@ -28,24 +27,16 @@ impl From<NoMemory> for FileFault {
 
 /// What files are read from by their names.
 pub trait Files {
-    ghost use Rattle.std.specs.Prelude.{ℕ, List, Option};
+    ghost use Rattle.kn_outside.specs.Seen.{FilesSeen};
 
-    /// The content of each name that is there, where it is told.
-    ghost content: { Self → Option (List ℕ → Option (List ℕ)) };
+    /// What is seen of them. The count of faults says how many reads failed, and stays at the greatest `u64`.
+    ghost seen: { Self → FilesSeen };
 
-    /// The names that were asked for so far.
-    ghost asked: { Self → List (List ℕ) };
-
-    /// How many calls failed so far. It stays at the greatest `u64`.
-    ghost faults: { Self → ℕ };
-
-    /// The whole content of a file.
+    /// The whole content of a file. A read that answers anything but `Failed` has failed at nothing.
     fn read(&mut self, name: &[u8]) -> Result<Octets, FileFault>
-        ensures whole { IfOk result (λ octets. IfSome (content self.old) (λ content_of. content_of name.now ≡ Some octets)) }
+        ensures whole { IfOk result (λ octets. IfSome (seen self.old).content (λ content_of. content_of name.now ≡ Some octets)) }
         ensures within { IfOk result (λ octets. length octets ≤ FILE_BYTES) }
-        ensures large { result ≡ Err FileFault.TooLarge → IfSome (content self.old) (λ content_of. IsSomeAnd (content_of name.now) (λ bytes. FILE_BYTES < length bytes)) }
-        ensures asks { asked self.new ≡ asked_after result name.now (asked self.old) }
-        ensures keeps_content { content self.new ≡ content self.old }
-        ensures later { faults self.old ≤ faults self.new }
-        ensures failed { result ≡ Err FileFault.Failed → Rose (faults self.old) (faults self.new) };
+        ensures large { result ≡ Err FileFault.TooLarge → IfSome (seen self.old).content (λ content_of. IsSomeAnd (content_of name.now) (λ bytes. FILE_BYTES < length bytes)) }
+        ensures leaves { Leaves result name.now (seen self.old) (seen self.new) }
+        ensures later { (seen self.old).faults ≤ (seen self.new).faults };
 }

@@ -1,9 +1,10 @@
-//! The outside as contracts see it: links, sinks and files as traits, and fakes of them in memory.
+//! The outside as contracts see it: links, sinks, files and gates as traits, and fakes in memory.
 #![tactic(auto)]
 
 mod entry;
 mod failed;
 mod files;
+mod gate;
 mod link;
 mod mem_files;
 mod mem_link;
@@ -16,6 +17,7 @@ mod tests;
 pub use entry::FileEntry;
 pub use failed::Failed;
 pub use files::{FileFault, Files};
+pub use gate::{Gate, Passing};
 pub use link::Link;
 pub use mem_files::MemFiles;
 pub use mem_link::MemLink;

@@ -64,11 +64,7 @@ impl Files for MemFiles {
     ghost use Rattle.std.specs.Prelude.{Some};
     ghost use Rattle.kn_outside.specs.InMemory.{content_of};
 
-    ghost content = { λ f. Some (content_of f.entries) };
-
-    ghost asked = { λ f. f.asked };
-
-    ghost faults = { λ f. f.faults };
+    ghost seen = { λ f. record { content = Some (content_of f.entries); asked = f.asked; faults = f.faults } };
 
     fn read(&mut self, name: &[u8]) -> Result<Octets, FileFault>
         ensures answer { IsAnswer (next_answer self.old name.now) result }

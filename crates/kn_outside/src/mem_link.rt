@@ -73,13 +73,7 @@ impl MemLink {
 impl Sink for MemLink {
     ghost use Rattle.std.specs.Prelude.{Some};
 
-    ghost written = { λ m. Some m.written };
-
-    ghost taken = { λ m. Some m.taken };
-
-    ghost left = { λ m. Some m.left };
-
-    ghost faults = { λ m. m.faults };
+    ghost seen = { λ m. record { written = Some m.written; taken = Some m.taken; left = Some m.left; faults = m.faults } };
 
     fn write(&mut self, piece: &[u8]) -> Result<usize, Failed>
         ensures whole { IfOk result (λ n. n ≡ length piece.now) }
@@ -104,8 +98,10 @@ impl Link for MemLink {
         ensures within { IfOk result (λ n. n ≤ length buf.new) }
         ensures end { IfOk result (λ n. n ≡ 0 → self.new.left ≡ []) }
         ensures front { IfOk result (λ n. take n buf.new ≡ take n self.old.left) }
+        ensures behind { IfOk result (λ n. drop n buf.new ≡ drop n buf.old) }
         ensures ok { IfOk result (λ n. self.new ≡ record self.old { taken = self.old.taken ++ take n self.old.left; left = drop n self.old.left; reads = raised self.old.reads; calls = raised self.old.calls }) }
         ensures err { OnErr result (self.new ≡ record self.old { reads = raised self.old.reads; calls = raised self.old.calls; faults = raised self.old.faults }) }
+        ensures buffer { OnErr result (buf.new ≡ buf.old) }
         ensures later { self.old.faults ≤ self.new.faults }
         ensures chosen { IsErr result ↔ IsTrue (is_failing self.old.failing (raised self.old.calls)) }
     {
@@ -140,7 +136,8 @@ fn cut(cuts: &List<u32>, place: u64, bytes: usize) -> usize
 fn copy_front(from: &[u8], to: &mut [u8], bytes: usize)
     requires held { bytes ≤ length from.now }
     requires room { bytes ≤ length to.old }
-    ensures { take bytes to.new ≡ take bytes from.now }
+    ensures front { take bytes to.new ≡ take bytes from.now }
+    ensures behind { drop bytes to.new ≡ drop bytes to.old }
 {
     to.split_at_mut(bytes)
         .0

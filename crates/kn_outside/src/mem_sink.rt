@@ -54,15 +54,9 @@ impl MemSink {
 }
 
 impl Sink for MemSink {
-    ghost use Rattle.std.specs.Prelude.{[], Some};
+    ghost use Rattle.std.specs.Prelude.{None, Some};
 
-    ghost written = { λ s. Some s.written };
-
-    ghost taken = { λ s. Some [] };
-
-    ghost left = { λ s. Some [] };
-
-    ghost faults = { λ s. s.faults };
+    ghost seen = { λ s. record { written = Some s.written; taken = None; left = None; faults = s.faults } };
 
     fn write(&mut self, piece: &[u8]) -> Result<usize, Failed>
         ensures whole { IfOk result (λ n. n ≡ length piece.now) }

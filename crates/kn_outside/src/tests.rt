@@ -12,8 +12,8 @@ use std::test::Fail;
 
 /// Writes back what a link has left, in at most so many rounds, and tells whether that was all.
 fn echo<L: Link>(link: &mut L, rounds: u32) -> Result<bool, Failed>
-    ensures all { IfOk result (λ ended. ended ≡ true → IfSome (L.left link.old) (λ told. L.written link.new ≡ more told (L.written link.old))) }
-    ensures failed { OnErr result (Rose (L.faults link.old) (L.faults link.new)) }
+    ensures all { IfOk result (λ ended. ended ≡ true → IfSome (L.seen link.old).left (λ left. (L.seen link.new).written ≡ more left (L.seen link.old).written)) }
+    ensures failed { OnErr result (Rose (L.seen link.old).faults (L.seen link.new).faults) }
 {
     let mut buf = [0; 4];
     for _round in 0..rounds {
@@ -28,7 +28,7 @@ fn echo<L: Link>(link: &mut L, rounds: u32) -> Result<bool, Failed>
 
 /// Writes out a file.
 fn show<F: Files, O: Sink>(files: &mut F, name: &[u8], out: &mut O) -> Result<(), FileFault>
-    ensures written { IfOk result (λ _. IfSome (F.content files.old) (λ content_of. IfSome (content_of name.now) (λ bytes. O.written out.new ≡ more bytes (O.written out.old)))) }
+    ensures written { IfOk result (λ _. IfSome (F.seen files.old).content (λ content_of. IfSome (content_of name.now) (λ bytes. (O.seen out.new).written ≡ more bytes (O.seen out.old).written))) }
 {
     let content = match files.read(name) {
         Ok(content) => content,

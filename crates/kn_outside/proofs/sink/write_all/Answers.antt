@@ -1,12 +1,9 @@
-use Rattle.std.proofs.Common.{arith, ◌∙◌}
-use Rattle.kn_outside.proofs.Parts.{more_parts}
+use Rattle.std.proofs.Common.{arith}
+use Rattle.kn_outside.proofs.PrintLaws.{writes_parts}
 use Rattle.kn_outside.proofs.sink.write_all.Goals as goal
 
 pub loop-done-preserved : goal.loop-done-preserved
 loop-done-preserved g c = record {
   within = omega (arith, c.split_at.ensures.back_len, c.in_ok-done.ensures.count.1);
-  front = more_parts _ _ _ _ _ _ c.loop-done.invariant.front (rw c.split_at.ensures.back at c.in_ok-done.ensures.ok);
-  taken = c.write.ensures.keeps_taken ∙ c.loop-done.invariant.taken;
-  left = c.write.ensures.keeps_left ∙ c.loop-done.invariant.left;
-  later = omega (arith, c.write.ensures.later, c.loop-done.invariant.later);
+  front = writes_parts _ _ _ _ _ _ c.loop-done.invariant.front (rw c.split_at.ensures.back at c.in_ok-done.ensures.ok);
 }

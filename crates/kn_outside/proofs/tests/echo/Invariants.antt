@@ -5,5 +5,5 @@ use Rattle.kn_outside.proofs.tests.echo.Given as goal
 -- some bytes were read, and the same bytes were written
 abbrev pub invariant-loop-round : goal.invariant-loop-round
 invariant-loop-round g l =
-    ((bytes : List ℕ) × (g.L.Sink.left l.initial.link ≡ before bytes (g.L.Sink.left l.link)) × (g.L.Sink.written l.link ≡ more bytes (g.L.Sink.written l.initial.link)))
-    × (g.L.Sink.faults l.initial.link ≤ g.L.Sink.faults l.link)
+    ((bytes : List ℕ) × ((g.L.Sink.seen l.initial.link).left ≡ before bytes (g.L.Sink.seen l.link).left) × ((g.L.Sink.seen l.link).written ≡ more bytes (g.L.Sink.seen l.initial.link).written))
+    × ((g.L.Sink.seen l.initial.link).faults ≤ (g.L.Sink.seen l.link).faults)
