@@ -13,15 +13,14 @@ use Rattle.kn_fields.specs.Computed.{fields_or_fault}
 use Rattle.kn_fields.specs.declared.fault.FieldFault.{FieldFault}
 use Rattle.kn_fields.specs.declared.fault.FieldFault.TheVariants.{TooLong, Lexical, BadField, FieldTwice, FieldOrder, NoAuthorizer, Version, Constant, NoMemory as NoFieldMemory}
 use Rattle.kn_trees.specs.declared.assertion.Assertion.{Assertion}
-use Rattle.kn_trees.specs.declared.formula.Formula.{Formula}
 use Rattle.kn_trees.specs.declared.program.Program.{Program}
-use Rattle.kn_trees.specs.Formulas.{IsReadable}
 use Rattle.kn_trees.specs.Kinds.{is_well_kinded}
 use Rattle.kn_trees.specs.Levels.{program_depth}
 use Rattle.kn_program.specs.Conditions.{IsConditions}
 use Rattle.kn_program.proofs.Depths.{stated_shallow}
 use Rattle.kn_principal.specs.Principals.{lower_case, is_colon, normal_rest, with_algorithm, normal_form}
 use Rattle.kn_assert.specs.Parts.{text_by, normal_in, principal_of}
+use Rattle.kn_assert.specs.Faults.{fault_place}
 use Rattle.kn_assert.specs.Reading.{of_fields, reading_with, reading_by, reading_of, assertion_in, fault_in, assertion_of, fault_of, IsSound}
 use Rattle.kn_assert.specs.Spelled.{IsShallow, IsReading, IsFirstReadFault}
 use Rattle.kn_assert.specs.declared.fault.ReadFault.{ReadFault}
@@ -82,36 +81,19 @@ normal_sized (Some text) a e = by (nat_lt 0 (length text) && nat_le (length text
         let size : length a ≡ length text = ap (λ (l : List ℕ). length l) (sym same) ∙ normal_length text in
         (omega (arith, some, size), omega (arith, short, size))
 
-principal_sized : (constants : List Set) (token : Seen) (a : List ℕ) → principal_of constants token ≡ Some a → (0 < length a) × (length a ≤ 4096)
+pub principal_sized : (constants : List Set) (token : Seen) (a : List ℕ) → principal_of constants token ≡ Some a → (0 < length a) × (length a ≤ 4096)
 unfolding principal_of
 principal_sized constants token a e = normal_sized (text_by constants token.sort token.text) a e
-
-readable_more : (o : Option Formula) (n m : ℕ) → n ≤ m → IfSome o (λ formula. IsReadable n formula) → IfSome o (λ formula. IsReadable m formula)
-readable_more None n m le h = h
-readable_more (Some formula) n m le h = let small = h.small in record { sound = h.sound; small = omega (arith, small, le); shallow = h.shallow }
 
 stated_kinds : (tokens : List Seen) (o : Option Program) → IsConditions tokens o → IfSome o (λ program. is_well_kinded program ≡ true)
 stated_kinds tokens None h = tt
 stated_kinds tokens (Some program) h = h.kinds
 
 -- a program that is spelled is well kinded
-spelled_kinds : (field : Option Field) (o : Option Program) → MatchOption field (o ≡ None) (λ field. IsShallow field × IsConditions field.tokens o)
+pub spelled_kinds : (field : Option Field) (o : Option Program) → MatchOption field (o ≡ None) (λ field. IsShallow field × IsConditions field.tokens o)
     → IfSome o (λ program. is_well_kinded program ≡ true)
 spelled_kinds None o h = subst (λ (o : Option Program). IfSome o (λ program. is_well_kinded program ≡ true)) (sym h) tt
 spelled_kinds (Some field) o h = stated_kinds field.tokens o h.1
-
-reading_sound : (text : List ℕ) (assertion : Assertion) (n : ℕ) → IsReading text assertion → n ≤ length text
-    → IfSome assertion.licensees (λ formula. IsReadable n formula) → IsSound (length text) assertion
-reading_sound text assertion n h le readable =
-    let authorizer = h.spelled.authorizer in
-    let one = authorizer.2.1 in
-    let sized = principal_sized (constants_in (field_with 6 h.tokens)) one.0 assertion.authorizer one.2 in
-    record {
-      some = sized.0;
-      short = sized.1;
-      licensees = readable_more assertion.licensees n (length text) le readable;
-      conditions = spelled_kinds (field_with 3 h.tokens) assertion.conditions h.spelled.conditions;
-    }
 
 pub well_short : (text : List ℕ) → IsWellFielded text → length text ≤ 16384
 well_short text well = by (nat_lt 16384 (length text)) refl
@@ -150,10 +132,23 @@ pub first_told : FirstTold → (text : List ℕ) (r : Result Assertion ReadFault
 first_told told text (Ok assertion) e = tt
 first_told told text (Err fault) e = inr ((told text fault).0 e)
 
-pub sound_told : ReadingTold → (text : List ℕ) (n : ℕ) (r : Result Assertion ReadFault) → reading_of text ≡ r → n ≤ length text
-    → IfOk r (λ assertion. IfSome assertion.licensees (λ formula. IsReadable n formula)) → IfOk r (λ assertion. IsSound (length text) assertion)
-sound_told told text n (Ok assertion) e le readable = reading_sound text assertion n ((told text assertion).0 e) le readable
-sound_told told text n (Err fault) e le readable = tt
+abbrev pub SoundTold : Type 0
+SoundTold = (text : List ℕ) (assertion : Assertion) → IsReading text assertion → IsSound (length text) assertion
+
+pub sound_told : ReadingTold → SoundTold → (text : List ℕ) (r : Result Assertion ReadFault) → reading_of text ≡ r → IfOk r (λ assertion. IsSound (length text) assertion)
+sound_told told law text (Ok assertion) e = law text assertion ((told text assertion).0 e)
+sound_told told law text (Err fault) e = tt
+
+abbrev pub PlaceTold : Type 0
+PlaceTold = (text : List ℕ) (fault : ReadFault) → IsFirstReadFault text fault → fault_place fault ≤ length text
+
+pub place_refused : PlaceTold → (text : List ℕ) (fault : ReadFault) → (fault ≡ NoMemory) ⊎ IsFirstReadFault text fault → fault_place fault ≤ length text
+place_refused law text fault (inl none) = let same = ap fault_place none in omega arith
+place_refused law text fault (inr first) = law text fault first
+
+pub place_told : FirstTold → PlaceTold → (text : List ℕ) (r : Result Assertion ReadFault) → reading_of text ≡ r → IfErr r (λ fault. fault_place fault ≤ length text)
+place_told told law text (Ok assertion) e = tt
+place_told told law text (Err fault) e = law text fault ((told text fault).0 e)
 
 -- a program that is spelled has at most 1,700 levels
 spelled_shallow : (field : Option Field) (conditions : Option Program) → MatchOption field (conditions ≡ None) (λ field. IsShallow field × IsConditions field.tokens conditions)

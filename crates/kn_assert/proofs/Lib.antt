@@ -4,3 +4,5 @@ pub mod Orders
 pub mod Stated
 pub mod Readings
 pub mod Answered
+pub mod Places
+pub mod Nodes

@@ -1,5 +1,6 @@
 -- The assertion of a text, or its first fault, computed. Laws say that they are those of the relations.
-use Rattle.std.specs.Prelude.{ℕ, ◌≡◌, ◌<◌, ◌≤◌, ◌==◌, true, List, [], ◌∷◌, length, Option, Some, None, Result, Ok, Err, IfSome, if◌then◌else◌}
+use Rattle.std.specs.Prelude.{ℕ, ◌+◌, ◌≡◌, ◌<◌, ◌≤◌, ◌==◌, true, List, [], ◌∷◌, length, Option, Some, None, Result, Ok, Err, IfSome, if◌then◌else◌}
+use Rattle.kn_base.specs.declared.limits.TheConstants.{PRINCIPAL_BYTES}
 use Rattle.kn_env.specs.declared.constant.Constant.{Constant as Set}
 use Rattle.kn_lex.specs.Cutting.{Seen}
 use Rattle.kn_lex.specs.declared.fault.LexFault.{LexFault}
@@ -13,7 +14,7 @@ use Rattle.kn_fields.specs.declared.fault.FieldFault.TheVariants.{TooLong as Lon
 use Rattle.kn_trees.specs.declared.assertion.Assertion.{Assertion}
 use Rattle.kn_trees.specs.declared.formula.Formula.{Formula}
 use Rattle.kn_trees.specs.declared.program.Program.{Program}
-use Rattle.kn_trees.specs.Formulas.{IsReadable}
+use Rattle.kn_trees.specs.Formulas.{IsReadable, field_nodes}
 use Rattle.kn_trees.specs.Kinds.{is_well_kinded}
 use Rattle.kn_formula.specs.Licensing.{licensees_of}
 use Rattle.kn_program.specs.Conditions.{program_of}
@@ -151,10 +152,11 @@ assertion_of text = assertion_in (reading_of text)
 abbrev pub fault_of : List ℕ → Option ReadFault
 fault_of text = fault_in (reading_of text)
 
--- An assertion that was read from so many bytes: its authorizer has 1 to 4,096 bytes, its formula is readable, and its
--- program is well kinded.
+-- An assertion of a text of so many bytes: its authorizer is as long as a principal may be, its formula is readable, with
+-- so much fewer nodes than bytes, and its program is well kinded.
 pub record IsSound (bytes : ℕ) (assertion : Assertion) : Type 0 where
   pub some : 0 < length assertion.authorizer
-  pub short : length assertion.authorizer ≤ 4096
+  pub short : length assertion.authorizer ≤ PRINCIPAL_BYTES
   pub licensees : IfSome assertion.licensees (λ formula. IsReadable bytes formula)
+  pub nodes : 2 + field_nodes assertion.licensees ≤ bytes
   pub conditions : IfSome assertion.conditions (λ program. is_well_kinded program ≡ true)

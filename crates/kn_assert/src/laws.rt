@@ -1,13 +1,14 @@
 //! What holds of the definitions. Each law is the contract of a function that does nothing, and a crate
 //! above gets it by a call.
-ghost use Rattle.std.specs.Prelude.{◌≡◌, ◌↔◌, ◌⊎◌, ℕ, List, Ok, Err};
+ghost use Rattle.std.specs.Prelude.{◌≡◌, ◌≤◌, ◌↔◌, ◌⊎◌, ℕ, List, length, Ok, Err};
 ghost use Rattle.kn_env.specs.Attributes.{is_attribute_name};
 ghost use Rattle.kn_env.specs.Environment.{constant_value};
 ghost use Rattle.kn_env.specs.declared.constant.Constant.{Constant};
 ghost use Rattle.kn_lex.specs.Spelling.{is_name};
 ghost use Rattle.kn_formula.specs.Trees.{constant_value as constant_text};
 ghost use Rattle.kn_trees.specs.declared.assertion.Assertion.{Assertion};
-ghost use Rattle.kn_assert.specs.Reading.{reading_of};
+ghost use Rattle.kn_assert.specs.Faults.{fault_place};
+ghost use Rattle.kn_assert.specs.Reading.{reading_of, IsSound};
 ghost use Rattle.kn_assert.specs.Spelled.{IsReading, IsFirstReadFault};
 ghost use Rattle.kn_assert.specs.declared.fault.ReadFault.{ReadFault};
 ghost use Rattle.kn_assert.specs.declared.fault.ReadFault.TheVariants.{NoMemory};
@@ -24,6 +25,24 @@ pub fn readings_are_computed()
     kn_fields::laws::one_field_of_each_number();
     kn_formula::laws::licensees_found();
     kn_program::laws::program_found();
+}
+
+/// An assertion that a text spells is sound.
+pub fn readings_are_sound()
+    ensures { (text : List ℕ) (assertion : Assertion) → IsReading text assertion → IsSound (length text) assertion }
+{
+    kn_lex::laws::token_facts();
+    kn_lex::laws::tokens_in_order();
+    kn_lex::laws::tokens_or_first_fault();
+}
+
+/// The place that is told with the first fault of a text is at most the text's length. The number of a field is less than
+/// the length of its label.
+pub fn faults_stand_in_the_text()
+    ensures { (text : List ℕ) (fault : ReadFault) → IsFirstReadFault text fault → fault_place fault ≤ length text }
+{
+    kn_lex::laws::token_facts();
+    kn_lex::laws::tokens_or_first_fault();
 }
 
 /// Every text spells an assertion or has a first fault, never both, and at most one of either.

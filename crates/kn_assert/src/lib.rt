@@ -1,4 +1,5 @@
-//! Assertions of KeyNote V2 (RFC 2704, section 4): the reader of their texts, and the normal form of principals.
+//! Assertions of KeyNote V2 (RFC 2704, section 4): the reader of their texts, the files that have them, and the normal
+//! form of principals.
 #![tactic(auto)]
 
 mod fault;
@@ -11,6 +12,7 @@ mod tests;
 
 pub use fault::ReadFault;
 pub use kn_env::Constant;
+pub use kn_files::split_file;
 pub use kn_principal::{PrincipalFault, normal, same};
 pub use kn_trees::{
     Assertion, Clause, Comparison, Expr, Formula, Kind, Link2, Operation, Program, Then, kind,

@@ -2,7 +2,6 @@ ghost use Rattle.std.specs.Prelude.{◌≡◌, ◌+◌, ◌≤◌, ◌<◌, Some
 ghost use Rattle.std.specs.Option.{option_copied, option_map};
 ghost use Rattle.std.specs.Str.{bytes_eq};
 ghost use Rattle.kn_lex.specs.Seeing.{seen};
-ghost use Rattle.kn_trees.specs.Formulas.{IsReadable};
 ghost use Rattle.kn_fields.specs.Depth.{IsTooDeep};
 ghost use Rattle.kn_fields.specs.Fields.{between, field_with, PartIs};
 ghost use Rattle.kn_fields.specs.Scanning.{goes_deep};
@@ -192,8 +191,7 @@ fn formula(
 ) -> Result<Result<Option<Formula>, ReadFault>, NoMemory>
     requires part { PartIs 5 fields.now.tokens (Some part) }
     requires shallow { IsTooDeep (between (part.label + 1) part.end fields.now.tokens) → ⊥ }
-    ensures given { IfOk result (λ read. read ≡ licensees_by (licensees_of fields.now.constants (between (part.label + 1) part.end fields.now.tokens))) }
-    ensures readable { IfOk result (λ read. IfOk read (λ licensees. IfSome licensees (λ formula. IsReadable (length fields.now.tokens) formula))) }
+    ensures { IfOk result (λ read. read ≡ licensees_by (licensees_of fields.now.constants (between (part.label + 1) part.end fields.now.tokens))) }
 {
     match kn_formula::licensees(alloc, &fields.tokens, part, &fields.constants) {
         Ok(licensees) => Ok(Ok(licensees)),
@@ -209,8 +207,7 @@ pub(crate) fn licensees(
     alloc: Global,
     fields: &Fields<'_>,
 ) -> Result<Result<Option<Formula>, ReadFault>, NoMemory>
-    ensures given { IfOk result (λ read. read ≡ licensees_in fields.now.constants (field_with 5 fields.now.tokens)) }
-    ensures readable { IfOk result (λ read. IfOk read (λ licensees. IfSome licensees (λ formula. IsReadable (length fields.now.tokens) formula))) }
+    ensures { IfOk result (λ read. read ≡ licensees_in fields.now.constants (field_with 5 fields.now.tokens)) }
 {
     kn_fields::laws::depth_is_computed();
     let Some(part) = fields.part(LICENSEES) else {

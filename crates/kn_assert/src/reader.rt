@@ -1,7 +1,8 @@
 ghost use Rattle.std.specs.Prelude.{◌≡◌, ◌≤◌, ◌⊎◌, ℕ, List, length, Some, Ok, IfOk, IfErr, IfSome};
-ghost use Rattle.kn_trees.specs.Formulas.{IsReadable};
+ghost use Rattle.kn_base.specs.declared.limits.TheConstants.{ASSERTION_BYTES};
 ghost use Rattle.kn_trees.specs.Levels.{program_depth};
 ghost use Rattle.kn_fields.specs.Fields.{signed_to};
+ghost use Rattle.kn_assert.specs.Faults.{fault_place};
 ghost use Rattle.kn_assert.specs.Reading.{of_lexical, of_fields, assembled, reading_with, assertion_of, fault_of, IsSound};
 ghost use Rattle.kn_assert.specs.Spelled.{IsReading, IsFirstReadFault};
 ghost use Rattle.kn_trees.specs.declared.assertion.Assertion.{Assertion};
@@ -71,8 +72,7 @@ fn assembled(
 
 /// The assertion that the fields state, or the first fault of what they state.
 fn assertion(alloc: Global, fields: Fields<'_>) -> Result<Result<Assertion, ReadFault>, NoRoom>
-    ensures given { IfOk result (λ read. (text : List ℕ) → fields.entry.signed_to ≡ signed_to text fields.entry.tokens → read ≡ reading_with text fields.entry.tokens fields.entry.constants) }
-    ensures readable { IfOk result (λ read. IfOk read (λ assertion. IfSome assertion.licensees (λ formula. IsReadable (length fields.entry.tokens) formula))) }
+    ensures { IfOk result (λ read. (text : List ℕ) → fields.entry.signed_to ≡ signed_to text fields.entry.tokens → read ≡ reading_with text fields.entry.tokens fields.entry.constants) }
 {
     let authorizer = authorizer(alloc, &fields)?;
     let licensees = licensees(alloc, &fields)?;
@@ -90,7 +90,8 @@ fn assertion(alloc: Global, fields: Fields<'_>) -> Result<Result<Assertion, Read
     }
 }
 
-/// The assertion of a text (RFC 2704, section 4), or its first fault in the one order of faults.
+/// The assertion of a text (RFC 2704, section 4), or its first fault in the one order of faults. The place that is told
+/// with a fault is at most the text's length.
 pub fn read(alloc: Global, text: &[u8]) -> Result<Assertion, ReadFault>
     ensures ok { IfOk result (λ assertion. assertion_of text.now ≡ Some assertion) }
     ensures err { IfErr result (λ fault. (fault ≡ NoMemory) ⊎ (fault_of text.now ≡ Some fault)) }
@@ -100,11 +101,13 @@ pub fn read(alloc: Global, text: &[u8]) -> Result<Assertion, ReadFault>
     ensures each_fault { (fault : ReadFault) → IsFirstReadFault text.now fault → (result ≡ Err fault) ⊎ (result ≡ Err NoMemory) }
     ensures sound { IfOk result (λ assertion. IsSound (length text.now) assertion) }
     ensures shallow { IfOk result (λ assertion. IfSome assertion.conditions (λ program. program_depth program ≤ 1700)) }
-    ensures short { IfOk result (λ assertion. length text.now ≤ 16384) }
+    ensures short { IfOk result (λ assertion. length text.now ≤ ASSERTION_BYTES) }
+    ensures place { IfErr result (λ fault. fault_place fault ≤ length text.now) }
 {
-    kn_lex::laws::no_more_tokens_than_bytes();
     kn_fields::laws::fields_are_computed();
     laws::readings_are_computed();
+    laws::readings_are_sound();
+    laws::faults_stand_in_the_text();
     let fields = match fields(alloc, text) {
         Ok(fields) => fields,
         Err(fault) => return Err(of_fields(fault)),

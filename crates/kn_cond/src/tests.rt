@@ -1,4 +1,7 @@
 //! Expressions and programs with what they give, by the standard and keynoted's own rules.
+ghost use Rattle.std.specs.Prelude.{◌≡◌, ◌++◌, ◌∷◌, [], IfOk, OnOk};
+ghost use Rattle.kn_env.specs.Environment.{AreRequesters};
+
 use crate::evaluation::outcome;
 use crate::results::Outcome;
 use crate::{conditions_value, field_value};
@@ -18,7 +21,9 @@ struct Maker {
     alloc: Global,
 }
 
-fn pushed<T: Drop>(list: &mut List<T>, item: T) -> Made<()> {
+fn pushed<T: Drop>(list: &mut List<T>, item: T) -> Made<()>
+    ensures { OnOk result (list.new ≡ list.old ++ item ∷ []) }
+{
     match list.push(item) {
         Ok(()) => Ok(()),
         Err(_) => Err(NoMemory),
@@ -151,7 +156,9 @@ fn constants(alloc: Global) -> Made<List<Constant>> {
     Ok(constants)
 }
 
-fn requesters(alloc: Global) -> Made<List<Octets>> {
+fn requesters(alloc: Global) -> Made<List<Octets>>
+    ensures { IfOk result AreRequesters }
+{
     let mut requesters = List::new(alloc);
     pushed(&mut requesters, Octets::from_slice(alloc, b"bob")?)?;
     pushed(&mut requesters, Octets::from_slice(alloc, b"carol")?)?;

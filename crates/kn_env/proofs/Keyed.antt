@@ -3,13 +3,14 @@ use Rattle.std.proofs.Common.{◌≡◌, ℕ, suc, ◌+◌, ◌<◌, ◌≤◌, 
 use Rattle.std.specs.Option.{option_map, option_copied}
 use Rattle.std.specs.Prelude.{is_some}
 use Rattle.std.specs.Str.{bytes_eq}
-use Rattle.std.specs.Map.{lookup, remove_entry}
+use Rattle.std.specs.Map.{lookup, remove_entry, keys_of}
+use Rattle.std.specs.List.{AllByRecursion, IsDistinct}
 use Rattle.std.specs.declared.alloc.Global.{Global}
 use Rattle.indexmap.specs.IndexMap.{insert_entry}
 use Rattle.std.proofs.lemmas.Bool.{leb-false}
 use Rattle.std.proofs.lemmas.List.{length-map}
 use Rattle.kn_env.specs.declared.attributes.EnvFault.TheVariants.{BadName, BadValue, Full}
-use Rattle.kn_env.specs.Attributes.{Attribute, is_settable, has_attribute, attribute_value, with_attribute, without_attribute, attribute_fault}
+use Rattle.kn_env.specs.Attributes.{Attribute, is_settable, has_attribute, attribute_value, attribute_names, with_attribute, without_attribute, attribute_fault}
 use Rattle.kn_env.specs.Entries.{attribute_of}
 
 abbrev pub Bytes : Type 0
@@ -102,3 +103,14 @@ few_inserted old new key value is few none =
     let room : length (with_attribute key.items value.items (map attribute_of old)) ≤ 256 = room_for key.items value.items (map attribute_of old) none (omega arith) in
     let same : length (map attribute_of new) ≡ length (with_attribute key.items value.items (map attribute_of old)) = ap (λ entries. length (map attribute_of entries)) is ∙ ap length (with_inserted key value old) in
     omega arith
+
+-- other keys than this one are other names
+others_named : (key : Bytes) (entries : List (Bytes × Bytes)) → AllByRecursion (λ other. same_key key other ≡ false) (keys_of entries) → AllByRecursion (λ name. bytes_eq key.items name ≡ false) (attribute_names (map attribute_of entries))
+others_named key [] all = tt
+others_named key (e ∷ entries) all = (all.0, others_named key entries all.1)
+
+-- where no two keys are equal, no two names are
+pub names_different : (entries : List (Bytes × Bytes)) → IsDistinct same_key (keys_of entries) → IsDistinct bytes_eq (attribute_names (map attribute_of entries))
+unfolding IsDistinct
+names_different [] distinct = tt
+names_different (e ∷ entries) distinct = (others_named e.0 entries distinct.0, names_different entries distinct.1)

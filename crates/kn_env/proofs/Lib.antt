@@ -1,2 +1,4 @@
 pub mod Keyed
 pub mod Places
+pub mod Requesters
+pub mod ValueNames

@@ -1,9 +1,10 @@
 -- Action attributes (RFC 2704, section 3; their limits are keynoted's own), in the order in which they were entered.
-use Rattle.std.specs.Prelude.{ℕ, Bool, false, ◌==◌, ◌&&◌, ◌||◌, not, nat_le, nat_lt, List, [], ◌∷◌, length, filter, find, Option, Some, None, if◌then◌else◌}
+use Rattle.std.specs.Prelude.{ℕ, Bool, false, ◌==◌, ◌&&◌, ◌||◌, not, nat_le, nat_lt, List, [], ◌∷◌, length, filter, find, map, Option, Some, None, if◌then◌else◌}
 use Rattle.std.specs.List.{list_all, list_any}
 use Rattle.std.specs.Option.{option_map}
 use Rattle.std.specs.Str.{bytes_eq}
 use Rattle.kn_base.specs.Decimal.{is_digit}
+use Rattle.kn_base.specs.declared.limits.TheConstants.{NAME_BYTES, VALUE_BYTES, ATTRIBUTES}
 use Rattle.kn_env.specs.declared.attributes.EnvFault.{EnvFault}
 use Rattle.kn_env.specs.declared.attributes.EnvFault.TheVariants.{BadName, BadValue, Full}
 
@@ -21,6 +22,10 @@ begins_name byte = is_letter byte || byte == 95
 abbrev pub continues_name : ℕ → Bool
 continues_name byte = begins_name byte || is_digit byte
 
+-- the names of attributes, in their order
+abbrev pub attribute_names : List Attribute → List (List ℕ)
+attribute_names attributes = map (λ a. a.name) attributes
+
 -- an attribute name (RFC 2704, section 4): a letter or `_`, then letters, digits and `_`
 abbrev pub is_attribute_name : List ℕ → Bool
 is_attribute_name [] = false
@@ -30,9 +35,9 @@ abbrev pub begins_low : List ℕ → Bool
 begins_low [] = false
 begins_low (byte ∷ bytes) = byte == 95
 
--- a name that may be set: an attribute name of at most 128 bytes that doesn't begin with `_`
+-- a name that may be set: an attribute name that isn't too long and doesn't begin with `_`
 abbrev pub is_settable : List ℕ → Bool
-is_settable name = (is_attribute_name name && nat_le (length name) 128) && not (begins_low name)
+is_settable name = (is_attribute_name name && nat_le (length name) NAME_BYTES) && not (begins_low name)
 
 abbrev pub has_attribute : List ℕ → List Attribute → Bool
 has_attribute name attributes = list_any (λ a. bytes_eq name a.name) attributes
@@ -55,6 +60,6 @@ without_attribute name attributes = filter (λ a. not (bytes_eq name a.name)) at
 abbrev pub attribute_fault : List ℕ → List ℕ → List Attribute → Option EnvFault
 attribute_fault name value attributes =
     if not (is_settable name) then Some BadName
-    else if nat_lt 4096 (length value) then Some BadValue
-    else if not (has_attribute name attributes) && nat_le 256 (length attributes) then Some (Full (length attributes))
+    else if nat_lt VALUE_BYTES (length value) then Some BadValue
+    else if not (has_attribute name attributes) && nat_le ATTRIBUTES (length attributes) then Some (Full (length attributes))
     else None

@@ -1,8 +1,10 @@
 -- What a query asks, and the value of a name in it (RFC 2704, sections 4 and 5; which row is tried first is keynoted's own).
-use Rattle.std.specs.Prelude.{ℕ, ◌-◌, List, [], length, find, slice_index_or, codes, Option, if◌then◌else◌}
-use Rattle.std.specs.List.{join_with_byte}
+use Rattle.std.specs.Prelude.{ℕ, ◌≡◌, ◌≤◌, ◌-◌, false, List, [], length, find, slice_index_or, codes, Option, if◌then◌else◌}
+use Rattle.std.specs.List.{join_with_byte, list_any, AllByRecursion}
 use Rattle.std.specs.Option.{option_map, option_map_or}
 use Rattle.std.specs.Str.{bytes_eq}
+use Rattle.kn_base.specs.declared.limits.TheConstants.{PRINCIPAL_BYTES, REQUESTERS}
+use Rattle.kn_principal.specs.Principals.{policy}
 use Rattle.kn_env.specs.declared.constant.Constant.{Constant}
 use Rattle.kn_env.specs.Attributes.{Attribute, attribute_value, begins_low}
 
@@ -12,6 +14,17 @@ pub record Asked : Type 0 where
   pub attributes : List Attribute
   pub values : List (List ℕ)
   pub requesters : List (List ℕ)
+
+-- a text that is as long as a principal may be
+pub record IsPrincipalSize (text : List ℕ) : Type 0 where
+  pub some : 1 ≤ length text
+  pub short : length text ≤ PRINCIPAL_BYTES
+
+-- who may request: not too many, each as long as a principal may be, and the policy isn't among them
+pub record AreRequesters (requesters : List (List ℕ)) : Type 0 where
+  pub few : length requesters ≤ REQUESTERS
+  pub sizes : AllByRecursion IsPrincipalSize requesters
+  pub others : list_any (bytes_eq policy) requesters ≡ false
 
 -- a query, where an assertion has these constants
 pub record Environment : Type 0 where

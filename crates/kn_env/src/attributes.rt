@@ -1,7 +1,8 @@
-ghost use Rattle.std.specs.Prelude.{◌≡◌, ◌↔◌, ◌⊎◌, true, false, [], length, Some, None, IsTrue, OnOk, OnErr, IfErr};
-ghost use Rattle.std.specs.List.{list_all};
+ghost use Rattle.std.specs.Prelude.{◌≡◌, ◌≤◌, ◌↔◌, ◌⊎◌, true, false, [], length, Some, None, IsTrue, OnOk, OnErr, IfErr};
+ghost use Rattle.std.specs.List.{list_all, IsDistinct};
 ghost use Rattle.std.specs.Option.{option_map};
-ghost use Rattle.kn_env.specs.Attributes.{is_attribute_name, begins_low, is_settable, is_letter, begins_name, continues_name, has_attribute, attribute_value, with_attribute, without_attribute, attribute_fault};
+ghost use Rattle.std.specs.Str.{bytes_eq};
+ghost use Rattle.kn_env.specs.Attributes.{is_attribute_name, begins_low, is_settable, is_letter, begins_name, continues_name, has_attribute, attribute_value, attribute_names, with_attribute, without_attribute, attribute_fault};
 ghost use Rattle.kn_env.specs.declared.attributes.EnvFault.TheVariants as F;
 
 use indexmap::IndexMap;
@@ -35,6 +36,7 @@ pub struct Attributes {
 
 impl Model for Attributes {
     ghost use Rattle.std.specs.Prelude.{List, ◌≤◌, length, map};
+    ghost use Rattle.kn_base.specs.declared.limits.TheConstants.{ATTRIBUTES};
     ghost use Rattle.kn_env.specs.Attributes.{Attribute};
     ghost use Rattle.kn_env.specs.Entries.{attribute_of};
 
@@ -42,7 +44,7 @@ impl Model for Attributes {
 
     ghost view = { λ a. map attribute_of a.entries.entries };
 
-    ghost invariant = { λ a. length a.entries.entries ≤ 256 };
+    ghost invariant = { λ a. length a.entries.entries ≤ ATTRIBUTES };
 }
 
 fn is_letter(byte: u8) -> bool
@@ -163,7 +165,8 @@ impl Attributes {
     /// Takes an attribute away; those of other names stay in their order. Takes no memory.
     pub fn unset(&mut self, name: &[u8]) -> Result<(), Absent>
         ensures ok { OnOk result (has_attribute name.now self.old ≡ true) }
-        ensures err { OnErr result (has_attribute name.now self.old ≡ false) }
+        ensures absent { OnErr result (has_attribute name.now self.old ≡ false) }
+        ensures err { OnErr result (self.new ≡ self.old) }
         ensures rest { self.new ≡ without_attribute name.now self.old }
     {
         match self.entries.shift_remove(name) {
@@ -182,8 +185,11 @@ impl Attributes {
         }
     }
 
+    /// How many attributes there are. No two have the same name.
     pub fn len(&self) -> u32
-        ensures { result ≡ length self.now }
+        ensures count { result ≡ length self.now }
+        ensures at_most { length self.now ≤ ATTRIBUTES }
+        ensures different { IsDistinct bytes_eq (attribute_names self.now) }
     {
         self.entries.len() as u32
     }

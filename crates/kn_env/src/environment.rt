@@ -2,7 +2,7 @@ ghost use Rattle.std.specs.Prelude.{◌≡◌, ◌≤◌, length, find, ◌∷�
 ghost use Rattle.std.specs.List.{join_with_byte};
 ghost use Rattle.std.specs.Option.{option_map, option_copied};
 ghost use Rattle.std.specs.Str.{bytes_eq};
-ghost use Rattle.kn_env.specs.Environment.{constant_value, asked_value, plain_value, name_value};
+ghost use Rattle.kn_env.specs.Environment.{constant_value, asked_value, plain_value, name_value, AreRequesters};
 
 use crate::attributes::{Attributes, begins_low};
 use crate::constant::Constant;
@@ -23,13 +23,13 @@ pub struct Query<'a> {
 impl<'a> Model for Query<'a> {
     ghost use Rattle.std.specs.Prelude.{◌≡◌, ◌≤◌, length};
     ghost use Rattle.std.specs.List.{join_with_byte};
-    ghost use Rattle.kn_env.specs.Environment.{Asked};
+    ghost use Rattle.kn_env.specs.Environment.{Asked, AreRequesters};
 
     ghost Value = { Asked };
 
     ghost view = { λ q. record { attributes = q.attributes.now; values = q.values.now; requesters = q.requesters.now } };
 
-    ghost invariant = { λ q. q.authorizers ≡ join_with_byte 44 q.requesters.now };
+    ghost invariant = { λ q. (q.authorizers ≡ join_with_byte 44 q.requesters.now) × AreRequesters q.requesters.now };
 }
 
 impl<'a> Query<'a> {
@@ -40,6 +40,7 @@ impl<'a> Query<'a> {
         values: &'a Values,
         requesters: &'a List<Octets>,
     ) -> Result<Query<'a>, NoMemory>
+        requires { AreRequesters requesters.now }
         ensures attributes { IfOk result (λ query. query.attributes ≡ attributes.now) }
         ensures values { IfOk result (λ query. query.values ≡ values.now) }
         ensures requesters { IfOk result (λ query. query.requesters ≡ requesters.now) }
@@ -60,9 +61,11 @@ impl<'a> Query<'a> {
         self.values
     }
 
-    /// Who requests, by normal forms in the order of their entry.
+    /// Who requests, by normal forms in the order of their entry: at most 64, each of 1 to 4,096 bytes, and never
+    /// `POLICY` (the limits are keynoted's own).
     pub fn requesters(&self) -> &List<Octets>
-        ensures { result.now ≡ self.now.requesters }
+        ensures requesters { result.now ≡ self.now.requesters }
+        ensures right { AreRequesters self.now.requesters }
     {
         self.requesters
     }

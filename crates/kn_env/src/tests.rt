@@ -1,3 +1,6 @@
+ghost use Rattle.std.specs.Prelude.{◌≡◌, ◌++◌, ◌∷◌, [], IfOk, OnOk};
+ghost use Rattle.kn_env.specs.Environment.{AreRequesters};
+
 use super::*;
 use kn_base::{List, NoMemory, Octets};
 use std::alloc::{AllocError, Global};
@@ -181,7 +184,9 @@ fn gives(
     attributes: &Attributes,
     requesters: &List<Octets>,
     wanted: &[(&[u8], &[u8])],
-) {
+)
+    requires { AreRequesters requesters.now }
+{
     let values = Values::of(alloc, b"no,log,yes").expect(rt, MEMORY);
     let query = Query::of(alloc, attributes, &values, requesters).expect(rt, MEMORY);
     let constants = constants(alloc).expect(rt, MEMORY);
@@ -192,8 +197,23 @@ fn gives(
     }
 }
 
-fn request(rt: &impl Abort, requesters: &mut List<Octets>, requester: Octets) {
-    assert!(rt; requesters.push(requester).is_ok());
+fn pushed(list: &mut List<Octets>, item: Octets) -> Result<(), NoMemory>
+    ensures { OnOk result (list.new ≡ list.old ++ item ∷ []) }
+{
+    match list.push(item) {
+        Ok(()) => Ok(()),
+        Err(_) => Err(NoMemory),
+    }
+}
+
+/// The requesters `alice` and `rsa-hex:10`.
+fn requesters(alloc: Global) -> Result<List<Octets>, NoMemory>
+    ensures { IfOk result AreRequesters }
+{
+    let mut list = List::new(alloc);
+    pushed(&mut list, Octets::from_slice(alloc, b"alice")?)?;
+    pushed(&mut list, Octets::from_slice(alloc, b"rsa-hex:10")?)?;
+    Ok(list)
 }
 
 #[test]
@@ -205,13 +225,7 @@ fn names_have_values(rt: HostRuntime) -> Result<(), Fail> {
         (b"level", b"5", None),
     ];
     try_sets(&rt, &mut attributes, attempts.as_slice());
-    let mut requesters = List::new(alloc);
-    request(&rt, &mut requesters, Octets::from_slice(alloc, b"alice")?);
-    request(
-        &rt,
-        &mut requesters,
-        Octets::from_slice(alloc, b"rsa-hex:10")?,
-    );
+    let requesters = requesters(alloc)?;
     let wanted = [
         (b"Alice".as_slice(), b"constant".as_slice()),
         (b"level", b"5"),

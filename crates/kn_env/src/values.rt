@@ -1,5 +1,5 @@
 ghost use Rattle.std.specs.Prelude.{◌≡◌, ◌⊎◌, ◌<◌, ◌≤◌, ◌+◌, ◌-◌, ℕ, [], true, Some, None, length, slice_get, slice_index_or, take, IfOk, IfErr, IfSome, ◌&&◌, ◌==◌, nat_le, count_by};
-ghost use Rattle.std.specs.List.{list_all, list_any, join_with_byte};
+ghost use Rattle.std.specs.List.{list_all, list_any, join_with_byte, AllByRecursion, IsDistinct};
 ghost use Rattle.std.specs.Str.{bytes_eq};
 ghost use Rattle.kn_env.specs.Values.{between_commas, is_value_name, stood_before, bad_place, twice_place, name_fault, values_fault, values_of, index_of};
 ghost use Rattle.kn_env.specs.declared.values.ValuesFault.TheVariants as F;
@@ -30,14 +30,15 @@ pub struct Values {
 }
 
 impl Model for Values {
-    ghost use Rattle.std.specs.Prelude.{List, ℕ, ◌≡◌, ◌≤◌, length};
+    ghost use Rattle.std.specs.Prelude.{List, ℕ, ◌≡◌};
     ghost use Rattle.std.specs.List.{join_with_byte};
+    ghost use Rattle.kn_env.specs.Values.{AreValueNames};
 
     ghost Value = { List (List ℕ) };
 
     ghost view = { λ v. v.names };
 
-    ghost invariant = { λ v. (v.text ≡ join_with_byte 44 v.names) × (2 ≤ length v.names) × (length v.names ≤ 64) };
+    ghost invariant = { λ v. (v.text ≡ join_with_byte 44 v.names) × AreValueNames v.names };
 }
 
 impl Values {
@@ -81,11 +82,13 @@ impl Values {
         self.names.as_slice()[i as usize].as_slice()
     }
 
-    /// How many values there are.
+    /// How many values there are. Their names are of their form, and no two are equal.
     pub fn len(&self) -> u8
         ensures count { result ≡ length self.now }
-        ensures at_least_two { 2 ≤ length self.now }
-        ensures at_most { length self.now ≤ 64 }
+        ensures at_least_two { FEWEST_COMPLIANCE_VALUES ≤ length self.now }
+        ensures at_most { length self.now ≤ MOST_COMPLIANCE_VALUES }
+        ensures form { AllByRecursion (λ name. is_value_name name ≡ true) self.now }
+        ensures different { IsDistinct bytes_eq self.now }
     {
         self.names.len() as u8
     }
@@ -94,7 +97,7 @@ impl Values {
     pub fn highest(&self) -> u8
         ensures index { result + 1 ≡ length self.now }
         ensures at_least_one { 1 ≤ result }
-        ensures at_most { result < 64 }
+        ensures at_most { result < MOST_COMPLIANCE_VALUES }
     {
         (self.names.len() - 1) as u8
     }
@@ -155,7 +158,7 @@ fn place_of(names: &[Octets], name: &[u8]) -> Option<usize>
 
 // Why so many names are no values.
 fn name_fault(names: &[Octets]) -> Option<ValuesFault>
-    requires { length names.now ≤ 64 }
+    requires { length names.now ≤ MOST_COMPLIANCE_VALUES }
     ensures { result ≡ name_fault (bad_place names.now) names.now }
 {
     if let Some(at) = bad_place(names) {

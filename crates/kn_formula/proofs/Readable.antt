@@ -15,7 +15,7 @@ use Rattle.kn_formula.proofs.Licenses.{formula_stands}
 use Rattle.kn_formula.proofs.Sizes.{tree_nodes, tree_sound}
 use Rattle.kn_formula.proofs.Nesting.{tree_depth}
 
-stated_readable : (constants : List Constant) (tokens : List Seen) (formula : Formula) → IsFormula constants tokens formula → (IsTooDeep tokens → ⊥) → IsReadable (length tokens) formula
+pub stated_readable : (constants : List Constant) (tokens : List Seen) (formula : Formula) → IsFormula constants tokens formula → (IsTooDeep tokens → ⊥) → IsReadable (length tokens) formula
 stated_readable constants tokens formula is shallow =
     let form = is.spelled.form in
     let tree : formula ≡ formula_of constants (form_tree form) = sym is.means ∙ ap (formula_of constants) (sym is.spelled.tree) in

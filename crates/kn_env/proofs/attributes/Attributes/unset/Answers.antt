@@ -16,8 +16,8 @@ returns-clause-ok c =
       | in-None w ↦ rw w.result-is tt
     ]
 
-pub returns-clause-err : goal.returns-clause-err
-returns-clause-err c =
+pub returns-clause-absent : goal.returns-clause-absent
+returns-clause-absent c =
     let has : is_some c.shift_remove.result ≡ has_attribute c.args.name.now c.args.self.now =
     ap is_some c.shift_remove.ensures.value ∙ has_found c.args.name.now c.self.inside.entries.entries ∙ ap (has_attribute c.args.name.now) c.self.view_is in
     elim c.match-shift_remove.branch [
