@@ -1,0 +1,103 @@
+//! Line 1 of a reply.
+ghost use Rattle.std.specs.Prelude.{◌≡◌, ◌≢◌, ◌⊎◌, ◌++◌, ◌↔◌, ℕ, List, IsTrue, IfOk, IfErr, MatchOption};
+ghost use Rattle.kn_proof.specs.Lines.{IsHeaderForm};
+ghost use Rattle.kn_proof.specs.Reading.{HasNoHeader, IsHeader, IsHeaderFault, header_text};
+ghost use Rattle.kn_proof.specs.Words.{AreHeaderWords};
+ghost use Rattle.kn_proof.specs.declared.fault.ProofFault.TheVariants as F;
+
+use crate::fault::ProofFault;
+use crate::text::{behind, cut, is_name, is_numeral, number, small_number};
+use kn_base::{NoMemory, Octets};
+use std::alloc::Global;
+
+/// What line 1 of a reply tells.
+#[derive(Drop)]
+pub(crate) struct Header {
+    /// The place of the compliance value among those of the query, counted from the lowest, 0.
+    pub value: u8,
+    pub name: Octets,
+    pub version: u32,
+    /// How many ROW lines follow.
+    pub count: u32,
+}
+
+/// Line 1, and the lines behind it.
+#[derive(Drop)]
+pub(crate) struct HeaderLine<'a> {
+    pub header: Header,
+    pub rest: &'a [u8],
+}
+
+/// Line 1 by its words, and the lines behind it.
+#[derive(Clone, Copy)]
+struct HeaderWords<'a> {
+    value: &'a [u8],
+    name: &'a [u8],
+    version: &'a [u8],
+    count: &'a [u8],
+    rest: &'a [u8],
+}
+
+/// Reads line 1 of a text.
+pub(crate) fn read_header(alloc: Global, text: &[u8]) -> Result<HeaderLine<'_>, ProofFault>
+    ensures spelled { IfOk result (λ line. text.now ≡ header_text line.header ++ line.rest.now) }
+    ensures range { IfOk result (λ line. IsHeader line.header) }
+    ensures err { IfErr result (λ fault. (fault ≡ F.NoMemory) ⊎ IsHeaderFault text.now fault) }
+{
+    let Some(words) = header_words(text) else {
+        return Err(ProofFault::Line { n: 1 });
+    };
+    if !is_form(&words) {
+        return Err(ProofFault::Line { n: 1 });
+    }
+    let Some(value) = small_number(words.value) else {
+        return Err(ProofFault::Number { n: 1 });
+    };
+    let Some(version) = number(words.version) else {
+        return Err(ProofFault::Number { n: 1 });
+    };
+    let Some(count) = number(words.count) else {
+        return Err(ProofFault::Number { n: 1 });
+    };
+    let name = match Octets::from_slice(alloc, words.name) {
+        Ok(name) => name,
+        Err(NoMemory) => return Err(ProofFault::NoMemory),
+    };
+    Ok(HeaderLine {
+        header: Header {
+            value,
+            name,
+            version,
+            count,
+        },
+        rest: words.rest,
+    })
+}
+
+/// The words of line 1, each up to the byte that ends it there.
+fn header_words(text: &[u8]) -> Option<HeaderWords<'_>>
+    ensures { MatchOption result (HasNoHeader text.now)
+        (λ words. AreHeaderWords text.now (record { value = words.value.now; name = words.name.now; version = words.version.now; count = words.count.now }) words.rest.now) }
+{
+    let words = behind(text, b"VALUE ")?;
+    let (value, words) = cut(words, b' ')?;
+    let (name, words) = cut(words, b' ')?;
+    let (version, words) = cut(words, b' ')?;
+    let (count, rest) = cut(words, b'\n')?;
+    Some(HeaderWords {
+        value,
+        name,
+        version,
+        count,
+        rest,
+    })
+}
+
+fn is_form(words: &HeaderWords<'_>) -> bool
+    ensures { IsTrue result ↔ IsHeaderForm (record { value = words.now.value.now; name = words.now.name.now; version = words.now.version.now; count = words.now.count.now }) }
+{
+    is_numeral(words.value)
+        && is_name(words.name)
+        && is_numeral(words.version)
+        && is_numeral(words.count)
+}

@@ -1,0 +1,93 @@
+//! The words of a line.
+ghost use Rattle.std.specs.Prelude.{◌≡◌, ◌≢◌, ◌==◌, ◌&&◌, nat_le, ◌∷◌, ◌++◌, ℕ, List, true, false, MatchOption, IfSome, length, decimal, ◌<◌, ◌≤◌, IfNone};
+ghost use Rattle.std.specs.List.{list_any, list_all};
+ghost use Rattle.kn_base.specs.Decimal.{is_digit};
+ghost use Rattle.kn_proof.specs.Lines.{is_numeral, is_name, IsShort, IsSmall};
+
+use kn_base::decimal;
+use kn_base::limits::COMPLIANCE_VALUE_BYTES;
+
+/// What stands behind the front of a text; None where the text doesn't begin so.
+pub(crate) fn behind<'a>(text: &'a [u8], front: &[u8]) -> Option<&'a [u8]>
+    ensures { MatchOption result ((rest : List ℕ) → text.now ≢ front.now ++ rest) (λ rest. text.now ≡ front.now ++ rest.now) }
+{
+    text.strip_prefix(front)
+}
+
+/// The bytes before the first byte `at`, and those behind it; None where there is no such byte.
+pub(crate) fn cut(text: &[u8], at: u8) -> Option<(&[u8], &[u8])>
+    ensures cut { MatchOption result (list_any (λ b. b == at) text.now ≡ false) (λ parts. text.now ≡ parts.0.now ++ at ∷ parts.1.now) }
+    ensures first { IfSome result (λ parts. list_any (λ b. b == at) parts.0.now ≡ false) }
+{
+    for (place, byte) in text.iter().enumerate() {
+        if *byte == at {
+            return Some((text.split_at(place).0, text.split_at(place + 1).1));
+        }
+    }
+    None
+}
+
+fn is_digit(byte: u8) -> bool
+    ensures { result ≡ is_digit byte }
+{
+    b'0' <= byte && byte <= b'9'
+}
+
+fn are_digits(text: &[u8]) -> bool
+    ensures { result ≡ list_all is_digit text.now }
+{
+    text.iter().all(|byte| is_digit(*byte))
+}
+
+pub(crate) fn is_numeral(text: &[u8]) -> bool
+    ensures { result ≡ is_numeral text.now }
+{
+    1 <= text.len() && are_digits(text) && (text.len() == 1 || text[0] != b'0')
+}
+
+/// The number that a numeral spells; None where it has more than nine digits.
+pub(crate) fn number(numeral: &[u8]) -> Option<u32>
+    requires { is_numeral numeral.now ≡ true }
+    ensures short { IfSome result (λ n. IsShort numeral.now) }
+    ensures spelled { IfSome result (λ n. decimal n ≡ numeral.now) }
+    ensures range { IfSome result (λ n. n < 1000000000) }
+    ensures long { IfNone result (¬ IsShort numeral.now) }
+{
+    decimal(numeral)
+}
+
+/// The number that a numeral spells; None where it is above 255.
+pub(crate) fn small_number(numeral: &[u8]) -> Option<u8>
+    requires { is_numeral numeral.now ≡ true }
+    ensures small { IfSome result (λ n. IsSmall numeral.now) }
+    ensures spelled { IfSome result (λ n. decimal n ≡ numeral.now) }
+    ensures large { IfNone result (¬ IsSmall numeral.now) }
+{
+    let n = number(numeral)?;
+    if n > 255 {
+        return None;
+    }
+    Some(n as u8)
+}
+
+fn are_printing(text: &[u8]) -> bool
+    ensures { result ≡ list_all (λ byte. nat_le 33 byte && nat_le byte 126) text.now }
+{
+    text.iter().all(|byte| 33 <= *byte && *byte <= 126)
+}
+
+fn has_comma(text: &[u8]) -> bool
+    ensures { result ≡ list_any (λ byte. byte == 44) text.now }
+{
+    text.iter().any(|byte| *byte == b',')
+}
+
+/// Whether a reply may name a compliance value so.
+pub(crate) fn is_name(text: &[u8]) -> bool
+    ensures { result ≡ is_name text.now }
+{
+    1 <= text.len()
+        && text.len() <= COMPLIANCE_VALUE_BYTES
+        && are_printing(text)
+        && !has_comma(text)
+}

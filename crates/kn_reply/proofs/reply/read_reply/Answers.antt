@@ -1,8 +1,0 @@
-use Rattle.kn_reply.proofs.Whole.{only_reply, only_fault}
-use Rattle.kn_reply.proofs.reply.read_reply.Goals as goal
-
-pub returns-clause-only : goal.returns-clause-only
-returns-clause-only c = only_reply c.args.text.now c.read.result c.read.ensures.ok c.read.ensures.err
-
-pub returns-clause-told : goal.returns-clause-told
-returns-clause-told c = only_fault c.args.text.now c.read.result c.read.ensures.ok c.read.ensures.err

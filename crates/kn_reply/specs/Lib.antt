@@ -1,4 +1,0 @@
-pub mod Lines
-pub mod Quoting
-pub mod Reading
-pub mod Words
