@@ -11,8 +11,8 @@ use Rattle.kn_principal.specs.Principals.{policy}
 use Rattle.kn_meaning.specs.Formulas.{Levels}
 use Rattle.kn_meaning.specs.Equations.{Equations, Statement, is_requester, licensees_level, IsPolicyLevel}
 use Rattle.kn_meaning.specs.Equations as named
-use Rattle.kn_system.specs.declared.rows.Row.{Row}
-use Rattle.kn_system.specs.Equations.{Equations as System}
+use Rattle.kn_system.specs.Rows.{SystemRow}
+use Rattle.kn_system.specs.Equations.{SystemEquations}
 use Rattle.kn_system.specs.Form.{form_level}
 use Rattle.kn_system.specs.Least.{worth, highest_worth, round_at, round_from, round}
 use Rattle.kn_system.specs.Lawful.{IsLeast}
@@ -76,14 +76,14 @@ same_test names distinct q p author name theirs here =
     (bytes_eq-Decides author name)
 
 -- a row is worth what its statement is
-pub worth-same : (top : ℕ) (names : List (List ℕ)) (at : Levels) (levels : List ℕ) → HaveLevels names at levels → (statement : Statement) (row : Row) → IsRowOf top names statement row → worth top levels row ≡ named.worth top at statement
+pub worth-same : (top : ℕ) (names : List (List ℕ)) (at : Levels) (levels : List ℕ) → HaveLevels names at levels → (statement : Statement) (row : SystemRow) → IsRowOf top names statement row → worth top levels row ≡ named.worth top at statement
 worth-same top names at levels have statement row is =
     let licensees : form_level top levels row.formula ≡ licensees_level top at statement.licensees = is.licensees at levels have in
     let ceiling : row.ceiling ≡ statement.ceiling = is.ceiling in
     cc
 
 -- the highest worth is the same by number and by name
-pub highest_worth-same : (top : ℕ) (names : List (List ℕ)) (at : Levels) (levels : List ℕ) → AreDistinct names → HaveLevels names at levels → (p : ℕ) (name : List ℕ) → IsNumber names name p → (statements : List Statement) (rows : List Row) → AreRowsOf top names statements rows → highest_worth top levels p rows ≡ named.highest_worth top at name statements
+pub highest_worth-same : (top : ℕ) (names : List (List ℕ)) (at : Levels) (levels : List ℕ) → AreDistinct names → HaveLevels names at levels → (p : ℕ) (name : List ℕ) → IsNumber names name p → (statements : List Statement) (rows : List SystemRow) → AreRowsOf top names statements rows → highest_worth top levels p rows ≡ named.highest_worth top at name statements
 highest_worth-same top names at levels distinct have p name here [] [] are = refl
 highest_worth-same top names at levels distinct have p name here [] (row ∷ rows) are = absurd are
 highest_worth-same top names at levels distinct have p name here (s ∷ statements) [] are = absurd are
@@ -95,7 +95,7 @@ highest_worth-same top names at levels distinct have p name here (s ∷ statemen
     ap (λ w. max w (highest_worth top levels p rows)) first ∙ ap (max (cond (bytes_eq s.authorizer name) (named.worth top at s) 0)) rest
 
 -- who has no number is no authorizer
-pub highest_worth-none : (top : ℕ) (names : List (List ℕ)) (at : Levels) (name : List ℕ) → IsAbsent names name → (statements : List Statement) (rows : List Row) → AreRowsOf top names statements rows → named.highest_worth top at name statements ≡ 0
+pub highest_worth-none : (top : ℕ) (names : List (List ℕ)) (at : Levels) (name : List ℕ) → IsAbsent names name → (statements : List Statement) (rows : List SystemRow) → AreRowsOf top names statements rows → named.highest_worth top at name statements ≡ 0
 highest_worth-none top names at name none [] rows are = refl
 highest_worth-none top names at name none (s ∷ statements) [] are = absurd are
 highest_worth-none top names at name none (s ∷ statements) (row ∷ rows) are =
@@ -104,7 +104,7 @@ highest_worth-none top names at name none (s ∷ statements) (row ∷ rows) are 
     ap (λ b. max (cond b (named.worth top at s) 0) (named.highest_worth top at name statements)) other ∙ ap (max 0) rest
 
 -- a level after a round, by its place
-pub round_from-at : (top : ℕ) (rows : List Row) (levels : List ℕ) (flag : List ℕ → Bool) (names : List (List ℕ)) (q p : ℕ) (name : List ℕ) → IsNumber names name p → slice_index (round_from top rows levels q (map flag names)) p ≡ round_at top rows levels (q + p) (flag name)
+pub round_from-at : (top : ℕ) (rows : List SystemRow) (levels : List ℕ) (flag : List ℕ → Bool) (names : List (List ℕ)) (q p : ℕ) (name : List ℕ) → IsNumber names name p → slice_index (round_from top rows levels q (map flag names)) p ≡ round_at top rows levels (q + p) (flag name)
 round_from-at top rows levels flag [] q p name here = absurd (let within : p < 0 = slice_get_within [] p name here in omega arith)
 round_from-at top rows levels flag (n ∷ names) q zero name here =
     let same : n ≡ name = cc in
@@ -114,13 +114,13 @@ round_from-at top rows levels flag (n ∷ names) q (suc p) name here =
     let place : q + 1 + p ≡ q + suc p = omega arith in
     round_from-at top rows levels flag names (q + 1) p name here ∙ ap (λ k. round_at top rows levels k (flag name)) place
 
-round_from-past : (top : ℕ) (rows : List Row) (levels : List ℕ) (flags : List Bool) (q p : ℕ) → length flags ≤ p → slice_index (round_from top rows levels q flags) p ≡ 0
+round_from-past : (top : ℕ) (rows : List SystemRow) (levels : List ℕ) (flags : List Bool) (q p : ℕ) → length flags ≤ p → slice_index (round_from top rows levels q flags) p ≡ 0
 round_from-past top rows levels [] q p past = refl
 round_from-past top rows levels (flag ∷ flags) q zero past = absurd (omega arith)
 round_from-past top rows levels (flag ∷ flags) q (suc p) past = round_from-past top rows levels flags (q + 1) p (omega arith)
 
 -- a round gives each principal the same level by its number and by its name
-pub round-have : (e : Equations) (names : List (List ℕ)) (s : System) → IsSystemOf e names s → (at : Levels) (levels : List ℕ) → HaveLevels names at levels → HaveLevels names (named.round e at) (round s levels)
+pub round-have : (e : Equations) (names : List (List ℕ)) (s : SystemEquations) → IsSystemOf e names s → (at : Levels) (levels : List ℕ) → HaveLevels names at levels → HaveLevels names (named.round e at) (round s levels)
 round-have e names s of at levels have p name here =
     let top : s.levels - 1 ≡ e.top = let t : s.levels ≡ e.top + 1 = of.top in omega arith in
     let highest : highest_worth e.top levels p s.rows ≡ named.highest_worth e.top at name e.statements = highest_worth-same e.top names at levels of.numbered.distinct have p name here e.statements s.rows of.rows in
@@ -132,7 +132,7 @@ round-have e names s of at levels have p name here =
     ∙ ap (λ w. cond (is_requester e name) e.top w) highest
 
 -- where no round raises levels by name, none does by number
-pub raised_by_none-have : (e : Equations) (names : List (List ℕ)) (s : System) → IsSystemOf e names s → (other : Levels) → ((name : List ℕ) → named.round e other name ≤ other name) → Below (round s (map other names)) (map other names)
+pub raised_by_none-have : (e : Equations) (names : List (List ℕ)) (s : SystemEquations) → IsSystemOf e names s → (other : Levels) → ((name : List ℕ) → named.round e other name ≤ other name) → Below (round s (map other names)) (map other names)
 raised_by_none-have e names s of other raised p =
     elim (cases_lt p (length names)) [
       | inl within ↦
@@ -150,13 +150,13 @@ raised_by_none-have e names s of other raised p =
     ]
 
 -- who has no number keeps the level 0
-round-none : (e : Equations) (names : List (List ℕ)) (s : System) → IsSystemOf e names s → (at : Levels) (name : List ℕ) → IsAbsent names name → named.round e at name ≡ 0
+round-none : (e : Equations) (names : List (List ℕ)) (s : SystemEquations) → IsSystemOf e names s → (at : Levels) (name : List ℕ) → IsAbsent names name → named.round e at name ≡ 0
 round-none e names s of at name none =
     let other : is_requester e name ≡ false = false_from_ne_true (is_requester e name) (λ r. let number : (p : ℕ) × IsNumber names name p = of.all name r in none number.0 number.1) in
     ap (λ b. cond b e.top (named.highest_worth e.top at name e.statements)) other ∙ highest_worth-none e.top names at name none e.statements s.rows of.rows
 
 -- the least levels by number are the least levels by name
-pub IsLeast-by_name : (e : Equations) (names : List (List ℕ)) (s : System) → IsSystemOf e names s → (levels : List ℕ) → IsLeast s levels → named.IsLeast e (level_at levels names)
+pub IsLeast-by_name : (e : Equations) (names : List (List ℕ)) (s : SystemEquations) → IsSystemOf e names s → (levels : List ℕ) → IsLeast s levels → named.IsLeast e (level_at levels names)
 IsLeast-by_name e names s of levels least = record {
   solves = λ name. solved name (number_or_none names name);
   least = λ other raised name. lowest other (least.lowest (map other names) (raised_by_none-have e names s of other raised)) name (number_or_none names name);
@@ -180,7 +180,7 @@ IsLeast-by_name e names s of levels least = record {
     lowest other below name (inr none) = omega arith
 
 -- the level of number 0 is the policy's
-pub IsPolicyLevel-by_name : (e : Equations) (names : List (List ℕ)) (s : System) → IsSystemOf e names s → (levels : List ℕ) → IsLeast s levels → IsPolicyLevel e (slice_index levels 0)
+pub IsPolicyLevel-by_name : (e : Equations) (names : List (List ℕ)) (s : SystemEquations) → IsSystemOf e names s → (levels : List ℕ) → IsLeast s levels → IsPolicyLevel e (slice_index levels 0)
 IsPolicyLevel-by_name e names s of levels least = record {
   levels = level_at levels names;
   least = IsLeast-by_name e names s of levels least;

@@ -3,11 +3,11 @@ use Rattle.std.proofs.Common.{◌≡◌, ℕ, suc, ◌+◌, ◌<◌, List, [], �
 use Rattle.std.proofs.lemmas.List.{map-append, take_more}
 use Rattle.kn_env.specs.Environment.{Asked}
 use Rattle.kn_meaning.specs.Equations.{Part, statement_of}
-use Rattle.kn_system.specs.declared.rows.Row.{Row}
+use Rattle.kn_system.specs.Rows.{SystemRow}
 use Rattle.kn_system.specs.Equations.{node_total}
 use Rattle.kn_answer.specs.Sizes.{size_of, total_size}
 
-pub node_total-longer : (rows : List Row) (row : Row) → node_total (rows ++ row ∷ []) ≡ node_total rows + length row.formula
+pub node_total-longer : (rows : List SystemRow) (row : SystemRow) → node_total (rows ++ row ∷ []) ≡ node_total rows + length row.formula
 node_total-longer [] row = omega arith
 node_total-longer (r ∷ rows) row = let rest : node_total (rows ++ row ∷ []) ≡ node_total rows + length row.formula = node_total-longer rows row in omega arith
 

@@ -10,7 +10,7 @@ use Rattle.std.proofs.lemmas.Option.{slice_get_within}
 use Rattle.kn_proof.specs.declared.named.NamedRow.{NamedRow}
 use Rattle.kn_meaning.specs.Equations.{Equations, is_requester}
 use Rattle.kn_meaning.specs.Proofs.{row_level, levels_by}
-use Rattle.kn_system.specs.Equations.{Equations as System}
+use Rattle.kn_system.specs.Equations.{SystemEquations}
 use Rattle.kn_system.specs.Least.{at_first}
 use Rattle.kn_answer.specs.Numbering.{IsNumber, AreDistinct, HaveLevels, IsSystemOf}
 use Rattle.kn_answer.proofs.Bridge.{bytes_eq-same, bytes_eq-true, map-have}
@@ -61,7 +61,7 @@ pub record HaveFollowed (e : Equations) (names : List (List ℕ)) (before : List
   pub above : All (λ r. 1 ≤ r.value) before
 
 -- before any row
-pub HaveFollowed-none : (e : Equations) (names : List (List ℕ)) (s : System) → IsSystemOf e names s → HaveFollowed e names [] (at_first s)
+pub HaveFollowed-none : (e : Equations) (names : List (List ℕ)) (s : SystemEquations) → IsSystemOf e names s → HaveFollowed e names [] (at_first s)
 HaveFollowed-none e names s of =
     let top : s.levels - 1 ≡ e.top = let t : s.levels ≡ e.top + 1 = of.top in omega arith in
     let first : at_first s ≡ map (levels_by e []) names =

@@ -8,10 +8,10 @@ use Rattle.std.proofs.lemmas.List.Folds.{list_any_at, list_any-append}
 use Rattle.std.proofs.lemmas.Option.{slice_get_within}
 use Rattle.kn_meaning.specs.Formulas.{Levels}
 use Rattle.kn_meaning.specs.Equations.{Equations, Statement, is_requester}
-use Rattle.kn_system.specs.declared.rows.Row.{Row}
+use Rattle.kn_system.specs.Rows.{SystemRow}
 use Rattle.kn_system.specs.declared.rows.Piece.{Piece}
 use Rattle.kn_system.specs.declared.rows.Piece.TheVariants as P
-use Rattle.kn_system.specs.Equations.{Equations as System}
+use Rattle.kn_system.specs.Equations.{SystemEquations}
 use Rattle.kn_answer.proofs.Bridge.{bytes_eq-same, bytes_eq-true}
 use Rattle.kn_answer.specs.declared.numbered.Numbered.{Numbered}
 use Rattle.kn_answer.specs.Numbering.{IsNumber, IsAbsent, AreDistinct, HaveLevels, NamedPiece, Leaf, Gate, IsPieceOf, ArePiecesOf, licensees_pieces, IsRowOf, AreRowsOf, AreNumbered, AreNamesOf, IsSystemOf}
@@ -63,7 +63,7 @@ ArePiecesOf-kept old new keeps (n ∷ named) [] are = absurd are
 ArePiecesOf-kept old new keeps (n ∷ named) (p ∷ pieces) are = (IsPieceOf-kept old new keeps n p are.0, ArePiecesOf-kept old new keeps named pieces are.1)
 
 -- rows stay those of their statements
-pub IsRowOf-kept : (top : ℕ) (old new : List (List ℕ)) → Keeps old new → (statement : Statement) (row : Row) → IsRowOf top old statement row → IsRowOf top new statement row
+pub IsRowOf-kept : (top : ℕ) (old new : List (List ℕ)) → Keeps old new → (statement : Statement) (row : SystemRow) → IsRowOf top old statement row → IsRowOf top new statement row
 IsRowOf-kept top old new keeps statement row is = record {
   authorizer = keeps row.authorizer statement.authorizer is.authorizer;
   ceiling = is.ceiling;
@@ -71,13 +71,13 @@ IsRowOf-kept top old new keeps statement row is = record {
   licensees = λ at levels have. is.licensees at levels (HaveLevels-kept old new keeps at levels have);
 }
 
-pub AreRowsOf-kept : (top : ℕ) (old new : List (List ℕ)) → Keeps old new → (statements : List Statement) (rows : List Row) → AreRowsOf top old statements rows → AreRowsOf top new statements rows
+pub AreRowsOf-kept : (top : ℕ) (old new : List (List ℕ)) → Keeps old new → (statements : List Statement) (rows : List SystemRow) → AreRowsOf top old statements rows → AreRowsOf top new statements rows
 AreRowsOf-kept top old new keeps [] [] are = tt
 AreRowsOf-kept top old new keeps [] (row ∷ rows) are = absurd are
 AreRowsOf-kept top old new keeps (s ∷ statements) [] are = absurd are
 AreRowsOf-kept top old new keeps (s ∷ statements) (row ∷ rows) are = (IsRowOf-kept top old new keeps s row are.0, AreRowsOf-kept top old new keeps statements rows are.1)
 
-pub AreRowsOf-longer : (top : ℕ) (names : List (List ℕ)) (statements : List Statement) (rows : List Row) → AreRowsOf top names statements rows → (statement : Statement) (row : Row) → IsRowOf top names statement row → AreRowsOf top names (statements ++ statement ∷ []) (rows ++ row ∷ [])
+pub AreRowsOf-longer : (top : ℕ) (names : List (List ℕ)) (statements : List Statement) (rows : List SystemRow) → AreRowsOf top names statements rows → (statement : Statement) (row : SystemRow) → IsRowOf top names statement row → AreRowsOf top names (statements ++ statement ∷ []) (rows ++ row ∷ [])
 AreRowsOf-longer top names [] [] are statement row is = (is, tt)
 AreRowsOf-longer top names [] (r ∷ rows) are statement row is = absurd are
 AreRowsOf-longer top names (s ∷ statements) [] are statement row is = absurd are
@@ -98,7 +98,7 @@ pub AreNumbered-length : (requesters names : List (List ℕ)) (flags : List Bool
 AreNumbered-length requesters names flags are = let same : length flags ≡ length names = ap length are.flagged ∙ simp length-map in sym same
 
 -- a principal that is no requester gets the next number
-pub IsSystemOf-longer : (e : Equations) (names : List (List ℕ)) (s : System) → IsSystemOf e names s → (name : List ℕ) → IsAbsent names name → IsSystemOf e (names ++ name ∷ []) (record s { requesters = s.requesters ++ false ∷ [] })
+pub IsSystemOf-longer : (e : Equations) (names : List (List ℕ)) (s : SystemEquations) → IsSystemOf e names s → (name : List ℕ) → IsAbsent names name → IsSystemOf e (names ++ name ∷ []) (record s { requesters = s.requesters ++ false ∷ [] })
 IsSystemOf-longer e names s of name absent = record {
   numbered = AreNumbered-longer e.requesters names s.requesters name false of.numbered absent (false_from_ne_true (is_requester e name) (λ r. let number : (p : ℕ) × IsNumber names name p = of.all name r in absent number.0 number.1));
   all = λ other r. let number : (p : ℕ) × IsNumber names other p = of.all other r in (number.0, Keeps-longer names (name ∷ []) number.0 other number.1);
@@ -107,7 +107,7 @@ IsSystemOf-longer e names s of name absent = record {
 }
 
 -- one more row
-pub IsSystemOf-row : (e : Equations) (names : List (List ℕ)) (s : System) → IsSystemOf e names s → (statement : Statement) (row : Row) → IsRowOf e.top names statement row → IsSystemOf (with_statement e statement) names (record s { rows = s.rows ++ row ∷ [] })
+pub IsSystemOf-row : (e : Equations) (names : List (List ℕ)) (s : SystemEquations) → IsSystemOf e names s → (statement : Statement) (row : SystemRow) → IsRowOf e.top names statement row → IsSystemOf (with_statement e statement) names (record s { rows = s.rows ++ row ∷ [] })
 IsSystemOf-row e names s of statement row is = record {
   numbered = of.numbered;
   all = of.all;

@@ -8,10 +8,10 @@ use Rattle.kn_proof.specs.declared.row.Row.{Row}
 use Rattle.kn_meaning.specs.Equations.{Equations, is_requester}
 use Rattle.kn_meaning.specs.Proofs.{row_level, levels_by, AreRows}
 use Rattle.kn_meaning.specs.Proofs as proof
-use Rattle.kn_system.specs.Equations.{Equations as System}
+use Rattle.kn_system.specs.Equations.{SystemEquations}
 use Rattle.kn_system.specs.Proofs.{AreSteps}
 use Rattle.kn_answer.specs.Built.{Interned}
-use Rattle.kn_answer.specs.Located.{IsLocated, AreLocated, AreInRange}
+use Rattle.kn_answer.specs.Located.{IsLocated, AreLocated, AreOfSystem}
 
 AreLocated-push : (built : Interned) (rows : List NamedRow) (located : List Row) → AreLocated built rows located → (named : NamedRow) (row : Row) → IsLocated built named row → AreLocated built (rows ++ named ∷ []) (located ++ row ∷ [])
 AreLocated-push built [] [] are named row is = (is, tt)
@@ -32,10 +32,10 @@ named-more built rows located i named d within are is =
     subst (λ xs. AreLocated built (rows ++ named ∷ []) xs) (sym (take_more located i d within)) (AreLocated-push built rows (take i located) are named (get_or located i d) is)
 
 -- the numbers of steps are in range
-pub AreInRange-steps : (s : System) (levels : List ℕ) (rows : List Row) → AreSteps s levels rows → AreInRange s rows
-AreInRange-steps s levels [] steps i d l = absurd (omega arith)
-AreInRange-steps s levels (row ∷ rows) steps zero d l = record { principal = steps.0.principal; by = steps.0.named }
-AreInRange-steps s levels (row ∷ rows) steps (suc i) d l = AreInRange-steps s (slice_set levels row.principal row.value) rows steps.1 i d (omega arith)
+pub AreOfSystem-steps : (s : SystemEquations) (levels : List ℕ) (rows : List Row) → AreSteps s levels rows → AreOfSystem s rows
+AreOfSystem-steps s levels [] steps i d l = absurd (omega arith)
+AreOfSystem-steps s levels (row ∷ rows) steps zero d l = record { principal = steps.0.principal; by = steps.0.named }
+AreOfSystem-steps s levels (row ∷ rows) steps (suc i) d l = AreOfSystem-steps s (slice_set levels row.principal row.value) rows steps.1 i d (omega arith)
 
 -- no row gives a level above the top
 row_level-most : (e : Equations) (before rows : List NamedRow) → AreRows e before rows → (name : List ℕ) → row_level rows name ≤ e.top

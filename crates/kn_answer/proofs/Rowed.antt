@@ -7,8 +7,8 @@ use Rattle.kn_meaning.specs.Formulas.{Levels}
 use Rattle.kn_meaning.specs.Equations.{Equations, Statement, is_requester}
 use Rattle.kn_meaning.specs.Equations as named
 use Rattle.kn_meaning.specs.Proofs as proof
-use Rattle.kn_system.specs.declared.rows.Row.{Row}
-use Rattle.kn_system.specs.Equations.{Equations as System, IsRow, IsSystem, row_at, node_total}
+use Rattle.kn_system.specs.Rows.{SystemRow}
+use Rattle.kn_system.specs.Equations.{SystemEquations, IsSystemRow, IsSystem, row_at, node_total}
 use Rattle.kn_system.specs.Forms.{AreForms}
 use Rattle.kn_system.specs.Least.{worth}
 use Rattle.kn_system.specs.Proofs.{IsClosed}
@@ -16,14 +16,14 @@ use Rattle.kn_answer.specs.Numbering.{IsNumber, HaveLevels, IsRowOf, AreRowsOf}
 use Rattle.kn_answer.specs.Built.{Interned, IsBuilt}
 use Rattle.kn_answer.proofs.Bridge.{worth-same}
 
-pub length-rows : (top : ℕ) (names : List (List ℕ)) (statements : List Statement) (rows : List Row) → AreRowsOf top names statements rows → length statements ≡ length rows
+pub length-rows : (top : ℕ) (names : List (List ℕ)) (statements : List Statement) (rows : List SystemRow) → AreRowsOf top names statements rows → length statements ≡ length rows
 length-rows top names [] [] are = refl
 length-rows top names [] (row ∷ rows) are = absurd are
 length-rows top names (s ∷ statements) [] are = absurd are
 length-rows top names (s ∷ statements) (row ∷ rows) are = ap suc (length-rows top names statements rows are.1)
 
 -- the row of a number is that of the statement at this place
-row-of : (top : ℕ) (names : List (List ℕ)) (statements : List Statement) (rows : List Row) → AreRowsOf top names statements rows → (i : ℕ) (d : Statement) → i < length statements → IsRowOf top names (get_or statements i d) (row_at rows i)
+row-of : (top : ℕ) (names : List (List ℕ)) (statements : List Statement) (rows : List SystemRow) → AreRowsOf top names statements rows → (i : ℕ) (d : Statement) → i < length statements → IsRowOf top names (get_or statements i d) (row_at rows i)
 row-of top names [] [] are i d l = absurd (omega arith)
 row-of top names [] (row ∷ rows) are i d l = absurd are
 row-of top names (s ∷ statements) [] are i d l = absurd are
@@ -76,7 +76,7 @@ pub flag-at : (requesters names : List (List ℕ)) (flags : List Bool) (asks : L
 flag-at requesters names flags asks flagged name p number =
     ap (λ fs. slice_index_or fs p true) flagged ∙ get_or_from_slice_get (map asks names) p (asks name) true (slice_get-map asks names p ∙ ap (option_map asks) number)
 
-some_node : (principals : ℕ) (row : Row) → AreForms principals 1 row.formula → 1 ≤ length row.formula
+some_node : (principals : ℕ) (row : SystemRow) → AreForms principals 1 row.formula → 1 ≤ length row.formula
 some_node principals row one = by row.formula one
   where
     by : (pieces : _) → AreForms principals 1 pieces → 1 ≤ length pieces
@@ -84,16 +84,16 @@ some_node principals row one = by row.formula one
     by (piece ∷ pieces) forms = omega arith
 
 -- each row has a node at least
-length-node_total : (levels principals : ℕ) (rows : List Row) → All (IsRow levels principals) rows → length rows ≤ node_total rows
+length-node_total : (levels principals : ℕ) (rows : List SystemRow) → All (IsSystemRow levels principals) rows → length rows ≤ node_total rows
 length-node_total levels principals [] fit = omega arith
 length-node_total levels principals (row ∷ rows) fit =
-    let first : IsRow levels principals row = fit 0 row (omega arith) in
+    let first : IsSystemRow levels principals row = fit 0 row (omega arith) in
     let node : 1 ≤ length row.formula = some_node principals row first.formula.one in
     let rest : length rows ≤ node_total rows = length-node_total levels principals rows (λ i d l. fit (suc i) d (omega arith)) in
     omega arith
 
 -- fewer rows than 2^24
-pub rows-few : (s : System) → IsSystem s → length s.rows < 2 ^ 24
+pub rows-few : (s : SystemEquations) → IsSystem s → length s.rows < 2 ^ 24
 rows-few s fits = let few : length s.rows ≤ node_total s.rows = length-node_total s.levels (length s.requesters) s.rows fits.rows_fit in let nodes : node_total s.rows < 2 ^ 24 = fits.nodes_fit in omega arith
 
 -- no row is worth more than its authorizer has, by name where by number

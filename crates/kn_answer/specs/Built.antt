@@ -3,13 +3,13 @@ use Rattle.std.specs.Prelude.{ℕ, ◌≡◌, List, map}
 use Rattle.kn_proof.specs.declared.named.Id.{Id}
 use Rattle.kn_meaning.specs.Equations.{Equations}
 use Rattle.kn_meaning.specs.Occurring.{occurring}
-use Rattle.kn_system.specs.Equations.{Equations as System, IsSystem}
+use Rattle.kn_system.specs.Equations.{SystemEquations, IsSystem}
 use Rattle.kn_answer.specs.Numbering.{AreNamesOf, IsSystemOf}
 
 -- the names of the principals and the ids of the rows, each at its number
 pub record Interned : Type 0 where
   pub names : List (List ℕ)
-  pub system : System
+  pub system : SystemEquations
   pub ids : List Id
 
 -- The system is that of the query: its principals are those that occur in the query, and no others, and each row has the

@@ -2,7 +2,7 @@
 use Rattle.std.specs.Prelude.{ℕ, ◌≡◌, ◌-◌, ◌^◌, ◌<◌, ◌⊎◌, List, [], ◌∷◌, All, length}
 use Rattle.kn_proof.specs.declared.named.NamedRow.{NamedRow}
 use Rattle.kn_proof.specs.declared.row.Row.{Row}
-use Rattle.kn_system.specs.Equations.{Equations as System}
+use Rattle.kn_system.specs.Equations.{SystemEquations}
 use Rattle.kn_answer.specs.Numbering.{IsNumber, IsAbsent}
 use Rattle.kn_answer.specs.Built.{Interned}
 
@@ -24,9 +24,9 @@ AreLocated built (named ∷ others) [] = ⊥
 AreLocated built (named ∷ others) (row ∷ rows) = IsLocated built named row × AreLocated built others rows
 
 -- the row's numbers are those of a principal and a row of the system
-pub record IsInRange (s : System) (row : Row) : Type 0 where
+pub record IsOfSystem (s : SystemEquations) (row : Row) : Type 0 where
   pub principal : row.principal < length s.requesters
   pub by : row.by < length s.rows
 
-abbrev pub AreInRange : System → List Row → Type 0
-AreInRange s rows = All (IsInRange s) rows
+abbrev pub AreOfSystem : SystemEquations → List Row → Type 0
+AreOfSystem s rows = All (IsOfSystem s) rows

@@ -11,8 +11,8 @@ use Rattle.kn_meaning.specs.Formulas.{Levels}
 use Rattle.kn_meaning.specs.Equations.{Equations, Statement, licensees_level}
 use Rattle.kn_system.specs.declared.rows.Piece.{Piece}
 use Rattle.kn_system.specs.declared.rows.Piece.TheVariants as P
-use Rattle.kn_system.specs.declared.rows.Row.{Row}
-use Rattle.kn_system.specs.Equations.{Equations as System}
+use Rattle.kn_system.specs.Rows.{SystemRow}
+use Rattle.kn_system.specs.Equations.{SystemEquations}
 use Rattle.kn_system.specs.Form.{form_level}
 
 -- the item has this number: it stands at this place, counted from 0
@@ -72,14 +72,14 @@ ArePiecesOf names (n ∷ named) [] = ⊥
 ArePiecesOf names (n ∷ named) (piece ∷ pieces) = IsPieceOf names n piece × ArePiecesOf names named pieces
 
 -- the row states what the statement does: by the same pieces, which have the level of its Licensees field
-pub record IsRowOf (top : ℕ) (names : List (List ℕ)) (statement : Statement) (row : Row) : Type 0 where
+pub record IsRowOf (top : ℕ) (names : List (List ℕ)) (statement : Statement) (row : SystemRow) : Type 0 where
   pub authorizer : IsNumber names statement.authorizer row.authorizer
   pub ceiling : row.ceiling ≡ statement.ceiling
   pub pieces : ArePiecesOf names (licensees_pieces statement.licensees) row.formula
   pub licensees : SpellLicensees top names statement.licensees row.formula
 
 -- one row for each statement, in their order
-abbrev pub AreRowsOf : ℕ → List (List ℕ) → List Statement → List Row → Type 0
+abbrev pub AreRowsOf : ℕ → List (List ℕ) → List Statement → List SystemRow → Type 0
 AreRowsOf top names [] [] = Unit {0}
 AreRowsOf top names [] (row ∷ rows) = ⊥
 AreRowsOf top names (s ∷ statements) [] = ⊥
@@ -106,7 +106,7 @@ pub record AreNamesOf (principals names : List (List ℕ)) : Type 0 where
 
 -- The system states what the query does: the requesters have numbers and flags, and there is a row for each statement. Which
 -- other principals have numbers is said by `IsBuilt`.
-pub record IsSystemOf (e : Equations) (names : List (List ℕ)) (s : System) : Type 0 where
+pub record IsSystemOf (e : Equations) (names : List (List ℕ)) (s : SystemEquations) : Type 0 where
   pub numbered : AreNumbered e.requesters names s.requesters
   pub all : HaveNumbers e.requesters names
   pub top : s.levels ≡ e.top + 1

@@ -1,12 +1,9 @@
 //! The answer to a query.
-ghost use Rattle.std.specs.Prelude.{◌≡◌, ◌+◌, ◌^◌, ◌<◌, ◌≤◌, false, All, length, IfOk};
-ghost use Rattle.std.specs.List.{list_any};
-ghost use Rattle.std.specs.Str.{bytes_eq};
-ghost use Rattle.kn_principal.specs.Principals.{policy};
+ghost use Rattle.std.specs.Prelude.{◌≡◌, ◌+◌, ◌^◌, ◌<◌, ◌≤◌, All, length, IfOk};
 ghost use Rattle.kn_meaning.specs.Equations.{IsPolicyLevel, equations_over};
 ghost use Rattle.kn_meaning.specs.Proofs.{IsProof};
-ghost use Rattle.kn_answer.specs.Located.{AreInRange, AreLocated};
-ghost use Rattle.kn_answer.specs.Sizes.{IsReadablePart, total_size};
+ghost use Rattle.kn_answer.specs.Located.{AreOfSystem, AreLocated};
+ghost use Rattle.kn_answer.specs.Sizes.{HaveTexts};
 
 use crate::built::{Built, build};
 use crate::types::{Answer, Part, Tally};
@@ -17,14 +14,12 @@ use kn_settle::settle;
 use kn_system::laws;
 use std::alloc::Global;
 
-/// The compliance value of a query (RFC 2704, section 5), with a proof of it by names (keynoted's own).
+/// The compliance value of a query (RFC 2704, section 5), with a proof of it by names (keynoted's own). Its assertions are
+/// those of texts that have at most 16,777,000 bytes together.
 ///
 /// `NoMemory` comes only for want of memory.
 pub fn answer(alloc: Global, list: &List<Part<'_>>, query: &Query<'_>) -> Result<Answer, NoMemory>
-    requires readable { All IsReadablePart list.now }
-    requires small { 65 + total_size list.now < 2 ^ 24 }
-    requires others { list_any (bytes_eq policy) query.now.requesters ≡ false }
-    requires few { length query.now.requesters ≤ 64 }
+    requires { HaveTexts list.now }
     ensures proof { IfOk result (λ a. IsProof (equations_over query.now list.now) a.rows a.value) }
     ensures least { IfOk result (λ a. IsPolicyLevel (equations_over query.now list.now) a.value) }
     ensures below { IfOk result (λ a. a.value < length query.now.values) }
@@ -41,7 +36,7 @@ pub fn answer(alloc: Global, list: &List<Part<'_>>, query: &Query<'_>) -> Result
 
 // The rows of a proof by names, in their order.
 fn named_rows(alloc: Global, built: &Built, proof: &Proof) -> Result<List<NamedRow>, NoMemory>
-    requires { AreInRange built.now.system proof.now.rows }
+    requires { AreOfSystem built.now.system proof.now.rows }
     ensures { IfOk result (λ rows. AreLocated built.now rows proof.now.rows) }
 {
     let mut rows = List::new(alloc);

@@ -1,13 +1,10 @@
 //! The system of a query, with the names of its principals and the ids of its rows.
-ghost use Rattle.std.specs.Prelude.{◌≡◌, ◌+◌, ◌^◌, ◌<◌, ◌≤◌, false, All, Some, length, map, slice_get, IfOk};
-ghost use Rattle.std.specs.List.{list_any};
-ghost use Rattle.std.specs.Str.{bytes_eq};
-ghost use Rattle.kn_principal.specs.Principals.{policy};
+ghost use Rattle.std.specs.Prelude.{◌≡◌, ◌+◌, ◌^◌, ◌<◌, ◌≤◌, All, Some, length, map, slice_get, IfOk};
 ghost use Rattle.kn_meaning.specs.Equations.{equations_over};
 ghost use Rattle.kn_answer.specs.Numbering.{IsNumber};
 ghost use Rattle.kn_answer.specs.Built.{IsBuilt};
-ghost use Rattle.kn_answer.specs.Located.{IsFound, IsInRange, IsLocated, AreLocated};
-ghost use Rattle.kn_answer.specs.Sizes.{IsReadablePart, total_size};
+ghost use Rattle.kn_answer.specs.Located.{IsFound, IsOfSystem, IsLocated, AreLocated};
+ghost use Rattle.kn_answer.specs.Sizes.{HaveTexts};
 
 use crate::names::Names;
 use crate::numbered::{Numbered, numbered_query};
@@ -40,17 +37,16 @@ impl Model for Built {
         (length b.names ≡ length b.system.requesters) × (length b.ids ≡ length b.system.rows) };
 }
 
-/// The system of a query.
+/// The system of a query. Its assertions are those of texts that have at most 16,777,000 bytes together.
 ///
 /// `NoMemory` comes only for want of memory.
 pub fn build(alloc: Global, list: &List<Part<'_>>, query: &Query<'_>) -> Result<Built, NoMemory>
-    requires readable { All IsReadablePart list.now }
-    requires small { 65 + total_size list.now < 2 ^ 24 }
-    requires others { list_any (bytes_eq policy) query.now.requesters ≡ false }
-    requires few { length query.now.requesters ≤ 64 }
+    requires { HaveTexts list.now }
     ensures built { IfOk result (λ built. IsBuilt (equations_over query.now list.now) built) }
     ensures ids { IfOk result (λ built. built.ids ≡ map (λ part. part.id) list.now) }
 {
+    kn_assert::laws::readings_are_computed();
+    kn_assert::laws::readings_are_sound();
     let ids = ids_of(alloc, list)?;
     let Numbered { names, system } = numbered_query(alloc, list, query)?;
     let _levels = system.levels();
@@ -131,7 +127,7 @@ impl Built {
 
     // A row by its names.
     pub(crate) fn named(&self, alloc: Global, row: &Row) -> Result<NamedRow, NoMemory>
-        requires in_range { IsInRange self.now.system row.now }
+        requires in_range { IsOfSystem self.now.system row.now }
         ensures { IfOk result (λ named. IsLocated self.now named row.now) }
     {
         Ok(NamedRow {

@@ -13,4 +13,4 @@ mod types;
 
 pub use answers::answer;
 pub use built::{Built, build, locate};
-pub use types::{Answer, Part, Tally};
+pub use types::{Answer, Part, QUERY_BYTES, Tally};

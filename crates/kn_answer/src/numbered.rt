@@ -38,8 +38,6 @@ pub(super) fn numbered_query(
 ) -> Result<Numbered, NoMemory>
     requires readable { All IsReadablePart list.now }
     requires small { 65 + total_size list.now < 2 ^ 24 }
-    requires others { list_any (bytes_eq policy) query.now.requesters ≡ false }
-    requires few { length query.now.requesters ≤ 64 }
     ensures system { IfOk result (λ numbered. IsSystemOf (equations_over query.now list.now) numbered.names numbered.system) }
     ensures principals { IfOk result (λ numbered. AreNamesOf (occurring (equations_over query.now list.now)) numbered.names) }
     ensures levels { IfOk result (λ numbered. numbered.system.levels ≡ length query.now.values) }

@@ -7,6 +7,7 @@ use std::alloc::Global;
 use std::test::Fail;
 
 // The policy's level and the number of rows where nobody requests and nothing is stated.
+#[tactic(auto, using(crate::proofs::Texts::no_texts))]
 fn of_nothing(alloc: Global) -> Result<(u8, u32), NoMemory> {
     let attributes = Attributes::new(alloc);
     let Ok(values) = Values::of(alloc, b"no,yes") else {
@@ -20,6 +21,7 @@ fn of_nothing(alloc: Global) -> Result<(u8, u32), NoMemory> {
 }
 
 // The number of principals of the system where nobody requests and nothing is stated, and whether no rows prove the lowest level.
+#[tactic(auto, using(crate::proofs::Texts::no_texts))]
 fn system_of_nothing(alloc: Global) -> Result<(u32, bool), NoMemory> {
     let attributes = Attributes::new(alloc);
     let Ok(values) = Values::of(alloc, b"no,yes") else {

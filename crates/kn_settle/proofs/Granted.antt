@@ -1,13 +1,13 @@
 -- What a row that was read says of settling.
 use Rattle.std.proofs.Common.{◌≡◌, ◌<◌, ◌≤◌, ◌-◌, ◌++◌, [], ◌∷◌, ℕ, List, length, min, slice_index, slice_set, sym, ap, ◌∙◌, subst, arith}
 use Rattle.kn_proof.specs.declared.row.Row.{Row as ProofRow}
-use Rattle.kn_system.specs.Equations.{Equations, row_at}
+use Rattle.kn_system.specs.Equations.{SystemEquations, row_at}
 use Rattle.kn_system.specs.Form.{form_level}
 use Rattle.kn_system.specs.Lawful.{IsGranted}
 use Rattle.kn_system.specs.Settled.{IsSettled, IsGrant, unsettled}
 
 -- a row that was read gives its authorizer the level
-pub grant_read : (s : Equations) (v p by ceiling form found : ℕ) (levels : List ℕ) → by < length s.rows → p ≡ (row_at s.rows by).authorizer → slice_index levels p ≤ 0
+pub grant_read : (s : SystemEquations) (v p by ceiling form found : ℕ) (levels : List ℕ) → by < length s.rows → p ≡ (row_at s.rows by).authorizer → slice_index levels p ≤ 0
     → ceiling ≡ (row_at s.rows by).ceiling → form ≡ form_level (s.levels - 1) levels (row_at s.rows by).formula → found ≡ min ceiling form → v ≤ found → IsGrant s v levels by
 grant_read s v p by ceiling form found levels l own none c f m enough = record {
   named = l;
@@ -16,12 +16,12 @@ grant_read s v p by ceiling form found levels l own none c f m enough = record {
 }
 
 -- the levels and the rows after it are settled
-pub settled_read : (s : Equations) (v p by : ℕ) (levels : List ℕ) (rows after : List ProofRow) → p ≡ (row_at s.rows by).authorizer
+pub settled_read : (s : SystemEquations) (v p by : ℕ) (levels : List ℕ) (rows after : List ProofRow) → p ≡ (row_at s.rows by).authorizer
     → after ≡ rows ++ (record { principal = p; value = v; by = by }) ∷ [] → IsGranted s v levels rows by → IsSettled s v (slice_set levels p v) after
 settled_read s v p by levels rows after own pushed h =
     let same : after ≡ rows ++ (record { principal = (row_at s.rows by).authorizer; value = v; by = by }) ∷ [] = pushed ∙ ap (λ (q : ℕ). rows ++ (record { principal = q; value = v; by = by }) ∷ []) own in
     subst (λ (q : ℕ). IsSettled s v (slice_set levels q v) after) (sym own) (subst (λ (rs : List ProofRow). IsSettled s v (slice_set levels (row_at s.rows by).authorizer v) rs) (sym same) h.settled)
 
 -- and fewer are left
-pub fewer_read : (s : Equations) (v p by : ℕ) (levels : List ℕ) (rows : List ProofRow) → p ≡ (row_at s.rows by).authorizer → IsGranted s v levels rows by → unsettled (slice_set levels p v) < unsettled levels
+pub fewer_read : (s : SystemEquations) (v p by : ℕ) (levels : List ℕ) (rows : List ProofRow) → p ≡ (row_at s.rows by).authorizer → IsGranted s v levels rows by → unsettled (slice_set levels p v) < unsettled levels
 fewer_read s v p by levels rows own h = subst (λ (q : ℕ). unsettled (slice_set levels q v) < unsettled levels) (sym own) h.fewer

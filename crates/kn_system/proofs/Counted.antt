@@ -4,7 +4,7 @@ use Rattle.std.proofs.lemmas.Bool.{cases_eq}
 use Rattle.std.proofs.lemmas.Bool.Decides.{nat_tests}
 use Rattle.std.proofs.lemmas.List.{get_or_default, get_or-set_same, get_or-set_other, length-set}
 use Rattle.kn_proof.specs.declared.row.Row.{Row as ProofRow}
-use Rattle.kn_system.specs.Equations.{Equations}
+use Rattle.kn_system.specs.Equations.{SystemEquations}
 use Rattle.kn_system.specs.Least.{at_first, least_levels}
 use Rattle.kn_system.specs.Lawful.{IsByPrincipal}
 use Rattle.kn_system.specs.Proofs.{levels_after, AreSteps, IsProof, rows_of, HasOneRowEach}
@@ -12,7 +12,7 @@ use Rattle.kn_system.proofs.Turned.{by_principal}
 use Rattle.kn_system.proofs.Proven.{proof-determines, size-at_first}
 
 -- a requester has no row
-none-of_requester : (s : Equations) (levels : List ℕ) (rows : List ProofRow) (p : ℕ) → AreSteps s levels rows → slice_index_or s.requesters p true ≡ true → rows_of p rows ≡ 0
+none-of_requester : (s : SystemEquations) (levels : List ℕ) (rows : List ProofRow) (p : ℕ) → AreSteps s levels rows → slice_index_or s.requesters p true ≡ true → rows_of p rows ≡ 0
 none-of_requester s levels [] p h e = refl
 none-of_requester s levels (row ∷ rows) p h e =
     let rest : rows_of p rows ≡ 0 = none-of_requester s (slice_set levels row.principal row.value) rows p h.1 e in
@@ -24,7 +24,7 @@ none-of_requester s levels (row ∷ rows) p h e =
     ]
 
 -- another principal has one row where it has a level, and had none before
-one-of_other : (s : Equations) (levels : List ℕ) (rows : List ProofRow) (p : ℕ) → length levels ≡ length s.requesters → AreSteps s levels rows
+one-of_other : (s : SystemEquations) (levels : List ℕ) (rows : List ProofRow) (p : ℕ) → length levels ≡ length s.requesters → AreSteps s levels rows
     → min 1 (slice_index levels p) + rows_of p rows ≡ min 1 (slice_index (levels_after levels rows) p)
 one-of_other s levels [] p size h = omega arith
 one-of_other s levels (row ∷ rows) p size h =
@@ -42,13 +42,13 @@ one-of_other s levels (row ∷ rows) p size h =
           grind (arith, nat_tests)
     ]
 
-one-by : (s : Equations) (p found : ℕ) (rows : List ProofRow) (b : Bool) → (b ≡ true → rows_of p rows ≡ 0) → slice_index (at_first s) p ≡ cond b (s.levels - 1) 0
+one-by : (s : SystemEquations) (p found : ℕ) (rows : List ProofRow) (b : Bool) → (b ≡ true → rows_of p rows ≡ 0) → slice_index (at_first s) p ≡ cond b (s.levels - 1) 0
     → min 1 (slice_index (at_first s) p) + rows_of p rows ≡ min 1 found → rows_of p rows ≡ cond b 0 (min 1 found)
 one-by s p found rows true none first all = none refl
 one-by s p found rows false none first all = omega arith
 
 -- one row for each principal above the lowest level that is no requester, and none for the others
-pub one-row-each : (s : Equations) (rows : List ProofRow) (claimed : ℕ) → IsProof s rows claimed → HasOneRowEach s (least_levels s) rows
+pub one-row-each : (s : SystemEquations) (rows : List ProofRow) (claimed : ℕ) → IsProof s rows claimed → HasOneRowEach s (least_levels s) rows
 one-row-each s rows claimed h = λ p within.
     let start : List ℕ = at_first s in
     let is : IsByPrincipal s p (slice_index_or s.requesters p false) = by_principal s p false within in

@@ -2,7 +2,7 @@
 use Rattle.std.proofs.Common.{◌≡◌, ℕ, suc, zero, ◌-◌, ◌<◌, ◌≤◌, ◌⊎◌, List, slice_index, length, inl, inr, sym, subst, arith}
 use Rattle.std.proofs.lemmas.Bool.{cases_lt, cases_eq}
 use Rattle.kn_proof.specs.declared.row.Row.{Row as ProofRow}
-use Rattle.kn_system.specs.Equations.{Equations, IsSystem, row_at}
+use Rattle.kn_system.specs.Equations.{SystemEquations, IsSystem, row_at}
 use Rattle.kn_system.specs.Least.{worth, at_first, least_levels}
 use Rattle.kn_system.specs.Lawful.{IsGranted}
 use Rattle.kn_system.specs.Proofs.{IsProof}
@@ -11,13 +11,13 @@ use Rattle.kn_system.proofs.Proven.{proof-determines}
 use Rattle.kn_system.proofs.Granted.{starts, grants, goes_down, ends}
 
 -- levels and rows at which all above v is settled
-record Reached (s : Equations) (v : ℕ) : Type 0 where
+record Reached (s : SystemEquations) (v : ℕ) : Type 0 where
   levels : List ℕ
   rows : List ProofRow
   settled : IsSettled s v levels rows
 
 -- either a row gives the level, or none does
-found-before : (s : Equations) (v : ℕ) (levels : List ℕ) (n : ℕ) → n ≤ length s.rows → ((i : ℕ) × IsGrant s v levels i) ⊎ HasNoneBefore s v levels n
+found-before : (s : SystemEquations) (v : ℕ) (levels : List ℕ) (n : ℕ) → n ≤ length s.rows → ((i : ℕ) × IsGrant s v levels i) ⊎ HasNoneBefore s v levels n
 found-before s v levels zero l = inr (λ i below. absurd (omega arith))
 found-before s v levels (suc n) l =
     let level : ℕ = slice_index levels (row_at s.rows n).authorizer in
@@ -48,7 +48,7 @@ found-before s v levels (suc n) l =
     ]
 
 -- one level is settled, by as many grants as principals are left
-settle-at : (s : Equations) (v n : ℕ) (levels : List ℕ) (rows : List ProofRow) → IsSystem s → 0 < v → unsettled levels ≤ n → IsSettled s v levels rows → Reached s (v - 1)
+settle-at : (s : SystemEquations) (v n : ℕ) (levels : List ℕ) (rows : List ProofRow) → IsSystem s → 0 < v → unsettled levels ≤ n → IsSettled s v levels rows → Reached s (v - 1)
 settle-at s v zero levels rows fits some few h =
     elim (found-before s v levels (length s.rows) (omega arith)) [
       | inl one ↦ let more : IsGranted s v levels rows one.0 = grants s v levels rows one.0 fits some h one.1 in absurd (omega (arith, more.fewer))
@@ -62,7 +62,7 @@ settle-at s v (suc n) levels rows fits some few h =
       | inr none ↦ record { levels = levels; rows = rows; settled = goes_down s v levels rows h none }
     ]
 
-settle-down : (s : Equations) (v : ℕ) → IsSystem s → Reached s v → Reached s 0
+settle-down : (s : SystemEquations) (v : ℕ) → IsSystem s → Reached s v → Reached s 0
 settle-down s zero fits r = r
 settle-down s (suc v) fits r =
     let same : suc v - 1 ≡ v = omega arith in
@@ -70,7 +70,7 @@ settle-down s (suc v) fits r =
     settle-down s v fits (subst (Reached s) same next)
 
 -- the policy's least level has a proof
-pub proof-exists : (s : Equations) → IsSystem s → (rows : List ProofRow) × IsProof s rows (slice_index (least_levels s) 0)
+pub proof-exists : (s : SystemEquations) → IsSystem s → (rows : List ProofRow) × IsProof s rows (slice_index (least_levels s) 0)
 proof-exists s fits =
     let r : Reached s 0 = settle-down s (s.levels - 1) fits (record { levels = at_first s; rows = _; settled = starts s fits }) in
     let is : IsProof s r.rows (slice_index r.levels 0) = ends s r.levels r.rows r.settled in

@@ -4,7 +4,7 @@ use Rattle.std.proofs.lemmas.Bool.{cases_lt}
 use Rattle.std.proofs.lemmas.List.{length-set}
 use Rattle.std.proofs.lemmas.List.Elements.{All-set}
 use Rattle.kn_proof.specs.declared.row.Row.{Row as ProofRow}
-use Rattle.kn_system.specs.Equations.{Equations, IsRow, IsSystem, row_at}
+use Rattle.kn_system.specs.Equations.{SystemEquations, IsSystemRow, IsSystem, row_at}
 use Rattle.kn_system.specs.Least.{worth, at_first}
 use Rattle.kn_system.specs.Lawful.{IsByPrincipal, IsGranted, GoesOn}
 use Rattle.kn_system.specs.Order.{Below, Carries}
@@ -15,11 +15,11 @@ use Rattle.kn_system.proofs.Settles.{keeps_levels}
 use Rattle.kn_system.proofs.Proven.{set_at, set-raises, steps-raise, size-at_first}
 
 -- the row's numbers are in range
-row_fits : (s : Equations) (i : ℕ) → IsSystem s → i < length s.rows → IsRow s.levels (length s.requesters) (row_at s.rows i)
+row_fits : (s : SystemEquations) (i : ℕ) → IsSystem s → i < length s.rows → IsSystemRow s.levels (length s.requesters) (row_at s.rows i)
 row_fits s i fits l = fits.rows_fit i (record { authorizer = 0; ceiling = 0; formula = [] }) l
 
 -- no row is worth more than the top
-worth-fits : (s : Equations) (levels : List ℕ) (i : ℕ) → IsSystem s → i < length s.rows → worth (s.levels - 1) levels (row_at s.rows i) < s.levels
+worth-fits : (s : SystemEquations) (levels : List ℕ) (i : ℕ) → IsSystem s → i < length s.rows → worth (s.levels - 1) levels (row_at s.rows i) < s.levels
 worth-fits s levels i fits l = let row = row_fits s i fits l in omega (arith, row.ceiling)
 
 first_level-top : (top : ℕ) (requesters : List Bool) (i : ℕ) → 0 < slice_index (map (λ requester. cond requester top 0) requesters) i → top ≤ slice_index (map (λ requester. cond requester top 0) requesters) i
@@ -29,7 +29,7 @@ first_level-top top (false ∷ requesters) zero l = absurd (omega arith)
 first_level-top top (requester ∷ requesters) (suc i) l = first_level-top top requesters i l
 
 -- before any row nothing above the top is open
-pub starts : (s : Equations) → IsSystem s → IsSettled s (s.levels - 1) (at_first s) []
+pub starts : (s : SystemEquations) → IsSystem s → IsSettled s (s.levels - 1) (at_first s) []
 starts s fits = record {
   after = refl;
   steps = tt;
@@ -44,12 +44,12 @@ levels_after-push : (levels : List ℕ) (rows : List ProofRow) (row : ProofRow) 
 levels_after-push levels [] row = refl
 levels_after-push levels (first ∷ rows) row = levels_after-push (slice_set levels first.principal first.value) rows row
 
-AreSteps-push : (s : Equations) (levels : List ℕ) (rows : List ProofRow) (row : ProofRow) → AreSteps s levels rows → IsStep s (levels_after levels rows) row → AreSteps s levels (rows ++ row ∷ [])
+AreSteps-push : (s : SystemEquations) (levels : List ℕ) (rows : List ProofRow) (row : ProofRow) → AreSteps s levels rows → IsStep s (levels_after levels rows) row → AreSteps s levels (rows ++ row ∷ [])
 AreSteps-push s levels [] row h one = (one, tt)
 AreSteps-push s levels (first ∷ rows) row h one = (h.0, AreSteps-push s (slice_set levels first.principal first.value) rows row h.1 one)
 
 -- a row that may stand after rows may follow them
-pub goes_on : (s : Equations) (levels : List ℕ) (rows : List ProofRow) (row : ProofRow) → AreSteps s levels rows → IsStep s (levels_after levels rows) row → GoesOn s levels rows row
+pub goes_on : (s : SystemEquations) (levels : List ℕ) (rows : List ProofRow) (row : ProofRow) → AreSteps s levels rows → IsStep s (levels_after levels rows) row → GoesOn s levels rows row
 goes_on s levels rows row h one = record { steps = AreSteps-push s levels rows row h one; after = levels_after-push levels rows row }
 
 none-of : (top : ℕ) (b : Bool) → 0 < top → cond b top 0 ≡ 0 → b ≡ false
@@ -57,7 +57,7 @@ none-of top true l e = absurd (omega arith)
 none-of top false l e = refl
 
 -- a principal without a level is no requester
-other-of : (s : Equations) (levels : List ℕ) (p : ℕ) → IsSystem s → p < length s.requesters → Below (at_first s) levels → slice_index levels p ≡ 0 → slice_index_or s.requesters p true ≡ false
+other-of : (s : SystemEquations) (levels : List ℕ) (p : ℕ) → IsSystem s → p < length s.requesters → Below (at_first s) levels → slice_index levels p ≡ 0 → slice_index_or s.requesters p true ≡ false
 other-of s levels p fits l started none =
     let is : IsByPrincipal s p (slice_index_or s.requesters p true) = by_principal s p true l in
     let below : slice_index (at_first s) p ≤ slice_index levels p = started p in
@@ -75,7 +75,7 @@ unsettled-set (zero ∷ levels) (suc p) v l none some = let rest = unsettled-set
 unsettled-set (suc level ∷ levels) (suc p) v l none some = unsettled-set levels p v (omega arith) none some
 
 -- levels above v are reached after the grant where they were before
-grant-closed : (s : Equations) (v : ℕ) (levels : List ℕ) (p : ℕ) → p < length levels → slice_index levels p ≡ 0 → IsClosedAbove s v levels → IsClosedAbove s v (slice_set levels p v)
+grant-closed : (s : SystemEquations) (v : ℕ) (levels : List ℕ) (p : ℕ) → p < length levels → slice_index levels p ≡ 0 → IsClosedAbove s v levels → IsClosedAbove s v (slice_set levels p v)
 grant-closed s v levels p l none closed = λ i named u above le.
     let granted : List ℕ = slice_set levels p v in
     let carries : Carries u granted levels = set_at levels p v (λ k level. u ≤ level → u ≤ slice_index levels k) l (λ few. absurd (omega arith)) (λ k differs same. same) in
@@ -85,11 +85,11 @@ grant-closed s v levels p l none closed = λ i named u above le.
     omega arith
 
 -- a row that gives its authorizer the level may do so
-pub grants : (s : Equations) (v : ℕ) (levels : List ℕ) (rows : List ProofRow) (i : ℕ) → IsSystem s → 0 < v → IsSettled s v levels rows → IsGrant s v levels i → IsGranted s v levels rows i
+pub grants : (s : SystemEquations) (v : ℕ) (levels : List ℕ) (rows : List ProofRow) (i : ℕ) → IsSystem s → 0 < v → IsSettled s v levels rows → IsGrant s v levels i → IsGranted s v levels rows i
 grants s v levels rows i fits some h g =
     let p : ℕ = (row_at s.rows i).authorizer in
     let row : ProofRow = record { principal = p; value = v; by = i } in
-    let is_row : IsRow s.levels (length s.requesters) (row_at s.rows i) = row_fits s i fits g.named in
+    let is_row : IsSystemRow s.levels (length s.requesters) (row_at s.rows i) = row_fits s i fits g.named in
     let within : p < length levels = omega (arith, is_row.authorizer, h.size) in
     let most : worth (s.levels - 1) levels (row_at s.rows i) < s.levels = worth-fits s levels i fits g.named in
     let low : v < s.levels = omega (arith, g.supported) in
@@ -117,7 +117,7 @@ grants s v levels rows i fits some h g =
     }
 
 -- where no row gives the level, the next lower one may be settled
-pub goes_down : (s : Equations) (v : ℕ) (levels : List ℕ) (rows : List ProofRow) → IsSettled s v levels rows → HasNoneBefore s v levels (length s.rows) → IsSettled s (v - 1) levels rows
+pub goes_down : (s : SystemEquations) (v : ℕ) (levels : List ℕ) (rows : List ProofRow) → IsSettled s v levels rows → HasNoneBefore s v levels (length s.rows) → IsSettled s (v - 1) levels rows
 goes_down s v levels rows h none = record {
   after = h.after;
   steps = h.steps;
@@ -136,13 +136,13 @@ goes_down s v levels rows h none = record {
   above = λ i some. let high : v ≤ slice_index levels i = h.above i some in omega arith;
 }
 
-closed_above-none : (s : Equations) (levels : List ℕ) → IsClosedAbove s 0 levels → IsClosed s levels
+closed_above-none : (s : SystemEquations) (levels : List ℕ) → IsClosedAbove s 0 levels → IsClosed s levels
 closed_above-none s levels closed = λ i l.
     let found : ℕ = worth (s.levels - 1) levels (row_at s.rows i) in
     elim (cases_lt 0 found) [ inl some ↦ closed i l found some (omega arith) | inr none ↦ omega arith ]
 
 -- above the lowest level all is settled: the rows are a proof
-pub ends : (s : Equations) (levels : List ℕ) (rows : List ProofRow) → IsSettled s 0 levels rows → IsProof s rows (slice_index levels 0)
+pub ends : (s : SystemEquations) (levels : List ℕ) (rows : List ProofRow) → IsSettled s 0 levels rows → IsProof s rows (slice_index levels 0)
 ends s levels rows h = record {
   steps = h.steps;
   closed = subst (IsClosed s) h.after (closed_above-none s levels h.closed);

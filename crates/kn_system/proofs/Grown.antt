@@ -3,8 +3,8 @@ use Rattle.std.proofs.Common.{◌≡◌, ℕ, zero, suc, ◌+◌, ◌<◌, ◌�
 use Rattle.std.proofs.lemmas.List.Elements.{All-weaker, All-push}
 use Rattle.kn_system.specs.declared.rows.Piece.{Piece}
 use Rattle.kn_system.specs.declared.rows.Piece.TheVariants.{Who, Gate}
-use Rattle.kn_system.specs.declared.rows.Row.{Row}
-use Rattle.kn_system.specs.Equations.{IsRow, IsSystem, node_total, leaf_total}
+use Rattle.kn_system.specs.Rows.{SystemRow}
+use Rattle.kn_system.specs.Equations.{IsSystemRow, IsSystem, node_total, leaf_total}
 use Rattle.kn_system.specs.Form.{leaf_count}
 use Rattle.kn_system.specs.Forms.{AreForms, IsFormula}
 
@@ -18,29 +18,29 @@ AreForms-more p q l (suc n) (Gate k m ∷ ps) h = (h.0, AreForms-more p q l (n +
 IsFormula-more : (p q : ℕ) → p ≤ q → (ps : List Piece) → IsFormula p ps → IsFormula q ps
 IsFormula-more p q l ps h = record { one = AreForms-more p q l 1 ps h.one; shallow = h.shallow }
 
-IsRow-more : (levels n m : ℕ) → n ≤ m → (row : Row) → IsRow levels n row → IsRow levels m row
-IsRow-more levels n m l row h = record {
+IsSystemRow-more : (levels n m : ℕ) → n ≤ m → (row : SystemRow) → IsSystemRow levels n row → IsSystemRow levels m row
+IsSystemRow-more levels n m l row h = record {
   authorizer = omega (arith, h.authorizer);
   ceiling = h.ceiling;
   formula = IsFormula-more n m l row.formula h.formula;
 }
 
 -- with more principals
-pub IsSystem-more_principals : (levels : ℕ) (before after : List Bool) (rows : List Row) → length before ≤ length after → length after ≤ 2 ^ 24 → slice_index_or after 0 true ≡ false
+pub IsSystem-more_principals : (levels : ℕ) (before after : List Bool) (rows : List SystemRow) → length before ≤ length after → length after ≤ 2 ^ 24 → slice_index_or after 0 true ≡ false
     → IsSystem (record { levels = levels; requesters = before; rows = rows }) → IsSystem (record { levels = levels; requesters = after; rows = rows })
 IsSystem-more_principals levels before after rows more fit policy h = record {
   levels_fit = h.levels_fit;
   principals_fit = (omega (arith, h.principals_fit.0), fit);
   policy = policy;
   nodes_fit = h.nodes_fit;
-  rows_fit = All-weaker (IsRow levels (length before)) (IsRow levels (length after)) (IsRow-more levels (length before) (length after) more) rows h.rows_fit;
+  rows_fit = All-weaker (IsSystemRow levels (length before)) (IsSystemRow levels (length after)) (IsSystemRow-more levels (length before) (length after) more) rows h.rows_fit;
 }
 
-pub node_total-push : (rows : List Row) (row : Row) → node_total (rows ++ row ∷ []) ≡ node_total rows + length row.formula
+pub node_total-push : (rows : List SystemRow) (row : SystemRow) → node_total (rows ++ row ∷ []) ≡ node_total rows + length row.formula
 node_total-push [] row = omega arith
 node_total-push (first ∷ rows) row = let rest = node_total-push rows row in omega arith
 
-pub leaf_total-push : (rows : List Row) (row : Row) → leaf_total (rows ++ row ∷ []) ≡ leaf_total rows + leaf_count row.formula
+pub leaf_total-push : (rows : List SystemRow) (row : SystemRow) → leaf_total (rows ++ row ∷ []) ≡ leaf_total rows + leaf_count row.formula
 leaf_total-push [] row = omega arith
 leaf_total-push (first ∷ rows) row = let rest = leaf_total-push rows row in omega arith
 
@@ -49,7 +49,7 @@ leaf_count-le [] = omega arith
 leaf_count-le (Who p ∷ ps) = let rest = leaf_count-le ps in omega arith
 leaf_count-le (Gate k m ∷ ps) = let rest = leaf_count-le ps in omega arith
 
-pub leaf_total-le : (rows : List Row) → leaf_total rows ≤ node_total rows
+pub leaf_total-le : (rows : List SystemRow) → leaf_total rows ≤ node_total rows
 leaf_total-le [] = omega arith
 leaf_total-le (row ∷ rows) =
     let rest = leaf_total-le rows in
@@ -57,18 +57,18 @@ leaf_total-le (row ∷ rows) =
     omega arith
 
 -- with one more row
-pub IsSystem-more_rows : (levels : ℕ) (requesters : List Bool) (rows : List Row) (row : Row) → IsRow levels (length requesters) row → node_total rows + length row.formula < 2 ^ 24
+pub IsSystem-more_rows : (levels : ℕ) (requesters : List Bool) (rows : List SystemRow) (row : SystemRow) → IsSystemRow levels (length requesters) row → node_total rows + length row.formula < 2 ^ 24
     → IsSystem (record { levels = levels; requesters = requesters; rows = rows }) → IsSystem (record { levels = levels; requesters = requesters; rows = rows ++ row ∷ [] })
 IsSystem-more_rows levels requesters rows row one fit h = record {
   levels_fit = h.levels_fit;
   principals_fit = h.principals_fit;
   policy = h.policy;
   nodes_fit = omega (arith, node_total-push rows row);
-  rows_fit = All-push (IsRow levels (length requesters)) rows row h.rows_fit one;
+  rows_fit = All-push (IsSystemRow levels (length requesters)) rows row h.rows_fit one;
 }
 
 -- no row has more nodes than all together
-pub node_total-ge : (rows : List Row) (i : ℕ) (d : Row) → i < length rows → length (slice_index_or rows i d).formula ≤ node_total rows
+pub node_total-ge : (rows : List SystemRow) (i : ℕ) (d : SystemRow) → i < length rows → length (slice_index_or rows i d).formula ≤ node_total rows
 node_total-ge [] i d l = absurd (omega arith)
 node_total-ge (row ∷ rows) zero d l = omega arith
 node_total-ge (row ∷ rows) (suc i) d l = let rest = node_total-ge rows i d (omega arith) in omega arith

@@ -4,8 +4,8 @@ use Rattle.std.proofs.lemmas.Bool.{cases_lt, cases_eq}
 use Rattle.std.proofs.lemmas.Bool.Decides.{nat_tests}
 use Rattle.std.proofs.lemmas.List.{get_or_past, get_or-set_same, get_or-set_other, length-set, length-map}
 use Rattle.kn_proof.specs.declared.row.Row.{Row as ProofRow}
-use Rattle.kn_system.specs.declared.rows.Row.{Row}
-use Rattle.kn_system.specs.Equations.{Equations, row_at}
+use Rattle.kn_system.specs.Rows.{SystemRow}
+use Rattle.kn_system.specs.Equations.{SystemEquations, row_at}
 use Rattle.kn_system.specs.Least.{worth, highest_worth, round_at, round, at_first, least_levels}
 use Rattle.kn_system.specs.Lawful.{IsLeast, IsByPrincipal, IsDetermined}
 use Rattle.kn_system.specs.Order.{Below, Carries}
@@ -32,7 +32,7 @@ size-after levels [] = refl
 size-after levels (row ∷ rows) = size-after (slice_set levels row.principal row.value) rows ∙ length-set levels row.principal row.value
 
 -- no level falls by steps
-pub steps-raise : (s : Equations) (levels : List ℕ) (rows : List ProofRow) → length levels ≡ length s.requesters → AreSteps s levels rows → Below levels (levels_after levels rows)
+pub steps-raise : (s : SystemEquations) (levels : List ℕ) (rows : List ProofRow) → length levels ≡ length s.requesters → AreSteps s levels rows → Below levels (levels_after levels rows)
 steps-raise s levels [] size h = λ i. omega arith
 steps-raise s levels (row ∷ rows) size h =
     let first : Below levels (slice_set levels row.principal row.value) = set-raises levels row.principal row.value (omega (arith, h.0.principal)) h.0.fresh in
@@ -40,7 +40,7 @@ steps-raise s levels (row ∷ rows) size h =
     λ i. omega (arith, first i, rest i)
 
 -- an authorizer's highest worth is at most what none of its rows passes
-highest_worth-most : (top : ℕ) (xs : List ℕ) (p b : ℕ) (rows : List Row) → ((i : ℕ) → i < length rows → (row_at rows i).authorizer ≡ p → worth top xs (row_at rows i) ≤ b) → highest_worth top xs p rows ≤ b
+highest_worth-most : (top : ℕ) (xs : List ℕ) (p b : ℕ) (rows : List SystemRow) → ((i : ℕ) → i < length rows → (row_at rows i).authorizer ≡ p → worth top xs (row_at rows i) ≤ b) → highest_worth top xs p rows ≤ b
 highest_worth-most top xs p b [] h = omega arith
 highest_worth-most top xs p b (row ∷ rows) h =
     let rest : highest_worth top xs p rows ≤ b = highest_worth-most top xs p b rows (λ i l e. h (suc i) (omega arith) e) in
@@ -51,12 +51,12 @@ highest_worth-most top xs p b (row ∷ rows) h =
     ]
 
 -- and at least what each of them is worth
-worth-highest : (top : ℕ) (xs : List ℕ) (rows : List Row) (i : ℕ) → i < length rows → worth top xs (row_at rows i) ≤ highest_worth top xs (row_at rows i).authorizer rows
+worth-highest : (top : ℕ) (xs : List ℕ) (rows : List SystemRow) (i : ℕ) → i < length rows → worth top xs (row_at rows i) ≤ highest_worth top xs (row_at rows i).authorizer rows
 worth-highest top xs [] i l = absurd (omega arith)
 worth-highest top xs (row ∷ rows) zero l = grind (arith, nat_tests)
 worth-highest top xs (row ∷ rows) (suc i) l = let rest = worth-highest top xs rows i (omega arith) in grind (arith, nat_tests)
 
-closed-at : (s : Equations) (levels : List ℕ) (i : ℕ) (requester : Bool) → slice_index (at_first s) i ≡ cond requester (s.levels - 1) 0 → Below (at_first s) levels → IsClosed s levels
+closed-at : (s : SystemEquations) (levels : List ℕ) (i : ℕ) (requester : Bool) → slice_index (at_first s) i ≡ cond requester (s.levels - 1) 0 → Below (at_first s) levels → IsClosed s levels
     → round_at (s.levels - 1) s.rows levels i requester ≤ slice_index levels i
 closed-at s levels i true first started closed = let from : slice_index (at_first s) i ≤ slice_index levels i = started i in omega arith
 closed-at s levels i false first started closed =
@@ -64,7 +64,7 @@ closed-at s levels i false first started closed =
     (λ j l own. let le = closed j l in let same : slice_index levels (row_at s.rows j).authorizer ≡ slice_index levels i = ap (slice_index levels) own in omega arith)
 
 -- closed levels in which requesters have the top are raised by no round
-pub closed-stays : (s : Equations) (levels : List ℕ) → Below (at_first s) levels → IsClosed s levels → Below (round s levels) levels
+pub closed-stays : (s : SystemEquations) (levels : List ℕ) → Below (at_first s) levels → IsClosed s levels → Below (round s levels) levels
 closed-stays s levels started closed = λ i.
     elim (cases_lt i (length s.requesters)) [
       | inl within ↦
@@ -78,7 +78,7 @@ closed-stays s levels started closed = λ i.
     ]
 
 -- a level that a row supports, the least levels give its authorizer
-step-least : (s : Equations) (levels : List ℕ) (row : ProofRow) → IsStep s levels row → Below levels (least_levels s) → row.value ≤ slice_index (least_levels s) row.principal
+step-least : (s : SystemEquations) (levels : List ℕ) (row : ProofRow) → IsStep s levels row → Below levels (least_levels s) → row.value ≤ slice_index (least_levels s) row.principal
 step-least s levels row h below =
     let top : ℕ = s.levels - 1 in
     let least : List ℕ = least_levels s in
@@ -92,18 +92,18 @@ step-least s levels row h below =
     omega arith
 
 -- steps stay at or below the least levels
-pub steps-below : (s : Equations) (levels : List ℕ) (rows : List ProofRow) → length levels ≡ length s.requesters → AreSteps s levels rows → Below levels (least_levels s) → Below (levels_after levels rows) (least_levels s)
+pub steps-below : (s : SystemEquations) (levels : List ℕ) (rows : List ProofRow) → length levels ≡ length s.requesters → AreSteps s levels rows → Below levels (least_levels s) → Below (levels_after levels rows) (least_levels s)
 steps-below s levels [] size h below = below
 steps-below s levels (row ∷ rows) size h below =
     steps-below s (slice_set levels row.principal row.value) rows (length-set levels row.principal row.value ∙ size) h.1
     (set_at levels row.principal row.value (λ i level. level ≤ slice_index (least_levels s) i) (omega (arith, h.0.principal)) (step-least s levels row h.0 below) (λ i differs. below i))
 
 -- each principal has one level at first
-pub size-at_first : (s : Equations) → length (at_first s) ≡ length s.requesters
+pub size-at_first : (s : SystemEquations) → length (at_first s) ≡ length s.requesters
 size-at_first s = simp length-map
 
 -- the levels after a proof's rows are the least ones
-pub proof-determines : (s : Equations) (rows : List ProofRow) (claimed : ℕ) → IsProof s rows claimed → IsDetermined s rows claimed
+pub proof-determines : (s : SystemEquations) (rows : List ProofRow) (claimed : ℕ) → IsProof s rows claimed → IsDetermined s rows claimed
 proof-determines s rows claimed h =
     let start : List ℕ = at_first s in
     let after : List ℕ = levels_after start rows in

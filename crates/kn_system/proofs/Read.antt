@@ -3,17 +3,17 @@ use Rattle.std.proofs.Common.{◌≡◌, ℕ, suc, ◌<◌, ◌≤◌, ◌^◌, 
 use Rattle.std.proofs.lemmas.List.{get_or_default, length-drop}
 use Rattle.kn_system.specs.declared.rows.Piece.{Piece}
 use Rattle.kn_system.specs.declared.rows.Piece.TheVariants.{Who, Gate}
-use Rattle.kn_system.specs.declared.rows.Row.{Row}
-use Rattle.kn_system.specs.Equations.{Equations, IsRow, IsSystem, row_at, node_total}
+use Rattle.kn_system.specs.Rows.{SystemRow}
+use Rattle.kn_system.specs.Equations.{SystemEquations, IsSystemRow, IsSystem, row_at, node_total}
 use Rattle.kn_system.specs.Form.{form_levels}
 use Rattle.kn_system.specs.Forms.{AreForms, AreSpelt, form_count}
 use Rattle.kn_system.proofs.Stacked.{forms-spelt, form_count-forms, length-form_levels}
 use Rattle.kn_system.proofs.Grown.{node_total-ge}
 
 -- the pieces that were read are the row's formula
-pub formula_read : (s : Equations) (rows : List Row) (i : ℕ) (r : Row) (pieces : List Piece) → rows ≡ s.rows → i < length s.rows → pieces ≡ (get_or rows i r).formula → pieces ≡ (row_at s.rows i).formula
+pub formula_read : (s : SystemEquations) (rows : List SystemRow) (i : ℕ) (r : SystemRow) (pieces : List Piece) → rows ≡ s.rows → i < length s.rows → pieces ≡ (get_or rows i r).formula → pieces ≡ (row_at s.rows i).formula
 formula_read s rows i r pieces same l e =
-    e ∙ ap (λ rs. (get_or rs i r).formula) same ∙ ap (λ (row : Row). row.formula) (get_or_default s.rows i r (record { authorizer = 0; ceiling = 0; formula = [] }) l)
+    e ∙ ap (λ rs. (get_or rs i r).formula) same ∙ ap (λ (row : SystemRow). row.formula) (get_or_default s.rows i r (record { authorizer = 0; ceiling = 0; formula = [] }) l)
 
 -- no formula is empty
 form_count-none : (ps : List Piece) → form_count ps ≡ 0 → length ps ≡ 0
@@ -32,10 +32,10 @@ pub record IsRead (principals : ℕ) (pieces : List Piece) : Type 0 where
   pub some : 0 < length pieces
   pub one : form_count pieces ≡ 1
 
-pub pieces_read : (s : Equations) (i : ℕ) (pieces : List Piece) (values : List ℕ) → IsSystem s → i < length s.rows → length values ≡ length s.requesters → pieces ≡ (row_at s.rows i).formula
+pub pieces_read : (s : SystemEquations) (i : ℕ) (pieces : List Piece) (values : List ℕ) → IsSystem s → i < length s.rows → length values ≡ length s.requesters → pieces ≡ (row_at s.rows i).formula
     → IsRead (length values) pieces
 pieces_read s i pieces values fits l each e =
-    let row : IsRow s.levels (length s.requesters) (row_at s.rows i) = fits.rows_fit i (record { authorizer = 0; ceiling = 0; formula = [] }) l in
+    let row : IsSystemRow s.levels (length s.requesters) (row_at s.rows i) = fits.rows_fit i (record { authorizer = 0; ceiling = 0; formula = [] }) l in
     let few : length (row_at s.rows i).formula ≤ node_total s.rows = node_total-ge s.rows i (record { authorizer = 0; ceiling = 0; formula = [] }) l in
     let here : AreForms (length s.requesters) 1 pieces = subst (AreForms (length s.requesters) 1) (sym e) row.formula.one in
     let forms : AreForms (length values) 1 pieces = subst (λ n. AreForms n 1 pieces) (sym each) here in

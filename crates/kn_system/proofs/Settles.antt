@@ -3,7 +3,7 @@ use Rattle.std.proofs.Common.{◌≡◌, ℕ, suc, zero, ◌+◌, ◌-◌, ◌*�
 use Rattle.std.proofs.lemmas.Bool.{cases_lt}
 use Rattle.std.proofs.lemmas.List.{ext_get_or, get_or_past, length-map}
 use Rattle.std.proofs.lemmas.List.Elements.{All-from_get_or}
-use Rattle.kn_system.specs.Equations.{Equations, IsSystem}
+use Rattle.kn_system.specs.Equations.{SystemEquations, IsSystem}
 use Rattle.kn_system.specs.Least.{round, rounds, at_first, least_levels}
 use Rattle.kn_system.specs.Order.{Below}
 use Rattle.kn_system.specs.Lawful.{IsLeast, KeepsLevels}
@@ -40,12 +40,12 @@ total-le top (x ∷ xs) low =
     omega arith
 
 -- levels that a round leaves stay after rounds
-pub rounds-fixed : (s : Equations) (n : ℕ) (xs : List ℕ) → round s xs ≡ xs → rounds s n xs ≡ xs
+pub rounds-fixed : (s : SystemEquations) (n : ℕ) (xs : List ℕ) → round s xs ≡ xs → rounds s n xs ≡ xs
 rounds-fixed s zero xs e = refl
 rounds-fixed s (suc n) xs e = ap (λ levels. rounds s n levels) e ∙ rounds-fixed s n xs e
 
 -- after n rounds that begin with a rise the levels stay, or the sum has risen by more than n
-pub stays_or_rises : (s : Equations) (n : ℕ) (xs : List ℕ) → length xs ≡ length s.requesters → Below xs (round s xs) → (round s (rounds s n xs) ≡ rounds s n xs) ⊎ (n + total xs < total (round s (rounds s n xs)))
+pub stays_or_rises : (s : SystemEquations) (n : ℕ) (xs : List ℕ) → length xs ≡ length s.requesters → Below xs (round s xs) → (round s (rounds s n xs) ≡ rounds s n xs) ⊎ (n + total xs < total (round s (rounds s n xs)))
 stays_or_rises s zero xs e b =
     elim (equal_or_less xs (round s xs) (e ∙ sym (length-round s xs)) b) [
       | inl same ↦ inl (sym same)
@@ -63,12 +63,12 @@ stays_or_rises s (suc n) xs e b =
     ]
 
 -- no round passes the top
-rounds-le : (s : Equations) (n : ℕ) (xs : List ℕ) → ((i : ℕ) → slice_index xs i ≤ s.levels - 1) → (i : ℕ) → slice_index (rounds s n xs) i ≤ s.levels - 1
+rounds-le : (s : SystemEquations) (n : ℕ) (xs : List ℕ) → ((i : ℕ) → slice_index xs i ≤ s.levels - 1) → (i : ℕ) → slice_index (rounds s n xs) i ≤ s.levels - 1
 rounds-le s zero xs low = low
 rounds-le s (suc n) xs low = rounds-le s n (round s xs) (round-le s xs low)
 
 -- the least levels are a fixed point
-pub least_levels-fixed : (s : Equations) → round s (least_levels s) ≡ least_levels s
+pub least_levels-fixed : (s : SystemEquations) → round s (least_levels s) ≡ least_levels s
 least_levels-fixed s =
     let n : ℕ = length s.requesters * (s.levels - 1) in
     let start : List ℕ = at_first s in
@@ -80,25 +80,25 @@ least_levels-fixed s =
     ]
 
 -- rounds from below levels that no round raises stay below them
-pub rounds-below : (s : Equations) (n : ℕ) (xs others : List ℕ) → Below xs others → Below (round s others) others → Below (rounds s n xs) others
+pub rounds-below : (s : SystemEquations) (n : ℕ) (xs others : List ℕ) → Below xs others → Below (round s others) others → Below (rounds s n xs) others
 rounds-below s zero xs others b raised = b
 rounds-below s (suc n) xs others b raised =
     rounds-below s n (round s xs) others (λ i. let turned : slice_index (round s xs) i ≤ slice_index (round s others) i = round-below s xs others b i in let le : slice_index (round s others) i ≤ slice_index others i = raised i in omega arith) raised
 
 -- and so do those from the levels at first
-pub rounds_at_first-below : (s : Equations) (n : ℕ) (others : List ℕ) → Below (round s others) others → Below (rounds s n (at_first s)) others
+pub rounds_at_first-below : (s : SystemEquations) (n : ℕ) (others : List ℕ) → Below (round s others) others → Below (rounds s n (at_first s)) others
 rounds_at_first-below s n others raised =
     rounds-below s n (at_first s) others (λ i. let first : slice_index (at_first s) i ≤ slice_index (round s others) i = at_first-below s others i in let le : slice_index (round s others) i ≤ slice_index others i = raised i in omega arith) raised
 
 -- the least levels are a fixed point, and at or below all levels that no round raises
-pub least_levels-is_least : (s : Equations) → IsLeast s (least_levels s)
+pub least_levels-is_least : (s : SystemEquations) → IsLeast s (least_levels s)
 least_levels-is_least s = record {
   fixed = least_levels-fixed s;
   lowest = rounds_at_first-below s (length s.requesters * (s.levels - 1));
 }
 
 -- what a round leaves, no round raises
-pub raised_by_none : (s : Equations) (xs : List ℕ) → round s xs ≡ xs → Below (round s xs) xs
+pub raised_by_none : (s : SystemEquations) (xs : List ℕ) → round s xs ≡ xs → Below (round s xs) xs
 raised_by_none s xs e = λ i. let same : slice_index (round s xs) i ≡ slice_index xs i = ap (λ levels. slice_index levels i) e in omega arith
 
 -- two lists at or below each other are equal
@@ -107,7 +107,7 @@ Below-both xs ys e below above =
     ext_get_or 0 xs ys e (λ i l. let le : slice_index xs i ≤ slice_index ys i = below i in let ge : slice_index ys i ≤ slice_index xs i = above i in omega arith)
 
 -- rounds that change nothing more have reached the least levels
-pub rounds-stop : (s : Equations) (n : ℕ) → round s (rounds s n (at_first s)) ≡ rounds s n (at_first s) → rounds s n (at_first s) ≡ least_levels s
+pub rounds-stop : (s : SystemEquations) (n : ℕ) → round s (rounds s n (at_first s)) ≡ rounds s n (at_first s) → rounds s n (at_first s) ≡ least_levels s
 rounds-stop s n e =
     let reached : List ℕ = rounds s n (at_first s) in
     let least : IsLeast s (least_levels s) = least_levels-is_least s in
@@ -129,7 +129,7 @@ low_all : (levels : ℕ) (xs : List ℕ) → 0 < levels → ((i : ℕ) → slice
 low_all levels xs some low = All-from_get_or (λ level. level < levels) xs 0 (λ i l. let le : slice_index xs i ≤ levels - 1 = low i in omega arith)
 
 -- the levels at first fit, and so do those after a round
-pub keeps_levels : (s : Equations) → IsSystem s → KeepsLevels s
+pub keeps_levels : (s : SystemEquations) → IsSystem s → KeepsLevels s
 keeps_levels s fits =
     let some : 0 < s.levels = omega arith in
     record {
@@ -141,7 +141,7 @@ keeps_levels s fits =
     }
 
 -- only one list of levels is least
-pub unique_least : (s : Equations) (levels : List ℕ) → IsLeast s levels → levels ≡ least_levels s
+pub unique_least : (s : SystemEquations) (levels : List ℕ) → IsLeast s levels → levels ≡ least_levels s
 unique_least s levels h =
     let least : IsLeast s (least_levels s) = least_levels-is_least s in
     let size : length levels ≡ length (least_levels s) = sym (ap length h.fixed) ∙ length-round s levels ∙ sym (length-round s (least_levels s)) ∙ ap length least.fixed in

@@ -7,4 +7,5 @@ pub mod Least
 pub mod Order
 pub mod Lawful
 pub mod Proofs
+pub mod Rows
 pub mod Settled

@@ -1,7 +1,8 @@
 ghost use Rattle.std.specs.Prelude.{◌≡◌, ◌+◌, ◌-◌, ◌^◌, ◌<◌, ◌≤◌, [], ◌∷◌, ◌++◌, All, IfOk, OnErr, false, length, min, slice_index_or};
+ghost use Rattle.kn_base.specs.declared.limits.TheConstants.{FEWEST_COMPLIANCE_VALUES, MOST_COMPLIANCE_VALUES};
 
 use crate::formula::{copied, leaf_count, level_at};
-use crate::rows::{Piece, Row};
+use crate::rows::{Piece, StoredRow};
 use kn_base::{List, NoMemory, Steps};
 use std::alloc::Global;
 use std::marker::Model;
@@ -17,16 +18,16 @@ pub struct System<L> {
     levels: u8,
     // Which of the principals from 1 on are requesters.
     others: List<bool>,
-    rows: List<Row>,
+    rows: List<StoredRow>,
     nodes: u32,
     leaves: u32,
 }
 
 impl<L> Model for System<L> {
     ghost use Rattle.std.specs.Prelude.{◌≡◌, ◌∷◌, false};
-    ghost use Rattle.kn_system.specs.Equations.{Equations, IsSystem, node_total, leaf_total};
+    ghost use Rattle.kn_system.specs.Equations.{SystemEquations, IsSystem, node_total, leaf_total};
 
-    ghost Value = { Equations };
+    ghost Value = { SystemEquations };
 
     ghost view = { λ s. record { levels = s.levels; requesters = false ∷ s.others; rows = s.rows } };
 
@@ -36,7 +37,7 @@ impl<L> Model for System<L> {
 }
 
 impl<L> System<L> {
-    ghost use Rattle.kn_system.specs.Equations.{IsRow, IsSystem, row_at, node_total, leaf_total};
+    ghost use Rattle.kn_system.specs.Equations.{IsSystemRow, IsSystem, row_at, node_total, leaf_total};
     ghost use Rattle.kn_system.specs.Form.{form_level};
     ghost use Rattle.kn_system.specs.Forms.{IsFormula};
     ghost use Rattle.kn_system.specs.Lawful.{AreLevels};
@@ -44,8 +45,8 @@ impl<L> System<L> {
 
     /// The system of `POLICY` alone, without rows.
     pub fn start(alloc: Global, mark: L, levels: u8) -> System<L>
-        requires at_least_two { 2 ≤ levels }
-        requires at_most { levels ≤ 64 }
+        requires at_least_two { FEWEST_COMPLIANCE_VALUES ≤ levels }
+        requires at_most { levels ≤ MOST_COMPLIANCE_VALUES }
         ensures { result ≡ record { levels = levels; requesters = false ∷ []; rows = [] } }
     {
         System {
@@ -97,7 +98,7 @@ impl<L> System<L> {
         let number = self.rows.len();
         let nodes = formula.len();
         let leaves = leaf_count(formula.as_slice());
-        let row = Row {
+        let row = StoredRow {
             authorizer,
             ceiling,
             formula: copied(self.alloc, formula.as_slice())?,
@@ -178,7 +179,8 @@ impl<L> System<L> {
         ensures exact { result ≡ (row_at self.now.rows row).authorizer }
         ensures in_range { result < length self.now.requesters }
     {
-        self.rows.as_slice()[row as usize].authorizer
+        let row = &self.rows.as_slice()[row as usize];
+        row.authorizer
     }
 
     /// The highest level that the row gives.
@@ -187,7 +189,8 @@ impl<L> System<L> {
         ensures exact { result ≡ (row_at self.now.rows row).ceiling }
         ensures in_range { result < self.now.levels }
     {
-        self.rows.as_slice()[row as usize].ceiling
+        let row = &self.rows.as_slice()[row as usize];
+        row.ceiling
     }
 
     /// The level of the row's formula where each principal has the level that `values` gives it. One tick
@@ -201,7 +204,8 @@ impl<L> System<L> {
         ensures in_range { result < self.now.levels }
         ensures ticks { steps.new ≡ min (steps.old + length (row_at self.now.rows row).formula) (2 ^ 64 - 1) }
     {
-        let formula = self.rows.as_slice()[row as usize].formula.as_slice();
+        let row = &self.rows.as_slice()[row as usize];
+        let formula = row.formula.as_slice();
         level_at(formula, 0, self.levels - 1, values, steps).0
     }
 }

@@ -9,4 +9,4 @@ mod rows;
 mod tests;
 
 pub use interned::System;
-pub use rows::{Piece, Row};
+pub use rows::Piece;

@@ -1,4 +1,5 @@
 use kn_base::List;
+use std::marker::Model;
 
 /// A piece of a formula. A formula is a list of pieces, in which each gate stands before its parts.
 #[derive(Debug, Clone, Copy, PartialEq, Eq, Drop)]
@@ -9,10 +10,18 @@ pub enum Piece {
     Gate { need: u32, count: u32 },
 }
 
-/// What one assertion says: its authorizer, by number, the highest level that it gives, and its formula.
+/// A row as a system keeps it, seen as what it says.
 #[derive(Debug, Drop)]
-pub struct Row {
+pub(crate) struct StoredRow {
     pub authorizer: u32,
     pub ceiling: u8,
     pub formula: List<Piece>,
+}
+
+impl Model for StoredRow {
+    ghost use Rattle.kn_system.specs.Rows.{SystemRow};
+
+    ghost Value = { SystemRow };
+
+    ghost view = { λ r. record { authorizer = r.authorizer; ceiling = r.ceiling; formula = r.formula } };
 }

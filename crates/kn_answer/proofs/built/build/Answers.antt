@@ -4,7 +4,15 @@ use Rattle.std.proofs.lemmas.Simd.{map-map}
 use Rattle.kn_meaning.specs.Equations.{equations_over, statement_of}
 use Rattle.kn_answer.proofs.Grown.{AreNumbered-length}
 use Rattle.kn_answer.proofs.Rowed.{length-rows}
+use Rattle.kn_answer.proofs.Texts.{texts_readable, texts_small}
 use Rattle.kn_answer.proofs.built.build.Goals as goal
+
+pub numbered_query-requires-clause-readable : goal.numbered_query-requires-clause-readable
+numbered_query-requires-clause-readable c =
+    texts_readable c.readings_are_computed.ensures.reading c.readings_are_sound.ensures c.requires.texts c.args.list.now c.requires.read
+
+pub numbered_query-requires-clause-small : goal.numbered_query-requires-clause-small
+numbered_query-requires-clause-small c = texts_small c.readings_are_computed.ensures.reading c.readings_are_sound.ensures c.args.list.now c.requires
 
 pub invariant_of-result : goal.invariant_of-result
 invariant_of-result c =

@@ -11,7 +11,7 @@ use Rattle.kn_answer.proofs.numbered.numbered_query.Goals as goal
 pub returns-clause-system : goal.returns-clause-system
 returns-clause-system c =
     let asked : Asked = c.args.query.now in
-    let requesters : c.requesters.result.now ≡ asked.requesters = c.requesters.ensures in
+    let requesters : c.requesters.result.now ≡ asked.requesters = c.requesters.ensures.requesters in
     let values : c.values.result.now ≡ asked.values = c.values.ensures in
     let count : c.len.result ≡ length asked.values = c.len.ensures.count ∙ ap length values in
     let several : 2 ≤ c.len.result = omega (arith, c.len.ensures.count, c.len.ensures.at_least_two) in
@@ -27,7 +27,7 @@ returns-clause-system c =
 pub returns-clause-principals : goal.returns-clause-principals
 returns-clause-principals c =
     let asked : Asked = c.args.query.now in
-    let requesters : c.requesters.result.now ≡ asked.requesters = c.requesters.ensures in
+    let requesters : c.requesters.result.now ≡ asked.requesters = c.requesters.ensures.requesters in
     let statements : List Statement = map (statement_of asked) c.args.list.now in
     let start : List (List ℕ) = c.in_ok-numbered.numbered.names in
     let first : AddsNames (policy ∷ []) [] start = AddsNames-longer [] start policy c.in_ok-numbered.ensures.names in

@@ -1,6 +1,6 @@
 use Rattle.std.proofs.Common.{◌≡◌, ℕ, List, slice_index, ap, subst, arith}
 use Rattle.kn_proof.specs.declared.row.Row.{Row as ProofRow}
-use Rattle.kn_system.specs.Equations.{Equations}
+use Rattle.kn_system.specs.Equations.{SystemEquations}
 use Rattle.kn_system.specs.Least.{at_first}
 use Rattle.kn_system.specs.Proofs.{levels_after, IsClosed, IsProof}
 use Rattle.kn_check.proofs.Refused.{proof-refused, reject-row}
@@ -8,14 +8,14 @@ use Rattle.kn_check.proofs.rows.check.Goals as goal
 
 pub returns-in_err-follow_rows-clause-only : goal.returns-in_err-follow_rows-clause-only
 returns-in_err-follow_rows-clause-only g c = λ proof.
-    let s : Equations = c.args.system.now in
+    let s : SystemEquations = c.args.system.now in
     let rows : List ProofRow = c.args.proof.now.rows in
     let fault = c.in_err-follow_rows.ensures.err in
     absurd (proof-refused s rows c.args.claimed _ proof (reject-row s rows c.args.claimed _ fault.0 fault.1))
 
 pub returns-clause-least : goal.returns-clause-least
 returns-clause-least g c =
-    let s : Equations = c.args.system.now in
+    let s : SystemEquations = c.args.system.now in
     let rows : List ProofRow = c.args.proof.now.rows in
     let after : c.follow_rows.new.levels ≡ levels_after (at_first s) rows = c.in_ok-follow_rows.ensures.after in
     let proof : IsProof s rows c.args.claimed = record {

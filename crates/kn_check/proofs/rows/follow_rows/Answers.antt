@@ -1,7 +1,7 @@
 use Rattle.std.proofs.Common.{◌≡◌, ℕ, ◌+◌, ◌<◌, List, [], ◌∷◌, ◌++◌, take, length, get_or, slice_set, sym, ap, ◌∙◌, subst, arith, rules}
 use Rattle.std.proofs.lemmas.List.{take_more}
 use Rattle.kn_proof.specs.declared.row.Row.{Row as ProofRow}
-use Rattle.kn_system.specs.Equations.{Equations, row_at}
+use Rattle.kn_system.specs.Equations.{SystemEquations, row_at}
 use Rattle.kn_system.specs.Lawful.{GoesOn}
 use Rattle.kn_system.specs.Least.{at_first}
 use Rattle.kn_system.specs.Proofs.{levels_after, AreSteps, IsStep}
@@ -19,7 +19,7 @@ returns-in_err-test_names-clause-ticks g c = λ fits.
 
 pub returns-in_err-test_support-clause-ticks : goal.returns-in_err-test_support-clause-ticks
 returns-in_err-test_support-clause-ticks g c = λ fits.
-    let s : Equations = c.args.system.now in
+    let s : SystemEquations = c.args.system.now in
     let rows : List ProofRow = c.args.rows.now in
     let k : ℕ = c.loop-number.number in
     let before = c.loop-number.invariant.ticks fits in
@@ -30,7 +30,7 @@ returns-in_err-test_support-clause-ticks g c = λ fits.
 
 pub loop-number-preserved : goal.loop-number-preserved
 loop-number-preserved g c =
-    let s : Equations = c.args.system.now in
+    let s : SystemEquations = c.args.system.now in
     let rows : List ProofRow = c.args.rows.now in
     let k : ℕ = c.loop-number.number in
     let levels : List ℕ = c.loop-number.levels in

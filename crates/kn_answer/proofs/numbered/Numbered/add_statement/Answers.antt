@@ -2,7 +2,7 @@ use Rattle.std.proofs.Common.{◌≡◌, ℕ, ◌+◌, ◌≤◌, length, List, 
 use Rattle.kn_trees.specs.declared.assertion.Assertion.{Assertion}
 use Rattle.kn_meaning.specs.Equations.{Statement, statement_of}
 use Rattle.kn_system.specs.Equations.{node_total}
-use Rattle.kn_system.specs.declared.rows.Row.{Row}
+use Rattle.kn_system.specs.Rows.{SystemRow}
 use Rattle.kn_answer.specs.Numbering.{IsNumber, ArePiecesOf, IsRowOf, IsSystemOf, SpellLicensees, licensees_pieces}
 use Rattle.kn_meaning.specs.Occurring.{licensees_names}
 use Rattle.kn_answer.specs.Extending.{AddsNames, Extends, with_statement}
@@ -29,7 +29,7 @@ returns-clause-system c = λ e of.
     let second : Extends (field_nodes a.licensees) (licensees_names a.licensees) c.number.new.self c.licensees.new.self = subst (λ x. Extends (field_nodes x.licensees) (licensees_names x.licensees) c.number.new.self c.licensees.new.self) seen c.in_ok-pieces.ensures.ok in
     let names : List (List ℕ) = c.licensees.new.self.names in
     let after : IsSystemOf e names c.licensees.new.self.system = second.same e (first.same e of) in
-    let row : Row = record { authorizer = c.in_ok-authorizer.authorizer; ceiling = c.in_ok-ceiling.ceiling; formula = c.in_ok-pieces.pieces } in
+    let row : SystemRow = record { authorizer = c.in_ok-authorizer.authorizer; ceiling = c.in_ok-ceiling.ceiling; formula = c.in_ok-pieces.pieces } in
     let statement : Statement = statement_of c.args.query.now c.args.part.now in
     let name : c.as_slice.result.now ≡ a.authorizer = c.as_slice.ensures ∙ ap (λ x. x.authorizer) seen in
     let is : IsRowOf e.top names statement row = record {

@@ -1,5 +1,5 @@
 use Rattle.std.proofs.Common.{◌≤◌, ◌^◌, [], ◌∷◌, false, length, refl, length-append, ap, arith}
-use Rattle.kn_system.specs.Equations.{Equations}
+use Rattle.kn_system.specs.Equations.{SystemEquations}
 use Rattle.kn_system.proofs.Grown.{IsSystem-more_principals}
 use Rattle.kn_system.proofs.interned.System.push_principal.Goals as goal
 use Rattle.kn_system.proofs.interned.System.push_principal.Goals.{in-Ok, in-Err}
@@ -7,7 +7,7 @@ use Rattle.kn_system.proofs.interned.System.push_principal.Goals.{in-Ok, in-Err}
 pub invariant_of-self : goal.invariant_of-self
 invariant_of-self g c =
     let s = c.self.inside in
-    let seen = ap (λ (e : Equations). length e.requesters) c.self.view_is in
+    let seen = ap (λ (e : SystemEquations). length e.requesters) c.self.view_is in
     elim c.match-push.branch [
       | in-Ok w ↦
           let size = ap length w.in-Ok.ensures.ok in
