@@ -1,0 +1,9 @@
+pub mod Loading
+pub mod Valid
+pub mod Histories
+pub mod PageLemmas
+pub mod LiveLemmas
+pub mod SearchLemmas
+pub mod LiveSetLemmas
+pub mod ViewLemmas
+pub mod VersionLemmas

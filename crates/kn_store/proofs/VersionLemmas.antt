@@ -1,0 +1,37 @@
+-- A version after one more update.
+use Rattle.std.proofs.Common.{◌≡◌, ◌+◌, true, List, [], ◌∷◌, ◌++◌, length, sym, ap, ◌∙◌, subst, arith, length-append}
+use Rattle.kn_store.specs.declared.update.Update.{Update}
+use Rattle.kn_store.specs.declared.version.TheConstants.{PAGE}
+use Rattle.kn_store.specs.declared.version.Version.TheInside.{Inside}
+use Rattle.kn_store.specs.History.{all_changes, is_valid_history, update_may_follow}
+use Rattle.kn_store.specs.LiveView.{LiveView, live_view}
+use Rattle.kn_store.specs.Pages.{joined, with_item}
+use Rattle.kn_store.specs.Versions.{updates_of, IsVersion}
+use Rattle.kn_store.proofs.Histories.{valid-grows}
+use Rattle.kn_store.proofs.PageLemmas.{joined-with_item, filled-with_item}
+use Rattle.kn_store.proofs.ViewLemmas.{changes-push, has_changes}
+
+module _ (v : Inside) (updates : List (List Update)) (update : Update) (live : LiveView) (is : updates ≡ with_item PAGE v.updates update) where
+  pub longer_log : joined updates ≡ updates_of v ++ update ∷ []
+  longer_log = ap joined is ∙ joined-with_item PAGE v.updates update
+
+  pub next_version : IsVersion v → live ≡ live_view (all_changes (updates_of v) ++ update.changes) → update_may_follow (all_changes (updates_of v)) update ≡ true
+      → IsVersion (record { live = live; updates = updates; number = v.number + 1 })
+  next_version kept same follows =
+      let log = joined v.updates in
+      let grown = valid-grows log update kept.valid follows in
+      let number = kept.number in
+      let before = kept.live in
+      let count = length-append log (update ∷ []) in
+      let some = has_changes (all_changes log) update follows in
+      let changes = length-append (all_changes log) update.changes in
+      let was : v.live.changes ≡ length (all_changes log) = ap (λ l. l.changes) before in
+      let now : live.changes ≡ length (all_changes log ++ update.changes) = ap (λ l. l.changes) same in
+      let fewer = kept.fewer in
+      record {
+        valid = subst (λ l. is_valid_history l ≡ true) (sym longer_log) grown;
+        live = same ∙ ap live_view (sym (changes-push log update)) ∙ ap (λ l. live_view (all_changes l)) (sym longer_log);
+        pages = rw is (filled-with_item PAGE v.updates update (omega arith) kept.pages);
+        number = rw longer_log (omega arith);
+        fewer = omega arith;
+      }

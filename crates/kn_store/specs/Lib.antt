@@ -1,0 +1,9 @@
+pub mod History
+pub mod Loading
+pub mod Laws
+pub mod Pages
+pub mod LiveView
+pub mod Places
+pub mod LiveSets
+pub mod Versions
+pub mod Prepared

@@ -1,0 +1,96 @@
+//! Credentials, and texts that are ready to be added.
+
+ghost use Rattle.std.specs.Prelude.{◌≡◌, Some, IsSome, IfOk};
+ghost use Rattle.kn_assert.specs.Reading.{assertion_of};
+
+use kn_assert::Assertion;
+use kn_base::{NoMemory, Octets};
+use std::alloc::Global;
+use std::marker::Model;
+
+/// A text with its reading.
+#[derive(Debug, Drop)]
+pub struct Credential {
+    pub text: Octets,
+    pub assertion: Assertion,
+}
+
+/// A text that has a reading, ready to be added. It is seen as the text.
+#[derive(Drop)]
+pub struct Ready {
+    credential: Credential,
+}
+
+impl Model for Ready {
+    ghost use Rattle.std.specs.Prelude.{ℕ, List, ◌≡◌, Some};
+    ghost use Rattle.kn_assert.specs.Reading.{assertion_of};
+
+    ghost Value = { List ℕ };
+
+    ghost view = { λ r. r.credential.text };
+
+    ghost invariant = { λ r. assertion_of r.credential.text ≡ Some r.credential.assertion };
+}
+
+impl Ready {
+    /// A copy of the text with its reading.
+    pub fn of(alloc: Global, text: &[u8], a: Assertion) -> Result<Ready, NoMemory>
+        requires reading { assertion_of text.now ≡ Some a }
+        ensures text { IfOk result (λ ready. ready ≡ text.now) }
+    {
+        let text = Octets::from_slice(alloc, text)?;
+        Ok(Ready {
+            credential: Credential { text, assertion: a },
+        })
+    }
+
+    pub(crate) fn text(&self) -> &[u8]
+        ensures text { result.now ≡ self.now }
+        ensures reading { IsSome (assertion_of self.now) }
+    {
+        self.credential.text.as_slice()
+    }
+
+    /// The credential under an id.
+    pub(crate) fn numbered(self, id: u32) -> LiveCredential
+        ensures id { result.id ≡ id }
+        ensures text { result.text ≡ self }
+    {
+        let Ready { credential } = self;
+        LiveCredential { id, credential }
+    }
+}
+
+/// A live credential with its id. It is seen as its id and text.
+#[derive(Drop)]
+pub struct LiveCredential {
+    id: u32,
+    credential: Credential,
+}
+
+impl Model for LiveCredential {
+    ghost use Rattle.std.specs.Prelude.{◌≡◌, Some};
+    ghost use Rattle.kn_assert.specs.Reading.{assertion_of};
+    ghost use Rattle.kn_store.specs.History.{NumberedText};
+
+    ghost Value = { NumberedText };
+
+    ghost view = { λ l. record { id = l.id; text = l.credential.text } };
+
+    ghost invariant = { λ l. assertion_of l.credential.text ≡ Some l.credential.assertion };
+}
+
+impl LiveCredential {
+    pub fn id(&self) -> u32
+        ensures { result ≡ self.now.id }
+    {
+        self.id
+    }
+
+    pub fn credential(&self) -> &Credential
+        ensures text { result.now.text ≡ self.now.text }
+        ensures reading { assertion_of self.now.text ≡ Some result.now.assertion }
+    {
+        &self.credential
+    }
+}

@@ -1,0 +1,32 @@
+//! Why the shared credentials aren't changed.
+
+use kn_base::NoMemory;
+
+/// Why a change is refused, in the order in which it is tried. The limits are keynoted's own, and each number is the
+/// quantity before the change.
+#[derive(Debug, Clone, Copy, PartialEq, Eq, Drop)]
+pub enum StoreFault {
+    /// Fault 1: the id to be removed isn't that of a live credential.
+    Unknown { id: u32 },
+    /// Fault 2: there are `count` live credentials, as many as there may be.
+    LiveFull { count: u32 },
+    /// Fault 3: the live credentials have `bytes` bytes, and with the text they would pass the limit.
+    BytesFull { bytes: u32 },
+    /// Fault 4: there were `updates` changes, as many as there may be.
+    HistoryFull { updates: u32 },
+    /// Fault 5: all texts that were ever added have `bytes` bytes, and with the text they would pass the limit.
+    LogFull { bytes: u32 },
+    /// There was no memory for the change.
+    NoMemory,
+}
+
+impl From<NoMemory> for StoreFault {
+    ghost use Rattle.std.specs.Prelude.{◌≡◌};
+    ghost use Rattle.kn_store.specs.declared.fault.StoreFault.TheVariants as F;
+
+    ghost from_gives = { λ _ fault. fault ≡ F.NoMemory };
+
+    fn from(_none: NoMemory) -> StoreFault {
+        StoreFault::NoMemory
+    }
+}

@@ -1,0 +1,21 @@
+//! The shared credentials: histories of updates, the book that keeps one, and its versions.
+#![tactic(auto)]
+
+mod book;
+mod credential;
+mod fault;
+mod items;
+pub mod laws;
+mod live_set;
+mod pages;
+#[cfg(test)]
+mod tests;
+mod update;
+mod version;
+
+pub use book::{Book, Done, Prepared};
+pub use credential::{Credential, LiveCredential, Ready};
+pub use fault::StoreFault;
+pub use items::Items;
+pub use update::{CHANGES, Change, Numbered, Update};
+pub use version::{Snapshot, Version};

@@ -1,0 +1,206 @@
+//! The live credentials with what is counted beside them.
+
+ghost use Rattle.std.specs.Prelude.{◌≡◌, ◌⊎◌, ◌<◌, ◌≤◌, ◌+◌, ◌^◌, ◌==◌, false, [], map, length, None, Some, IfOk, IfErr, OnOk, MatchOption, slice_get};
+ghost use Rattle.std.specs.List.{list_any};
+ghost use Rattle.std.specs.Arc.{arc_value};
+ghost use Rattle.kn_base.specs.declared.limits.TheConstants.{LIVE_CREDENTIALS as MOST_CREDENTIALS, LIVE_BYTES as MOST_BYTES, UPDATES as MOST_UPDATES};
+ghost use Rattle.kn_store.specs.declared.fault.StoreFault.TheVariants.{NoMemory as Lacking};
+ghost use Rattle.kn_store.specs.History.{text_bytes};
+ghost use Rattle.kn_store.specs.LiveView.{live_view, refusal_of_size, refusal_of_removal, with_addition, with_removal, IdsAscend};
+ghost use Rattle.kn_store.specs.Pages.{joined};
+ghost use Rattle.kn_store.specs.Places.{IsIdAt, IsPlaceOf, ends_before};
+
+use crate::credential::{LiveCredential, Ready};
+use crate::fault::StoreFault;
+use crate::items::Items;
+use crate::pages::Pages;
+use kn_base::NoMemory;
+use kn_base::limits::{LIVE_BYTES, LIVE_CREDENTIALS, LOGGED_BYTES, UPDATES};
+use std::alloc::Global;
+use std::marker::Model;
+use std::sync::Arc;
+
+/// The most credentials of a page.
+pub(crate) const PAGE: u32 = 64;
+
+/// The live credentials in order of id, with the numbers that limits ask for.
+#[derive(Drop)]
+pub(crate) struct LiveSet {
+    pages: Pages<LiveCredential>,
+    /// How many are live.
+    count: u32,
+    /// The bytes of their texts.
+    bytes: u32,
+    /// How many changes there were.
+    changes: u32,
+    /// The bytes of all texts that were ever added.
+    logged: u32,
+    /// How many additions there were.
+    added: u32,
+}
+
+impl Model for LiveSet {
+    ghost use Rattle.kn_store.specs.LiveView.{LiveView};
+
+    ghost Value = { LiveView };
+
+    ghost use Rattle.kn_store.specs.LiveSets.{view_of_set, IsLiveSet};
+
+    ghost view = { view_of_set };
+
+    ghost invariant = { IsLiveSet };
+}
+
+impl LiveSet {
+    /// None are live, and there was no change.
+    pub(crate) fn empty(alloc: Global) -> LiveSet
+        ensures { result ≡ live_view [] }
+    {
+        LiveSet {
+            pages: Pages::empty(alloc),
+            count: 0,
+            bytes: 0,
+            changes: 0,
+            logged: 0,
+            added: 0,
+        }
+    }
+
+    pub(crate) fn count(&self) -> u32
+        ensures count { result ≡ length self.now.credentials }
+        ensures limit { length self.now.credentials ≤ MOST_CREDENTIALS }
+        ensures bytes { text_bytes self.now.credentials ≤ MOST_BYTES }
+        ensures ids { IdsAscend 0 self.now.credentials }
+    {
+        self.count
+    }
+
+    pub(crate) fn changes(&self) -> u32
+        ensures count { result ≡ self.now.changes }
+        ensures limit { result ≤ MOST_UPDATES }
+    {
+        self.changes
+    }
+
+    pub(crate) fn next_id(&self) -> u32
+        ensures { result ≡ self.now.added + 1 }
+    {
+        self.added + 1
+    }
+
+    pub(crate) fn get(&self, i: u32) -> &LiveCredential
+        requires { i < length self.now.credentials }
+        ensures { slice_get self.now.credentials i ≡ Some result.now }
+    {
+        self.pages.get(i)
+    }
+
+    pub(crate) fn iter(&self) -> Items<'_, LiveCredential>
+        ensures { result ≡ self.now.credentials }
+    {
+        self.pages.iter()
+    }
+
+    /// The first fault of an addition of so many bytes.
+    pub(crate) fn refusal_of_size(&self, size: usize) -> Option<StoreFault>
+        ensures { result ≡ refusal_of_size self.now size }
+    {
+        let (bytes, logged) = (self.bytes as usize, self.logged as usize);
+        if self.count >= LIVE_CREDENTIALS {
+            Some(StoreFault::LiveFull { count: self.count })
+        } else if size > LIVE_BYTES - bytes {
+            Some(StoreFault::BytesFull { bytes: self.bytes })
+        } else if self.changes >= UPDATES {
+            Some(StoreFault::HistoryFull {
+                updates: self.changes,
+            })
+        } else if size > LOGGED_BYTES - logged {
+            Some(StoreFault::LogFull { bytes: self.logged })
+        } else {
+            None
+        }
+    }
+
+    /// These and one more.
+    pub(crate) fn with_addition(&self, alloc: Global, ready: Ready) -> Result<LiveSet, NoMemory>
+        requires accepted { refusal_of_size self.now (length ready) ≡ None }
+        ensures ok { IfOk result (λ set. set ≡ with_addition self.now ready) }
+    {
+        let size = ready.text().len() as u32;
+        let added = self.added + 1;
+        let pages = self.pages.with_item(alloc, PAGE, ready.numbered(added))?;
+        Ok(LiveSet {
+            pages,
+            count: self.count + 1,
+            bytes: self.bytes + size,
+            changes: self.changes + 1,
+            logged: self.logged + size,
+            added,
+        })
+    }
+
+    /// These without the one of this id.
+    pub(crate) fn with_removal(&self, alloc: Global, id: u32) -> Result<LiveSet, StoreFault>
+        ensures ok { IfOk result (λ set. set ≡ with_removal self.now id) }
+        ensures accepted { OnOk result (refusal_of_removal self.now id ≡ None) }
+        ensures refused { IfErr result (λ fault. (fault ≡ Lacking) ⊎ (refusal_of_removal self.now id ≡ Some fault)) }
+    {
+        let Some((page, place)) = place_of(&self.pages, id) else {
+            return Err(StoreFault::Unknown { id });
+        };
+        if self.changes >= UPDATES {
+            return Err(StoreFault::HistoryFull {
+                updates: self.changes,
+            });
+        }
+        let size = self.pages.item(page, place).credential().text.len() as u32;
+        let Ok(pages) = self.pages.without_item(alloc, page, place) else {
+            return Err(StoreFault::NoMemory);
+        };
+        Ok(LiveSet {
+            pages,
+            count: self.count - 1,
+            bytes: self.bytes - size,
+            changes: self.changes + 1,
+            logged: self.logged,
+            added: self.added,
+        })
+    }
+}
+
+/// The page of this id and its place there, both counted from 0, or None where it isn't live.
+fn place_of(pages: &Pages<LiveCredential>, id: u32) -> Option<(u32, usize)>
+    requires ids { IdsAscend 0 (joined pages.now) }
+    ensures { MatchOption result (list_any (λ c. c.id == id) (joined pages.now) ≡ false) (λ place. IsPlaceOf id pages.now place.0 place.1) }
+{
+    for page in 0..pages.count() {
+        let items = pages.page(page);
+        if !ends_before(items, id) {
+            let place = place_in(items, id)?;
+            return Some((page, place));
+        }
+    }
+    None
+}
+
+/// Whether the last id of a page is below this.
+fn ends_before(page: &[Arc<LiveCredential>], id: u32) -> bool
+    ensures { result ≡ ends_before id (map arc_value page.now) }
+{
+    match page.last() {
+        Some(last) => last.id() < id,
+        None => true,
+    }
+}
+
+/// The place of this id in a page, counted from 0, or None where it isn't there.
+fn place_in(page: &[Arc<LiveCredential>], id: u32) -> Option<usize>
+    ensures { MatchOption result (list_any (λ c. c.id == id) (map arc_value page.now) ≡ false) (λ place. IsIdAt id (map arc_value page.now) place) }
+{
+    for place in 0..page.len() {
+        if page[place].id() == id {
+            return Some(place);
+        }
+    }
+    None
+}

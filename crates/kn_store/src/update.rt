@@ -1,0 +1,28 @@
+//! Updates of the shared credentials.
+
+use kn_base::{List, Octets};
+
+/// The most changes of an update, which has one at least.
+pub const CHANGES: u32 = 256;
+
+/// What a change does: it adds the credential of this text, or removes one.
+#[derive(Drop)]
+pub enum Change {
+    Add(Octets),
+    Remove,
+}
+
+/// A change with its id. The id of an addition is the number of additions so far, with itself; that of a removal is the
+/// one that it removes.
+#[derive(Drop)]
+pub struct Numbered {
+    pub change: Change,
+    pub id: u32,
+}
+
+/// An update of the caller's, with its changes in their order. ADD and DROP have one change.
+#[derive(Drop)]
+pub struct Update {
+    pub caller: u32,
+    pub changes: List<Numbered>,
+}
