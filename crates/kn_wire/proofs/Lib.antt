@@ -1,0 +1,12 @@
+pub mod Lines
+pub mod LineLengths
+pub mod Readings
+pub mod LineRequests
+pub mod LineDigits
+pub mod KeptLines
+pub mod Growing
+pub mod Pieces
+pub mod Splits
+pub mod Firsts
+pub mod Feeds
+pub mod Gathering

@@ -1,0 +1,12 @@
+pub mod Requests
+pub mod Replies
+pub mod Digits
+pub mod Feeding
+pub mod Pieces
+pub mod Laws
+pub mod Wired
+pub mod Lines
+pub mod Parts
+pub mod Firsts
+pub mod Feeds
+pub mod Gathering

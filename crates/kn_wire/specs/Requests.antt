@@ -1,0 +1,167 @@
+-- The requests of a byte stream (keynoted's own line protocol).
+use Rattle.std.specs.Prelude.{ℕ, ◌≡◌, ◌+◌, ◌%◌, Bool, true, ◌==◌, ◌&&◌, not, nat_le, nat_lt, List, [], ◌∷◌, length, take, drop, codes, slice_get, Option, Some, None, option_and_then, option_map, is_some, if◌then◌else◌}
+use Rattle.std.specs.List.{list_all, before_first, after_first, position_or_len}
+use Rattle.std.specs.Str.{bytes_eq}
+use Rattle.kn_base.specs.Decimal.{decimal_of}
+use Rattle.kn_base.specs.declared.limits.TheConstants.{ASSERTION_BYTES, LINE_BYTES}
+use Rattle.kn_wire.specs.declared.fault.WireFault.{WireFault}
+use Rattle.kn_wire.specs.declared.fault.WireFault.TheVariants.{Syntax, Command, Long, Block}
+
+-- what a line, or a line and its block, asks; or a fault
+pub data Request : Type 0 where
+  Open : Request
+  Close : ℕ → Request
+  Pin : ℕ → Request
+  Assert : ℕ → List ℕ → Request
+  Retract : ℕ → ℕ → Request
+  Set : ℕ → List ℕ → List ℕ → Request
+  SetHex : ℕ → List ℕ → List ℕ → Request
+  Unset : ℕ → List ℕ → Request
+  Auth : ℕ → List ℕ → Request
+  Unauth : ℕ → List ℕ → Request
+  Clear : ℕ → Request
+  Query : ℕ → List ℕ → Request
+  Admin : List ℕ → Request
+  Add : List ℕ → Request
+  Drop : ℕ → Request
+  Bye : Request
+  Faulty : WireFault → Request
+
+-- the command words
+pub data Word : Type 0 where
+  OPEN CLOSE PIN ASSERT RETRACT SET SETX UNSET AUTH UNAUTH CLEAR QUERY ADMIN ADD DROP BYE : Word
+
+abbrev pub word_of : List ℕ → Option Word
+word_of text =
+    if bytes_eq text (codes "OPEN") then Some OPEN
+    else if bytes_eq text (codes "CLOSE") then Some CLOSE
+    else if bytes_eq text (codes "PIN") then Some PIN
+    else if bytes_eq text (codes "ASSERT") then Some ASSERT
+    else if bytes_eq text (codes "RETRACT") then Some RETRACT
+    else if bytes_eq text (codes "SET") then Some SET
+    else if bytes_eq text (codes "SETX") then Some SETX
+    else if bytes_eq text (codes "UNSET") then Some UNSET
+    else if bytes_eq text (codes "AUTH") then Some AUTH
+    else if bytes_eq text (codes "UNAUTH") then Some UNAUTH
+    else if bytes_eq text (codes "CLEAR") then Some CLEAR
+    else if bytes_eq text (codes "QUERY") then Some QUERY
+    else if bytes_eq text (codes "ADMIN") then Some ADMIN
+    else if bytes_eq text (codes "ADD") then Some ADD
+    else if bytes_eq text (codes "DROP") then Some DROP
+    else if bytes_eq text (codes "BYE") then Some BYE
+    else None
+
+-- what a line names: a whole request, or one that a block of so many bytes completes
+pub data Line : Type 0 where
+  Whole : Request → Line
+  Blocked : ℕ → (List ℕ → Request) → Line
+
+abbrev pub is_space : ℕ → Bool
+is_space b = b == 32
+
+abbrev pub is_newline : ℕ → Bool
+is_newline b = b == 10
+
+-- what follows the first space, if there is one
+abbrev pub behind_space : List ℕ → Option (List ℕ)
+behind_space [] = None
+behind_space (b ∷ bs) = if is_space b then Some bs else behind_space bs
+
+-- a number and a space, and what follows
+abbrev pub with_number : List ℕ → (ℕ → List ℕ → Option Line) → Option Line
+with_number text f = option_and_then (λ rest. option_and_then (λ n. f n rest) (decimal_of (before_first is_space text))) (behind_space text)
+
+-- a letter and a number
+abbrev pub number_after : ℕ → List ℕ → Option ℕ
+number_after letter [] = None
+number_after letter (b ∷ bs) = if b == letter then decimal_of bs else None
+
+-- a word of at least one byte, without a space
+abbrev pub is_word : List ℕ → Bool
+is_word text = nat_lt 0 (length text) && list_all (λ b. not (is_space b)) text
+
+abbrev pub is_hex_digit : ℕ → Bool
+is_hex_digit b = if nat_le 48 b && nat_le b 57 then true else if nat_le 65 b && nat_le b 70 then true else nat_le 97 b && nat_le b 102
+
+-- an even number of hexadecimal digits
+abbrev pub are_digits : List ℕ → Bool
+are_digits text = list_all is_hex_digit text && (length text % 2 == 0)
+
+abbrev pub or_empty : Option (List ℕ) → List ℕ
+or_empty None = []
+or_empty (Some text) = text
+
+abbrev pub when : Bool → Request → Option Line
+when b r = if b then Some (Whole r) else None
+
+-- the line that a command word and what follows it spell; nothing follows a word alone
+abbrev pub line_of_word : Word → Option (List ℕ) → Option Line
+line_of_word OPEN rest = when (not (is_some rest)) Open
+line_of_word BYE rest = when (not (is_some rest)) Bye
+line_of_word CLOSE rest = option_and_then (λ text. option_map (λ s. Whole (Close s)) (decimal_of text)) rest
+line_of_word PIN rest = option_and_then (λ text. option_map (λ s. Whole (Pin s)) (decimal_of text)) rest
+line_of_word CLEAR rest = option_and_then (λ text. option_map (λ s. Whole (Clear s)) (decimal_of text)) rest
+line_of_word ASSERT rest = option_and_then (λ text. with_number text (λ s more. option_map (λ n. Blocked n (Assert s)) (decimal_of more))) rest
+line_of_word RETRACT rest = option_and_then (λ text. with_number text (λ s more. option_map (λ k. Whole (Retract s k)) (number_after 112 more))) rest
+line_of_word SET rest = option_and_then (λ text. with_number text (λ s more. when (is_word (before_first is_space more)) (Set s (before_first is_space more) (after_first is_space more)))) rest
+line_of_word SETX rest = option_and_then (λ text. with_number text (λ s more. when (is_word (before_first is_space more) && are_digits (after_first is_space more)) (SetHex s (before_first is_space more) (after_first is_space more)))) rest
+line_of_word UNSET rest = option_and_then (λ text. with_number text (λ s more. when (is_word more) (Unset s more))) rest
+line_of_word AUTH rest = option_and_then (λ text. with_number text (λ s more. Some (Whole (Auth s more)))) rest
+line_of_word UNAUTH rest = option_and_then (λ text. with_number text (λ s more. Some (Whole (Unauth s more)))) rest
+line_of_word QUERY rest = option_and_then (λ text. with_number text (λ s more. Some (Whole (Query s more)))) rest
+line_of_word ADMIN rest = option_and_then (λ text. when (nat_lt 0 (length text) && are_digits text) (Admin text)) rest
+line_of_word ADD rest = option_and_then (λ text. option_map (λ n. Blocked n Add) (decimal_of text)) rest
+line_of_word DROP rest = option_and_then (λ text. option_map (λ k. Whole (Drop k)) (number_after 97 text)) rest
+
+-- a line that is not of the form of its command
+abbrev pub or_malformed : Option Line → Line
+or_malformed None = Whole (Faulty Syntax)
+or_malformed (Some line) = line
+
+abbrev pub line_of_command : Option Word → Option (List ℕ) → Line
+line_of_command None rest = Whole (Faulty Command)
+line_of_command (Some word) rest = or_malformed (line_of_word word rest)
+
+-- the words are separated by one space
+abbrev pub line_of : List ℕ → Line
+line_of text = line_of_command (word_of (before_first is_space text)) (behind_space text)
+
+abbrev pub is_return : ℕ → Bool
+is_return b = b == 13
+
+-- the line without a carriage return at its end
+abbrev pub without_return : List ℕ → List ℕ
+without_return [] = []
+without_return (b ∷ []) = if is_return b then [] else b ∷ []
+without_return (b ∷ c ∷ bs) = b ∷ without_return (c ∷ bs)
+
+-- the request of a block, decided by the byte behind it, and what is left
+abbrev pub first_of_block : ℕ → (List ℕ → Request) → List ℕ → Option ℕ → Option (Request × List ℕ)
+first_of_block n request text None = None
+first_of_block n request text (Some b) = if b == 10 then Some (request (take n text), drop (n + 1) text) else Some (Faulty (Block n), [])
+
+-- the request of a line and of what follows it, if that is there, and what is left
+abbrev pub first_of_line : Line → List ℕ → Option (Request × List ℕ)
+first_of_line (Whole request) text = Some (request, text)
+first_of_line (Blocked n request) text = if nat_lt ASSERTION_BYTES n then Some (Faulty (Block n), []) else first_of_block n request text (slice_get text n)
+
+-- how many bytes stand before the first newline, or in all where there is none
+abbrev pub line_length : List ℕ → ℕ
+line_length text = position_or_len is_newline text
+
+-- The first request of a text, if it is there, and what is left. A long line is decided by its first bytes.
+abbrev pub first_of : List ℕ → Option (Request × List ℕ)
+first_of text =
+    if nat_lt LINE_BYTES (line_length text) then Some (Faulty Long, after_first is_newline text)
+    else if nat_lt (line_length text) (length text) then first_of_line (line_of (without_return (before_first is_newline text))) (after_first is_newline text)
+    else None
+
+-- the text begins with these requests, and this is left
+abbrev pub Takes : List ℕ → List Request → List ℕ → Type 0
+Takes text [] rest = text ≡ rest
+Takes text (request ∷ requests) rest = (left : List ℕ) × (first_of text ≡ Some (request, left)) × Takes left requests rest
+
+-- the requests of a text are these, and this is the rest
+pub record AreRequests (text : List ℕ) (requests : List Request) (rest : List ℕ) : Type 0 where
+  pub taken : Takes text requests rest
+  pub no_more : first_of rest ≡ None

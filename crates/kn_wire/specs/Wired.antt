@@ -1,0 +1,37 @@
+-- What requests and replies in code stand for.
+use Rattle.kn_wire.specs.declared.request.Request.{Request}
+use Rattle.kn_wire.specs.declared.request.Request.TheVariants as Q
+use Rattle.kn_wire.specs.declared.reply.Reply.{Reply}
+use Rattle.kn_wire.specs.declared.reply.Reply.TheVariants as P
+use Rattle.kn_wire.specs.Requests as D
+use Rattle.kn_wire.specs.Replies as A
+
+-- what a request asks
+abbrev pub request_of : Request → D.Request
+request_of Q.Start = D.Open
+request_of (Q.Close s) = D.Close s
+request_of (Q.Pin s) = D.Pin s
+request_of (Q.Assert s block) = D.Assert s block.now
+request_of (Q.Retract s k) = D.Retract s k
+request_of (Q.Set s name value) = D.Set s name.now value.now
+request_of (Q.SetHex s name digits) = D.SetHex s name.now digits.now
+request_of (Q.Unset s name) = D.Unset s name.now
+request_of (Q.Auth s principal) = D.Auth s principal.now
+request_of (Q.Unauth s principal) = D.Unauth s principal.now
+request_of (Q.Clear s) = D.Clear s
+request_of (Q.Query s values) = D.Query s values.now
+request_of (Q.Admin digits) = D.Admin digits.now
+request_of (Q.Add block) = D.Add block.now
+request_of (Q.Remove k) = D.Drop k
+request_of Q.Bye = D.Bye
+
+-- what a reply tells
+abbrev pub reply_of : Reply → A.Reply
+reply_of P.Ok = A.Done
+reply_of (P.Started s version) = A.Started s version
+reply_of (P.Number version) = A.Number version
+reply_of (P.Private k) = A.PrivateAdded k
+reply_of (P.Added k version) = A.Added k version
+reply_of (P.Value index name version rows) = A.Value index name.now version rows.now
+reply_of (P.No refusal) = A.No refusal
+reply_of P.NoMemory = A.NoMemory

@@ -1,0 +1,92 @@
+//! The first request of a text.
+ghost use Rattle.std.specs.Prelude.{◌≡◌, ◌+◌, ◌<◌, ◌≤◌, length};
+ghost use Rattle.kn_wire.specs.Requests.{line_length};
+ghost use Rattle.kn_wire.specs.Firsts.{IsFirst, NamesBlock};
+
+use crate::line::read_line;
+use crate::part::Part;
+use crate::split::{place_of, without_return};
+use kn_base::limits::{ASSERTION_BYTES, LINE_BYTES};
+
+/// The first request of a text.
+#[derive(Debug, Clone, Copy, PartialEq, Eq, Drop)]
+pub(crate) enum First {
+    /// It isn't there yet: so many bytes have no newline among them, and fewer than the bytes needed hold no request.
+    Waits {
+        searched: usize,
+        needed: usize,
+    },
+    /// A line without its carriage return, and its block, which is empty where the line names none. So many bytes are
+    /// spent.
+    Spends {
+        line: Part,
+        block: Part,
+        bytes: usize,
+    },
+    /// A long line of so many bytes, with a newline behind them or not.
+    Long {
+        bytes: usize,
+    },
+    /// A block of `n` bytes is above the limit, or no newline follows it.
+    Unended {
+        n: usize,
+    },
+}
+
+/// The first request of a text, if no newline stands among its first bytes that were searched.
+pub(crate) fn read_first(text: &[u8], searched: usize) -> First
+    requires { searched ≤ line_length text.now }
+    ensures { IsFirst text.now result }
+{
+    let end = place_of(b'\n', text, searched);
+    if end > LINE_BYTES {
+        return First::Long { bytes: end };
+    }
+    if end == text.len() {
+        return First::Waits {
+            searched: end,
+            needed: end + 1,
+        };
+    }
+    let line = without_return(text.split_at(end).0);
+    match read_line(line).block_len() {
+        Some(n) => read_block(text, line.len(), end, n),
+        None => First::Spends {
+            line: Part {
+                start: 0,
+                len: line.len(),
+            },
+            block: Part { start: 0, len: 0 },
+            bytes: end + 1,
+        },
+    }
+}
+
+/// The first request of a text whose line, which so many bytes without its carriage return and ends there, names a
+/// block of `n` bytes.
+fn read_block(text: &[u8], line: usize, end: usize, n: usize) -> First
+    requires { NamesBlock text.now line end n }
+    ensures { IsFirst text.now result }
+{
+    let start = end + 1;
+    if n > ASSERTION_BYTES {
+        return First::Unended { n };
+    }
+    if text.len() <= start + n {
+        return First::Waits {
+            searched: end,
+            needed: start + n + 1,
+        };
+    }
+    if text[start + n] != b'\n' {
+        return First::Unended { n };
+    }
+    First::Spends {
+        line: Part {
+            start: 0,
+            len: line,
+        },
+        block: Part { start, len: n },
+        bytes: start + n + 1,
+    }
+}

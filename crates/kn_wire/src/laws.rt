@@ -1,0 +1,24 @@
+//! Laws of requests, each of them the contract of a function that does nothing.
+
+ghost use Rattle.kn_wire.specs.Laws.{LineIsFirst, SomeReading, OneReading, RequestsGrow, PiecesAreRequests};
+
+/// The first request of a text that begins with a line of at most 8,192 bytes and its newline is that of the line.
+pub fn line_is_first()
+    ensures { LineIsFirst }
+{}
+
+/// A text has one list of requests, and one rest is left of it.
+pub fn one_reading()
+    ensures some { SomeReading }
+    ensures no_other { OneReading }
+{}
+
+/// The first requests of a text are the first ones of a longer text too.
+pub fn requests_grow()
+    ensures { RequestsGrow }
+{}
+
+/// The requests of a stream don't depend on how it is cut.
+pub fn pieces_are_requests()
+    ensures { PiecesAreRequests }
+{}

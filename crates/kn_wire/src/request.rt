@@ -1,0 +1,67 @@
+//! What a request asks.
+
+/// A request of the line protocol (keynoted's own). Its texts lie in the feed's buffer.
+///
+/// `s` is the number of a session, `k` the number of an assertion behind its letter.
+#[derive(Debug, Clone, Copy)]
+pub enum Request<'a> {
+    /// Opens a session: `OPEN`.
+    Start,
+    Close {
+        s: u32,
+    },
+    Pin {
+        s: u32,
+    },
+    Assert {
+        s: u32,
+        block: &'a [u8],
+    },
+    Retract {
+        s: u32,
+        k: u32,
+    },
+    Set {
+        s: u32,
+        name: &'a [u8],
+        value: &'a [u8],
+    },
+    /// The value as an even number of hexadecimal digits.
+    SetHex {
+        s: u32,
+        name: &'a [u8],
+        digits: &'a [u8],
+    },
+    Unset {
+        s: u32,
+        name: &'a [u8],
+    },
+    Auth {
+        s: u32,
+        principal: &'a [u8],
+    },
+    Unauth {
+        s: u32,
+        principal: &'a [u8],
+    },
+    Clear {
+        s: u32,
+    },
+    /// The compliance values as the line gives them, the lowest first, with commas between them.
+    Query {
+        s: u32,
+        values: &'a [u8],
+    },
+    /// The secret as an even number of hexadecimal digits, at least two.
+    Admin {
+        digits: &'a [u8],
+    },
+    Add {
+        block: &'a [u8],
+    },
+    /// Removes a shared credential: `DROP`.
+    Remove {
+        k: u32,
+    },
+    Bye,
+}

@@ -1,0 +1,43 @@
+//! Cutting texts at a byte.
+ghost use Rattle.std.specs.Prelude.{◌≡◌, ◌≤◌, ◌==◌, length, option_map};
+ghost use Rattle.std.specs.List.{before_first, position_or_len};
+ghost use Rattle.kn_wire.specs.Requests.{behind_space, is_space, without_return};
+
+/// The place of the first byte `wanted`, or the length of the text where there is none, if it isn't among the first
+/// `searched` bytes.
+pub(crate) fn place_of(wanted: u8, text: &[u8], searched: usize) -> usize
+    requires { searched ≤ position_or_len (λ byte. byte == wanted) text.now }
+    ensures place { result ≡ position_or_len (λ byte. byte == wanted) text.now }
+    ensures within { result ≤ length text.now }
+{
+    let mut at = searched;
+    while at < text.len() && text[at] != wanted {
+        at += 1;
+    }
+    at
+}
+
+/// The bytes before the first space, and those behind it, if there is one.
+#[tactic(auto, using(crate::proofs::Splits::behind_first, crate::proofs::Splits::behind_none))]
+pub(crate) fn split_word(text: &[u8]) -> (&[u8], Option<&[u8]>)
+    ensures word { result.0.now ≡ before_first is_space text.now }
+    ensures rest { option_map (λ behind. behind.now) result.1 ≡ behind_space text.now }
+{
+    let at = place_of(b' ', text, 0);
+    let word = text.split_at(at).0;
+    if at == text.len() {
+        (word, None)
+    } else {
+        (word, Some(text.split_at(at + 1).1))
+    }
+}
+
+/// A line without a carriage return at its end.
+pub(crate) fn without_return(line: &[u8]) -> &[u8]
+    ensures { result.now ≡ without_return line.now }
+{
+    match line.strip_suffix(b"\r") {
+        Some(bare) => bare,
+        None => line,
+    }
+}

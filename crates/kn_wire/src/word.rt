@@ -1,0 +1,69 @@
+//! The words of a line, which are separated by one space.
+
+/// A command word.
+#[derive(Debug, Clone, Copy, PartialEq, Eq)]
+pub(crate) enum Word {
+    Open,
+    Close,
+    Pin,
+    Assert,
+    Retract,
+    Set,
+    SetHex,
+    Unset,
+    Auth,
+    Unauth,
+    Clear,
+    Query,
+    Admin,
+    Add,
+    Remove,
+    Bye,
+}
+
+impl Word {
+    ghost use Rattle.std.specs.Prelude.{◌≡◌, option_map};
+    ghost use Rattle.kn_wire.specs.Lines.{command_of};
+    ghost use Rattle.kn_wire.specs.Requests.{word_of};
+
+    /// The command that a text spells; None where it spells none.
+    pub(crate) fn of(text: &[u8]) -> Option<Word>
+        ensures { option_map command_of result ≡ word_of text.now }
+    {
+        if text == b"OPEN".as_slice() {
+            Some(Word::Open)
+        } else if text == b"CLOSE".as_slice() {
+            Some(Word::Close)
+        } else if text == b"PIN".as_slice() {
+            Some(Word::Pin)
+        } else if text == b"ASSERT".as_slice() {
+            Some(Word::Assert)
+        } else if text == b"RETRACT".as_slice() {
+            Some(Word::Retract)
+        } else if text == b"SET".as_slice() {
+            Some(Word::Set)
+        } else if text == b"SETX".as_slice() {
+            Some(Word::SetHex)
+        } else if text == b"UNSET".as_slice() {
+            Some(Word::Unset)
+        } else if text == b"AUTH".as_slice() {
+            Some(Word::Auth)
+        } else if text == b"UNAUTH".as_slice() {
+            Some(Word::Unauth)
+        } else if text == b"CLEAR".as_slice() {
+            Some(Word::Clear)
+        } else if text == b"QUERY".as_slice() {
+            Some(Word::Query)
+        } else if text == b"ADMIN".as_slice() {
+            Some(Word::Admin)
+        } else if text == b"ADD".as_slice() {
+            Some(Word::Add)
+        } else if text == b"DROP".as_slice() {
+            Some(Word::Remove)
+        } else if text == b"BYE".as_slice() {
+            Some(Word::Bye)
+        } else {
+            None
+        }
+    }
+}
