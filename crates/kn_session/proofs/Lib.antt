@@ -1,0 +1,7 @@
+pub mod OneAt
+pub mod Closing
+pub mod Calls
+pub mod Naming
+pub mod Keeping
+pub mod Taking
+pub mod Together

@@ -1,0 +1,5 @@
+pub mod Sessions
+pub mod Views
+pub mod Connection
+pub mod Placed
+pub mod Laws

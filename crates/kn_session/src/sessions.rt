@@ -1,0 +1,258 @@
+//! The open sessions of a connection.
+ghost use Rattle.std.specs.Prelude.{◌≡◌, ◌⊎◌, ◌↔◌, ◌<◌, ◌+◌, ◌==◌, ◌^◌, [], length, position, Some, None, Option, IsTrue, IfOk, IfErr, OnOk, OnErr};
+ghost use Rattle.std.specs.Option.{ForSome, IsSomeAnd};
+ghost use Rattle.std.specs.Arc.{arc_value};
+ghost use Rattle.kn_env.specs.Environment.{AreRequesters};
+ghost use Rattle.kn_assert.specs.Reading.{assertion_of};
+ghost use Rattle.kn_session.specs.Sessions.{Session, session_in, with_started, start_fault, private_fault, retract_fault, set_fault, unset_fault, auth_fault, unauth_fault, pin_at, add_private, take_private, set_attribute, unset_attribute, add_requester, take_requester, cleared};
+ghost use Rattle.kn_session.specs.Placed.{IsOneAt};
+ghost use Rattle.kn_session.specs.declared.fault.SessionFault.{SessionFault};
+ghost use Rattle.kn_session.specs.declared.fault.SessionFault.TheVariants as F;
+
+use crate::fault::SessionFault;
+use crate::session::OpenSession;
+use crate::view::View;
+use kn_base::limits::SESSIONS;
+use kn_store::Snapshot;
+use kn_trees::Assertion;
+use std::alloc::Global;
+use std::marker::Model;
+
+/// The sessions of one connection, seen as how many it started and those that are open.
+///
+/// A session is named by its number. Each call leaves all other sessions as they were, and a call that is refused
+/// leaves all of them.
+#[derive(Drop)]
+pub struct Sessions {
+    alloc: Global,
+    started: u32,
+    sessions: Vec<OpenSession>,
+}
+
+impl Model for Sessions {
+    ghost use Rattle.kn_session.specs.Sessions.{OpenSessions};
+    ghost use Rattle.kn_session.specs.Connection.{AreOpen};
+
+    ghost Value = { OpenSessions };
+
+    ghost view = { λ s. record { started = s.started; sessions = s.sessions.items } };
+
+    ghost invariant = { λ s. AreOpen s.started s.sessions.items };
+}
+
+impl Sessions {
+    ghost use Rattle.kn_session.specs.Connection.{fault_at, with_session, with_closed};
+    ghost use Rattle.kn_session.specs.Views.{session_of_view, AreReadPrivates, ArePrivates, AreNormalForms};
+
+    /// No sessions. Takes no memory.
+    pub fn new(alloc: Global) -> Sessions
+        ensures { result ≡ record { started = 0; sessions = [] } }
+    {
+        Sessions {
+            alloc,
+            started: 0,
+            sessions: Vec::new(alloc),
+        }
+    }
+
+    /// Starts a session that is pinned to a version, and gives its number: how many were started, with itself.
+    pub fn start(&mut self, snapshot: Snapshot) -> Result<u32, SessionFault>
+        requires few { self.old.started < 2 ^ 31 }
+        ensures number { IfOk result (λ s. s ≡ self.old.started + 1) }
+        ensures accepted { OnOk result (start_fault self.old.sessions ≡ None) }
+        ensures ok { OnOk result (self.new ≡ record { started = self.old.started + 1; sessions = with_started self.old.started self.old.sessions (arc_value snapshot) }) }
+        ensures err { OnErr result (self.new ≡ self.old) }
+        ensures fault { IfErr result (λ fault. (fault ≡ F.NoMemory) ⊎ (start_fault self.old.sessions ≡ Some fault)) }
+    {
+        let count = self.sessions.len() as u32;
+        if count >= SESSIONS {
+            return Err(SessionFault::Sessions { count });
+        }
+        let number = self.started + 1;
+        match self
+            .sessions
+            .push(OpenSession::new(self.alloc, number, snapshot))
+        {
+            Ok(()) => {}
+            Err(_) => return Err(SessionFault::NoMemory),
+        }
+        self.started = number;
+        Ok(number)
+    }
+
+    // The place of the session of this number.
+    fn place(&self, s: u32) -> Result<usize, SessionFault>
+        ensures place { IfOk result (IsOneAt (λ x. x.number == s) self.now.sessions) }
+        ensures fault { IfErr result (λ fault. (f : Session → Option SessionFault) → fault_at self.now s f ≡ Some fault) }
+    {
+        match place_of_number(self.sessions.as_slice(), s) {
+            Some(i) => Ok(i),
+            None => Err(SessionFault::Unknown { session: s }),
+        }
+    }
+
+    /// Closes a session. Takes no memory.
+    pub fn close(&mut self, s: u32) -> Result<(), SessionFault>
+        ensures accepted { OnOk result (fault_at self.old s (λ x. None) ≡ None) }
+        ensures ok { OnOk result (self.new ≡ with_closed self.old s) }
+        ensures err { OnErr result (self.new ≡ self.old) }
+        ensures fault { IfErr result (λ fault. fault_at self.old s (λ x. None) ≡ Some fault) }
+    {
+        let i = self.place(s)?;
+        let _closed = self.sessions.remove(i);
+        Ok(())
+    }
+
+    /// Pins a session to another version. Takes no memory.
+    pub fn repin(&mut self, s: u32, snapshot: Snapshot) -> Result<(), SessionFault>
+        ensures accepted { OnOk result (fault_at self.old s (λ x. None) ≡ None) }
+        ensures ok { OnOk result (self.new ≡ with_session self.old s (pin_at (arc_value snapshot))) }
+        ensures err { OnErr result (self.new ≡ self.old) }
+        ensures fault { IfErr result (λ fault. fault_at self.old s (λ x. None) ≡ Some fault) }
+    {
+        let i = self.place(s)?;
+        let session = &mut self.sessions[i];
+        session.pin(snapshot);
+        Ok(())
+    }
+
+    /// Takes all attributes and all requesters of a session away; its private assertions and its version stay. Takes no
+    /// memory.
+    pub fn clear(&mut self, s: u32) -> Result<(), SessionFault>
+        ensures accepted { OnOk result (fault_at self.old s (λ x. None) ≡ None) }
+        ensures ok { OnOk result (self.new ≡ with_session self.old s cleared) }
+        ensures err { OnErr result (self.new ≡ self.old) }
+        ensures fault { IfErr result (λ fault. fault_at self.old s (λ x. None) ≡ Some fault) }
+    {
+        let i = self.place(s)?;
+        let alloc = self.alloc;
+        let session = &mut self.sessions[i];
+        session.clear(alloc);
+        Ok(())
+    }
+
+    /// Adds an assertion that this session alone asks with, and gives its id: how many were ever added to the session,
+    /// with itself.
+    pub fn add_private(
+        &mut self,
+        s: u32,
+        text: &[u8],
+        assertion: Assertion,
+    ) -> Result<u32, SessionFault>
+        requires reading { assertion_of text.now ≡ Some assertion }
+        requires few { ForSome (session_in self.old.sessions s) (λ x. x.made < 2 ^ 31) }
+        ensures id { IfOk result (λ id. IsSomeAnd (session_in self.old.sessions s) (λ x. id ≡ x.made + 1)) }
+        ensures accepted { OnOk result (fault_at self.old s (private_fault text.now assertion) ≡ None) }
+        ensures ok { OnOk result (self.new ≡ with_session self.old s (add_private text.now)) }
+        ensures err { OnErr result (self.new ≡ self.old) }
+        ensures fault { IfErr result (λ fault. (fault ≡ F.NoMemory) ⊎ (fault_at self.old s (private_fault text.now assertion) ≡ Some fault)) }
+    {
+        let i = self.place(s)?;
+        let alloc = self.alloc;
+        let session = &mut self.sessions[i];
+        session.add_private(alloc, text, assertion)
+    }
+
+    /// Takes the private assertion of this id away from a session. Takes no memory.
+    pub fn retract(&mut self, s: u32, id: u32) -> Result<(), SessionFault>
+        ensures accepted { OnOk result (fault_at self.old s (retract_fault id) ≡ None) }
+        ensures ok { OnOk result (self.new ≡ with_session self.old s (take_private id)) }
+        ensures err { OnErr result (self.new ≡ self.old) }
+        ensures fault { IfErr result (λ fault. fault_at self.old s (retract_fault id) ≡ Some fault) }
+    {
+        let i = self.place(s)?;
+        let session = &mut self.sessions[i];
+        session.retract(id)
+    }
+
+    /// Gives an attribute of a session this value. A name that is there keeps its place, and a new one comes last.
+    pub fn set(&mut self, s: u32, name: &[u8], value: &[u8]) -> Result<(), SessionFault>
+        ensures accepted { OnOk result (fault_at self.old s (set_fault name.now value.now) ≡ None) }
+        ensures ok { OnOk result (self.new ≡ with_session self.old s (set_attribute name.now value.now)) }
+        ensures err { OnErr result (self.new ≡ self.old) }
+        ensures fault { IfErr result (λ fault. (fault ≡ F.NoMemory) ⊎ (fault_at self.old s (set_fault name.now value.now) ≡ Some fault)) }
+    {
+        let i = self.place(s)?;
+        let session = &mut self.sessions[i];
+        session.set(name, value)
+    }
+
+    /// Takes an attribute away from a session. Takes no memory.
+    pub fn unset(&mut self, s: u32, name: &[u8]) -> Result<(), SessionFault>
+        ensures accepted { OnOk result (fault_at self.old s (unset_fault name.now) ≡ None) }
+        ensures ok { OnOk result (self.new ≡ with_session self.old s (unset_attribute name.now)) }
+        ensures err { OnErr result (self.new ≡ self.old) }
+        ensures fault { IfErr result (λ fault. fault_at self.old s (unset_fault name.now) ≡ Some fault) }
+    {
+        let i = self.place(s)?;
+        let session = &mut self.sessions[i];
+        session.unset(name)
+    }
+
+    /// Enters a requester of a session by the principal's normal form. One that is there keeps its place, and another one
+    /// comes last.
+    pub fn auth(&mut self, s: u32, principal: &[u8]) -> Result<(), SessionFault>
+        ensures accepted { OnOk result (fault_at self.old s (auth_fault principal.now) ≡ None) }
+        ensures ok { OnOk result (self.new ≡ with_session self.old s (add_requester principal.now)) }
+        ensures err { OnErr result (self.new ≡ self.old) }
+        ensures fault { IfErr result (λ fault. (fault ≡ F.NoMemory) ⊎ (fault_at self.old s (auth_fault principal.now) ≡ Some fault)) }
+    {
+        let i = self.place(s)?;
+        let alloc = self.alloc;
+        let session = &mut self.sessions[i];
+        session.auth(alloc, principal)
+    }
+
+    /// Takes a requester away from a session, who is found by the principal's normal form. Takes no memory.
+    pub fn unauth(&mut self, s: u32, principal: &[u8]) -> Result<(), SessionFault>
+        ensures accepted { OnOk result (fault_at self.old s (unauth_fault principal.now) ≡ None) }
+        ensures ok { OnOk result (self.new ≡ with_session self.old s (take_requester principal.now)) }
+        ensures err { OnErr result (self.new ≡ self.old) }
+        ensures fault { IfErr result (λ fault. fault_at self.old s (unauth_fault principal.now) ≡ Some fault) }
+    {
+        let i = self.place(s)?;
+        let session = &mut self.sessions[i];
+        session.unauth(principal)
+    }
+
+    /// What a session asks with. Takes no memory.
+    pub fn view(&self, s: u32) -> Result<View<'_>, SessionFault>
+        ensures session { IfOk result (λ view. session_in self.now.sessions s ≡ Some (session_of_view view)) }
+        ensures privates { IfOk result (λ view. ArePrivates (session_of_view view).privates) }
+        ensures readings { IfOk result (λ view. AreReadPrivates view.private.now) }
+        ensures requesters { IfOk result (λ view. AreRequesters view.requesters.now) }
+        ensures forms { IfOk result (λ view. AreNormalForms view.requesters.now) }
+        ensures fault { IfErr result (λ fault. fault_at self.now s (λ x. None) ≡ Some fault) }
+    {
+        let i = self.place(s)?;
+        let session = &self.sessions[i];
+        Ok(session.view())
+    }
+
+    /// How many sessions are open.
+    pub fn len(&self) -> u32
+        ensures { result ≡ length self.now.sessions }
+    {
+        self.sessions.len() as u32
+    }
+
+    pub fn is_empty(&self) -> bool
+        ensures { IsTrue result ↔ (self.now.sessions ≡ []) }
+    {
+        self.sessions.is_empty()
+    }
+
+    /// How many sessions were started.
+    pub fn started(&self) -> u32
+        ensures { result ≡ self.now.started }
+    {
+        self.started
+    }
+}
+
+// The place of the session of this number.
+fn place_of_number(sessions: &[OpenSession], s: u32) -> Option<usize>
+    ensures { result ≡ position (λ x. x.number == s) sessions.now }
+{
+    sessions.iter().position(|session| session.number() == s)
+}
