@@ -15,7 +15,7 @@ use Rattle.kn_meaning.specs.declared.plain.Level.{Level}
 use Rattle.kn_meaning.specs.declared.plain.Stated.{Stated}
 use Rattle.kn_meaning.specs.Formulas.{Levels}
 use Rattle.kn_meaning.specs.Equations.{Equations, Statement, worth, is_requester}
-use Rattle.kn_meaning.specs.Tables.{level_in, entry_of, entries_of, statement_of, equations_in}
+use Rattle.kn_meaning.specs.Tables.{level_in, entry_of, entries_of, statement_in, equations_from}
 use Rattle.kn_meaning.specs.Proofs.{row_level, levels_by, Supports, IsRow, AreRows, IsClosed, IsProof}
 use Rattle.kn_laws.specs.Tested.{is_same_id, supports, has_entry, may_follow, with_row, all_follow, table_after, is_settled, is_closed, ends_proof}
 use Rattle.kn_laws.proofs.Turned.{worth-below}
@@ -255,6 +255,6 @@ module _ (e : Equations) where
           (and_from (is_closed e.top e.statements last) (level_in last policy == level) (closed.1 h.closed) (eq-eqb (level_in last policy) level (stands.level policy ∙ h.claim)))
 
 pub ends_proof-Decides : (top : ℕ) (requesters : List (List ℕ)) (stated : List Stated) (rows : List NamedRow) (level : ℕ) (found : Bool)
-    → found ≡ ends_proof top (map statement_of stated) (entries_of top requesters) rows level → Decides found (IsProof (equations_in top requesters stated) rows level)
+    → found ≡ ends_proof top (map statement_in stated) (entries_of top requesters) rows level → Decides found (IsProof (equations_from top requesters stated) rows level)
 ends_proof-Decides top requesters stated rows level found is =
-    Decides-at found (ends_proof top (map statement_of stated) (entries_of top requesters) rows level) is (Decides-proof (equations_in top requesters stated) rows level)
+    Decides-at found (ends_proof top (map statement_in stated) (entries_of top requesters) rows level) is (Decides-proof (equations_from top requesters stated) rows level)

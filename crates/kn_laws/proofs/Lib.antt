@@ -4,6 +4,5 @@ pub mod Turned
 pub mod Proven
 pub mod Settles
 pub mod Tabled
-pub mod Playing
 pub mod Followed
 pub mod Exists

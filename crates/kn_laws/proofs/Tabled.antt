@@ -7,7 +7,7 @@ use Rattle.std.proofs.lemmas.List.{length-map}
 use Rattle.std.proofs.lemmas.Slice.Eq.{bytes_eq-Decides}
 use Rattle.kn_meaning.specs.Formulas.{Levels}
 use Rattle.kn_meaning.specs.Equations.{Equations, worth, highest_worth, round, IsLeast}
-use Rattle.kn_meaning.specs.Tables.{level_in, statement_of, equations_in, next_levels_of, next_table, entries_of, authorizers_of, first_table, table_after, last_table}
+use Rattle.kn_meaning.specs.Tables.{level_in, statement_in, equations_from, next_levels_of, next_table, entries_of, authorizers_of, first_table, table_after, last_table}
 use Rattle.kn_meaning.specs.declared.plain.Level.{Level}
 use Rattle.kn_meaning.specs.declared.plain.Stated.{Stated}
 use Rattle.kn_laws.specs.Least.{at_first, rounds}
@@ -103,15 +103,15 @@ first-tells top (requester ∷ requesters) stated name =
     by false rest = rest
 
 -- who has an assertion that is worth something is among the authorizers
-authorized : (top : ℕ) (at : Levels) (name : List ℕ) (stated : List Stated) → 0 < highest_worth top at name (map statement_of stated)
+authorized : (top : ℕ) (at : Levels) (name : List ℕ) (stated : List Stated) → 0 < highest_worth top at name (map statement_in stated)
     → is_among name (names_in (authorizers_of stated)) ≡ true
 authorized top at name [] h = absurd (omega arith)
 authorized top at name (s ∷ stated) h =
     ap (λ same. same || is_among name (names_in (authorizers_of stated))) (bytes_eq-flip name s.authorizer)
     ∙ by (bytes_eq s.authorizer name) h (authorized top at name stated)
   where
-    by : (same : Bool) → 0 < max (cond same (worth top at (statement_of s)) 0) (highest_worth top at name (map statement_of stated))
-        → (0 < highest_worth top at name (map statement_of stated) → is_among name (names_in (authorizers_of stated)) ≡ true)
+    by : (same : Bool) → 0 < max (cond same (worth top at (statement_in s)) 0) (highest_worth top at name (map statement_in stated))
+        → (0 < highest_worth top at name (map statement_in stated) → is_among name (names_in (authorizers_of stated)) ≡ true)
         → (same || is_among name (names_in (authorizers_of stated))) ≡ true
     by true some rest = refl
     by false some rest = rest (omega arith)
@@ -125,7 +125,7 @@ same-is_least e at other same is = record {
 
 module _ (top : ℕ) (requesters : List (List ℕ)) (stated : List Stated) where
   abbrev e : Equations
-  e = equations_in top requesters stated
+  e = equations_from top requesters stated
 
   abbrev first : List Level
   first = first_table top requesters stated
@@ -136,7 +136,7 @@ module _ (top : ℕ) (requesters : List (List ℕ)) (stated : List Stated) where
       ap (is_among name) (first-names top requesters (authorizers_of stated))
       ∙ by (list_any (bytes_eq name) requesters) refl some
     where
-      by : (t : Bool) → list_any (bytes_eq name) requesters ≡ t → 0 < cond t top (highest_worth top at name (map statement_of stated))
+      by : (t : Bool) → list_any (bytes_eq name) requesters ≡ t → 0 < cond t top (highest_worth top at name (map statement_in stated))
           → is_among name (requesters ++ names_in (authorizers_of stated)) ≡ true
       by true is l = among-left name requesters (names_in (authorizers_of stated)) is
       by false is l = among-right name requesters (names_in (authorizers_of stated)) (authorized top at name stated l)

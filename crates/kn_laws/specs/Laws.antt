@@ -5,7 +5,7 @@ use Rattle.kn_proof.specs.declared.named.NamedRow.{NamedRow}
 use Rattle.kn_meaning.specs.Formulas.{Levels}
 use Rattle.kn_meaning.specs.Equations.{Equations, IsLeast, IsPolicyLevel}
 use Rattle.kn_meaning.specs.Proofs.{levels_by, IsProof}
-use Rattle.kn_meaning.specs.Tables.{level_in, equations_in, last_table}
+use Rattle.kn_meaning.specs.Tables.{level_in, equations_from, last_table}
 use Rattle.kn_meaning.specs.declared.plain.Stated.{Stated}
 use Rattle.kn_laws.specs.Least.{least_levels}
 
@@ -16,12 +16,12 @@ LeastLevelsAreLeast = (e : Equations) → IsLeast e (least_levels e)
 -- and what the table of the plain program tells are the least levels too
 abbrev pub PlainLevelsAreLeast : Type 0
 PlainLevelsAreLeast = (top : ℕ) (requesters : List (List ℕ)) (stated : List Stated)
-    → IsLeast (equations_in top requesters stated) (level_in (last_table top requesters stated))
+    → IsLeast (equations_from top requesters stated) (level_in (last_table top requesters stated))
 
 -- so it tells the policy's level
 abbrev pub PlainLevelIsThePolicys : Type 0
 PlainLevelIsThePolicys = (top : ℕ) (requesters : List (List ℕ)) (stated : List Stated)
-    → IsPolicyLevel (equations_in top requesters stated) (level_in (last_table top requesters stated) policy)
+    → IsPolicyLevel (equations_from top requesters stated) (level_in (last_table top requesters stated) policy)
 
 -- each query gives the policy a level
 abbrev pub EveryQueryHasALevel : Type 0

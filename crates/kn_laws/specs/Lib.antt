@@ -1,4 +1,3 @@
 pub mod Least
 pub mod Laws
-pub mod PlayedLaws
 pub mod Tested

@@ -1,7 +1,6 @@
 //! Laws of the definitions, each of them the contract of a function that does nothing.
 
 ghost use Rattle.kn_laws.specs.Laws.{LeastLevelsAreLeast, PlainLevelsAreLeast, PlainLevelIsThePolicys, EveryQueryHasALevel, EveryQueryHasOneLevel, LeastLevelsAreWithin, ProofDeterminesLevel, EveryQueryHasAProof};
-ghost use Rattle.kn_laws.specs.PlayedLaws.{PlayedIsPermitted, PlayedAlong, OneQueryIsMeant};
 
 /// As many rounds as a query has principals times the top, from the requesters at the top and all others at 0, give the
 /// least levels.
@@ -31,16 +30,4 @@ pub fn proof_determines_level()
 /// Each query has a proof, and so the policy's least level has one.
 pub fn every_query_has_a_proof()
     ensures { EveryQueryHasAProof }
-{}
-
-/// What the daemon of one thread permits changes the state as playing does, unless memory was wanting: after one request,
-/// and along exchanges that stand each after the whole history.
-pub fn played_is_permitted()
-    ensures request { PlayedIsPermitted }
-    ensures along { PlayedAlong }
-{}
-
-/// Requests mean one query at most: one session as it then stands, and the values that were asked for.
-pub fn one_query_is_meant()
-    ensures { OneQueryIsMeant }
 {}

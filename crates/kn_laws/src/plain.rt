@@ -4,7 +4,7 @@ ghost use Rattle.std.specs.Prelude.{◌≡◌, ◌++◌, ◌∷◌, [], map, IfO
 ghost use Rattle.std.specs.Bool.{Decides};
 ghost use Rattle.std.specs.List.{list_any};
 ghost use Rattle.kn_meaning.specs.Proofs.{IsProof};
-ghost use Rattle.kn_meaning.specs.Tables.{level_in, statement_of, equations_in, entry_of, entries_of};
+ghost use Rattle.kn_meaning.specs.Tables.{level_in, statement_in, equations_from, entry_of, entries_of};
 ghost use Rattle.kn_laws.specs.Tested as T;
 
 use kn_base::{List, NoMemory, Octets};
@@ -78,7 +78,7 @@ pub fn supports(
     row: &NamedRow,
     stated: &Stated,
 ) -> Result<bool, NoMemory>
-    ensures { IfOk result (λ found. found ≡ T.supports top (level_in table.now) row.now (statement_of stated.now)) }
+    ensures { IfOk result (λ found. found ≡ T.supports top (level_in table.now) row.now (statement_in stated.now)) }
 {
     if !is_same_id(stated.id, row.id) || stated.authorizer.as_slice() != row.principal.as_slice() {
         return Ok(false);
@@ -95,7 +95,7 @@ pub fn is_supported(
     row: &NamedRow,
     statements: &[Stated],
 ) -> Result<bool, NoMemory>
-    ensures { IfOk result (λ found. found ≡ list_any (T.supports top (level_in table.now) row.now) (map statement_of statements.now)) }
+    ensures { IfOk result (λ found. found ≡ list_any (T.supports top (level_in table.now) row.now) (map statement_in statements.now)) }
 {
     for stated in statements {
         if supports(alloc, top, table, row, stated)? {
@@ -114,7 +114,7 @@ pub fn may_follow(
     row: &NamedRow,
     statements: &[Stated],
 ) -> Result<bool, NoMemory>
-    ensures { IfOk result (λ found. found ≡ T.may_follow top (map statement_of statements.now) table.now row.now) }
+    ensures { IfOk result (λ found. found ≡ T.may_follow top (map statement_in statements.now) table.now row.now) }
 {
     if has_entry(table, row.principal.as_slice()) || row.value < 1 || row.value > top {
         return Ok(false);
@@ -130,7 +130,7 @@ pub fn is_closed(
     table: &[Level],
     statements: &[Stated],
 ) -> Result<bool, NoMemory>
-    ensures { IfOk result (λ found. found ≡ T.is_closed top (map statement_of statements.now) table.now) }
+    ensures { IfOk result (λ found. found ≡ T.is_closed top (map statement_in statements.now) table.now) }
 {
     for stated in statements {
         if worth(alloc, top, table, stated)? > level_of(table, stated.authorizer.as_slice()) {
@@ -148,7 +148,7 @@ fn ends(
     statements: &[Stated],
     level: u8,
 ) -> Result<bool, NoMemory>
-    ensures { IfOk result (λ found. found ≡ T.ends_proof top (map statement_of statements.now) table.now [] level) }
+    ensures { IfOk result (λ found. found ≡ T.ends_proof top (map statement_in statements.now) table.now [] level) }
 {
     if !is_closed(alloc, top, table, statements)? {
         return Ok(false);
@@ -165,7 +165,7 @@ fn follows(
     rows: &[NamedRow],
     level: u8,
 ) -> Result<bool, NoMemory>
-    ensures { IfOk result (λ found. found ≡ T.ends_proof top (map statement_of statements.now) (entries_of top requesters.now) rows.now level) }
+    ensures { IfOk result (λ found. found ≡ T.ends_proof top (map statement_in statements.now) (entries_of top requesters.now) rows.now level) }
 {
     let mut table = requester_levels(alloc, top, requesters)?;
     for row in rows {
@@ -188,7 +188,7 @@ pub fn is_proof(
     rows: &[NamedRow],
     level: u8,
 ) -> Result<bool, NoMemory>
-    ensures { IfOk result (λ found. Decides found (IsProof (equations_in top requesters.now statements.now) rows.now level)) }
+    ensures { IfOk result (λ found. Decides found (IsProof (equations_from top requesters.now statements.now) rows.now level)) }
 {
     let found = follows(alloc, top, requesters, statements, rows, level)?;
     Ok(found)

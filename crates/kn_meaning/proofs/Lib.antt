@@ -1,10 +1,2 @@
-pub mod Different
-pub mod Lines
-pub mod Words
-pub mod Asked
-pub mod LineLengths
 pub mod Tables
 pub mod Walks
-pub mod Loading
-pub mod Valid
-pub mod Readings

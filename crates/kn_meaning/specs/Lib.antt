@@ -2,15 +2,5 @@ pub mod Formulas
 pub mod Equations
 pub mod Occurring
 pub mod Proofs
-pub mod History
-pub mod Loading
-pub mod Requests
-pub mod Replies
-pub mod Daemon
-pub mod Linearized
-pub mod FirstInput
-pub mod Asked
-pub mod Played
-pub mod Laws
 pub mod Tables
 pub mod Examples

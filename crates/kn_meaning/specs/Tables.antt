@@ -11,12 +11,12 @@ abbrev pub level_in : List Level → Levels
 level_in [] name = 0
 level_in (l ∷ ls) name = if bytes_eq l.name name then l.level else level_in ls name
 
-abbrev pub statement_of : Stated → Statement
-statement_of s = record { id = s.id; authorizer = s.authorizer; ceiling = s.ceiling; licensees = s.licensees }
+abbrev pub statement_in : Stated → Statement
+statement_in s = record { id = s.id; authorizer = s.authorizer; ceiling = s.ceiling; licensees = s.licensees }
 
 -- the equations of a table of statements
-abbrev pub equations_in : ℕ → List (List ℕ) → List Stated → Equations
-equations_in top requesters stated = record { top = top; requesters = requesters; statements = map statement_of stated }
+abbrev pub equations_from : ℕ → List (List ℕ) → List Stated → Equations
+equations_from top requesters stated = record { top = top; requesters = requesters; statements = map statement_in stated }
 
 -- these entries with the levels that one more round after a table gives them
 abbrev pub next_levels_of : Equations → List Level → List Level → List Level
@@ -50,4 +50,4 @@ table_after e first (suc n) = next_table e (table_after e first n)
 -- the table after as many rounds as it has entries times the top
 abbrev pub last_table : ℕ → List (List ℕ) → List Stated → List Level
 last_table top requesters stated =
-    table_after (equations_in top requesters stated) (first_table top requesters stated) (length (first_table top requesters stated) * top)
+    table_after (equations_from top requesters stated) (first_table top requesters stated) (length (first_table top requesters stated) * top)

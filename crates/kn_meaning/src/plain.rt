@@ -1,19 +1,16 @@
 //! Plain and slow programs that compute the definitions. They are only there to be compared with.
 
-ghost use Rattle.std.specs.Prelude.{◌≡◌, ◌≤◌, ◌++◌, ◌∷◌, [], length, map, decimal, eqb, OnOk, IfOk};
+ghost use Rattle.std.specs.Prelude.{◌≡◌, ◌≤◌, ◌++◌, ◌∷◌, [], length, map, eqb, OnOk, IfOk};
 ghost use Rattle.std.specs.List.{list_any, position_or_len};
 ghost use Rattle.std.specs.Str.{bytes_eq};
 ghost use Rattle.kn_base.specs.Threshold as T;
 ghost use Rattle.kn_meaning.specs.Formulas as L;
 ghost use Rattle.kn_meaning.specs.Equations as E;
-ghost use Rattle.kn_meaning.specs.Tables.{level_in, statement_of, equations_in, next_table, entry_of, first_table, last_table};
-ghost use Rattle.kn_meaning.specs.Replies.{reply_text, Done, Started, Value, No, refusal_text};
+ghost use Rattle.kn_meaning.specs.Tables.{level_in, statement_in, equations_from, next_table, entry_of, first_table, last_table};
 
-use crate::refusal::Refusal;
-use itoa::Buffer;
-use kn_assert::Formula;
 use kn_base::{List, NoMemory, Octets};
 use kn_proof::Id;
+use kn_trees::Formula;
 use std::alloc::Global;
 
 /// A principal's level, counted from 0.
@@ -124,7 +121,7 @@ pub fn part_levels(
 /// What an assertion is worth under these levels.
 /// Slow, and only there to be compared with.
 pub fn worth(alloc: Global, top: u8, table: &[Level], stated: &Stated) -> Result<u8, NoMemory>
-    ensures { IfOk result (λ worth. worth ≡ E.worth top (level_in table.now) (statement_of stated.now)) }
+    ensures { IfOk result (λ worth. worth ≡ E.worth top (level_in table.now) (statement_in stated.now)) }
 {
     match &stated.licensees {
         None => Ok(0),
@@ -144,7 +141,7 @@ pub fn highest_worth(
     name: &[u8],
     statements: &[Stated],
 ) -> Result<u8, NoMemory>
-    ensures { IfOk result (λ worth. worth ≡ E.highest_worth top (level_in table.now) name.now (map statement_of statements.now)) }
+    ensures { IfOk result (λ worth. worth ≡ E.highest_worth top (level_in table.now) name.now (map statement_in statements.now)) }
 {
     let mut best = 0;
     for stated in statements {
@@ -178,7 +175,7 @@ pub fn round_level(
     name: &[u8],
     statements: &[Stated],
 ) -> Result<u8, NoMemory>
-    ensures { IfOk result (λ level. level ≡ E.round (equations_in top requesters.now statements.now) (level_in table.now) name.now) }
+    ensures { IfOk result (λ level. level ≡ E.round (equations_from top requesters.now statements.now) (level_in table.now) name.now) }
 {
     if is_among(name, requesters) {
         return Ok(top);
@@ -195,7 +192,7 @@ pub fn next_levels(
     statements: &[Stated],
     table: &[Level],
 ) -> Result<List<Level>, NoMemory>
-    ensures { IfOk result (λ next. next ≡ next_table (equations_in top requesters.now statements.now) table.now) }
+    ensures { IfOk result (λ next. next ≡ next_table (equations_from top requesters.now statements.now) table.now) }
 {
     let mut next = List::new(alloc);
     for entry in table {
@@ -269,97 +266,4 @@ pub fn least_levels(
         table = next_levels(alloc, top, requesters, statements, table.as_slice())?;
     }
     Ok(table)
-}
-
-/// `OK` alone.
-/// Slow, and only there to be compared with.
-pub fn done_text(alloc: Global) -> Result<Octets, NoMemory>
-    ensures { IfOk result (λ text. text ≡ reply_text Done) }
-{
-    Octets::from_slice(alloc, b"OK\n")
-}
-
-/// Adds a number in decimal digits.
-fn push_number(text: &mut Octets, number: u32) -> Result<(), NoMemory>
-    ensures { OnOk result (text.new ≡ text.old ++ decimal number) }
-{
-    let mut buffer = Buffer::new();
-    text.extend(buffer.format(number).as_bytes())
-}
-
-/// The reply to an OPEN that started session `session`, pinned to this version.
-/// Slow, and only there to be compared with.
-pub fn started_text(alloc: Global, session: u32, version: u32) -> Result<Octets, NoMemory>
-    ensures { IfOk result (λ text. text ≡ reply_text (Started session version)) }
-{
-    let mut text = Octets::from_slice(alloc, b"OK ")?;
-    push_number(&mut text, session)?;
-    text.push(b' ')?;
-    push_number(&mut text, version)?;
-    text.push(b'\n')?;
-    Ok(text)
-}
-
-/// The reply to a QUERY, without rows.
-/// Slow, and only there to be compared with.
-pub fn value_text(alloc: Global, index: u8, name: &[u8], version: u32) -> Result<Octets, NoMemory>
-    ensures { IfOk result (λ text. text ≡ reply_text (Value index name.now version [])) }
-{
-    let mut text = Octets::from_slice(alloc, b"VALUE ")?;
-    push_number(&mut text, index as u32)?;
-    text.push(b' ')?;
-    text.extend(name)?;
-    text.push(b' ')?;
-    push_number(&mut text, version)?;
-    text.push(b' ')?;
-    push_number(&mut text, 0)?;
-    text.extend(b"\nEND\n")?;
-    Ok(text)
-}
-
-/// Adds the text of a refusal.
-fn push_refusal(text: &mut Octets, refusal: &Refusal) -> Result<(), NoMemory>
-    ensures { OnOk result (text.new ≡ text.old ++ refusal_text refusal.now) }
-{
-    match refusal {
-        Refusal::Syntax => text.extend(b"1 syntax"),
-        Refusal::Command => text.extend(b"2 command"),
-        Refusal::Session => text.extend(b"3 session"),
-        Refusal::Admin => text.extend(b"4 admin"),
-        Refusal::Read { fault, place } => {
-            text.extend(b"5 read ")?;
-            push_number(text, *fault as u32)?;
-            text.push(b' ')?;
-            push_number(text, *place)
-        }
-        Refusal::Policy => text.extend(b"6 policy"),
-        Refusal::Auth { fault } => {
-            text.extend(b"7 auth ")?;
-            push_number(text, *fault as u32)
-        }
-        Refusal::Name => text.extend(b"8 name"),
-        Refusal::Value => text.extend(b"9 value"),
-        Refusal::Values => text.extend(b"10 values"),
-        Refusal::Principal => text.extend(b"11 principal"),
-        Refusal::Unknown => text.extend(b"12 unknown"),
-        Refusal::Limit { word, count } => {
-            text.extend(b"13 limit ")?;
-            text.extend(word.text())?;
-            text.push(b' ')?;
-            push_number(text, *count)
-        }
-        Refusal::Long => text.extend(b"14 long"),
-        Refusal::Block => text.extend(b"15 block"),
-    }
-}
-
-/// The reply that refuses a request.
-/// Slow, and only there to be compared with.
-pub fn refusal_reply_text(alloc: Global, refusal: &Refusal) -> Result<Octets, NoMemory>
-    ensures { IfOk result (λ text. text ≡ reply_text (No refusal.now)) }
-{
-    let mut text = Octets::from_slice(alloc, b"NO ")?;
-    push_refusal(&mut text, refusal)?;
-    text.push(b'\n')?;
-    Ok(text)
 }

@@ -1,11 +1,7 @@
-use crate::plain::{
-    Level, Stated, done_text, formula_level, least_levels, level_of, refusal_reply_text,
-    started_text, value_text,
-};
-use crate::refusal::{LimitWord, Refusal};
-use kn_assert::Formula;
+use crate::plain::{Level, Stated, formula_level, least_levels, level_of};
 use kn_base::{List, NoMemory, Octets};
 use kn_proof::Id;
+use kn_trees::Formula;
 use std::alloc::Global;
 
 /// The statement that an authorizer licenses any of these, at most at this level.
@@ -108,32 +104,5 @@ fn least_levels_of_small_policies(rt: HostRuntime) -> Result<(), NoMemory> {
     ];
     assert_eq!(rt; policy_level(alloc, 2, b"w", &lowered)?, 1);
     assert_eq!(rt; policy_level(alloc, 2, b"x", &lowered)?, 2);
-    Ok(())
-}
-
-#[test]
-fn texts_of_replies(rt: HostRuntime) -> Result<(), NoMemory> {
-    let alloc = rt.alloc();
-    let limit = Refusal::Limit {
-        word: LimitWord::Sessions,
-        count: 16,
-    };
-    assert_eq!(rt; done_text(alloc)?.as_slice(), b"OK\n".as_slice());
-    assert_eq!(rt;
-        started_text(alloc, 1, 2)?.as_slice(),
-        b"OK 1 2\n".as_slice()
-    );
-    assert_eq!(rt;
-        value_text(alloc, 1, b"yes", 1)?.as_slice(),
-        b"VALUE 1 yes 1 0\nEND\n".as_slice()
-    );
-    assert_eq!(rt;
-        refusal_reply_text(alloc, &limit)?.as_slice(),
-        b"NO 13 limit sessions 16\n".as_slice()
-    );
-    assert_eq!(rt;
-        refusal_reply_text(alloc, &Refusal::Syntax)?.as_slice(),
-        b"NO 1 syntax\n".as_slice()
-    );
     Ok(())
 }

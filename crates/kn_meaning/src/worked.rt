@@ -1,17 +1,10 @@
 //! Worked examples of the definitions, each shown by computing it. The functions have no body: their clauses are what they say.
 
-ghost use Rattle.std.specs.Prelude.{ℕ, List, ◌≡◌, ◌<◌, ◌≤◌, ◌++◌, ◌∷◌, [], false, length, codes, Some, None};
-ghost use Rattle.std.specs.List.{list_any};
+ghost use Rattle.std.specs.Prelude.{ℕ, List, ◌≡◌, ◌∷◌, [], codes, Some, None};
 ghost use Rattle.kn_meaning.specs.Formulas.{Levels};
 ghost use Rattle.kn_meaning.specs.Equations.{Equations, IsLeast};
 ghost use Rattle.kn_meaning.specs.Examples.{question, direct_policy, cyclic_policy};
 ghost use Rattle.kn_env.specs.Values.{values_of};
-ghost use Rattle.kn_meaning.specs.Requests as Q;
-ghost use Rattle.kn_meaning.specs.Requests.{first_of, Takes, is_newline, first_of_line, line_of, without_return};
-ghost use Rattle.kn_meaning.specs.Replies.{reply_text, Done, Started, Value, No, NoMemory};
-ghost use Rattle.kn_meaning.specs.declared.fault.WireFault.TheVariants as F;
-ghost use Rattle.kn_meaning.specs.declared.refusal.Refusal.TheVariants as R;
-ghost use Rattle.kn_meaning.specs.declared.refusal.LimitWord.TheVariants as W;
 
 /// Which texts name compliance values.
 pub fn value_texts()
@@ -21,56 +14,6 @@ pub fn value_texts()
     ensures empty { values_of [] ≡ None }
     ensures empty_name { values_of (codes "no,") ≡ None }
     ensures space { values_of (codes "no,y s") ≡ None }
-{}
-
-/// The first request of a text, and what is left of it.
-pub fn first_requests()
-    ensures open { first_of (codes "OPEN\nBYE\n") ≡ Some (Q.Open, codes "BYE\n") }
-    ensures carriage_return { first_of (codes "OPEN\r\n") ≡ Some (Q.Open, []) }
-    ensures no_newline { first_of (codes "OPEN") ≡ None }
-    ensures nothing { first_of [] ≡ None }
-    ensures block { first_of (codes "ADD 2\nab\nBYE\n") ≡ Some (Q.Add (codes "ab"), codes "BYE\n") }
-    ensures block_underway { first_of (codes "ADD 2\nab") ≡ None }
-    ensures block_unended { first_of (codes "ADD 1\nab\n") ≡ Some (Q.Faulty (F.Block 1), []) }
-    ensures block_above { first_of (codes "ADD 16385\n") ≡ Some (Q.Faulty (F.Block 16385), []) }
-{}
-
-/// Lines that spell no request.
-pub fn faulty_lines()
-    ensures two_words { first_of (codes "OPEN x\n") ≡ Some (Q.Faulty F.Syntax, []) }
-    ensures space_behind { first_of (codes "OPEN \n") ≡ Some (Q.Faulty F.Syntax, []) }
-    ensures no_principal { first_of (codes "AUTH 1\n") ≡ Some (Q.Faulty F.Syntax, []) }
-    ensures leading_zero { first_of (codes "AUTH 01 alice\n") ≡ Some (Q.Faulty F.Syntax, []) }
-    ensures no_name { first_of (codes "SET 1  v\n") ≡ Some (Q.Faulty F.Syntax, []) }
-    ensures lower_case { first_of (codes "open\n") ≡ Some (Q.Faulty F.Command, []) }
-    ensures empty_line { first_of (codes "\n") ≡ Some (Q.Faulty F.Command, []) }
-    ensures return_alone { first_of (codes "\r\n") ≡ Some (Q.Faulty F.Command, []) }
-    ensures space_before { first_of (codes " OPEN\n") ≡ Some (Q.Faulty F.Command, []) }
-{}
-
-/// The requests of a whole session, and of a text with faulty lines.
-pub fn whole_texts()
-    ensures session { Takes (codes "OPEN\nAUTH 1 alice\nQUERY 1 no,yes\n")
-        (Q.Open ∷ Q.Auth 1 (codes "alice") ∷ Q.Query 1 (codes "no,yes") ∷ []) [] }
-    ensures faulty { Takes (codes "OPEN\nOPEN x\nopen\n\nBY")
-        (Q.Open ∷ Q.Faulty F.Syntax ∷ Q.Faulty F.Command ∷ Q.Faulty F.Command ∷ []) (codes "BY") }
-    ensures spaces { Takes (codes "AUTH 1  a b \nAUTH 1 \nQUERY 1 \n")
-        (Q.Auth 1 (codes " a b ") ∷ Q.Auth 1 [] ∷ Q.Query 1 [] ∷ []) [] }
-    ensures attributes { Takes (codes "SET 1 v a b\r\nSET 1 v \nSET 1 v\n")
-        (Q.Set 1 (codes "v") (codes "a b") ∷ Q.Set 1 (codes "v") [] ∷ Q.Set 1 (codes "v") [] ∷ []) [] }
-{}
-
-/// The texts of replies.
-pub fn reply_texts()
-    ensures done { reply_text Done ≡ codes "OK\n" }
-    ensures started { reply_text (Started 1 1) ≡ codes "OK 1 1\n" }
-    ensures granted { reply_text (Value 1 (codes "yes") 1 []) ≡ codes "VALUE 1 yes 1 0\nEND\n" }
-    ensures denied { reply_text (Value 0 (codes "no") 0 []) ≡ codes "VALUE 0 no 0 0\nEND\n" }
-    ensures syntax { reply_text (No R.Syntax) ≡ codes "NO 1 syntax\n" }
-    ensures session { reply_text (No R.Session) ≡ codes "NO 3 session\n" }
-    ensures limit { reply_text (No (R.Limit W.Sessions 16)) ≡ codes "NO 13 limit sessions 16\n" }
-    ensures read { reply_text (No (R.Read 12 0)) ≡ codes "NO 5 read 12 0\n" }
-    ensures no_memory { reply_text NoMemory ≡ codes "NOMEM\n" }
 {}
 
 /// What the policy gives in the least fixed point, whatever levels are that one.
@@ -85,15 +28,4 @@ pub fn policy_levels()
 /// There is one least fixed point at most.
 pub fn least_levels_are_one()
     ensures { (e : Equations) (at other : Levels) → IsLeast e at → IsLeast e other → (name : List ℕ) → at name ≡ other name }
-{}
-
-/// A line of more than 8,192 bytes is refused as too long; a line up to that length is read.
-pub fn line_lengths()
-    ensures long { (line rest : List ℕ) → list_any is_newline line ≡ false → 8192 < length line
-        → first_of (line ++ 10 ∷ rest) ≡ Some (Q.Faulty F.Long, rest) }
-    ensures long_underway { (line : List ℕ) → list_any is_newline line ≡ false → 8192 < length line
-        → first_of line ≡ Some (Q.Faulty F.Long, []) }
-    ensures read { (line rest : List ℕ) → list_any is_newline line ≡ false → length line ≤ 8192
-        → first_of (line ++ 10 ∷ rest) ≡ first_of_line (line_of (without_return line)) rest }
-    ensures underway { (line : List ℕ) → list_any is_newline line ≡ false → length line ≤ 8192 → first_of line ≡ None }
 {}

@@ -1,13 +1,13 @@
 use Rattle.std.proofs.Common.{◌∙◌, ◌∷◌, [], ◌++◌, ap, sym, take}
 use Rattle.kn_meaning.proofs.Tables.{next_levels_take}
 use Rattle.kn_meaning.specs.Equations.{round}
-use Rattle.kn_meaning.specs.Tables.{level_in, equations_in, next_levels_of, entry_of}
+use Rattle.kn_meaning.specs.Tables.{level_in, equations_from, next_levels_of, entry_of}
 use Rattle.kn_meaning.proofs.plain.next_levels.Goals as goal
 
 -- what was pushed is the next entry of the next table
 pub loop-entry-preserved : goal.loop-entry-preserved
 loop-entry-preserved c =
-    let e = equations_in c.args.top c.args.requesters.now c.args.statements.now in
+    let e = equations_from c.args.top c.args.requesters.now c.args.statements.now in
     let front = next_levels_of e c.args.table.now (take c.loop-entry.entry-index c.args.table.now) in
     let name = c.in_ok-name.ensures ∙ c.as_slice-in-loop-entry.ensures in
     let level = c.in_ok-level.ensures ∙ ap (round e (level_in c.args.table.now)) c.as_slice.ensures in

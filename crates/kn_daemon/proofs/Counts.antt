@@ -1,0 +1,111 @@
+-- So many requests start at most as many sessions, and add at most as many private assertions to each.
+use Rattle.std.proofs.Common.{◌≡◌, ℕ, ◌+◌, ◌≤◌, Bool, true, false, cond, ◌==◌, List, [], ◌∷◌, ◌++◌, length, map, filter, find, sym, subst, arith, Some, take, add-zero}
+use Rattle.std.specs.List.{AllByRecursion}
+use Rattle.kn_principal.specs.Principals.{normal_form}
+use Rattle.kn_store.specs.declared.update.Update.{Update}
+use Rattle.kn_wire.specs.Requests.{Request, Open, Close, Pin, Assert, Retract, Set, SetHex, Unset, Auth, Unauth, Clear, Query, Admin, Add, Drop, Bye, Faulty}
+use Rattle.kn_wire.specs.Replies.{Reply, Done, Started, Number, PrivateAdded, Added, Value, No, NoMemory}
+use Rattle.kn_daemon.specs.Daemon.{Grounds, State, first_state, with_session, changed, Does, Permits}
+use Rattle.kn_session.specs.Sessions.{Session, started_session, add_requester, is_named}
+use Rattle.kn_daemon.specs.Linearized.{Exchange, Along}
+use Rattle.kn_wire.specs.Feeding.{Held}
+use Rattle.kn_daemon.specs.Underway.{IsUnderway, IsSmall}
+
+abbrev AllMade : ℕ → List Session → Type 0
+AllMade n sessions = AllByRecursion (λ (x : Session). x.made ≤ n) sessions
+
+record AreFew (n : ℕ) (state : State) : Type 0 where
+  started : state.started ≤ n
+  made : AllMade n state.sessions
+
+made-more : (n : ℕ) (xs : List Session) → AllMade n xs → AllMade (n + 1) xs
+made-more n [] h = tt
+made-more n (x ∷ xs) h = let first = h.0 in (omega (arith, first), made-more n xs h.1)
+
+made-push : (n : ℕ) (xs : List Session) (y : Session) → AllMade n xs → y.made ≤ n + 1 → AllMade (n + 1) (xs ++ y ∷ [])
+made-push n [] y h last = (last, tt)
+made-push n (x ∷ xs) y h last = let first = h.0 in (omega (arith, first), made-push n xs y h.1 last)
+
+made-filter : (p : Session → Bool) (n : ℕ) (xs : List Session) → AllMade n xs → AllMade (n + 1) (filter p xs)
+made-filter p n [] h = tt
+made-filter p n (x ∷ xs) h = by (p x) (made-filter p n xs h.1)
+  where
+    by : (t : Bool) → AllMade (n + 1) (filter p xs) → AllMade (n + 1) (cond t (x ∷ filter p xs) (filter p xs))
+    by true rest = let first = h.0 in (omega (arith, first), rest)
+    by false rest = rest
+
+made-map : (p : Session → Bool) (change : Session → Session) (n : ℕ) → ((x : Session) → (change x).made ≤ x.made + 1) → (xs : List Session) → AllMade n xs → AllMade (n + 1) (map (λ x. cond (p x) (change x) x) xs)
+made-map p change n each [] h = tt
+made-map p change n each (x ∷ xs) h = (by (p x), made-map p change n each xs h.1)
+  where
+    by : (t : Bool) → (cond t (change x) x).made ≤ n + 1
+    by true = let first = h.0 in let one = each x in omega (arith, first, one)
+    by false = let first = h.0 in omega (arith, first)
+
+few-more : (n : ℕ) (state : State) → AreFew n state → AreFew (n + 1) state
+few-more n state few = let s = few.started in record { started = omega (arith, s); made = made-more n state.sessions few.made }
+
+few-with : (n : ℕ) (state : State) (s : ℕ) (change : Session → Session) → ((x : Session) → (change x).made ≤ x.made + 1) → AreFew n state → AreFew (n + 1) (with_session state s change)
+few-with n state s change each few = let l = few.started in record { started = omega (arith, l); made = made-map (λ x. x.number == s) change n each state.sessions few.made }
+
+requester-made : (text : List ℕ) (x : Session) → (add_requester text x).made ≤ x.made + 1
+requester-made text x = by (is_named x.requesters text)
+  where
+    by : (t : Bool) → (cond t x (record x { requesters = x.requesters ++ normal_form text ∷ [] })).made ≤ x.made + 1
+    by true = omega arith
+    by false = omega arith
+
+few-changed : (n : ℕ) (past : List Update) (state : State) (request : Request) → AreFew n state → AreFew (n + 1) (changed past state request)
+few-changed n past state Open few = let s = few.started in record { started = omega (arith, s); made = made-push n state.sessions (started_session (state.started + 1) past) few.made (omega arith) }
+few-changed n past state (Close s) few = let l = few.started in record { started = omega (arith, l); made = made-filter _ n state.sessions few.made }
+few-changed n past state (Pin s) few = few-with n state s _ (λ x. omega arith) few
+few-changed n past state (Assert s text) few = few-with n state s _ (λ x. omega arith) few
+few-changed n past state (Retract s k) few = few-with n state s _ (λ x. omega arith) few
+few-changed n past state (Set s name value) few = few-with n state s _ (λ x. omega arith) few
+few-changed n past state (SetHex s name digits) few = few-with n state s _ (λ x. omega arith) few
+few-changed n past state (Unset s name) few = few-with n state s _ (λ x. omega arith) few
+few-changed n past state (Auth s text) few = few-with n state s _ (requester-made text) few
+few-changed n past state (Unauth s text) few = few-with n state s _ (λ x. omega arith) few
+few-changed n past state (Clear s) few = few-with n state s _ (λ x. omega arith) few
+few-changed n past state (Query s names) few = few-more n state few
+few-changed n past state (Admin digits) few = let s = few.started in record { started = omega (arith, s); made = made-more n state.sessions few.made }
+few-changed n past state (Add text) few = few-more n state few
+few-changed n past state (Drop k) few = few-more n state few
+few-changed n past state Bye few = few-more n state few
+few-changed n past state (Faulty fault) few = few-more n state few
+
+few-does : (n : ℕ) (g : Grounds) (caller : ℕ) (past : List Update) (old : State) (request : Request) (reply : Reply) (new : State) → AreFew n old → Does g caller past old request reply new → AreFew (n + 1) new
+few-does n g caller past old request reply new few d = subst (AreFew (n + 1)) (sym d.next) (few-changed n past old request few)
+
+few-permitted : (n : ℕ) (g : Grounds) (caller : ℕ) (past : List Update) (old : State) (request : Request) (reply : Reply) (new : State) → AreFew n old → Permits g caller past old request reply new → AreFew (n + 1) new
+few-permitted n g caller past old request Done new few h = few-does n g caller past old request Done new few h
+few-permitted n g caller past old request (Started s version) new few h = few-does n g caller past old request (Started s version) new few h
+few-permitted n g caller past old request (Number version) new few h = few-does n g caller past old request (Number version) new few h
+few-permitted n g caller past old request (PrivateAdded k) new few h = few-does n g caller past old request (PrivateAdded k) new few h
+few-permitted n g caller past old request (Added k version) new few h = few-does n g caller past old request (Added k version) new few h
+few-permitted n g caller past old request (Value index name version rows) new few h = few-does n g caller past old request (Value index name version rows) new few h
+few-permitted n g caller past old request (No refusal) new few h = subst (AreFew (n + 1)) (sym h.1) (few-more n old few)
+few-permitted n g caller past old request NoMemory new few h = subst (AreFew (n + 1)) (sym h.1) (few-more n old few)
+
+few-along : (n : ℕ) (g : Grounds) (caller : ℕ) (history : List Update) (old : State) (es : List Exchange) (new : State) → AreFew n old → Along g caller history old es new → AreFew (n + length es) new
+few-along n g caller history old [] new few along = subst (λ k. AreFew k new) (sym (add-zero n)) (subst (AreFew n) (sym along) few)
+few-along n g caller history old (e ∷ es) new few (mid, permits, later) =
+    let rest = few-along (n + 1) g caller history mid es new (few-permitted n g caller (take e.place history) old e.request e.reply mid few permits) later in
+    subst (λ k. AreFew k new) (omega arith) rest
+
+made-found : (n s : ℕ) (xs : List Session) (session : Session) → AllMade n xs → find (λ x. x.number == s) xs ≡ Some session → session.made ≤ n
+made-found n s [] session h e = cc
+made-found n s (x ∷ xs) session h e = by (x.number == s) e (made-found n s xs session h.1)
+  where
+    by : (t : Bool) → cond t (Some x) (find (λ y. y.number == s) xs) ≡ Some session → (find (λ y. y.number == s) xs ≡ Some session → session.made ≤ n) → session.made ≤ n
+    by true e rest = let first = h.0 in let same : x ≡ session = cc in subst (λ y. y.made ≤ n) same first
+    by false e rest = rest e
+
+pub small : (g : Grounds) (taken written : List ℕ) (history : List Update) (start caller : ℕ) (stops : List ℕ) (state : State) (held : Held) (answered : ℕ)
+    → IsUnderway g taken written history start caller stops state held answered → IsSmall answered state
+small g taken written history start caller stops state held answered u =
+    let few : AreFew answered state = subst (λ k. AreFew k state) (let c = u.count in omega (arith, c)) (few-along 0 g caller history first_state u.exchanges state (record { started = omega arith; made = tt }) u.replies) in
+    record {
+      started = few.started;
+      made = λ s session found. made-found answered s state.sessions session few.made found;
+    }

@@ -1,0 +1,25 @@
+-- What a text's reading refuses.
+use Rattle.std.proofs.Common.{◌≡◌, ℕ, List, Option, Some, Result, Ok, Err, option_map, ap}
+use Rattle.kn_trees.specs.declared.assertion.Assertion.{Assertion}
+use Rattle.kn_assert.specs.Reading.{reading_of, assertion_in, fault_in, assertion_of, fault_of}
+use Rattle.kn_assert.specs.Faults.{fault_number, fault_place}
+use Rattle.kn_assert.specs.declared.fault.ReadFault.{ReadFault}
+use Rattle.kn_wire.specs.declared.refusal.Refusal.{Refusal}
+use Rattle.kn_wire.specs.declared.refusal.Refusal.TheVariants as R
+use Rattle.kn_daemon.specs.Daemon.{refusal_of_reading}
+
+by_fault : (r : Result Assertion ReadFault) (fault : ReadFault) → fault_in r ≡ Some fault → r ≡ Err fault
+by_fault (Ok assertion) fault e = cc
+by_fault (Err other) fault e = cc
+
+by_assertion : (r : Result Assertion ReadFault) (assertion : Assertion) → assertion_in r ≡ Some assertion → r ≡ Ok assertion
+by_assertion (Ok other) assertion e = cc
+by_assertion (Err fault) assertion e = cc
+
+pub fault-refuses : (text : List ℕ) (fault : ReadFault) (next : Assertion → Option Refusal) → fault_of text ≡ Some fault
+    → refusal_of_reading (reading_of text) next ≡ option_map (λ number. R.Read number (fault_place fault)) (fault_number fault)
+fault-refuses text fault next e = ap (λ r. refusal_of_reading r next) (by_fault (reading_of text) fault e)
+
+pub reading-goes_on : (text : List ℕ) (assertion : Assertion) (next : Assertion → Option Refusal) → assertion_of text ≡ Some assertion
+    → refusal_of_reading (reading_of text) next ≡ next assertion
+reading-goes_on text assertion next e = ap (λ r. refusal_of_reading r next) (by_assertion (reading_of text) assertion e)

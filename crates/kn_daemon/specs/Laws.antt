@@ -1,0 +1,146 @@
+-- Laws of a connection that is being served, of requests, and of histories.
+use Rattle.std.specs.Prelude.{ℕ, ◌≡◌, ◌≢◌, ◌+◌, ◌<◌, ◌==◌, Bool, true, false, not, List, [], ◌∷◌, ◌++◌, length, take, drop, filter, flat_map, All, Option, Some, None, option_map, codes}
+use Rattle.kn_base.specs.declared.limits.TheConstants.{REQUESTS}
+use Rattle.kn_trees.specs.declared.assertion.Assertion.{Assertion}
+use Rattle.kn_assert.specs.Reading.{reading_of, assertion_of, fault_of}
+use Rattle.kn_assert.specs.Faults.{fault_number, fault_place}
+use Rattle.kn_assert.specs.declared.fault.ReadFault.{ReadFault}
+use Rattle.kn_wire.specs.declared.fault.WireFault.TheVariants as F
+use Rattle.kn_wire.specs.declared.refusal.Refusal.{Refusal}
+use Rattle.kn_wire.specs.declared.refusal.Refusal.TheVariants as R
+use Rattle.kn_store.specs.declared.update.Change.TheVariants as C
+use Rattle.kn_store.specs.declared.update.Update.{Update}
+use Rattle.kn_wire.specs.Requests.{Request, Bye, Faulty, Takes, AreRequests}
+use Rattle.kn_wire.specs.Replies.{Reply, NoMemory, reply_text}
+use Rattle.kn_store.specs.declared.update.Numbered.{Numbered}
+use Rattle.kn_store.specs.History.{live, is_valid_history, may_follow, all_changes}
+use Rattle.kn_daemon.specs.declared.ended.Ended.{Ended}
+use Rattle.kn_daemon.specs.declared.ended.Ended.TheVariants as E
+use Rattle.kn_daemon.specs.Daemon.{Grounds, State, first_state, refusal_of_reading, Permits}
+use Rattle.kn_daemon.specs.Linearized.{Exchange, Along, own_updates, requests_in}
+use Rattle.kn_session.specs.Sessions.{Session}
+use Rattle.kn_daemon.specs.Played.{after_request, played, IsMeant}
+use Rattle.kn_wire.specs.Pieces.{Pieced}
+use Rattle.kn_daemon.specs.Alone.{IsServedAlone}
+use Rattle.kn_wire.specs.Feeding.{Held, Bytes, held_bytes, pushed, next_of}
+use Rattle.kn_daemon.specs.Served.{IsServed, is_bye, is_block}
+use Rattle.kn_daemon.specs.Underway.{IsUnderway, IsReplied, IsSmall}
+
+-- at first nothing is taken and nothing written
+abbrev pub Begins : Type 0
+Begins = (g : Grounds) (history : List Update) (caller : ℕ) → IsUnderway g [] [] history (length history) caller [] first_state (Bytes []) 0
+
+-- one more piece of bytes is taken
+abbrev pub TakesPiece : Type 0
+TakesPiece = (g : Grounds) (taken written : List ℕ) (history : List Update) (start caller : ℕ) (stops : List ℕ) (state : State) (held : Held) (answered : ℕ) (piece : List ℕ)
+    → IsUnderway g taken written history start caller stops state held answered
+    → IsUnderway g (taken ++ piece) written history start caller stops state (pushed held piece) answered
+
+-- one more request that doesn't end the connection is answered
+abbrev pub AnswersOne : Type 0
+AnswersOne = (g : Grounds) (taken written : List ℕ) (history more : List Update) (start caller : ℕ) (stops entries : List ℕ) (old new : State) (held after : Held) (answered : ℕ) (request : Request) (reply : Reply)
+    → IsUnderway g taken written history start caller stops old held answered
+    → next_of held ≡ Some (request, after)
+    → IsReplied g caller history more entries old request reply new
+    → is_bye request ≡ false → is_block request ≡ false
+    → IsUnderway g taken (written ++ reply_text reply) (history ++ more) start caller (stops ++ entries) new after (answered + 1)
+
+-- BYE is answered
+abbrev pub EndsByBye : Type 0
+EndsByBye = (g : Grounds) (taken written : List ℕ) (history more : List Update) (start caller : ℕ) (stops entries : List ℕ) (old new : State) (held after : Held) (answered : ℕ) (reply : Reply) (is_over : Bool)
+    → IsUnderway g taken written history start caller stops old held answered → answered < REQUESTS
+    → next_of held ≡ Some (Bye, after)
+    → IsReplied g caller history more entries old Bye reply new
+    → is_valid_history (history ++ more) ≡ true
+    → IsServed g taken (written ++ reply_text reply) E.Done is_over (history ++ more) start (length (history ++ more)) caller (stops ++ entries)
+
+-- a block is refused
+abbrev pub EndsByBlock : Type 0
+EndsByBlock = (g : Grounds) (taken written : List ℕ) (history more : List Update) (start caller : ℕ) (stops entries : List ℕ) (old new : State) (held after : Held) (answered n : ℕ) (reply : Reply) (is_over : Bool)
+    → IsUnderway g taken written history start caller stops old held answered → answered < REQUESTS
+    → next_of held ≡ Some (Faulty (F.Block n), after)
+    → IsReplied g caller history more entries old (Faulty (F.Block n)) reply new
+    → is_valid_history (history ++ more) ≡ true
+    → IsServed g taken (written ++ reply_text reply) (E.Block n) is_over (history ++ more) start (length (history ++ more)) caller (stops ++ entries)
+
+-- a reply is not written whole
+abbrev pub EndsByWrite : Type 0
+EndsByWrite = (g : Grounds) (taken written : List ℕ) (history more : List Update) (start caller : ℕ) (stops entries : List ℕ) (old new : State) (held after : Held) (answered at : ℕ) (request : Request) (reply : Reply) (is_over : Bool)
+    → IsUnderway g taken written history start caller stops old held answered → answered < REQUESTS
+    → next_of held ≡ Some (request, after)
+    → IsReplied g caller history more entries old request reply new
+    → at < length (reply_text reply)
+    → is_valid_history (history ++ more) ≡ true
+    → IsServed g taken (written ++ take at (reply_text reply)) E.WriteFault is_over (history ++ more) start (length (history ++ more)) caller (stops ++ entries)
+
+-- no whole request is held: how the connection may end then
+pub record IsDry (g : Grounds) (taken written : List ℕ) (history : List Update) (start caller : ℕ) (stops : List ℕ) (held : Held) : Type 0 where
+  pub by_read : (is_over : Bool) → IsServed g taken written E.ReadFault is_over history start (length history) caller stops
+  pub by_end : held_bytes held ≡ [] → IsServed g taken written E.Done true history start (length history) caller stops
+  pub by_cut : 0 < length (held_bytes held) → IsServed g taken written (E.Cut (length (held_bytes held))) true history start (length history) caller stops
+
+-- no whole request is held
+abbrev pub EndsDry : Type 0
+EndsDry = (g : Grounds) (taken written : List ℕ) (history : List Update) (start caller : ℕ) (stops : List ℕ) (state : State) (held : Held) (answered : ℕ)
+    → IsUnderway g taken written history start caller stops state held answered → answered < REQUESTS
+    → next_of held ≡ None → is_valid_history history ≡ true
+    → IsDry g taken written history start caller stops held
+
+-- as many requests were answered as a connection has
+abbrev pub EndsByBudget : Type 0
+EndsByBudget = (g : Grounds) (taken written : List ℕ) (history : List Update) (start caller : ℕ) (stops : List ℕ) (state : State) (held : Held) (is_over : Bool)
+    → IsUnderway g taken written history start caller stops state held REQUESTS → is_valid_history history ≡ true
+    → IsServed g taken written E.Budget is_over history start (length history) caller stops
+
+-- memory was wanting at first
+abbrev pub EndsByMemory : Type 0
+EndsByMemory = (g : Grounds) (history : List Update) (caller : ℕ) (is_over : Bool)
+    → is_valid_history history ≡ true → IsServed g [] [] E.Memory is_over history (length history) (length history) caller []
+
+-- a served connection stays served in a longer valid history
+abbrev pub ServedLonger : Type 0
+ServedLonger = (g : Grounds) (taken written : List ℕ) (ended : Ended) (is_over : Bool) (history more : List Update) (start end caller : ℕ) (stops : List ℕ)
+    → is_valid_history (history ++ more) ≡ true → IsServed g taken written ended is_over history start end caller stops
+    → IsServed g taken written ended is_over (history ++ more) start end caller stops
+
+-- what the daemon permits changes the state as playing does, unless memory was wanting
+abbrev pub PermittedIsPlayed : Type 0
+PermittedIsPlayed = (g : Grounds) (caller : ℕ) (past : List Update) (old : State) (request : Request) (reply : Reply) (new : State)
+    → Permits g caller past old request reply new → reply ≢ NoMemory → new ≡ after_request g past old request
+
+-- and so does a list of exchanges, each after the whole history
+abbrev pub AlongIsPlayed : Type 0
+AlongIsPlayed = (g : Grounds) (caller : ℕ) (history : List Update) (old : State) (exchanges : List Exchange) (new : State)
+    → Along g caller history old exchanges new → All (λ e. e.place ≡ length history) exchanges → All (λ e. e.reply ≢ NoMemory) exchanges
+    → new ≡ played g history old (requests_in exchanges)
+
+-- a small connection over an empty history: a session is opened, and the turn is had once
+abbrev pub OpeningIsServed : Type 0
+OpeningIsServed = (g : Grounds) (caller : ℕ) → IsServed g (codes "OPEN\nBYE\n") (codes "OK 1 0\nOK\n") E.Done false [] 0 0 caller (0 ∷ [])
+
+-- so many requests start at most as many sessions, and add at most as many private assertions
+abbrev pub UnderwayIsSmall : Type 0
+UnderwayIsSmall = (g : Grounds) (taken written : List ℕ) (history : List Update) (start caller : ℕ) (stops : List ℕ) (state : State) (held : Held) (answered : ℕ)
+    → IsUnderway g taken written history start caller stops state held answered → IsSmall answered state
+
+-- where all that was seen meanwhile is the caller's own, the replies tell each place
+abbrev pub ServedAlone : Type 0
+ServedAlone = (g : Grounds) (taken written : List ℕ) (ended : Ended) (is_over : Bool) (history : List Update) (start caller : ℕ) (stops : List ℕ)
+    → IsServed g taken written ended is_over history start (length history) caller stops → own_updates caller (drop start history) ≡ drop start history
+    → IsServedAlone g taken written ended is_over (take start history) history caller
+
+-- a text with a fault is refused for it
+abbrev pub FaultRefuses : Type 0
+FaultRefuses = (text : List ℕ) (fault : ReadFault) (next : Assertion → Option Refusal) → fault_of text ≡ Some fault
+    → refusal_of_reading (reading_of text) next ≡ option_map (λ number. R.Read number (fault_place fault)) (fault_number fault)
+
+-- and one with a reading by what its assertion is refused for
+abbrev pub ReadingGoesOn : Type 0
+ReadingGoesOn = (text : List ℕ) (assertion : Assertion) (next : Assertion → Option Refusal) → assertion_of text ≡ Some assertion
+    → refusal_of_reading (reading_of text) next ≡ next assertion
+
+-- requests mean one query at most
+abbrev pub OneQueryIsMeant : Type 0
+OneQueryIsMeant = (history : List Update) (requests : List Request) (session other_session : Session) (values other_values : List (List ℕ))
+    → IsMeant history requests session values → IsMeant history requests other_session other_values
+    → (session ≡ other_session) × (values ≡ other_values)

@@ -1,0 +1,7 @@
+pub mod Daemon
+pub mod Linearized
+pub mod Served
+pub mod Underway
+pub mod Played
+pub mod Alone
+pub mod Laws

@@ -1,8 +1,0 @@
-use Rattle.kn_meaning.proofs.Readings.{one_reading, some_reading}
-use Rattle.kn_meaning.proofs.laws.one_reading.Goals as goal
-
-pub returns-clause-some : goal.returns-clause-some
-returns-clause-some c = some_reading
-
-pub returns-clause-no_other : goal.returns-clause-no_other
-returns-clause-no_other c = one_reading
