@@ -1,0 +1,10 @@
+//! The shared book: one history of updates, which passes read and add to at their turns.
+//!
+//! A snapshot is shared. It is read after the turn was given back, so no question holds anybody up.
+#![tactic(auto)]
+
+mod registry;
+#[cfg(test)]
+mod tests;
+
+pub use registry::{Pass, Registry, Shared};

@@ -1,0 +1,210 @@
+// The registry, and its calls.
+ghost use Rattle.std.specs.Prelude.{◌≡◌, ◌≢◌, ◌<◌, ◌++◌, ◌∷◌, [], true, false, IfOk, IfErr, OnErr};
+ghost use mathlib.Core.List.{IsPrefix};
+ghost use Rattle.std.specs.Arc.{arc_value};
+ghost use Rattle.kn_store.specs.declared.update.Update.{Update};
+ghost use Rattle.kn_store.specs.History.{is_valid_history};
+ghost use Rattle.kn_turn.specs.Passes.{root_of, split_of, after_give, after_look, after_append, after_split, after_join, after_meet};
+ghost use Rattle.kn_registry.specs.Passes.{IsReady, IsSoundPass, Looks, Stays, Adds, Removes, RefusesText, RefusesId};
+
+use kn_base::NoMemory;
+use kn_store::{Book, Ready, Snapshot, StoreFault, Update};
+use kn_turn::{Logged, Turn};
+use std::alloc::{AllocError, Global};
+use std::marker::Model;
+use std::sync::Wait;
+
+/// The book under the turn.
+#[derive(Drop)]
+pub struct Shared {
+    book: Book,
+}
+
+impl Model for Shared {
+    ghost use Rattle.std.specs.Prelude.{List};
+    ghost use Rattle.kn_store.specs.declared.update.Update.{Update};
+
+    ghost Value = { List Update };
+
+    ghost view = { λ s. s.book };
+}
+
+impl Logged for Shared {
+    type Entry = Update;
+
+    ghost use Rattle.kn_registry.specs.Callers.{caller_of};
+
+    ghost log = { λ s. s };
+
+    ghost by = { caller_of };
+
+    fn length(&self) -> u32 {
+        self.book.length()
+    }
+}
+
+/// A caller's token at the registry.
+pub type Pass = kn_turn::Pass<Shared>;
+
+/// One book, which its passes take in turn. Contracts see which turn it is.
+#[derive(Drop)]
+pub struct Registry {
+    turn: Turn<Shared>,
+}
+
+impl Model for Registry {
+    ghost use Rattle.atomic_table.specs.Seated.{TableId, table_id_coded};
+
+    ghost Value = { TableId };
+
+    ghost coded = { table_id_coded };
+
+    ghost view = { λ r. r.turn };
+}
+
+impl Registry {
+    /// A registry with no updates, and its root pass.
+    pub fn start(alloc: Global) -> Result<(Registry, Pass), NoMemory>
+        ensures root { IfOk result (λ made. made.1 ≡ root_of made.0) }
+        ensures ready { IfOk result (λ made. IsReady made.0 made.1) }
+    {
+        let book = Book::empty(alloc)?;
+        let (turn, root) = Turn::start(alloc, Shared { book })?;
+        Ok((Registry { turn }, root))
+    }
+
+    /// The version of all that the pass has then seen: the newest at its turn.
+    pub fn pin<R: Wait>(&self, rt: &R, pass: &mut Pass) -> Result<Snapshot, NoMemory>
+        requires ready { IsReady self.now pass.old }
+        ensures ready { IsReady self.now pass.new }
+        ensures sound { IsSoundPass pass.new }
+        ensures version { IfOk result (λ snapshot. arc_value snapshot ≡ pass.new.seen) }
+        ensures looked { IfOk result (λ snapshot. Looks pass.old pass.new) }
+        ensures refused { OnErr result (Stays pass.old pass.new) }
+    {
+        let shared = self.turn.take(rt, pass);
+        let snapshot: Result<Snapshot, AllocError> = shared.book.snapshot().clone();
+        self.look(pass, shared);
+        match snapshot {
+            Ok(snapshot) => Ok(snapshot),
+            Err(_) => Err(NoMemory),
+        }
+    }
+
+    /// Adds a text, and answers its id and the version with it.
+    pub fn add<R: Wait>(
+        &self,
+        rt: &R,
+        pass: &mut Pass,
+        ready: Ready,
+    ) -> Result<(u32, u32), StoreFault>
+        requires ready { IsReady self.now pass.old }
+        ensures ready { IsReady self.now pass.new }
+        ensures sound { IsSoundPass pass.new }
+        ensures added { IfOk result (λ answer. Adds pass.old pass.new ready answer.0 answer.1) }
+        ensures refused { IfErr result (λ fault. RefusesText pass.old pass.new ready fault) }
+    {
+        let mut shared = self.turn.take(rt, pass);
+        match shared.book.prepare_add(pass.number(), ready) {
+            Ok(prepared) => {
+                let done = shared.book.commit(prepared);
+                self.append(pass, shared);
+                Ok((done.id, done.version))
+            }
+            Err(fault) => {
+                self.look(pass, shared);
+                Err(fault)
+            }
+        }
+    }
+
+    /// Removes the credential of this id, and answers the version without it.
+    pub fn drop_id<R: Wait>(&self, rt: &R, pass: &mut Pass, id: u32) -> Result<u32, StoreFault>
+        requires ready { IsReady self.now pass.old }
+        ensures ready { IsReady self.now pass.new }
+        ensures sound { IsSoundPass pass.new }
+        ensures removed { IfOk result (λ version. Removes pass.old pass.new id version) }
+        ensures refused { IfErr result (λ fault. RefusesId pass.old pass.new id fault) }
+    {
+        let mut shared = self.turn.take(rt, pass);
+        match shared.book.prepare_drop(pass.number(), id) {
+            Ok(prepared) => {
+                let done = shared.book.commit(prepared);
+                self.append(pass, shared);
+                Ok(done.version)
+            }
+            Err(fault) => {
+                self.look(pass, shared);
+                Err(fault)
+            }
+        }
+    }
+
+    /// Sees all updates of the book, and gives it back.
+    fn look(&self, pass: &mut Pass, shared: Shared)
+        requires turn { pass.old.turn ≡ self.now }
+        requires taken { pass.old.is_idle ≡ false }
+        requires value { shared ≡ pass.old.taken }
+        ensures looked { pass.new ≡ after_give (after_look pass.old) }
+        ensures valid { is_valid_history pass.new.seen ≡ true }
+        ensures sound { IsSoundPass pass.new }
+    {
+        // what the length tells with it is that the history is valid
+        let _length = shared.book.length();
+        self.turn.look(pass, &shared);
+        self.turn.give(pass, shared);
+    }
+
+    /// Makes the book's last update, which names this pass, the last one of all, and gives the book back.
+    fn append(&self, pass: &mut Pass, shared: Shared)
+        requires turn { pass.old.turn ≡ self.now }
+        requires taken { pass.old.is_idle ≡ false }
+        requires more { (update : Update) × (update.caller ≡ pass.old.number) × (shared ≡ pass.old.taken ++ update ∷ []) }
+        ensures appended { (update : Update) → shared ≡ pass.old.taken ++ update ∷ [] → pass.new ≡ after_give (after_append pass.old update) }
+        ensures valid { is_valid_history pass.new.seen ≡ true }
+        ensures sound { IsSoundPass pass.new }
+    {
+        // what the length tells with it is that the history is valid
+        let _length = shared.book.length();
+        self.turn.append(pass, &shared);
+        self.turn.give(pass, shared);
+    }
+
+    /// A new pass, which has seen what the root has.
+    pub fn split(&self, root: &mut Pass) -> Result<Pass, NoMemory>
+        requires ready { IsReady self.now root.old }
+        requires root { root.old.number ≡ 0 }
+        requires room { root.old.splits < 63 }
+        ensures new { IfOk result (λ pass. pass ≡ split_of root.old) }
+        ensures root { IfOk result (λ pass. root.new ≡ after_split root.old) }
+        ensures refused { OnErr result (root.new ≡ root.old) }
+        ensures ready { IsReady self.now root.new }
+        ensures new_ready { IfOk result (λ pass. IsReady self.now pass) }
+    {
+        self.turn.split(root)
+    }
+
+    /// Takes in a pass that ends: what it has seen, and in `ended` what it added and where it had the turn.
+    pub fn join(&self, into: &mut Pass, gone: Pass)
+        requires ready { IsReady self.now into.old × IsReady self.now gone }
+        requires split { gone.number ≢ 0 }
+        ensures ready { IsReady self.now into.new }
+        ensures sound { IsSoundPass into.new }
+        ensures joined { into.new ≡ after_join into.old gone }
+        ensures seen { IsPrefix into.old.seen into.new.seen × IsPrefix gone.seen into.new.seen }
+    {
+        self.turn.join(into, gone);
+    }
+
+    /// The pass `a` has then seen what `b` has.
+    pub fn meet(&self, a: &mut Pass, b: &mut Pass)
+        requires ready { IsReady self.now a.old × IsReady self.now b.old }
+        ensures ready { IsReady self.now a.new }
+        ensures sound { IsSoundPass a.new }
+        ensures met { a.new ≡ after_meet a.old b.old }
+        ensures same { b.new ≡ b.old }
+        ensures seen { IsPrefix a.old.seen a.new.seen × IsPrefix b.old.seen a.new.seen }
+    {
+        self.turn.meet(a, b);
+    }
+}

@@ -1,0 +1,167 @@
+// A list of callers under a turn.
+ghost use Rattle.std.specs.Prelude.{◌≡◌, ◌≢◌, ◌+◌, ◌<◌, ◌++◌, ◌∷◌, [], length, true, All, IfOk, OnErr, OnOk};
+ghost use Rattle.kn_turn.specs.Passes.{PassView};
+
+use super::*;
+use kn_base::{List, NoMemory};
+use std::alloc::Global;
+use std::process::Abort;
+use std::sync::Wait;
+use std::test::*;
+use std::thread;
+use std::thread::Threads;
+
+/// The callers, in the order of their entries.
+#[derive(Drop)]
+struct Callers {
+    numbers: List<u32>,
+}
+
+impl Logged for Callers {
+    type Entry = u32;
+
+    ghost log = { λ c. c.numbers };
+
+    ghost by = { λ number. number };
+
+    fn length(&self) -> u32 {
+        self.numbers.len()
+    }
+}
+
+/// Adds the pass's number, or looks where there is no memory for it.
+fn add<R: Wait>(rt: &R, turn: &Turn<Callers>, pass: &mut Pass<Callers>) -> Result<u32, NoMemory>
+    requires turn { pass.old.turn ≡ turn.now }
+    requires idle { pass.old.is_idle ≡ true }
+    ensures turn { pass.new.turn ≡ turn.now }
+    ensures idle { pass.new.is_idle ≡ true }
+    ensures number { pass.new.number ≡ pass.old.number }
+    ensures mine { OnOk result (pass.new.mine ≡ pass.old.mine ++ pass.old.number ∷ []) }
+{
+    let number = pass.number();
+    let mut callers = turn.take(rt, pass);
+    match callers.numbers.push(number) {
+        Ok(()) => {
+            let length = turn.append(pass, &callers);
+            turn.give(pass, callers);
+            Ok(length)
+        }
+        Err(_refused) => {
+            turn.look(pass, &callers);
+            turn.give(pass, callers);
+            Err(NoMemory)
+        }
+    }
+}
+
+fn add_many<R: Wait>(rt: &R, turn: &Turn<Callers>, pass: &mut Pass<Callers>, count: u32)
+    requires turn { pass.old.turn ≡ turn.now }
+    requires idle { pass.old.is_idle ≡ true }
+    ensures turn { pass.new.turn ≡ turn.now }
+    ensures idle { pass.new.is_idle ≡ true }
+    ensures number { pass.new.number ≡ pass.old.number }
+{
+    for _ in 0..count {
+        let _length = add(rt, turn, pass);
+    }
+}
+
+/// Each pass adds its number so many times, in a thread of its own.
+fn add_side_by_side<R: Threads + Wait + Sync>(
+    rt: &R,
+    turn: &Turn<Callers>,
+    passes: &mut [Pass<Callers>],
+    count: u32,
+)
+    requires { All (λ p. (p.turn ≡ turn.now) × (p.is_idle ≡ true) × (p.number ≢ 0)) passes.old }
+    ensures { All (λ p. (p.turn ≡ turn.now) × (p.is_idle ≡ true) × (p.number ≢ 0)) passes.new }
+{
+    thread::for_each_mut(rt, passes, 64, &|_, pass| add_many(rt, turn, pass, count));
+}
+
+/// So many passes, split from the root.
+fn split_many(
+    alloc: Global,
+    turn: &Turn<Callers>,
+    root: &mut Pass<Callers>,
+    count: u32,
+) -> Result<Vec<Pass<Callers>>, NoMemory>
+    requires turn { root.old.turn ≡ turn.now }
+    requires idle { root.old.is_idle ≡ true }
+    requires root { root.old.number ≡ 0 }
+    requires room { root.old.splits + count < 64 }
+    ensures root { OnOk result ((root.new.turn ≡ turn.now) × (root.new.is_idle ≡ true)) }
+    ensures passes { IfOk result (λ v. All (λ p. (p.turn ≡ turn.now) × (p.is_idle ≡ true) × (p.number ≢ 0)) v.items) }
+{
+    let mut passes = Vec::new(alloc);
+    for _ in 0..count {
+        let pass = turn.split(root)?;
+        if let Err(_refused) = passes.push(pass) {
+            return Err(NoMemory);
+        }
+    }
+    Ok(passes)
+}
+
+/// Joins all the passes into the root.
+fn join_all(turn: &Turn<Callers>, root: &mut Pass<Callers>, mut passes: Vec<Pass<Callers>>)
+    requires turn { root.old.turn ≡ turn.now }
+    requires idle { root.old.is_idle ≡ true }
+    requires passes { All (λ p. (p.turn ≡ turn.now) × (p.is_idle ≡ true) × (p.number ≢ 0)) passes.items }
+    ensures turn { root.new.turn ≡ turn.now }
+    ensures idle { root.new.is_idle ≡ true }
+{
+    while let Some(pass) = passes.pop() {
+        turn.join(root, pass);
+    }
+}
+
+/// How often each of these numbers stands in the list: once a number that doesn't stand there so often is met, false.
+fn each_stands(numbers: &List<u32>, from: u32, to: u32, count: usize) -> bool {
+    for number in from..to {
+        if numbers.as_slice().iter().filter(|n| **n == number).count() != count {
+            return false;
+        }
+    }
+    true
+}
+
+#[test]
+fn two_passes_in_turn(rt: HostRuntime) -> Result<(), Fail> {
+    let callers = Callers {
+        numbers: List::new(rt.alloc()),
+    };
+    let (turn, mut a) = Turn::start(rt.alloc(), callers).or(Err("a turn"))?;
+    let mut b = turn.split(&mut a).or(Err("a pass"))?;
+    assert_eq!(rt; (a.number(), b.number()), (0, 1));
+    assert_eq!(rt; add(&rt, &turn, &mut b), Ok(1));
+    assert_eq!(rt; (a.seen_length(), b.seen_length()), (0, 1));
+    turn.meet(&mut a, &mut b);
+    assert_eq!(rt; (a.seen_length(), b.seen_length()), (1, 1));
+    assert_eq!(rt; add(&rt, &turn, &mut a), Ok(2));
+    assert_eq!(rt; add(&rt, &turn, &mut b), Ok(3));
+    turn.join(&mut a, b);
+    assert_eq!(rt; a.seen_length(), 3);
+    let callers = turn.take(&rt, &mut a);
+    assert_eq!(rt; callers.numbers.as_slice(), [1, 0, 1].as_slice());
+    assert_eq!(rt; turn.look(&mut a, &callers), 3);
+    turn.give(&mut a, callers);
+    Ok(())
+}
+
+#[test]
+fn passes_side_by_side(rt: HostRuntime) -> Result<(), Fail> {
+    let callers = Callers {
+        numbers: List::new(rt.alloc()),
+    };
+    let (turn, mut root) = Turn::start(rt.alloc(), callers).or(Err("a turn"))?;
+    let mut passes = split_many(rt.alloc(), &turn, &mut root, 8).or(Err("passes"))?;
+    add_side_by_side(&rt, &turn, passes.as_mut_slice(), 100);
+    join_all(&turn, &mut root, passes);
+    assert_eq!(rt; root.seen_length(), 800);
+    let callers = turn.take(&rt, &mut root);
+    assert!(rt; each_stands(&callers.numbers, 1, 9, 100));
+    assert_eq!(rt; turn.look(&mut root, &callers), 800);
+    turn.give(&mut root, callers);
+    Ok(())
+}
