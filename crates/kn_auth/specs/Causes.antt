@@ -1,0 +1,10 @@
+-- When a fault of a key file may come.
+use Rattle.std.specs.Prelude.{ℕ, List, ⊤}
+use Rattle.kn_auth.specs.KeyFiles.{IsFirstMalformed}
+use Rattle.kn_auth.specs.declared.fault.KeyFault.{KeyFault}
+use Rattle.kn_auth.specs.declared.fault.KeyFault.TheVariants.{Line, NoMemory}
+
+-- the text has this fault; of want of memory nothing is said
+abbrev pub IsCause : List ℕ → KeyFault → Type 0
+IsCause text (Line line) = IsFirstMalformed text line
+IsCause text NoMemory = ⊤

@@ -1,0 +1,124 @@
+//! What a line of a key file states.
+ghost use Rattle.std.specs.Prelude.{◌≡◌, ◌++◌, ℕ, List, codes, IfOk, MatchOption};
+ghost use Rattle.kn_auth.specs.KeyLines.{is_comment, SpellsKey, NamesPrincipal, States, StatesNothing};
+
+use crate::text::{behind, cut};
+use hex::{FromHex, FromHexError};
+use kn_base::{NoMemory, Octets};
+use kn_principal::{PrincipalFault, normal};
+use std::alloc::Global;
+
+/// The bytes of a key, and of the administrators' secret, which have one at least. The limit is keynoted's own.
+pub const KEY_BYTES: usize = 128;
+
+/// A key, and the principal whose credentials it admits, in normal form.
+#[derive(Drop)]
+pub(crate) struct MacKey {
+    pub principal: Octets,
+    pub key: Octets,
+}
+
+/// What a line of a key file states.
+#[derive(Drop)]
+pub(crate) enum Entry {
+    /// Nothing, since the line is empty or a comment.
+    Comment,
+    /// The key of a principal.
+    Mac(MacKey),
+    /// A listed SHA-256.
+    Digest([u8; 32]),
+    /// The administrators' secret.
+    Secret(Octets),
+}
+
+/// What a line states by itself, without its newline; None where it is of no form.
+pub(crate) fn read_line(alloc: Global, line: &[u8]) -> Result<Option<Entry>, NoMemory>
+    ensures { IfOk result (λ read. MatchOption read (StatesNothing line.now) (λ entry. States line.now entry)) }
+{
+    if is_comment(line) {
+        return Ok(Some(Entry::Comment));
+    }
+    if let Some(text) = behind(line, b"mac ") {
+        return mac_entry(alloc, text);
+    }
+    if let Some(digits) = behind(line, b"digest ") {
+        return Ok(digest_entry(digits));
+    }
+    if let Some(digits) = behind(line, b"secret ") {
+        return secret_entry(alloc, digits);
+    }
+    Ok(None)
+}
+
+fn is_comment(line: &[u8]) -> bool
+    ensures { result ≡ is_comment line.now }
+{
+    match line.first() {
+        Some(byte) => *byte == b'#',
+        None => true,
+    }
+}
+
+/// What a line states that is `mac` and this behind a space.
+fn mac_entry(alloc: Global, text: &[u8]) -> Result<Option<Entry>, NoMemory>
+    ensures { IfOk result (λ read. MatchOption read (StatesNothing (codes "mac " ++ text.now)) (λ entry. States (codes "mac " ++ text.now) entry)) }
+{
+    let Some((digits, name)) = cut(text, b' ') else {
+        return Ok(None);
+    };
+    let Some(key) = key(alloc, digits)? else {
+        return Ok(None);
+    };
+    let Some(principal) = principal(alloc, name)? else {
+        return Ok(None);
+    };
+    Ok(Some(Entry::Mac(MacKey { principal, key })))
+}
+
+/// What a line states that is `digest` and this behind a space.
+fn digest_entry(digits: &[u8]) -> Option<Entry>
+    ensures { MatchOption result (StatesNothing (codes "digest " ++ digits.now)) (λ entry. States (codes "digest " ++ digits.now) entry) }
+{
+    match <[u8; 32] as FromHex>::from_hex(digits) {
+        Ok(digest) => Some(Entry::Digest(digest)),
+        Err(_) => None,
+    }
+}
+
+/// What a line states that is `secret` and this behind a space.
+fn secret_entry(alloc: Global, digits: &[u8]) -> Result<Option<Entry>, NoMemory>
+    ensures { IfOk result (λ read. MatchOption read (StatesNothing (codes "secret " ++ digits.now)) (λ entry. States (codes "secret " ++ digits.now) entry)) }
+{
+    match key(alloc, digits)? {
+        Some(secret) => Ok(Some(Entry::Secret(secret))),
+        None => Ok(None),
+    }
+}
+
+/// The 1 to 128 bytes that digits spell.
+fn key(alloc: Global, digits: &[u8]) -> Result<Option<Octets>, NoMemory>
+    ensures { IfOk result (λ read. MatchOption read ((key : List ℕ) → ¬ SpellsKey digits.now key) (λ key. SpellsKey digits.now key)) }
+{
+    let bytes = match hex::decode(alloc, digits) {
+        Ok(bytes) => bytes,
+        Err(FromHexError::OutOfMemory) => return Err(NoMemory),
+        Err(_) => return Ok(None),
+    };
+    if bytes.is_empty() || bytes.len() > KEY_BYTES {
+        return Ok(None);
+    }
+    let key = Octets::from_slice(alloc, bytes.as_slice())?;
+    Ok(Some(key))
+}
+
+/// The normal form of a principal.
+fn principal(alloc: Global, name: &[u8]) -> Result<Option<Octets>, NoMemory>
+    ensures { IfOk result (λ read. MatchOption read ((principal : List ℕ) → ¬ NamesPrincipal name.now principal) (λ principal. NamesPrincipal name.now principal)) }
+{
+    match normal(alloc, name) {
+        Ok(principal) => Ok(Some(principal)),
+        Err(PrincipalFault::Empty) => Ok(None),
+        Err(PrincipalFault::TooLong { .. }) => Ok(None),
+        Err(PrincipalFault::NoMemory) => Err(NoMemory),
+    }
+}
