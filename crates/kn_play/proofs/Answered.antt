@@ -5,23 +5,24 @@ use Rattle.std.proofs.lemmas.List.{map-append, take_all}
 use Rattle.std.proofs.lemmas.Option.{get_or_from_slice_get}
 use Rattle.std.proofs.lemmas.List.Elements.{All-append, All-cons, All-nil}
 use Rattle.kn_trees.specs.declared.assertion.Assertion.{Assertion}
-use Rattle.kn_meaning.specs.declared.update.Update.{Update}
-use Rattle.kn_meaning.specs.declared.script.Ask.{Ask}
-use Rattle.kn_meaning.specs.declared.script.Ask.TheVariants.{Auth, Query, Set}
+use Rattle.kn_store.specs.declared.update.Update.{Update}
+use Rattle.kn_script.specs.declared.asks.Ask.{Ask}
+use Rattle.kn_script.specs.declared.asks.Ask.TheVariants.{Auth, Query, Set}
 use Rattle.kn_env.specs.Environment.{Asked}
 use Rattle.kn_proof.specs.declared.named.NamedRow.{NamedRow}
 use Rattle.kn_meaning.specs.Equations.{Part, equations_over, IsPolicyLevel}
 use Rattle.kn_meaning.specs.Proofs.{IsProof}
-use Rattle.kn_meaning.specs.FirstInput.{IsAsk, request_of, bye_requests}
-use Rattle.kn_meaning.specs.Requests.{Request}
-use Rattle.kn_meaning.specs.Requests as Q
-use Rattle.kn_meaning.specs.Replies.{Reply, reply_text}
-use Rattle.kn_meaning.specs.Replies as R
-use Rattle.kn_meaning.specs.Daemon.{Grounds, State, first_state, Permits, own_refusal, equations_of}
-use Rattle.kn_meaning.specs.Linearized.{Exchange, Along, requests_in, texts_in}
-use Rattle.kn_meaning.specs.Asked.{no_grounds, IsAnswered}
-use Rattle.kn_play.specs.declared.session.Session.{Session}
-use Rattle.kn_play.specs.Answering.{IsMadeBy, parts_in, asked_in, no_session, entered_by, IsReply, IsValueReply, AreRight, HasEntered, session_at, session_state}
+use Rattle.kn_script.specs.FirstInput.{IsAsk, request_of, bye_requests}
+use Rattle.kn_wire.specs.Requests.{Request}
+use Rattle.kn_wire.specs.Requests as Q
+use Rattle.kn_wire.specs.Replies.{Reply, reply_text}
+use Rattle.kn_wire.specs.Replies as R
+use Rattle.kn_daemon.specs.Daemon.{Grounds, State, first_state, Permits, own_refusal, equations_of}
+use Rattle.kn_daemon.specs.Linearized.{Exchange, Along, requests_in, texts_in}
+use Rattle.kn_daemon.specs.Played.{no_grounds}
+use Rattle.kn_play.specs.Asked.{IsAnswered}
+use Rattle.kn_play.specs.declared.entered.Entered.{Entered}
+use Rattle.kn_play.specs.Answering.{IsMadeBy, parts_in, asked_in, no_session, entered_by, IsReplyToLine, IsValueReply, AreRight, HasEntered, session_at, session_state}
 use Rattle.kn_play.proofs.Numbered.{numbered-length}
 use Rattle.kn_play.proofs.Entering.{entered_nothing, entered_more, take_one_more, ask_at, not_refused_at, named_state}
 
@@ -79,13 +80,13 @@ answered-nothing history =
 pub answered-open : (history : List Update) → AreAnswered history (Q.Open ∷ []) (reply_text (R.Started 1 (length history))) (session_state history no_session)
 answered-open history =
     answered-one history [] [] first_state (session_state history no_session) Q.Open (R.Started 1 (length history))
-    (answered-nothing history) (refl, (refl, refl)) (λ e. cc)
+    (answered-nothing history) (record { accepted = refl; answered = refl; next = refl }) (λ e. cc)
 
 -- BYE ends the connection
 pub answered-bye : (history : List Update) (requests : List Request) (written : List ℕ) (state : State) →
     AreAnswered history requests written state → AreAnswered history (requests ++ Q.Bye ∷ []) (written ++ codes "OK\n") state
 answered-bye history requests written state before =
-    answered-one history requests written state state Q.Bye R.Done before (refl, (refl, refl)) (λ e. cc)
+    answered-one history requests written state state Q.Bye R.Done before (record { accepted = refl; answered = refl; next = refl }) (λ e. cc)
 
 -- all lines are answered
 pub answered-whole : (history : List Update) (requests : List Request) (written : List ℕ) (state : State) →
@@ -94,30 +95,36 @@ answered-whole history requests written state a =
     record { exchanges = a.exchanges; last = state; asked = a.asked; replies = a.replies; places = a.places; no_want = a.no_want; bytes = a.bytes }
 
 -- the reply to a line is one that the daemon may give, and it isn't want of memory
-permitted : (history : List Update) (assertions : List Assertion) (parts : List Part) (session : Session) (ask : Ask) (reply : Reply) →
+permitted : (history : List Update) (assertions : List Assertion) (parts : List Part) (session : Entered) (ask : Ask) (reply : Reply) →
     IsMadeBy history assertions → parts ≡ parts_in assertions → IsAsk ask → own_refusal no_grounds (session_state history session) (request_of ask) ≡ None →
-    IsReply parts session ask reply →
+    IsReplyToLine parts session ask reply →
     Permits no_grounds 0 history (session_state history session) (request_of ask) reply (session_state history (entered_by ask session)) × (reply ≢ R.NoMemory)
 permitted history assertions parts session (Auth name) reply made same right accepted told =
-    rw told ((accepted, (refl, named_state history session name)), λ e. cc)
+    rw told (record { accepted = accepted; answered = refl; next = named_state history session name }, λ e. cc)
 permitted history assertions parts session (Query values) reply made same right accepted told =
     let opened = session_at history session in
-    let here : equations_of opened values ≡ equations_over (asked_in session values) parts = rw (made.parts, same) refl in
+    let here : equations_of opened values ≡ equations_over (asked_in session values) parts = rw (made.parts, same, append-nil (parts_in assertions)) refl in
     let version : length history ≡ length parts = made.count ∙ sym (numbered-length 0 assertions) ∙ ap (λ (l : List Part). length l) (sym same) in
-    rw told.told
-    ((accepted, (opened, values, refl, right.names, record { level = told.level; rows = told.rows; told = rw version refl; proved = rw here told.proved; least = rw here told.least }, refl)), λ e. cc)
+    rw told.told (
+      record {
+        accepted = accepted;
+        answered = record { session = opened; values = values; found = refl; named = right.names; answer = record { level = told.level; rows = told.rows; told = rw version refl; proved = rw here told.proved; least = rw here told.least } };
+        next = refl;
+      },
+      λ e. cc,
+    )
 permitted history assertions parts session (Set name value returned) reply made same right accepted told =
-    rw told ((accepted, (refl, refl)), λ e. cc)
+    rw told (record { accepted = accepted; answered = refl; next = refl }, λ e. cc)
 
 -- the reply to a line that asks nothing
-pub done_reply : (parts : List Part) (session : Session) (ask : Ask) →
+pub done_reply : (parts : List Part) (session : Entered) (ask : Ask) →
     ((name : List ℕ) × (ask ≡ Auth name)) ⊎ ((name : List ℕ) × (value : Option (List ℕ)) × (returned : Bool) × (ask ≡ Set name value returned)) →
-    IsReply parts session ask R.Done
+    IsReplyToLine parts session ask R.Done
 done_reply parts session ask (inl (name, is)) = rw is refl
 done_reply parts session ask (inr (name, value, returned, is)) = rw is refl
 
 -- a query of a session
-pub asked_is : (asked : Asked) (session : Session) (values : List (List ℕ)) →
+pub asked_is : (asked : Asked) (session : Entered) (values : List (List ℕ)) →
     asked.attributes ≡ session.attributes → asked.values ≡ values → asked.requesters ≡ session.requesters → asked ≡ asked_in session values
 asked_is asked session values attributes named requesters = rw (← attributes, ← named, ← requesters) refl
 
@@ -136,7 +143,7 @@ value_reply parts asked level name version rows proved least named told =
     }
 
 -- the first lines of a session are answered, and what they enter is entered
-pub record IsUnderway (assertions : List Assertion) (asks : List Ask) (session : Session) (written : List ℕ) : Type 0 where
+pub record IsUnderway (assertions : List Assertion) (asks : List Ask) (session : Entered) (written : List ℕ) : Type 0 where
   pub entered : HasEntered asks session
   pub answered : (history : List Update) → IsMadeBy history assertions →
       AreAnswered history (Q.Open ∷ map request_of asks) written (session_state history session)
@@ -152,8 +159,8 @@ underway_open assertions written e = record {
 }
 
 -- one more line of the whole session
-pub underway_step : (assertions : List Assertion) (parts : List Part) (asks : List Ask) (i : ℕ) (ask : Ask) (session : Session) (written : List ℕ) (reply : Reply) →
-    parts ≡ parts_in assertions → i < length asks → ask ≡ get_or asks i ask → AreRight asks → IsReply parts session ask reply →
+pub underway_step : (assertions : List Assertion) (parts : List Part) (asks : List Ask) (i : ℕ) (ask : Ask) (session : Entered) (written : List ℕ) (reply : Reply) →
+    parts ≡ parts_in assertions → i < length asks → ask ≡ get_or asks i ask → AreRight asks → IsReplyToLine parts session ask reply →
     IsUnderway assertions (take i asks) session written →
     IsUnderway assertions (take (i + 1) asks) (entered_by ask session) (written ++ reply_text reply)
 underway_step assertions parts asks i ask session written reply same h e right told before =
@@ -169,7 +176,7 @@ underway_step assertions parts asks i ask session written reply same h e right t
     }
 
 -- all lines are answered, and BYE where it ends the session
-pub answered-ended : (history : List Update) (assertions : List Assertion) (asks : List Ask) (session : Session) (written after : List ℕ) (is_ended : Bool) →
+pub answered-ended : (history : List Update) (assertions : List Assertion) (asks : List Ask) (session : Entered) (written after : List ℕ) (is_ended : Bool) →
     IsMadeBy history assertions → IsUnderway assertions asks session written →
     ((is_ended ≡ true) × (after ≡ written ++ codes "OK\n")) ⊎ ((is_ended ≡ false) × (after ≡ written)) →
     IsAnswered history (Q.Open ∷ (map request_of asks ++ bye_requests is_ended)) after

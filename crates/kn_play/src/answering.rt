@@ -1,23 +1,21 @@
 //! The replies to a script over a policy.
-ghost use Rattle.std.specs.Prelude.{◌≡◌, ◌≤◌, ◌<◌, ◌+◌, ◌^◌, ◌++◌, ℕ, false, length, All, Some, OnOk, IfOk, List as Of};
-ghost use Rattle.std.specs.List.{list_any};
-ghost use Rattle.std.specs.Str.{bytes_eq};
-ghost use Rattle.kn_principal.specs.Principals.{policy};
-ghost use Rattle.kn_meaning.specs.declared.update.Update.{Update};
-ghost use Rattle.kn_meaning.specs.FirstInput.{IsAsk, IsAccepted, IsScript, IsFirstInput, requests_of};
-ghost use Rattle.kn_meaning.specs.Asked.{IsAnswered};
-ghost use Rattle.kn_meaning.specs.Replies.{Reply, Started, Value, reply_text};
-ghost use Rattle.kn_answer.specs.Sizes.{IsReadablePart, total_size};
-ghost use Rattle.kn_play.specs.Answering.{IsMadeBy, parts_in, asked_in, entered_by, IsReply, IsValueReply};
+ghost use Rattle.std.specs.Prelude.{◌≡◌, ◌<◌, ◌+◌, ◌^◌, ◌++◌, ℕ, All, Some, OnOk, IfOk, List as Of};
+ghost use Rattle.kn_env.specs.Environment.{AreRequesters};
+ghost use Rattle.kn_store.specs.declared.update.Update.{Update};
+ghost use Rattle.kn_script.specs.FirstInput.{IsAsk, IsAccepted, IsScript, IsFirstInput, requests_of};
+ghost use Rattle.kn_play.specs.Asked.{IsAnswered};
+ghost use Rattle.kn_wire.specs.Replies.{Reply, Started, Value, reply_text};
+ghost use Rattle.kn_answer.specs.Sizes.{HaveTexts};
+ghost use Rattle.kn_play.specs.Answering.{IsMadeBy, parts_in, asked_in, entered_by, IsReplyToLine, IsValueReply};
 
-use crate::session::Session;
+use crate::entered::Entered;
 use crate::shared::parts;
 use crate::text::{push_number, push_rows};
 use kn_answer::{Answer, Part, answer};
 use kn_assert::Assertion;
 use kn_base::{List, NoMemory, Octets};
 use kn_env::{Query, Values};
-use kn_meaning::script::{Ask, Script};
+use kn_script::{Ask, Script};
 use std::alloc::Global;
 
 /// The texts of the replies to a script, after the assertions were added in their order.
@@ -28,8 +26,7 @@ pub fn replies(
     assertions: &List<Assertion>,
     script: &Option<Script>,
 ) -> Result<Octets, NoMemory>
-    requires readable { All IsReadablePart (parts_in assertions.now) }
-    requires small { 65 + total_size (parts_in assertions.now) < 2 ^ 24 }
+    requires texts { HaveTexts (parts_in assertions.now) }
     requires right { (input : Of ℕ) × IsFirstInput input script.now }
     ensures { (history : Of Update) → IsMadeBy history assertions.now
         → IfOk result (λ written. IsAnswered history (requests_of script.now) written) }
@@ -46,15 +43,14 @@ fn session_replies(
     assertions: &List<Assertion>,
     script: &Script,
 ) -> Result<Octets, NoMemory>
-    requires readable { All IsReadablePart (parts_in assertions.now) }
-    requires small { 65 + total_size (parts_in assertions.now) < 2 ^ 24 }
+    requires texts { HaveTexts (parts_in assertions.now) }
     requires right { (input : Of ℕ) × IsScript input script.now }
     ensures { (history : Of Update) → IsMadeBy history assertions.now
         → IfOk result (λ written. IsAnswered history (requests_of (Some script.now)) written) }
 {
     let list = parts(alloc, assertions)?;
     let mut out = Octets::new(alloc);
-    let mut session = Session::new(alloc);
+    let mut session = Entered::new(alloc);
     push_started(&mut out, assertions.len())?;
     for ask in script.asks.as_slice() {
         push_answer(alloc, &list, &mut session, ask, &mut out)?;
@@ -79,18 +75,16 @@ fn push_started(out: &mut Octets, version: u32) -> Result<(), NoMemory>
 fn push_answer(
     alloc: Global,
     list: &List<Part<'_>>,
-    session: &mut Session,
+    session: &mut Entered,
     ask: &Ask,
     out: &mut Octets,
 ) -> Result<(), NoMemory>
-    requires readable { All IsReadablePart list.now }
-    requires small { 65 + total_size list.now < 2 ^ 24 }
+    requires texts { HaveTexts list.now }
     requires right { IsAsk ask.now }
     requires accepted { IsAccepted session.old.attributes ask.now }
-    requires few { length session.old.requesters ≤ 64 }
-    requires others { list_any (bytes_eq policy) session.old.requesters ≡ false }
+    requires requesters { AreRequesters session.old.requesters }
     ensures told { OnOk result ((reply : Reply) × (out.new ≡ out.old ++ reply_text reply)
-        × IsReply list.now session.old ask.now reply) }
+        × IsReplyToLine list.now session.old ask.now reply) }
     ensures entered { OnOk result (session.new ≡ entered_by ask.now session.old) }
 {
     match ask {
@@ -106,14 +100,12 @@ fn push_answer(
 fn push_query(
     alloc: Global,
     list: &List<Part<'_>>,
-    session: &Session,
+    session: &Entered,
     values: &Values,
     out: &mut Octets,
 ) -> Result<(), NoMemory>
-    requires readable { All IsReadablePart list.now }
-    requires small { 65 + total_size list.now < 2 ^ 24 }
-    requires few { length session.now.requesters ≤ 64 }
-    requires others { list_any (bytes_eq policy) session.now.requesters ≡ false }
+    requires texts { HaveTexts list.now }
+    requires requesters { AreRequesters session.now.requesters }
     ensures { OnOk result ((reply : Reply) × (out.new ≡ out.old ++ reply_text reply)
         × IsValueReply list.now (asked_in session.now values.now) reply) }
 {

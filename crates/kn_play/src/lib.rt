@@ -2,12 +2,12 @@
 #![tactic(auto)]
 
 mod answering;
-mod session;
+mod entered;
 mod shared;
 #[cfg(test)]
 mod tests;
 mod text;
 
 pub use answering::replies;
-pub use session::Session;
+pub use entered::Entered;
 pub use shared::parts;

@@ -1,11 +1,11 @@
 //! The lines of rows, and the replies to a script.
-ghost use Rattle.std.specs.Prelude.{◌≡◌, ◌≤◌, ◌∷◌, [], All, IfOk};
-ghost use Rattle.kn_answer.specs.Sizes.{IsReadablePart, total_size};
+ghost use Rattle.std.specs.Prelude.{◌≡◌, ◌∷◌, [], IfOk};
+ghost use Rattle.kn_answer.specs.Sizes.{HaveTexts};
 ghost use Rattle.kn_play.specs.Answering.{parts_in};
 
 use crate::replies;
 use crate::text::push_rows;
-use kn_assert::{Assertion, Formula};
+use kn_assert::{Assertion, read};
 use kn_base::{List, NoMemory, Octets};
 use kn_proof::{Id, NamedRow};
 use kn_script::read_script;
@@ -76,25 +76,19 @@ fn bytes_that_are_not_printed_stand_in_octal(rt: HostRuntime) -> Result<(), Fail
 }
 
 /// The policy licenses alice.
-fn policy(alloc: Global) -> Result<List<Assertion>, NoMemory>
-    ensures readable { IfOk result (λ assertions. All IsReadablePart (parts_in assertions)) }
-    ensures small { IfOk result (λ assertions. total_size (parts_in assertions) ≤ 3) }
+fn policy(rt: &impl Abort, alloc: Global) -> Result<List<Assertion>, NoMemory>
+    ensures { IfOk result (λ assertions. HaveTexts (parts_in assertions)) }
 {
-    let assertion = Assertion {
-        authorizer: Octets::from_slice(alloc, b"POLICY")?,
-        constants: List::new(alloc),
-        licensees: Some(Formula::Who(Octets::from_slice(alloc, b"alice")?)),
-        conditions: None,
-        signature: None,
-        signed_to: 0,
-    };
-    alone(alloc, assertion)
+    match read(alloc, b"Authorizer: \"POLICY\"\nLicensees: \"alice\"\n") {
+        Ok(assertion) => alone(alloc, assertion),
+        Err(fault) => panic!(rt; "{fault:?}"),
+    }
 }
 
 #[test]
 fn a_script_is_answered(rt: HostRuntime) -> Result<(), Fail> {
     let alloc = rt.alloc();
-    let assertions = policy(alloc)?;
+    let assertions = policy(&rt, alloc)?;
     let script = read_script(
         alloc,
         b"OPEN\nQUERY 1 no,yes\nAUTH 1 alice\nQUERY 1 no,yes\nBYE\n",

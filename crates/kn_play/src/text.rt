@@ -1,6 +1,6 @@
 //! Numbers and rows of proofs at the end of a text.
 ghost use Rattle.std.specs.Prelude.{◌≡◌, ◌++◌, OnOk, decimal, flat_map};
-ghost use Rattle.kn_meaning.specs.Replies.{id_text, quoted_byte, row_text};
+ghost use Rattle.kn_proof.specs.Texts.{id_text, quoted_byte, row_text};
 
 use itoa::Buffer;
 use kn_base::{List, NoMemory, Octets};

@@ -1,8 +1,8 @@
 -- The attributes of a session's lines.
 use Rattle.std.proofs.Common.{◌≡◌, List, [], ◌∷◌, ◌++◌, refl}
 use Rattle.kn_env.specs.Attributes.{Attribute}
-use Rattle.kn_meaning.specs.declared.script.Ask.{Ask}
-use Rattle.kn_meaning.specs.FirstInput.{IsAccepted, attributes_after, AreAccepted}
+use Rattle.kn_script.specs.declared.asks.Ask.{Ask}
+use Rattle.kn_script.specs.FirstInput.{IsAccepted, attributes_after, AreAccepted}
 use Rattle.kn_script.specs.Session.{attributes_from}
 
 pub attributes_from-push : (before : List Attribute) (asks : List Ask) (ask : Ask) →

@@ -7,9 +7,9 @@ use Rattle.std.proofs.lemmas.Bool.{cases_Bool, and_parts}
 use Rattle.std.proofs.lemmas.List.Folds.{list_any-append}
 use Rattle.std.proofs.lemmas.Slice.Eq.{bytes_eq-Decides}
 use Rattle.kn_principal.specs.Principals.{policy, normal_form, normal_rest, lower_case, is_colon}
-use Rattle.kn_meaning.specs.FirstInput.{count_different}
-use Rattle.kn_meaning.specs.Daemon.{is_principal}
-use Rattle.kn_meaning.proofs.Different.{count_different_push, count_different_longer}
+use Rattle.kn_script.specs.FirstInput.{count_different}
+use Rattle.kn_session.specs.Sessions.{is_principal}
+use Rattle.kn_script.proofs.Different.{count_different_push, count_different_longer}
 use Rattle.kn_script.specs.Requesters.{AreEntered, with_requester}
 
 -- a principal with a colon keeps it in its normal form, so the policy's is that of no other text

@@ -4,3 +4,6 @@ pub mod SetLines
 pub mod Accepted
 pub mod Entered
 pub mod Session
+pub mod Words
+pub mod Asked
+pub mod Different

@@ -8,8 +8,8 @@ use Rattle.std.proofs.lemmas.Bool.{false≢true, cases_Bool}
 use Rattle.std.proofs.lemmas.Bool.Decides.{Decides-eqb}
 use Rattle.std.proofs.lemmas.Slice.Eq.{bytes_eq-Decides}
 use Rattle.std.proofs.lemmas.List.Sums.{position_or_len_is}
-use Rattle.kn_meaning.specs.Requests.{is_newline, line_length}
-use Rattle.kn_meaning.proofs.Lines.{line_length-newline}
+use Rattle.kn_wire.specs.Requests.{is_newline, line_length}
+use Rattle.kn_wire.proofs.Lines.{line_length-newline}
 
 -- a text without a newline
 pub line_length-clean : (xs : List ℕ) → All (λ b. is_newline b ≡ false) xs → line_length xs ≡ length xs

@@ -5,17 +5,17 @@ use Rattle.std.specs.List.{AllByRecursion, join_with_byte}
 use Rattle.std.proofs.lemmas.List.{append_cancel_left}
 use Rattle.std.proofs.lemmas.Grind.{flat_map-append}
 use Rattle.kn_principal.specs.Principals.{normal_form}
-use Rattle.kn_meaning.specs.declared.script.Ask.{Ask}
-use Rattle.kn_meaning.specs.declared.script.Ask.TheVariants.{Auth, Query, Set}
-use Rattle.kn_meaning.specs.declared.script.Script.{Script}
-use Rattle.kn_meaning.specs.FirstInput.{ask_line, ask_text, bye_text, named_by, count_different, NamesRightly, IsAsk, IsAccepted, AreAccepted, attributes_after, IsFirstInput}
+use Rattle.kn_script.specs.declared.asks.Ask.{Ask}
+use Rattle.kn_script.specs.declared.asks.Ask.TheVariants.{Auth, Query, Set}
+use Rattle.kn_script.specs.declared.asks.Script.{Script}
+use Rattle.kn_script.specs.FirstInput.{ask_line, ask_text, bye_text, named_by, count_different, NamesRightly, IsAsk, IsAccepted, AreAccepted, attributes_after, IsFirstInput}
 use Rattle.kn_env.specs.Attributes.{Attribute}
 use Rattle.kn_env.specs.Values.{values_of}
-use Rattle.kn_meaning.specs.Requests.{line_length}
-use Rattle.kn_meaning.proofs.Asked.{line_in_front}
-use Rattle.kn_meaning.proofs.Different.{count_different_longer}
-use Rattle.kn_meaning.proofs.LineLengths.{line_length_all}
-use Rattle.kn_meaning.proofs.Lines.{line_length-newline}
+use Rattle.kn_wire.specs.Requests.{line_length}
+use Rattle.kn_script.proofs.Asked.{line_in_front}
+use Rattle.kn_script.proofs.Different.{count_different_longer}
+use Rattle.kn_wire.proofs.LineLengths.{line_length_all}
+use Rattle.kn_wire.proofs.Lines.{line_length-newline}
 use Rattle.kn_script.specs.Requesters.{AreEntered}
 use Rattle.kn_script.specs.Session.{IsSession, noted, attributes_from}
 use Rattle.kn_script.proofs.Accepted.{attributes_from-push, accepted_here, accepted_more}

@@ -4,11 +4,11 @@ use Rattle.std.specs.List.{list_all, list_any, before_first}
 use Rattle.std.proofs.lemmas.Bool.{false≢true}
 use Rattle.std.proofs.lemmas.Grind.{common_steps}
 use Rattle.std.proofs.lemmas.List.{append_cancel_left}
-use Rattle.kn_meaning.specs.declared.script.Ask.{Ask}
-use Rattle.kn_meaning.specs.declared.script.Ask.TheVariants.{Auth, Query, Set}
-use Rattle.kn_meaning.specs.FirstInput.{ask_line, set_line, value_text, return_text, is_return, NamesRightly, EndsRightly}
-use Rattle.kn_meaning.specs.Requests.{is_space, is_word, without_return}
-use Rattle.kn_meaning.proofs.Words.{word_is_clean, name_before}
+use Rattle.kn_script.specs.declared.asks.Ask.{Ask}
+use Rattle.kn_script.specs.declared.asks.Ask.TheVariants.{Auth, Query, Set}
+use Rattle.kn_script.specs.FirstInput.{ask_line, set_line, value_text, return_text, NamesRightly, EndsRightly}
+use Rattle.kn_wire.specs.Requests.{is_space, is_word, is_return, without_return}
+use Rattle.kn_script.proofs.Words.{word_is_clean, name_before}
 
 heads_apart : (x y : ℕ) (xs ys : List ℕ) → x ≢ y → x ∷ xs ≢ y ∷ ys
 heads_apart x y xs ys apart e = apart (cc)

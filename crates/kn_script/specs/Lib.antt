@@ -1,2 +1,4 @@
+pub mod FirstInput
+pub mod Laws
 pub mod Requesters
 pub mod Session

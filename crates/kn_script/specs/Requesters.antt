@@ -3,7 +3,7 @@ use Rattle.std.specs.Prelude.{ℕ, ◌≡◌, false, List, [], ◌∷◌, ◌++�
 use Rattle.std.specs.List.{list_any}
 use Rattle.std.specs.Str.{bytes_eq}
 use Rattle.kn_principal.specs.Principals.{policy}
-use Rattle.kn_meaning.specs.FirstInput.{count_different}
+use Rattle.kn_script.specs.FirstInput.{count_different}
 
 -- the requesters with one more, unless it is there
 abbrev pub with_requester : List (List ℕ) → List ℕ → List (List ℕ)

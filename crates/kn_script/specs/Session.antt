@@ -3,10 +3,10 @@ use Rattle.std.specs.Prelude.{ℕ, ◌≡◌, ◌≤◌, List, [], ◌∷◌, �
 use Rattle.std.specs.List.{AllByRecursion}
 use Rattle.kn_env.specs.Attributes.{Attribute}
 use Rattle.kn_principal.specs.Principals.{normal_form}
-use Rattle.kn_meaning.specs.declared.script.Ask.{Ask}
-use Rattle.kn_meaning.specs.declared.script.Ask.TheVariants.{Auth, Query, Set}
-use Rattle.kn_meaning.specs.declared.script.Script.{Script}
-use Rattle.kn_meaning.specs.FirstInput.{ask_text, bye_text, named_by, count_different, IsAsk, AreAccepted, attributes_after}
+use Rattle.kn_script.specs.declared.asks.Ask.{Ask}
+use Rattle.kn_script.specs.declared.asks.Ask.TheVariants.{Auth, Query, Set}
+use Rattle.kn_script.specs.declared.asks.Script.{Script}
+use Rattle.kn_script.specs.FirstInput.{ask_text, bye_text, named_by, count_different, IsAsk, AreAccepted, attributes_after}
 use Rattle.kn_script.specs.Requesters.{with_requester}
 
 -- the lines spell what this script asks, and its end

@@ -2,7 +2,7 @@
 ghost use Rattle.std.specs.Prelude.{◌≡◌, ◌⊎◌, Some, None, OnOk, OnErr, IfErr};
 ghost use Rattle.kn_env.specs.Attributes.{attribute_fault, with_attribute};
 ghost use Rattle.kn_env.specs.declared.attributes.EnvFault.TheVariants as F;
-ghost use Rattle.kn_meaning.specs.Requests.{or_empty};
+ghost use Rattle.kn_wire.specs.Requests.{or_empty};
 
 use kn_base::Octets;
 use kn_env::{Attributes, EnvFault};

@@ -5,18 +5,18 @@ ghost use Rattle.std.specs.List.{list_any, join_with_byte};
 ghost use Rattle.std.specs.Option.{option_map};
 ghost use Rattle.std.specs.Result.{IsErrOf};
 ghost use Rattle.kn_env.specs.Values.{values_of};
-ghost use Rattle.kn_meaning.specs.Daemon.{is_principal};
-ghost use Rattle.kn_meaning.specs.FirstInput.{IsFirstInput, IsAsk, IsAccepted, NamesRightly, EndsRightly, ask_line, value_text, return_text, attributes_after, is_return};
-ghost use Rattle.kn_meaning.specs.Requests.{line_length, without_return, is_space};
-ghost use Rattle.kn_meaning.specs.declared.script.Ask.TheVariants.{Auth, Query};
+ghost use Rattle.kn_session.specs.Sessions.{is_principal};
+ghost use Rattle.kn_script.specs.FirstInput.{IsFirstInput, IsAsk, IsAccepted, NamesRightly, EndsRightly, ask_line, value_text, return_text, attributes_after};
+ghost use Rattle.kn_wire.specs.Requests.{line_length, is_return, without_return, is_space};
+ghost use Rattle.kn_script.specs.declared.asks.Ask.TheVariants.{Auth, Query};
 ghost use Rattle.kn_script.specs.Session.{IsSession, noted};
 
+use crate::asks::{Ask, Script};
 use crate::attributes::enter_attribute;
 use crate::requesters::{enter, is_among};
 use kn_base::limits::{LINE_BYTES, PRINCIPAL_BYTES, REQUESTERS};
 use kn_base::{List, NoMemory, Octets};
 use kn_env::{Attributes, EnvFault, Values, ValuesFault};
-use kn_meaning::script::{Ask, Script};
 use std::alloc::Global;
 
 /// The bytes of an input of the first form.

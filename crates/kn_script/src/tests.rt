@@ -1,8 +1,8 @@
 //! Inputs that are scripts, and others.
 ghost use Rattle.std.specs.Prelude.{◌≤◌};
 
+use crate::asks::Ask;
 use crate::{ScriptFault, read_script};
-use kn_meaning::script::Ask;
 use std::alloc::{AllocError, Global};
 use std::process::Abort;
 use std::test::Fail;

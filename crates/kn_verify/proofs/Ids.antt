@@ -1,13 +1,14 @@
 -- The ids of assertions.
-use Rattle.std.proofs.Common.{◌≡◌, ℕ, suc, zero, ◌+◌, List, [], ◌∷◌, map, refl, sym, ap, subst, ◌∙◌, arith}
+use Rattle.std.proofs.Common.{◌≡◌, ℕ, suc, zero, ◌+◌, List, [], ◌∷◌, ◌++◌, append-nil, map, refl, sym, ap, subst, ◌∙◌, arith}
 use Rattle.std.proofs.lemmas.Option.{slice_get_within}
 use Rattle.kn_trees.specs.declared.assertion.Assertion.{Assertion}
 use Rattle.kn_proof.specs.declared.named.Id.{Id}
-use Rattle.kn_proof.specs.declared.named.Id.TheVariants.{Shared}
+use Rattle.kn_proof.specs.declared.named.Id.TheVariants.{Shared, Private}
 use Rattle.kn_env.specs.Environment.{Asked}
 use Rattle.kn_meaning.specs.Equations.{Part, Statement, statement_of}
-use Rattle.kn_meaning.specs.Daemon.{Session, asked_of, equations_of, parts_of}
-use Rattle.kn_meaning.specs.History.{credentials_of}
+use Rattle.kn_session.specs.Sessions.{Session}
+use Rattle.kn_daemon.specs.Daemon.{asked_of, equations_of, parts_of, session_parts}
+use Rattle.kn_store.specs.History.{NumberedText, credentials_of}
 use Rattle.kn_answer.specs.Numbering.{IsNumber, AreDistinct}
 use Rattle.kn_play.specs.Answering.{numbered_after, parts_in, IsMadeBy}
 
@@ -33,8 +34,10 @@ statement_ids : (asked : Asked) (parts : List Part) → map (λ (s : Statement).
 statement_ids asked [] = refl
 statement_ids asked (part ∷ parts) = ap (λ (l : List Id). part.id ∷ l) (statement_ids asked parts)
 
-pub ids_differ : (session : Session) (assertions : List Assertion) → IsMadeBy session.pinned assertions → (values : List (List ℕ))
+pub ids_differ : (session : Session) (assertions : List Assertion) → IsMadeBy session.pinned assertions → session.privates ≡ [] → (values : List (List ℕ))
     → AreDistinct (map (λ (s : Statement). s.id) (equations_of session values).statements)
-ids_differ session assertions made values =
-    let ids = statement_ids (asked_of session values) (parts_of (credentials_of session.pinned)) ∙ ap (map (λ (part : Part). part.id)) made.parts in
+ids_differ session assertions made none values =
+    let parts : session_parts session ≡ parts_in assertions =
+    ap (λ (texts : List NumberedText). parts_of Shared (credentials_of session.pinned) ++ parts_of Private texts) none ∙ append-nil (parts_of Shared (credentials_of session.pinned)) ∙ made.parts in
+    let ids = statement_ids (asked_of session values) (session_parts session) ∙ ap (map (λ (part : Part). part.id)) parts in
     subst (λ (l : List Id). AreDistinct l) (sym ids) (ids_distinct assertions)

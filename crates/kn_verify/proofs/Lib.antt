@@ -4,4 +4,3 @@ pub mod Ids
 pub mod Rejected
 pub mod OneReason
 pub mod Verified
-pub mod Readable

@@ -19,7 +19,7 @@ use Rattle.kn_meaning.specs.Occurring.{occurring, licensees_names, statement_nam
 use Rattle.kn_meaning.specs.Proofs.{levels_by, IsRow, AreRows, IsClosed, IsProof}
 use Rattle.kn_answer.specs.Numbering.{AreDistinct}
 use Rattle.kn_answer.proofs.Bridge.{bytes_eq-same}
-use Rattle.kn_verify.specs.Rejections.{IsInRange, IsRowReject, IsRowFault, IsUnclosed, IsOtherClaim, IsRejected, SameReason}
+use Rattle.kn_verify.specs.Rejections.{IsNamedInRange, IsNamedRowReject, IsNamedRowFault, IsNamedUnclosed, IsNamedOtherClaim, IsRejected, SameReason}
 
 -- no two statements have one id
 abbrev pub HaveIds : Equations → Type 0
@@ -60,7 +60,7 @@ author_occurs e i s here =
     (list_any-append (bytes_eq s.authorizer) e.requesters (flat_map statement_names e.statements)
     ∙ or_as_true (list_any (bytes_eq s.authorizer) e.requesters) (list_any (bytes_eq s.authorizer) (flat_map statement_names e.statements)) (among_names e.statements i s here))
 
-in_range : (e : Equations) (before : List NamedRow) (row : NamedRow) → IsRow e before row → IsInRange e row
+in_range : (e : Equations) (before : List NamedRow) (row : NamedRow) → IsRow e before row → IsNamedInRange e row
 in_range e before row follows = record {
   principal = subst (λ name. list_any (bytes_eq name) (occurring e) ≡ true) follows.supported.4.own (author_occurs e follows.supported.0 follows.supported.1 (there e follows.supported));
   assertion = (follows.supported.0, follows.supported.1, follows.supported.2, follows.supported.3, follows.supported.4.named);
@@ -68,7 +68,7 @@ in_range e before row follows = record {
 }
 
 -- a row that may not follow doesn't follow
-not_row : (e : Equations) → HaveIds e → (before : List NamedRow) (k : ℕ) (row : NamedRow) (reject : Reject) → IsRowReject e before k row reject → IsRow e before row → ⊥
+not_row : (e : Equations) → HaveIds e → (before : List NamedRow) (k : ℕ) (row : NamedRow) (reject : Reject) → IsNamedRowReject e before k row reject → IsRow e before row → ⊥
 not_row e ids before k row (Range j) reason follows = reason.1 (in_range e before row follows)
 not_row e ids before k row (Requester j) reason follows = true≢false (sym reason.2 ∙ follows.other)
 not_row e ids before k row (Again j) reason follows = true≢false (sym reason.2 ∙ follows.fresh)
@@ -91,14 +91,14 @@ not_row e ids before k row (Claim found) reason follows = absurd reason
 
 -- the tests that a row passed which is refused by the n-th
 record HasPassed (e : Equations) (before : List NamedRow) (row : NamedRow) (n : ℕ) : Type 0 where
-  range : 2 ≤ n → IsInRange e row
+  range : 2 ≤ n → IsNamedInRange e row
   other : 3 ≤ n → is_requester e row.principal ≡ false
   fresh : 4 ≤ n → list_any (λ r. bytes_eq r.principal row.principal) before ≡ false
   above : 5 ≤ n → 1 ≤ row.value
   own : 6 ≤ n → Any (λ s. (s.id ≡ row.id) × (s.authorizer ≡ row.principal)) e.statements
   most : n ≤ 6
 
-has_passed : (e : Equations) (before : List NamedRow) (k : ℕ) (row : NamedRow) (reject : Reject) → IsRowReject e before k row reject → HasPassed e before row (reason_number reject)
+has_passed : (e : Equations) (before : List NamedRow) (k : ℕ) (row : NamedRow) (reject : Reject) → IsNamedRowReject e before k row reject → HasPassed e before row (reason_number reject)
 has_passed e before k row (Range j) reason = record {
   range = λ l. absurd (omega arith);
   other = λ l. absurd (omega arith);
@@ -151,7 +151,7 @@ has_passed e before k row (Unclosed i found) reason = absurd reason
 has_passed e before k row (Claim found) reason = absurd reason
 
 -- a row that fails one test doesn't pass it
-not_later : (e : Equations) → HaveIds e → (before : List NamedRow) (k : ℕ) (row : NamedRow) (reject : Reject) (n : ℕ) → IsRowReject e before k row reject → HasPassed e before row n → reason_number reject < n → ⊥
+not_later : (e : Equations) → HaveIds e → (before : List NamedRow) (k : ℕ) (row : NamedRow) (reject : Reject) (n : ℕ) → IsNamedRowReject e before k row reject → HasPassed e before row n → reason_number reject < n → ⊥
 not_later e ids before k row (Range j) n reason passed less = reason.1 (passed.range (omega arith))
 not_later e ids before k row (Requester j) n reason passed less = true≢false (sym reason.2 ∙ passed.other (omega arith))
 not_later e ids before k row (Again j) n reason passed less = true≢false (sym reason.2 ∙ passed.fresh (omega arith))
@@ -171,7 +171,7 @@ record TellsOfRow (e : Equations) (before : List NamedRow) (k : ℕ) (row : Name
   none : reason_number reject < 6 → reason_found reject ≡ 0
   found : reason_number reject ≡ 6 → Any (λ s. (s.id ≡ row.id) × (reason_found reject ≡ worth e.top (levels_by e before) s)) e.statements
 
-tells_of_row : (e : Equations) (before : List NamedRow) (k : ℕ) (row : NamedRow) (reject : Reject) → IsRowReject e before k row reject → TellsOfRow e before k row reject
+tells_of_row : (e : Equations) (before : List NamedRow) (k : ℕ) (row : NamedRow) (reject : Reject) → IsNamedRowReject e before k row reject → TellsOfRow e before k row reject
 tells_of_row e before k row (Range j) reason = record { place = reason.0; none = λ l. refl; found = λ same. absurd (omega arith) }
 tells_of_row e before k row (Requester j) reason = record { place = reason.0; none = λ l. refl; found = λ same. absurd (omega arith) }
 tells_of_row e before k row (Again j) reason = record { place = reason.0; none = λ l. refl; found = λ same. absurd (omega arith) }
@@ -186,7 +186,7 @@ tells_of_row e before k row (Unclosed i found) reason = absurd reason
 tells_of_row e before k row (Claim found) reason = absurd reason
 
 -- a row has one reason
-one_row_reason : (e : Equations) → HaveIds e → (before : List NamedRow) (k : ℕ) (row : NamedRow) (reject other : Reject) → IsRowReject e before k row reject → IsRowReject e before k row other → SameReason reject other
+one_row_reason : (e : Equations) → HaveIds e → (before : List NamedRow) (k : ℕ) (row : NamedRow) (reject other : Reject) → IsNamedRowReject e before k row reject → IsNamedRowReject e before k row other → SameReason reject other
 one_row_reason e ids before k row reject other a b = record {
   number = number;
   row = tells_a.place ∙ sym tells_b.place;
@@ -237,15 +237,15 @@ row-at e before (r ∷ rows) (suc n) are (suc k) row less here =
     subst (λ rs. IsRow e rs row) (append_assoc before (r ∷ []) (take k rows)) (row-at e (before ++ r ∷ []) rows n are.1 k row (omega arith) here)
 
 -- a row that is refused doesn't stand among rows that follow one another
-not_among : (e : Equations) → HaveIds e → (rows : List NamedRow) (n : ℕ) → AreRows e [] (take n rows) → (reject : Reject) (fault : IsRowFault e rows reject) → fault.k < n → ⊥
+not_among : (e : Equations) → HaveIds e → (rows : List NamedRow) (n : ℕ) → AreRows e [] (take n rows) → (reject : Reject) (fault : IsNamedRowFault e rows reject) → fault.k < n → ⊥
 not_among e ids rows n are reject fault less = not_row e ids (take fault.k rows) fault.k fault.row reject fault.reason (row-at e [] rows n are fault.k fault.row less fault.here)
 
-not_in_whole : (e : Equations) → HaveIds e → (rows : List NamedRow) → AreRows e [] rows → (reject : Reject) → IsRowFault e rows reject → ⊥
+not_in_whole : (e : Equations) → HaveIds e → (rows : List NamedRow) → AreRows e [] rows → (reject : Reject) → IsNamedRowFault e rows reject → ⊥
 not_in_whole e ids rows are reject fault =
     let within : fault.k < length rows = slice_get_within rows fault.k fault.row fault.here in
     not_among e ids rows (length rows) (subst (AreRows e []) (sym (take-length rows)) are) reject fault within
 
-one_fault : (e : Equations) → HaveIds e → (rows : List NamedRow) (reject other : Reject) → IsRowFault e rows reject → IsRowFault e rows other → SameReason reject other
+one_fault : (e : Equations) → HaveIds e → (rows : List NamedRow) (reject other : Reject) → IsNamedRowFault e rows reject → IsNamedRowFault e rows other → SameReason reject other
 one_fault e ids rows reject other a b =
     elim (cases_lt a.k b.k) [
       | inl less ↦ absurd (not_among e ids rows b.k b.before reject a less)
@@ -256,7 +256,7 @@ one_fault e ids rows reject other a b =
             let both : Some b.row ≡ Some a.row = sym b.here ∙ ap (slice_get rows) same ∙ a.here in
             let row : b.row ≡ a.row = cc in
             one_row_reason e ids (take a.k rows) a.k a.row reject other a.reason
-            (subst (λ r. IsRowReject e (take a.k rows) a.k r other) row (subst (λ k. IsRowReject e (take k rows) k b.row other) same b.reason))
+            (subst (λ r. IsNamedRowReject e (take a.k rows) a.k r other) row (subst (λ k. IsNamedRowReject e (take k rows) k b.row other) same b.reason))
       ]
     ]
 
@@ -266,15 +266,15 @@ record IsLaterUnclosed (e : Equations) (rows : List NamedRow) (reject : Reject) 
   i : ℕ
   found : ℕ
   is : reject ≡ Unclosed i found
-  unclosed : IsUnclosed e (levels_by e rows) i found
+  unclosed : IsNamedUnclosed e (levels_by e rows) i found
 
 record IsLaterClaim (e : Equations) (rows : List NamedRow) (level : ℕ) (reject : Reject) : Type 0 where
   rows_follow : AreRows e [] rows
   found : ℕ
   is : reject ≡ Claim found
-  claim : IsOtherClaim e (levels_by e rows) level found
+  claim : IsNamedOtherClaim e (levels_by e rows) level found
 
-split : (e : Equations) (rows : List NamedRow) (level : ℕ) (reject : Reject) → IsRejected e rows level reject → IsRowFault e rows reject ⊎ (IsLaterUnclosed e rows reject ⊎ IsLaterClaim e rows level reject)
+split : (e : Equations) (rows : List NamedRow) (level : ℕ) (reject : Reject) → IsRejected e rows level reject → IsNamedRowFault e rows reject ⊎ (IsLaterUnclosed e rows reject ⊎ IsLaterClaim e rows level reject)
 split e rows level (Range j) rejected = inl rejected
 split e rows level (Requester j) rejected = inl rejected
 split e rows level (Again j) rejected = inl rejected
@@ -285,7 +285,7 @@ split e rows level (Unclosed i found) rejected = inr (inl (record { rows_follow 
 split e rows level (Claim found) rejected = inr (inr (record { rows_follow = rejected.0; found = found; is = refl; claim = rejected.1 }))
 
 -- an assertion that is worth too much doesn't stand among those that aren't
-not_closed : (e : Equations) (at : Levels) (i found n : ℕ) → IsUnclosed e at i found → n ≤ length e.statements → i < n
+not_closed : (e : Equations) (at : Levels) (i found n : ℕ) → IsNamedUnclosed e at i found → n ≤ length e.statements → i < n
     → ((j : ℕ) (d : Statement) → j < length (take n e.statements) → worth e.top at (get_or (take n e.statements) j d) ≤ at (get_or (take n e.statements) j d).authorizer) → ⊥
 not_closed e at i found n unclosed fits less closed =
     let s : Statement = unclosed.statement in
@@ -296,13 +296,13 @@ not_closed e at i found n unclosed fits less closed =
     let value : found ≡ worth e.top at s = unclosed.worth_found in
     omega arith
 
-not_closed_whole : (e : Equations) (at : Levels) (i found : ℕ) → IsUnclosed e at i found → IsClosed e at → ⊥
+not_closed_whole : (e : Equations) (at : Levels) (i found : ℕ) → IsNamedUnclosed e at i found → IsClosed e at → ⊥
 not_closed_whole e at i found unclosed closed =
     let within : i < length e.statements = slice_get_within e.statements i unclosed.statement unclosed.here in
     not_closed e at i found (length e.statements) unclosed (omega arith) within
     (subst (λ ss. (j : ℕ) (d : Statement) → j < length ss → worth e.top at (get_or ss j d) ≤ at (get_or ss j d).authorizer) (sym (take-length e.statements)) closed)
 
-one_unclosed : (e : Equations) (at : Levels) (i found j other : ℕ) → IsUnclosed e at i found → IsUnclosed e at j other → (i ≡ j) × (found ≡ other)
+one_unclosed : (e : Equations) (at : Levels) (i found j other : ℕ) → IsNamedUnclosed e at i found → IsNamedUnclosed e at j other → (i ≡ j) × (found ≡ other)
 one_unclosed e at i found j other a b =
     let within : i < length e.statements = slice_get_within e.statements i a.statement a.here in
     let within_b : j < length e.statements = slice_get_within e.statements j b.statement b.here in
@@ -325,7 +325,7 @@ same_told a b reject other first second same = subst (λ r. SameReason r other) 
 pub one_reason : (e : Equations) → HaveIds e → (rows : List NamedRow) (level : ℕ) (reject other : Reject) → IsRejected e rows level reject → IsRejected e rows level other → SameReason reject other
 one_reason e ids rows level reject other a b = by (split e rows level reject a) (split e rows level other b)
   where
-    by : IsRowFault e rows reject ⊎ (IsLaterUnclosed e rows reject ⊎ IsLaterClaim e rows level reject) → IsRowFault e rows other ⊎ (IsLaterUnclosed e rows other ⊎ IsLaterClaim e rows level other) → SameReason reject other
+    by : IsNamedRowFault e rows reject ⊎ (IsLaterUnclosed e rows reject ⊎ IsLaterClaim e rows level reject) → IsNamedRowFault e rows other ⊎ (IsLaterUnclosed e rows other ⊎ IsLaterClaim e rows level other) → SameReason reject other
     by (inl x) (inl y) = one_fault e ids rows reject other x y
     by (inl x) (inr (inl y)) = absurd (not_in_whole e ids rows y.rows_follow reject x)
     by (inl x) (inr (inr y)) = absurd (not_in_whole e ids rows y.rows_follow reject x)
@@ -342,7 +342,7 @@ one_reason e ids rows level reject other a b = by (split e rows level reject a) 
 pub not_both : (e : Equations) → HaveIds e → (rows : List NamedRow) (level : ℕ) (reject : Reject) → IsProof e rows level → IsRejected e rows level reject → ⊥
 not_both e ids rows level reject proves rejected = by (split e rows level reject rejected)
   where
-    by : IsRowFault e rows reject ⊎ (IsLaterUnclosed e rows reject ⊎ IsLaterClaim e rows level reject) → ⊥
+    by : IsNamedRowFault e rows reject ⊎ (IsLaterUnclosed e rows reject ⊎ IsLaterClaim e rows level reject) → ⊥
     by (inl x) = not_in_whole e ids rows proves.in_order reject x
     by (inr (inl x)) = not_closed_whole e (levels_by e rows) x.i x.found x.unclosed proves.closed
     by (inr (inr x)) = x.claim.differs (x.claim.level ∙ proves.claim)

@@ -5,16 +5,16 @@ use Rattle.std.specs.List.{AllByRecursion}
 use Rattle.std.proofs.lemmas.List.{map-append}
 use Rattle.std.proofs.lemmas.Grind.{flat_map-append}
 use Rattle.kn_env.specs.Attributes.{Attribute}
-use Rattle.kn_meaning.specs.declared.update.Update.{Update}
-use Rattle.kn_meaning.specs.declared.script.Ask.{Ask}
-use Rattle.kn_meaning.specs.declared.script.Ask.TheVariants.{Auth, Query, Set}
-use Rattle.kn_meaning.specs.FirstInput.{IsAsk, AreAccepted, attributes_after, request_of, named_by, count_different}
-use Rattle.kn_meaning.specs.Requests.{Request, Open}
-use Rattle.kn_meaning.specs.Daemon.{Grounds, State, first_state, own_refusal}
-use Rattle.kn_meaning.specs.Asked.{no_grounds}
-use Rattle.kn_meaning.specs.Played.{after_request, played}
-use Rattle.kn_meaning.proofs.Different.{count_different_longer}
-use Rattle.kn_play.specs.declared.session.Session.{Session}
+use Rattle.kn_store.specs.declared.update.Update.{Update}
+use Rattle.kn_script.specs.declared.asks.Ask.{Ask}
+use Rattle.kn_script.specs.declared.asks.Ask.TheVariants.{Auth, Query, Set}
+use Rattle.kn_script.specs.FirstInput.{IsAsk, AreAccepted, attributes_after, request_of, named_by, count_different}
+use Rattle.kn_wire.specs.Requests.{Request, Open}
+use Rattle.kn_daemon.specs.Daemon.{Grounds, State, first_state, own_refusal}
+use Rattle.kn_daemon.specs.Played.{no_grounds}
+use Rattle.kn_daemon.specs.Played.{after_request, played}
+use Rattle.kn_script.proofs.Different.{count_different_longer}
+use Rattle.kn_play.specs.declared.entered.Entered.{Entered}
 use Rattle.kn_play.specs.Answering.{AreRight, no_session, entered_by, session_state}
 use Rattle.kn_play.proofs.Entering.{entered_nothing, entered_more, take_one_more, ask_at, not_refused_at, named_state}
 use Rattle.kn_verify.specs.Scripts.{IsReached}
@@ -26,7 +26,7 @@ played-push g past state [] request = refl
 played-push g past state (r ∷ requests) request = played-push g past (after_request g past state r) requests request
 
 -- what the request of a line that isn't refused changes
-after-ask : (history : List Update) (session : Session) (ask : Ask) →
+after-ask : (history : List Update) (session : Entered) (ask : Ask) →
     own_refusal no_grounds (session_state history session) (request_of ask) ≡ None →
     after_request no_grounds history (session_state history session) (request_of ask) ≡ session_state history (entered_by ask session)
 after-ask history session (Auth name) accepted = rw accepted (sym (named_state history session name))
@@ -37,7 +37,7 @@ pub reached_nothing : IsReached [] no_session
 reached_nothing = record { entered = entered_nothing; state = λ history. refl }
 
 -- one more line of those that stand in a script
-pub reached_more : (asks : List Ask) (i : ℕ) (ask : Ask) (session : Session) → i < length asks → ask ≡ get_or asks i ask → AreRight asks →
+pub reached_more : (asks : List Ask) (i : ℕ) (ask : Ask) (session : Entered) → i < length asks → ask ≡ get_or asks i ask → AreRight asks →
     IsReached (take i asks) session → IsReached (take (i + 1) asks) (entered_by ask session)
 reached_more asks i ask session h e right before =
     let this : IsAsk ask = ask_at asks i ask h e right in

@@ -25,7 +25,7 @@ use Rattle.kn_answer.proofs.Grown.{AreNumbered-length}
 use Rattle.kn_answer.proofs.Rowed.{IsAt, at-statement, at-row, worth-at, flag-at, rows-few, length-rows, closed-named}
 use Rattle.kn_answer.proofs.Followed.{row_level-none, row_level-zero, HaveFollowed, HaveFollowed-none}
 use Rattle.kn_answer.proofs.Located.{found-within, found-there, IsFollowed, steps-named}
-use Rattle.kn_verify.specs.Rejections.{IsInRange, NamesOther, StandsIn, NamesFresh, NamesRaised, IsRowReject, IsRowFault, IsUnclosed, IsRejected}
+use Rattle.kn_verify.specs.Rejections.{IsNamedInRange, NamesOther, StandsIn, NamesFresh, NamesRaised, IsNamedRowReject, IsNamedRowFault, IsNamedUnclosed, IsRejected}
 
 -- a row by names, which stands where a row by numbers does
 record IsNamed (built : Interned) (rows : List NamedRow) (k : ℕ) (row : Row) : Type 0 where
@@ -71,7 +71,7 @@ is-there e built is named_row row located range =
       id = cc;
     }
 
-range-named : (e : Equations) (built : Interned) → IsBuilt e built → (named_row : NamedRow) (row : Row) → IsLocated built named_row row → numbered.IsInRange built.system row → IsInRange e named_row
+range-named : (e : Equations) (built : Interned) → IsBuilt e built → (named_row : NamedRow) (row : Row) → IsLocated built named_row row → numbered.IsInRange built.system row → IsNamedInRange e named_row
 range-named e built is named_row row located range =
     let there : IsThere e built named_row row = is-there e built is named_row row located range in
     let top : built.system.levels ≡ e.top + 1 = is.of.top in
@@ -82,7 +82,7 @@ range-named e built is named_row row located range =
       level = omega (arith, range.level);
     }
 
-range-numbered : (e : Equations) (built : Interned) → IsBuilt e built → (named_row : NamedRow) (row : Row) → IsLocated built named_row row → IsInRange e named_row → numbered.IsInRange built.system row
+range-numbered : (e : Equations) (built : Interned) → IsBuilt e built → (named_row : NamedRow) (row : Row) → IsLocated built named_row row → IsNamedInRange e named_row → numbered.IsInRange built.system row
 range-numbered e built is named_row row located range =
     let p : (p : ℕ) × IsNumber built.names named_row.principal p = is.principals.all named_row.principal range.principal in
     let number : IsNumber built.names named_row.principal row.principal = found-there built.names named_row.principal row.principal p.0 located.principal p.1 in
@@ -147,7 +147,7 @@ raised-named e built is before levels followed named_row row located raising = r
 
 -- why a row by numbers may not follow says why the row by names may not
 reason-named : (e : Equations) (built : Interned) → IsBuilt e built → (before : List NamedRow) (levels : List ℕ) → HaveFollowed e built.names before levels → (k : ℕ) (named_row : NamedRow) (row : Row)
-    → IsLocated built named_row row → (reject : Reject) → numbered.IsRowReject built.system levels k row reject → IsRowReject e before k named_row reject
+    → IsLocated built named_row row → (reject : Reject) → numbered.IsRowReject built.system levels k row reject → IsNamedRowReject e before k named_row reject
 reason-named e built is before levels followed k named_row row located (Range j) reason = (reason.0, λ range. reason.1 (range-numbered e built is named_row row located range))
 reason-named e built is before levels followed k named_row row located (Requester j) reason = (
   reason.0,
@@ -184,7 +184,7 @@ reason-named e built is before levels followed k named_row row located (Unsuppor
 reason-named e built is before levels followed k named_row row located (Unclosed i found) reason = absurd reason
 reason-named e built is before levels followed k named_row row located (Claim found) reason = absurd reason
 
-fault-named : (e : Equations) (built : Interned) → IsBuilt e built → (rows : List NamedRow) (located : List Row) → AreLocated built rows located → (reject : Reject) (k : ℕ) → numbered.IsRowFault built.system located reject k → IsRowFault e rows reject
+fault-named : (e : Equations) (built : Interned) → IsBuilt e built → (rows : List NamedRow) (located : List Row) → AreLocated built rows located → (reject : Reject) (k : ℕ) → numbered.IsRowFault built.system located reject k → IsNamedRowFault e rows reject
 fault-named e built is rows located are reject k fault =
     let found : IsNamed built rows k (proof_row_at located k) = located-at built rows located are k fault.within in
     let front : IsFollowed e built [] (at_first built.system) (take k rows) (take k located) =
@@ -197,7 +197,7 @@ fault-named e built is rows located are reject k fault =
       reason = reason-named e built is (take k rows) (levels_after (at_first built.system) (take k located)) front.after k found.named_row (proof_row_at located k) found.located reject fault.reason;
     }
 
-unclosed-named : (e : Equations) (built : Interned) → IsBuilt e built → (at : Levels) (levels : List ℕ) → HaveLevels built.names at levels → (i found : ℕ) → numbered.IsUnclosed built.system levels i found → IsUnclosed e at i found
+unclosed-named : (e : Equations) (built : Interned) → IsBuilt e built → (at : Levels) (levels : List ℕ) → HaveLevels built.names at levels → (i found : ℕ) → numbered.IsUnclosed built.system levels i found → IsNamedUnclosed e at i found
 unclosed-named e built is at levels have i found unclosed =
     let s : Statement = (at-row e built is i unclosed.within).0 in
     let here : IsAt e built i s = (at-row e built is i unclosed.within).1 in

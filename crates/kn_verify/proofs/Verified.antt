@@ -17,7 +17,7 @@ use Rattle.kn_answer.specs.Built.{Interned, IsBuilt}
 use Rattle.kn_answer.specs.Located.{AreLocated}
 use Rattle.kn_answer.specs.Laws.{LocatedProofs}
 use Rattle.kn_answer.proofs.Bridge.{IsPolicyLevel-by_name}
-use Rattle.kn_play.specs.declared.session.Session.{Session}
+use Rattle.kn_play.specs.declared.entered.Entered.{Entered}
 use Rattle.kn_play.specs.Answering.{parts_in, asked_in}
 use Rattle.kn_verify.specs.declared.verdict.Refused.{Refused}
 use Rattle.kn_verify.specs.declared.verdict.Refused.TheVariants.{Other, Rejected, NoMemory}
@@ -31,13 +31,13 @@ pub record AreOf (e : Equations) (built : Interned) (reply : ReadReply) (rows : 
   pub distinct : AreDistinct built.ids
   pub located : AreLocated built reply.rows rows
 
-same_asked : (query : Asked) (session : Session) (values : List (List ℕ)) → query.attributes ≡ session.attributes → query.values ≡ values → query.requesters ≡ session.requesters →
+same_asked : (query : Asked) (session : Entered) (values : List (List ℕ)) → query.attributes ≡ session.attributes → query.values ≡ values → query.requesters ≡ session.requesters →
     query ≡ asked_in session values
 same_asked query session values attributes names requesters =
     let whole : query ≡ record { attributes = query.attributes; values = query.values; requesters = query.requesters } = refl in
     cc
 
-pub located_rows : (session : Session) (values : List (List ℕ)) (assertions : List Assertion) (query : Asked) (list : List Part) (built : Interned) (reply : ReadReply) (rows : List Row) →
+pub located_rows : (session : Entered) (values : List (List ℕ)) (assertions : List Assertion) (query : Asked) (list : List Part) (built : Interned) (reply : ReadReply) (rows : List Row) →
     query.attributes ≡ session.attributes → query.values ≡ values → query.requesters ≡ session.requesters → list ≡ parts_in assertions →
     IsBuilt (equations_over query list) built → built.ids ≡ map (λ (part : Part). part.id) list → AreLocated built reply.rows rows →
     AreOf (equations_in session values assertions) built reply rows

@@ -12,19 +12,20 @@ use Rattle.kn_meaning.specs.Formulas.{Levels}
 use Rattle.kn_meaning.specs.Equations.{Equations, Statement, is_requester, worth}
 use Rattle.kn_meaning.specs.Occurring.{occurring}
 use Rattle.kn_meaning.specs.Proofs.{levels_by, AreRows, IsClosed, IsProof}
-use Rattle.kn_meaning.specs.Daemon.{Session, equations_of}
+use Rattle.kn_session.specs.Sessions.{Session}
+use Rattle.kn_daemon.specs.Daemon.{equations_of}
 use Rattle.kn_answer.specs.Numbering.{AreDistinct}
 use Rattle.kn_play.specs.Answering.{IsMadeBy}
 
 -- the row's principal and assertion occur in the query, and its level is one of the query's
-pub record IsInRange (e : Equations) (row : NamedRow) : Type 0 where
+pub record IsNamedInRange (e : Equations) (row : NamedRow) : Type 0 where
   pub principal : list_any (bytes_eq row.principal) (occurring e) ≡ true
   pub assertion : Any (λ s. s.id ≡ row.id) e.statements
   pub level : row.value ≤ e.top
 
 -- a row in range whose principal is no requester
 pub record NamesOther (e : Equations) (row : NamedRow) : Type 0 where
-  pub range : IsInRange e row
+  pub range : IsNamedInRange e row
   pub other : is_requester e row.principal ≡ false
 
 -- the principal stands in one of these rows
@@ -53,26 +54,26 @@ pub record IsWorth (e : Equations) (at : Levels) (row : NamedRow) (found : ℕ) 
   pub worth_found : found ≡ worth e.top at s
 
 -- why a row, the k-th counted from 0, may not follow these: the first test that it fails
-abbrev pub IsRowReject : Equations → List NamedRow → ℕ → NamedRow → Reject → Type 0
-IsRowReject e before k row (Range j) = (j ≡ k) × ¬ IsInRange e row
-IsRowReject e before k row (Requester j) = (j ≡ k) × IsInRange e row × (is_requester e row.principal ≡ true)
-IsRowReject e before k row (Again j) = (j ≡ k) × NamesOther e row × StandsIn before row.principal
-IsRowReject e before k row (Zero j) = (j ≡ k) × NamesFresh e before row × (row.value ≡ 0)
-IsRowReject e before k row (Foreign j) = (j ≡ k) × NamesRaised e before row × Any (IsOfAnother row) e.statements
-IsRowReject e before k row (Unsupported j found) = (j ≡ k) × NamesRaised e before row × Any (IsWorth e (levels_by e before) row found) e.statements × (found < row.value)
-IsRowReject e before k row (Unclosed i found) = ⊥
-IsRowReject e before k row (Claim found) = ⊥
+abbrev pub IsNamedRowReject : Equations → List NamedRow → ℕ → NamedRow → Reject → Type 0
+IsNamedRowReject e before k row (Range j) = (j ≡ k) × ¬ IsNamedInRange e row
+IsNamedRowReject e before k row (Requester j) = (j ≡ k) × IsNamedInRange e row × (is_requester e row.principal ≡ true)
+IsNamedRowReject e before k row (Again j) = (j ≡ k) × NamesOther e row × StandsIn before row.principal
+IsNamedRowReject e before k row (Zero j) = (j ≡ k) × NamesFresh e before row × (row.value ≡ 0)
+IsNamedRowReject e before k row (Foreign j) = (j ≡ k) × NamesRaised e before row × Any (IsOfAnother row) e.statements
+IsNamedRowReject e before k row (Unsupported j found) = (j ≡ k) × NamesRaised e before row × Any (IsWorth e (levels_by e before) row found) e.statements × (found < row.value)
+IsNamedRowReject e before k row (Unclosed i found) = ⊥
+IsNamedRowReject e before k row (Claim found) = ⊥
 
 -- a row is the first that may not follow those before it, for this reason
-pub record IsRowFault (e : Equations) (rows : List NamedRow) (reject : Reject) : Type 0 where
+pub record IsNamedRowFault (e : Equations) (rows : List NamedRow) (reject : Reject) : Type 0 where
   pub k : ℕ
   pub row : NamedRow
   pub here : slice_get rows k ≡ Some row
   pub before : AreRows e [] (take k rows)
-  pub reason : IsRowReject e (take k rows) k row reject
+  pub reason : IsNamedRowReject e (take k rows) k row reject
 
 -- the i-th assertion of the query, counted from 0, is the first that is worth more than its authorizer has
-pub record IsUnclosed (e : Equations) (at : Levels) (i found : ℕ) : Type 0 where
+pub record IsNamedUnclosed (e : Equations) (at : Levels) (i found : ℕ) : Type 0 where
   pub statement : Statement
   pub here : slice_get e.statements i ≡ Some statement
   pub before : All (λ s. worth e.top at s ≤ at s.authorizer) (take i e.statements)
@@ -80,16 +81,16 @@ pub record IsUnclosed (e : Equations) (at : Levels) (i found : ℕ) : Type 0 whe
   pub more : at statement.authorizer < found
 
 -- the policy has another level than the claimed one
-pub record IsOtherClaim (e : Equations) (at : Levels) (claimed found : ℕ) : Type 0 where
+pub record IsNamedOtherClaim (e : Equations) (at : Levels) (claimed found : ℕ) : Type 0 where
   pub closed : IsClosed e at
   pub level : found ≡ at policy
   pub differs : found ≢ claimed
 
 -- the first item that fails: the rows in order, then the assertions of the query in order, then the claim
 abbrev pub IsRejected : Equations → List NamedRow → ℕ → Reject → Type 0
-IsRejected e rows claimed (Unclosed i found) = AreRows e [] rows × IsUnclosed e (levels_by e rows) i found
-IsRejected e rows claimed (Claim found) = AreRows e [] rows × IsOtherClaim e (levels_by e rows) claimed found
-IsRejected e rows claimed reject = IsRowFault e rows reject
+IsRejected e rows claimed (Unclosed i found) = AreRows e [] rows × IsNamedUnclosed e (levels_by e rows) i found
+IsRejected e rows claimed (Claim found) = AreRows e [] rows × IsNamedOtherClaim e (levels_by e rows) claimed found
+IsRejected e rows claimed reject = IsNamedRowFault e rows reject
 
 -- two reasons are told alike: by their number, row and level
 pub record SameReason (reject other : Reject) : Type 0 where
@@ -109,8 +110,9 @@ NotBoth =
     (e : Equations) → AreDistinct (map (λ s. s.id) e.statements)
     → (rows : List NamedRow) (level : ℕ) (reject : Reject) → IsProof e rows level → IsRejected e rows level reject → ⊥
 
--- the ids of a query's assertions differ where these are the credentials of a history that the assertions of a policy make
+-- the ids of a query's assertions differ where these are the credentials of a history that the assertions of a policy make, and
+-- no private ones
 abbrev pub IdsDiffer : Type 0
 IdsDiffer =
-    (session : Session) (assertions : List Assertion) → IsMadeBy session.pinned assertions
+    (session : Session) (assertions : List Assertion) → IsMadeBy session.pinned assertions → session.privates ≡ []
     → (values : List (List ℕ)) → AreDistinct (map (λ s. s.id) (equations_of session values).statements)

@@ -5,11 +5,11 @@ use Rattle.kn_proof.specs.declared.row.Row.{Row}
 use Rattle.kn_proof.specs.declared.reply.ReadReply.{ReadReply}
 use Rattle.kn_check.specs.declared.reject.Reject.{Reject}
 use Rattle.kn_check.specs.Rejects.{IsReject}
-use Rattle.kn_system.specs.Equations.{Equations as System}
+use Rattle.kn_system.specs.Equations.{SystemEquations}
 use Rattle.kn_system.specs.Proofs as numbered
 use Rattle.kn_meaning.specs.Equations.{Equations, equations_over, IsPolicyLevel}
 use Rattle.kn_meaning.specs.Proofs.{IsProof}
-use Rattle.kn_play.specs.declared.session.Session.{Session}
+use Rattle.kn_play.specs.declared.entered.Entered.{Entered}
 use Rattle.kn_play.specs.Answering.{parts_in, asked_in}
 use Rattle.kn_verify.specs.Rejections.{IsRejected}
 use Rattle.kn_verify.specs.declared.verdict.Refused.{Refused}
@@ -22,7 +22,7 @@ pub record IsReplyTo (version : ℕ) (values : List (List ℕ)) (reply : ReadRep
   pub name : reply.name ≡ slice_index_or values reply.value []
 
 -- what a session asks of these assertions where these are the compliance values
-abbrev pub equations_in : Session → List (List ℕ) → List Assertion → Equations
+abbrev pub equations_in : Entered → List (List ℕ) → List Assertion → Equations
 equations_in session values assertions = equations_over (asked_in session values) (parts_in assertions)
 
 -- the rows of the reply prove its value, which is the policy's level in the least fixed point
@@ -44,7 +44,7 @@ IsRefusal e version values reply (Rejected reject) = IsUnproved e version values
 IsRefusal e version values reply NoMemory = Unit {0}
 
 -- why rows by numbers are refused
-abbrev pub IsStepsRefusal : System → List Row → ℕ → Refused → Type 0
+abbrev pub IsStepsRefusal : SystemEquations → List Row → ℕ → Refused → Type 0
 IsStepsRefusal s rows level Other = ⊥
 IsStepsRefusal s rows level (Rejected reject) = (¬ numbered.IsProof s rows level) × IsReject s rows level reject
 IsStepsRefusal s rows level NoMemory = Unit {0}

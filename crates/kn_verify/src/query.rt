@@ -1,25 +1,24 @@
 //! The query that a script means.
-ghost use Rattle.std.specs.Prelude.{◌≡◌, ◌≤◌, ℕ, List as Of, false, length, IfOk, IfSome, IfNone};
+ghost use Rattle.std.specs.Prelude.{◌≡◌, ℕ, List as Of, false, IfOk, IfSome, IfNone};
 ghost use Rattle.std.specs.List.{list_any};
-ghost use Rattle.std.specs.Str.{bytes_eq};
-ghost use Rattle.kn_principal.specs.Principals.{policy};
-ghost use Rattle.kn_meaning.specs.declared.update.Update.{Update};
-ghost use Rattle.kn_meaning.specs.Daemon.{Session as DaemonSession};
-ghost use Rattle.kn_meaning.specs.FirstInput.{IsFirstInput, requests_of};
-ghost use Rattle.kn_meaning.specs.Played.{IsMeant};
+ghost use Rattle.kn_env.specs.Environment.{AreRequesters};
+ghost use Rattle.kn_store.specs.declared.update.Update.{Update};
+ghost use Rattle.kn_session.specs.Sessions.{Session as DaemonSession};
+ghost use Rattle.kn_script.specs.FirstInput.{IsFirstInput, requests_of};
+ghost use Rattle.kn_daemon.specs.Played.{IsMeant};
 ghost use Rattle.kn_play.specs.Answering.{AreRight, session_at};
 ghost use Rattle.kn_verify.specs.Scripts.{is_query, IsLastQuery, IsReached};
 
 use kn_base::NoMemory;
 use kn_env::Values;
-use kn_meaning::script::{Ask, Script};
-use kn_play::Session;
+use kn_play::Entered;
+use kn_script::{Ask, Script};
 use std::alloc::Global;
 
 /// The query that a script means: what its session has entered before it, and the compliance values.
 #[derive(Drop)]
 pub struct MeantQuery<'a> {
-    pub session: Session,
+    pub session: Entered,
     pub values: &'a Values,
 }
 
@@ -35,8 +34,7 @@ pub fn meant<'a>(
         IsMeant history (requests_of script.now) (session_at history m.session) m.values.now)) }
     ensures none { (history : Of Update) → IfOk result (λ found. IfNone found ((session : DaemonSession) (values : Of (Of ℕ))
         → ¬ IsMeant history (requests_of script.now) session values)) }
-    ensures few { IfOk result (λ found. IfSome found (λ m. length m.session.requesters ≤ 64)) }
-    ensures others { IfOk result (λ found. IfSome found (λ m. list_any (bytes_eq policy) m.session.requesters ≡ false)) }
+    ensures requesters { IfOk result (λ found. IfSome found (λ m. AreRequesters m.session.requesters)) }
 {
     let Some(script) = script else {
         return Ok(None);
@@ -64,11 +62,11 @@ fn last_query(asks: &[Ask]) -> Option<(&[Ask], &Values)>
 }
 
 /// What lines enter, one after another.
-fn entered(alloc: Global, asks: &[Ask]) -> Result<Session, NoMemory>
+fn entered(alloc: Global, asks: &[Ask]) -> Result<Entered, NoMemory>
     requires right { AreRight asks.now }
     ensures { IfOk result (λ session. IsReached asks.now session) }
 {
-    let mut session = Session::new(alloc);
+    let mut session = Entered::new(alloc);
     for ask in asks {
         session.enter(alloc, ask)?;
     }

@@ -1,5 +1,8 @@
-ghost use Rattle.std.specs.Prelude.{◌≡◌, ◌≤◌, ◌∷◌, ◌++◌, [], All, IfOk, IfSome, length};
-ghost use Rattle.kn_trees.specs.Formulas.{IsReadable};
+ghost use Rattle.std.specs.Prelude.{◌≡◌, ◌≤◌, ◌∷◌, ◌++◌, [], Some, IfOk, length};
+ghost use Rattle.kn_base.specs.declared.limits.TheConstants.{ASSERTION_BYTES};
+ghost use Rattle.kn_assert.specs.Reading.{assertion_of};
+ghost use Rattle.kn_answer.specs.Sizes.{HaveTexts};
+ghost use Rattle.kn_play.specs.Answering.{parts_in};
 
 use crate::{Refused, meant, verify};
 use kn_assert::{Assertion, read};
@@ -36,7 +39,8 @@ fn with_item<T: Drop>(items: List<T>, item: T) -> Result<List<T>, NoMemory>
 }
 
 fn assertion(rt: &impl Abort, alloc: Global, text: &[u8]) -> Result<Assertion, NoMemory>
-    ensures { IfOk result (λ a. IfSome a.licensees (λ formula. IsReadable 16384 formula)) }
+    ensures read { IfOk result (λ a. assertion_of text.now ≡ Some a) }
+    ensures short { IfOk result (λ a. length text.now ≤ ASSERTION_BYTES) }
 {
     match read(alloc, text) {
         Ok(assertion) => Ok(assertion),
@@ -45,8 +49,7 @@ fn assertion(rt: &impl Abort, alloc: Global, text: &[u8]) -> Result<Assertion, N
 }
 
 fn policy(rt: &impl Abort, alloc: Global) -> Result<List<Assertion>, NoMemory>
-    ensures readable { IfOk result (λ list. All (λ a. IfSome a.licensees (λ formula. IsReadable 16384 formula)) list) }
-    ensures few { IfOk result (λ list. length list ≤ 2) }
+    ensures { IfOk result (λ list. HaveTexts (parts_in list)) }
 {
     let list = with_item(List::new(alloc), assertion(rt, alloc, FIRST)?)?;
     with_item(list, assertion(rt, alloc, SECOND)?)

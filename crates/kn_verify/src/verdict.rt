@@ -1,11 +1,9 @@
 //! Whether a reply proves the value of a query.
-ghost use Rattle.std.specs.Prelude.{◌≡◌, ◌+◌, ◌^◌, ◌<◌, ◌≤◌, ◌↔◌, IsTrue, false, All, length, slice_index, IfErr, IfOk, OnOk};
-ghost use Rattle.std.specs.List.{list_any};
-ghost use Rattle.std.specs.Str.{bytes_eq};
-ghost use Rattle.kn_principal.specs.Principals.{policy};
+ghost use Rattle.std.specs.Prelude.{◌≡◌, ◌+◌, ◌^◌, ◌<◌, ◌↔◌, IsTrue, All, length, slice_index, IfErr, IfOk, OnOk};
+ghost use Rattle.kn_env.specs.Environment.{AreRequesters};
 ghost use Rattle.kn_system.specs.Least.{least_levels};
 ghost use Rattle.kn_system.specs.Proofs.{IsProof};
-ghost use Rattle.kn_answer.specs.Sizes.{IsReadablePart, total_size};
+ghost use Rattle.kn_answer.specs.Sizes.{HaveTexts};
 ghost use Rattle.kn_play.specs.Answering.{parts_in};
 ghost use Rattle.kn_verify.specs.Verdicts.{IsReplyTo, IsProved, IsRefusal, IsStepsRefusal, equations_in};
 
@@ -54,10 +52,8 @@ pub fn verify(
     meant: &MeantQuery<'_>,
     reply: &ReadReply,
 ) -> Result<(), Refused>
-    requires readable { All IsReadablePart (parts_in assertions.now) }
-    requires small { 65 + total_size (parts_in assertions.now) < 2 ^ 24 }
-    requires few { length meant.now.session.requesters ≤ 64 }
-    requires others { list_any (bytes_eq policy) meant.now.session.requesters ≡ false }
+    requires texts { HaveTexts (parts_in assertions.now) }
+    requires requesters { AreRequesters meant.now.session.requesters }
     ensures ok { OnOk result (IsProved (equations_in meant.now.session meant.now.values.now assertions.now)
         (length assertions.now) meant.now.values.now reply.now) }
     ensures refused { IfErr result (λ refused. IsRefusal (equations_in meant.now.session meant.now.values.now assertions.now)

@@ -1,5 +1,5 @@
 use Rattle.std.proofs.lemmas.Result.{on_ok_weaker}
-use Rattle.kn_meaning.specs.Replies.{Done}
+use Rattle.kn_wire.specs.Replies.{Done}
 use Rattle.kn_play.proofs.Answered.{done_reply}
 use Rattle.kn_play.proofs.answering.push_answer.Goals as goal
 

@@ -1,7 +1,7 @@
 use Rattle.std.proofs.Common.{◌≡◌}
 use Rattle.std.proofs.lemmas.Result.{on_ok_weaker}
 use Rattle.kn_env.specs.Environment.{Asked}
-use Rattle.kn_meaning.specs.Replies.{Value}
+use Rattle.kn_wire.specs.Replies.{Value}
 use Rattle.kn_play.specs.Answering.{asked_in}
 use Rattle.kn_play.proofs.Answered.{asked_is, value_reply}
 use Rattle.kn_play.proofs.answering.push_query.Goals as goal

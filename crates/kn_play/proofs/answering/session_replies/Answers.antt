@@ -1,9 +1,9 @@
 use Rattle.std.proofs.Common.{◌≡◌, ◌++◌, length, refl, ◌∙◌, true, false, ◌⊎◌, inl, inr}
 use Rattle.std.specs.Prelude.{codes}
 use Rattle.std.proofs.lemmas.List.{take_all}
-use Rattle.kn_meaning.specs.Replies.{reply_text, Started}
+use Rattle.kn_wire.specs.Replies.{reply_text, Started}
 use Rattle.kn_play.specs.Answering.{AreRight}
-use Rattle.kn_play.proofs.Entering.{right_of, accepted_at, requesters_few}
+use Rattle.kn_play.proofs.Entering.{right_of, accepted_at, requesters_at}
 use Rattle.kn_play.proofs.Answered.{underway_open, underway_step, answered-ended}
 use Rattle.kn_play.proofs.answering.session_replies.Goals as goal
 use Rattle.kn_play.proofs.answering.session_replies.Goals.{then-script+in_ok-extend, else-script}
@@ -19,10 +19,10 @@ push_answer-requires-clause-accepted c =
     let right : AreRight c.as_slice-ask-items.result.now = rw c.as_slice-ask-items.ensures (right_of c.requires.right.0 c.args.script.now c.requires.right.1) in
     accepted_at c.as_slice-ask-items.result.now c.loop-ask.ask-index c.ask-item.result c.loop-ask.session c.loop-ask-test.true c.ask-item.is right c.loop-ask.invariant.entered
 
-pub push_answer-requires-clause-few : goal.push_answer-requires-clause-few
-push_answer-requires-clause-few c =
+pub push_answer-requires-clause-requesters : goal.push_answer-requires-clause-requesters
+push_answer-requires-clause-requesters c =
     let right : AreRight c.as_slice-ask-items.result.now = rw c.as_slice-ask-items.ensures (right_of c.requires.right.0 c.args.script.now c.requires.right.1) in
-    requesters_few c.as_slice-ask-items.result.now c.loop-ask.ask-index c.loop-ask.session right c.loop-ask.invariant.entered
+    requesters_at c.as_slice-ask-items.result.now c.loop-ask.ask-index c.loop-ask.session right c.loop-ask.invariant.entered
 
 pub loop-ask-preserved : goal.loop-ask-preserved
 loop-ask-preserved c =

@@ -1,6 +1,6 @@
 use Rattle.std.proofs.Common.{◌≡◌, ◌++◌, take}
 use Rattle.std.specs.Prelude.{flat_map}
-use Rattle.kn_meaning.specs.Replies.{quoted_byte}
+use Rattle.kn_proof.specs.Texts.{quoted_byte}
 use Rattle.kn_play.proofs.text.push_quoted.Given as goal
 
 abbrev pub invariant-loop-byte : goal.invariant-loop-byte

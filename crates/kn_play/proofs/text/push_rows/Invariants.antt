@@ -1,6 +1,6 @@
 use Rattle.std.proofs.Common.{◌≡◌, ◌++◌, take}
 use Rattle.std.specs.Prelude.{flat_map}
-use Rattle.kn_meaning.specs.Replies.{row_text}
+use Rattle.kn_proof.specs.Texts.{row_text}
 use Rattle.kn_play.proofs.text.push_rows.Given as goal
 
 abbrev pub invariant-loop-row : goal.invariant-loop-row

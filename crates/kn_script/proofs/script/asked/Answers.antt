@@ -1,9 +1,9 @@
 use Rattle.std.proofs.Common.{◌≡◌, ◌≤◌, ◌∙◌, List, ℕ, length, ap, false, Ok, Err}
 use Rattle.std.specs.Prelude.{Result, IfOk}
 use Rattle.std.specs.List.{list_any}
-use Rattle.kn_meaning.specs.declared.script.Ask.{Ask}
-use Rattle.kn_meaning.specs.FirstInput.{ask_line, IsAsk, NamesRightly, EndsRightly}
-use Rattle.kn_meaning.specs.Requests.{is_newline}
+use Rattle.kn_script.specs.declared.asks.Ask.{Ask}
+use Rattle.kn_script.specs.FirstInput.{ask_line, IsAsk, NamesRightly, EndsRightly}
+use Rattle.kn_wire.specs.Requests.{is_newline}
 use Rattle.kn_script.proofs.Lines.{clean_line}
 use Rattle.kn_script.proofs.script.asked.Goals as goal
 

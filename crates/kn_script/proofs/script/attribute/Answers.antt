@@ -1,7 +1,7 @@
 use Rattle.std.proofs.Common.{◌≡◌, ◌∙◌, ℕ, List, [], ◌++◌, ap, true}
 use Rattle.std.specs.Option.{option_map}
-use Rattle.kn_meaning.specs.FirstInput.{value_text}
-use Rattle.kn_meaning.specs.Requests.{is_word}
+use Rattle.kn_script.specs.FirstInput.{value_text}
+use Rattle.kn_wire.specs.Requests.{is_word}
 use Rattle.kn_script.proofs.Lines.{no_text, some_text}
 use Rattle.kn_script.proofs.SetLines.{clean_is_word, no_attribute}
 use Rattle.kn_script.proofs.script.attribute.Goals as goal

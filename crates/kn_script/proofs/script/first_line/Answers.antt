@@ -1,6 +1,6 @@
 use Rattle.std.proofs.Common.{◌≡◌, false, take, take_all, ne_eqb, length}
 use Rattle.std.proofs.lemmas.List.Elements.{All-more}
-use Rattle.kn_meaning.specs.Requests.{is_newline, line_length}
+use Rattle.kn_wire.specs.Requests.{is_newline, line_length}
 use Rattle.kn_script.proofs.Lines.{line_length-clean}
 use Rattle.kn_script.proofs.script.first_line.Goals as goal
 

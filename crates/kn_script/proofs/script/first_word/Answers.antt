@@ -1,7 +1,7 @@
 use Rattle.std.proofs.Common.{◌≡◌, false, take, take_all, ne_eqb}
 use Rattle.std.proofs.lemmas.List.Elements.{All-more}
 use Rattle.std.proofs.lemmas.List.Folds.{list_any_none}
-use Rattle.kn_meaning.specs.Requests.{is_space}
+use Rattle.kn_wire.specs.Requests.{is_space}
 use Rattle.kn_script.proofs.script.first_word.Goals as goal
 
 pub returns-then-byte-eq32-clause-first : goal.returns-then-byte-eq32-clause-first

@@ -1,5 +1,5 @@
 use Rattle.std.proofs.Common.{◌≡◌, false, take, All}
-use Rattle.kn_meaning.specs.Requests.{is_space}
+use Rattle.kn_wire.specs.Requests.{is_space}
 use Rattle.kn_script.proofs.script.first_word.Given as goal
 
 abbrev pub invariant-loop-at : goal.invariant-loop-at

@@ -1,8 +1,8 @@
 use Rattle.std.proofs.Common.{◌≡◌, ◌∙◌, [], ◌∷◌, ◌++◌, sym, ap, append-nil}
 use Rattle.std.proofs.lemmas.Bool.Decides.{Decides-eqb}
 use Rattle.std.proofs.lemmas.Slice.Eq.{strip_suffix_is}
-use Rattle.kn_meaning.specs.Requests.{without_return}
-use Rattle.kn_meaning.proofs.Lines.{without_return-last}
+use Rattle.kn_wire.specs.Requests.{without_return}
+use Rattle.kn_wire.proofs.Lines.{without_return-last}
 use Rattle.kn_script.proofs.SetLines.{without_return-kept}
 use Rattle.kn_script.proofs.script.without_return.Goals as goal
 

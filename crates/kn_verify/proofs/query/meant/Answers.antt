@@ -1,4 +1,4 @@
-use Rattle.kn_verify.proofs.Asking.{IsCut, right_before, script_meant, nothing_meant, empty_meant, few_reached}
+use Rattle.kn_verify.proofs.Asking.{IsCut, right_before, script_meant, nothing_meant, empty_meant, requesters_reached}
 use Rattle.kn_verify.proofs.query.meant.Goals as goal
 
 pub returns-in_default-clause-none : goal.returns-in_default-clause-none
@@ -23,7 +23,7 @@ returns-clause-some c = λ history.
     script_meant history c.requires.right.0 c.args.script.now c.in-Some.script c.in-Some-last_query.before.now c.in-Some-last_query.values.now c.in_ok-session.session
     record { form = c.requires.right.1; is = c.in-Some.is; query = rw c.as_slice.ensures at c.in-Some-last_query.ensures.some } c.in_ok-session.ensures
 
-pub returns-clause-few : goal.returns-clause-few
-returns-clause-few c =
-    few_reached c.requires.right.0 c.args.script.now c.in-Some.script c.in-Some-last_query.before.now c.in-Some-last_query.values.now c.in_ok-session.session
+pub returns-clause-requesters : goal.returns-clause-requesters
+returns-clause-requesters c =
+    requesters_reached c.requires.right.0 c.args.script.now c.in-Some.script c.in-Some-last_query.before.now c.in-Some-last_query.values.now c.in_ok-session.session
     record { form = c.requires.right.1; is = c.in-Some.is; query = rw c.as_slice.ensures at c.in-Some-last_query.ensures.some } c.in_ok-session.ensures

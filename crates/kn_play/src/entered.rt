@@ -1,29 +1,28 @@
 //! What the lines of a session enter.
 ghost use Rattle.std.specs.Prelude.{◌≡◌, None, OnOk, OnErr};
 ghost use Rattle.kn_env.specs.Attributes.{attribute_fault, with_attribute};
-ghost use Rattle.kn_meaning.specs.FirstInput.{IsAsk, IsAccepted};
-ghost use Rattle.kn_meaning.specs.Requests.{or_empty};
+ghost use Rattle.kn_script.specs.FirstInput.{IsAsk, IsAccepted};
+ghost use Rattle.kn_wire.specs.Requests.{or_empty};
 ghost use Rattle.kn_play.specs.Answering.{entered_by, no_session};
 
 use kn_base::{List, NoMemory, Octets};
 use kn_env::{Attributes, EnvFault};
-use kn_meaning::script::Ask;
-use kn_script::{enter, enter_attribute};
+use kn_script::{Ask, enter, enter_attribute};
 use std::alloc::Global;
 
 /// What the lines of a session have entered so far: the attributes of the action, and who requests it.
 #[derive(Drop)]
-pub struct Session {
+pub struct Entered {
     pub attributes: Attributes,
     pub requesters: List<Octets>,
 }
 
-impl Session {
+impl Entered {
     /// A session that has entered nothing.
-    pub fn new(alloc: Global) -> Session
+    pub fn new(alloc: Global) -> Entered
         ensures { result ≡ no_session }
     {
-        Session {
+        Entered {
             attributes: Attributes::new(alloc),
             requesters: List::new(alloc),
         }
