@@ -1,8 +1,8 @@
 pub mod Spelled
-pub mod Ended
-pub mod Complete
 pub mod Meant
-pub mod Checked
-pub mod Commanded
 pub mod Contents
-pub mod Taken
+pub mod Due
+pub mod Statuses
+pub mod Known
+pub mod Calm
+pub mod Proved

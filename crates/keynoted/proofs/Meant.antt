@@ -1,11 +1,12 @@
 -- Requests mean one query at most.
 use Rattle.std.proofs.Common.{◌≡◌, ℕ, ◌⊎◌, inl, inr, List, [], ◌∷◌, ◌++◌, refl, sym, ap, ◌∙◌, subst, ⊎_elim, Some}
-use Rattle.kn_meaning.specs.declared.update.Update.{Update}
-use Rattle.kn_meaning.specs.Requests.{Request, Query}
-use Rattle.kn_meaning.specs.Daemon.{State, Session, first_state}
-use Rattle.kn_meaning.specs.Asked.{no_grounds}
-use Rattle.kn_meaning.specs.History.{loaded_history}
-use Rattle.kn_meaning.specs.Played.{IsAsking, IsMeant, played}
+use Rattle.kn_store.specs.declared.update.Update.{Update}
+use Rattle.kn_wire.specs.Requests.{Request, Query}
+use Rattle.kn_daemon.specs.Daemon.{State, first_state}
+use Rattle.kn_session.specs.Sessions.{Session}
+use Rattle.kn_daemon.specs.Played.{no_grounds}
+use Rattle.kn_store.specs.History.{loaded_history}
+use Rattle.kn_daemon.specs.Played.{IsAsking, IsMeant, played}
 use Rattle.kn_commands.specs.Checking.{IsQuery}
 use Rattle.kn_commands.proofs.Reached.{requests_once}
 

@@ -2,11 +2,11 @@
 //!
 //! No clause can tell what the system holds, so these tell of nothing but their faults and the names
 //! that were asked for.
-ghost use Rattle.std.specs.Prelude.{◌≡◌, ◌≢◌, ◌≤◌, ◌<◌, [], length, IfOk, IfSome, OnOk, OnErr};
+ghost use Rattle.std.specs.Prelude.{◌≡◌, ◌≢◌, ◌≤◌, ◌<◌, [], drop, length, IfOk, IfSome, OnOk, OnErr};
 ghost use Rattle.std.specs.Str.{IsUtf8};
 ghost use Rattle.std.specs.IoError.{error_kind};
 ghost use Rattle.std.specs.declared.io.ErrorKind.{ErrorKind};
-ghost use Rattle.kn_outside.specs.Asked.{asked_after};
+ghost use Rattle.kn_outside.specs.Asked.{Leaves};
 ghost use Rattle.kn_outside.specs.Faults.{raised};
 ghost use Rattle.kn_outside.specs.declared.files.FileFault.{FileFault};
 
@@ -40,15 +40,9 @@ impl StdOut {
 }
 
 impl Sink for StdOut {
-    ghost use Rattle.std.specs.Prelude.{[], None, Some};
+    ghost use Rattle.std.specs.Prelude.{None};
 
-    ghost written = { λ _. None };
-
-    ghost taken = { λ _. Some [] };
-
-    ghost left = { λ _. Some [] };
-
-    ghost faults = { λ out. out.faults };
+    ghost seen = { λ out. record { written = None; taken = None; left = None; faults = out.faults } };
 
     fn write(&mut self, piece: &[u8]) -> Result<usize, Failed>
         ensures count { IfOk result (λ n. (0 < n) × (n ≤ length piece.now)) }
@@ -87,13 +81,7 @@ impl StdLink {
 impl Sink for StdLink {
     ghost use Rattle.std.specs.Prelude.{None};
 
-    ghost written = { λ _. None };
-
-    ghost taken = { λ _. None };
-
-    ghost left = { λ _. None };
-
-    ghost faults = { λ link. link.out.faults };
+    ghost seen = { λ link. record { written = None; taken = None; left = None; faults = link.out.faults } };
 
     fn write(&mut self, piece: &[u8]) -> Result<usize, Failed>
         ensures count { IfOk result (λ n. (0 < n) × (n ≤ length piece.now)) }
@@ -107,13 +95,24 @@ impl Sink for StdLink {
 
 impl Link for StdLink {
     fn read(&mut self, buf: &mut [u8]) -> Result<usize, Failed>
+        requires { 0 < length buf.old }
         ensures count { IfOk result (λ n. n ≤ length buf.new) }
         ensures ok { OnOk result (self.new.out.faults ≡ self.old.out.faults) }
+        ensures behind { IfOk result (λ n. drop n buf.new ≡ drop n buf.old) }
         ensures err { OnErr result (self.new.out.faults ≡ raised self.old.out.faults) }
+        ensures buffer { OnErr result (buf.new ≡ buf.old) }
         ensures later { self.old.out.faults ≤ self.new.out.faults }
     {
-        match self.input.read(buf) {
-            Ok(bytes) => Ok(bytes),
+        // What a failed read leaves in its buffer isn't known, so the bytes come by a buffer of their own.
+        let mut piece = [0; PIECE];
+        let room = PIECE.min(buf.len());
+        match self.input.read(piece.split_at_mut(room).0) {
+            Ok(bytes) => {
+                buf.split_at_mut(bytes)
+                    .0
+                    .copy_from_slice(piece.split_at(bytes).0);
+                Ok(bytes)
+            }
             Err(_) => {
                 self.out.faults = self.out.faults.saturating_add(1);
                 Err(Failed)
@@ -147,17 +146,11 @@ impl RealFiles {
 impl Files for RealFiles {
     ghost use Rattle.std.specs.Prelude.{None};
 
-    ghost content = { λ _. None };
-
-    ghost asked = { λ files. files.asked };
-
-    ghost faults = { λ files. files.faults };
+    ghost seen = { λ files. record { content = None; asked = files.asked; faults = files.faults } };
 
     fn read(&mut self, name: &[u8]) -> Result<Octets, FileFault>
         ensures within { IfOk result (λ octets. length octets ≤ FILE_BYTES) }
-        ensures asks { self.new.asked ≡ asked_after result name.now self.old.asked }
-        ensures failed { result ≡ Err FileFault.Failed → self.new.faults ≡ raised self.old.faults }
-        ensures other { result ≢ Err FileFault.Failed → self.new.faults ≡ self.old.faults }
+        ensures leaves { Leaves result name.now (record { content = None; asked = self.old.asked; faults = self.old.faults }) (record { content = None; asked = self.new.asked; faults = self.new.faults }) }
         ensures later { self.old.faults ≤ self.new.faults }
     {
         let copy = Octets::from_slice(self.rt.alloc(), name)?;

@@ -1,27 +1,18 @@
 //! The program over whatever files, link and output it is given.
-ghost use Rattle.std.specs.Prelude.{◌≡◌, ◌≢◌, ◌<◌, ◌≤◌, ◌∷◌, ◌++◌, [], ℕ, Some, codes, List, Option as Maybe, ◌⊎◌, length, take, IfSome, IfNone};
+ghost use Rattle.std.specs.Prelude.{◌≡◌, ◌<◌, ◌≤◌, ◌++◌, [], ℕ, Some, codes, List, Option as Maybe, ◌⊎◌, length, IfSome, IfNone};
 ghost use Rattle.kn_base.specs.declared.limits.TheConstants.{FILE_BYTES};
-ghost use Rattle.kn_outside.specs.Told.{more};
 ghost use Rattle.kn_outside.specs.Faults.{Rose};
 ghost use Rattle.kn_files.specs.Pieces.{pieces_of};
 ghost use Rattle.kn_assert.specs.declared.fault.ReadFault.{ReadFault};
-ghost use Rattle.kn_check.specs.declared.reject.Reject.{Reject};
-ghost use Rattle.kn_proof.specs.declared.reply.ReadReply.{ReadReply};
-ghost use Rattle.kn_meaning.specs.Daemon.{Session, equations_of};
-ghost use Rattle.kn_meaning.specs.FirstInput.{IsFirstInput};
-ghost use Rattle.kn_meaning.specs.Loading.{IsLoadable, IsFaultyAt};
-ghost use Rattle.kn_meaning.specs.Proofs.{IsProof};
-ghost use Rattle.kn_meaning.specs.declared.refusal.LimitWord.{LimitWord};
-ghost use Rattle.kn_meaning.specs.declared.script.Script.{Script};
-ghost use Rattle.kn_reply.specs.Reading.{IsReply};
-ghost use Rattle.kn_verify.specs.Verdicts.{IsReplyTo};
-ghost use Rattle.kn_commands.specs.Names.{Names, in_order};
+ghost use Rattle.kn_script.specs.FirstInput.{IsFirstInput};
+ghost use Rattle.kn_store.specs.Loading.{IsFaultyAt};
+ghost use Rattle.kn_wire.specs.declared.refusal.LimitWord.{LimitWord};
+ghost use Rattle.kn_script.specs.declared.asks.Script.{Script};
 ghost use Rattle.kn_commands.specs.Loaded.{IsLimitAt};
-ghost use Rattle.kn_commands.specs.Asking.{IsRead, line_of, fault_line, limit_line, status_of};
-ghost use Rattle.kn_commands.specs.Checking.{IsQuery, line_of_ending, status_of_ending};
+ghost use Rattle.kn_commands.specs.Asking.{line_of, fault_line, limit_line, status_of};
+ghost use Rattle.kn_commands.specs.Checking.{line_of_ending, proved_line, status_of_ending};
 ghost use Rattle.keynoted.specs.Commands.{AskFor, CheckFor, IsNoCheck, IsNoCommand};
-ghost use Rattle.keynoted.specs.Running.{IsTold, IsRun, IsDone, IsRefused, IsFileFault, IsNoPolicy, IsLinkFault, IsFront, EndsBy, IsEnded};
-ghost use Rattle.kn_commands.specs.declared.ending.Ending.TheVariants as E;
+ghost use Rattle.keynoted.specs.Running.{IsDone, IsRefused, IsFileFault, IsPolicyFault, IsLinkFault, LacksMemory, IsReplyFault, IsNoQuery, IsDue, IsTold, IsEnded, Tells, TellsPart, EndsWith, IsCalmAsk, IsCalmLink, IsCalmCheck};
 
 use kn_base::Octets;
 use kn_commands::{CheckFiles, Ending, Stop, ask, check, print_ending, print_line};
@@ -56,10 +47,7 @@ fn check_files(words: &[Octets]) -> Option<CheckFiles<'_>>
 
 /// Ends with the status and the line of what stopped the program, or with 9 where the line can't be written.
 pub(crate) fn end<O: Sink>(out: &mut O, stop: Stop, name: &[u8]) -> u8
-    ensures { IsTold (line_of name.now (Some stop))
-        (record { written = O.written out.old; faults = O.faults out.old })
-        (record { written = O.written out.new; faults = O.faults out.new })
-        (status_of (Some stop)) result }
+    ensures { IsTold (line_of name.now (Some stop)) (status_of (Some stop)) (O.seen out.old) (O.seen out.new) result }
 {
     match print_line(out, stop, name) {
         Ok(()) => stop.status(),
@@ -69,10 +57,7 @@ pub(crate) fn end<O: Sink>(out: &mut O, stop: Stop, name: &[u8]) -> u8
 
 /// Ends with the status and the line of a check, or with 9 where the line can't be written.
 fn end_check<O: Sink>(out: &mut O, ending: Ending, names: &CheckFiles<'_>) -> u8
-    ensures { IsTold (line_of_ending names.now ending)
-        (record { written = O.written out.old; faults = O.faults out.old })
-        (record { written = O.written out.new; faults = O.faults out.new })
-        (status_of_ending ending) result }
+    ensures { IsTold (line_of_ending names.now ending) (status_of_ending ending) (O.seen out.old) (O.seen out.new) result }
 {
     match print_ending(out, &ending, names) {
         Ok(()) => ending.status(),
@@ -88,15 +73,8 @@ fn run_ask<F: Files, L: Link, O: Sink>(
     own: &mut L,
     out: &mut O,
 ) -> u8
-    ensures ends { (words : List (List ℕ)) → AskFor words name.now → IsRun words
-        (record { content = F.content files.old; asked = F.asked files.old; faults = F.faults files.old })
-        (record { content = F.content files.new; asked = F.asked files.new; faults = F.faults files.new })
-        (record { written = L.written own.old; taken = L.taken own.old; left = L.left own.old; faults = L.faults own.old })
-        (record { written = L.written own.new; taken = L.taken own.new; left = L.left own.new; faults = L.faults own.new })
-        (record { written = O.written out.old; faults = O.faults out.old })
-        (record { written = O.written out.new; faults = O.faults out.new })
-        result }
-    ensures keeps_content { F.content files.new ≡ F.content files.old }
+    ensures { (words : List (List ℕ)) → AskFor words name.now →
+        IsEnded words (F.seen files.old) (F.seen files.new) (L.seen own.old) (L.seen own.new) (O.seen out.old) (O.seen out.new) result }
 {
     match ask(alloc, name, files, own) {
         Ok(()) => 0,
@@ -112,15 +90,7 @@ fn carry_out<F: Files, L: Link, O: Sink>(
     own: &mut L,
     out: &mut O,
 ) -> u8
-    ensures ends { IsEnded words.now
-        (record { content = F.content files.old; asked = F.asked files.old; faults = F.faults files.old })
-        (record { content = F.content files.new; asked = F.asked files.new; faults = F.faults files.new })
-        (record { written = L.written own.old; taken = L.taken own.old; left = L.left own.old; faults = L.faults own.old })
-        (record { written = L.written own.new; taken = L.taken own.new; left = L.left own.new; faults = L.faults own.new })
-        (record { written = O.written out.old; faults = O.faults out.old })
-        (record { written = O.written out.new; faults = O.faults out.new })
-        result }
-    ensures keeps_content { F.content files.new ≡ F.content files.old }
+    ensures { IsEnded words.now (F.seen files.old) (F.seen files.new) (L.seen own.old) (L.seen own.new) (O.seen out.old) (O.seen out.new) result }
 {
     if let Some(name) = policy_name(words) {
         return run_ask(alloc, name.as_slice(), files, own, out);
@@ -162,134 +132,36 @@ pub fn run<F: Files, L: Link, O: Sink>(
     own: &mut L,
     out: &mut O,
 ) -> u8
-    // Each run has one cause, with what it leaves of files and link; the line of the cause was told, or a front of it.
-    ensures ends { IsEnded words.now
-        (record { content = F.content files.old; asked = F.asked files.old; faults = F.faults files.old })
-        (record { content = F.content files.new; asked = F.asked files.new; faults = F.faults files.new })
-        (record { written = L.written own.old; taken = L.taken own.old; left = L.left own.old; faults = L.faults own.old })
-        (record { written = L.written own.new; taken = L.taken own.new; left = L.left own.new; faults = L.faults own.new })
-        (record { written = O.written out.old; faults = O.faults out.old })
-        (record { written = O.written out.new; faults = O.faults out.new })
-        result }
+    // A line was due with its status, for its cause; it was written whole, or a front of it stands and the status is 9.
+    ensures ends { IsEnded words.now (F.seen files.old) (F.seen files.new) (L.seen own.old) (L.seen own.new) (O.seen out.old) (O.seen out.new) result }
 
-    // What each status says of words that aren't those of `check`.
-    ensures done { IsNoCheck words.now → result ≡ 0 → IsDone words.now
-        (record { content = F.content files.old; asked = F.asked files.old; faults = F.faults files.old })
-        (record { content = F.content files.new; asked = F.asked files.new; faults = F.faults files.new })
-        (record { written = L.written own.old; taken = L.taken own.old; left = L.left own.old; faults = L.faults own.old })
-        (record { written = L.written own.new; taken = L.taken own.new; left = L.left own.new; faults = L.faults own.new }) }
-    ensures words { result ≡ 1 → IsRefused words.now
-        (record { written = O.written out.old; faults = O.faults out.old })
-        (record { written = O.written out.new; faults = O.faults out.new }) }
-    ensures file { IsNoCheck words.now → result ≡ 2 → IsFileFault words.now
-        (record { content = F.content files.old; asked = F.asked files.old; faults = F.faults files.old })
-        (record { content = F.content files.new; asked = F.asked files.new; faults = F.faults files.new })
-        (record { written = O.written out.old; faults = O.faults out.old })
-        (record { written = O.written out.new; faults = O.faults out.new }) }
-    ensures policy { IsNoCheck words.now → result ≡ 3 → IsNoPolicy words.now
-        (record { content = F.content files.old; asked = F.asked files.old; faults = F.faults files.old })
-        (record { content = F.content files.new; asked = F.asked files.new; faults = F.faults files.new })
-        (record { written = O.written out.old; faults = O.faults out.old })
-        (record { written = O.written out.new; faults = O.faults out.new }) }
-    ensures link { result ≡ 4 → IsLinkFault words.now
-        (record { content = F.content files.old; asked = F.asked files.old; faults = F.faults files.old })
-        (record { content = F.content files.new; asked = F.asked files.new; faults = F.faults files.new })
-        (record { written = L.written own.old; taken = L.taken own.old; left = L.left own.old; faults = L.faults own.old })
-        (record { written = L.written own.new; taken = L.taken own.new; left = L.left own.new; faults = L.faults own.new })
-        (record { written = O.written out.old; faults = O.faults out.old })
-        (record { written = O.written out.new; faults = O.faults out.new }) }
-    ensures memory { result ≡ 5 → (L.written own.new ≡ L.written own.old) × (O.written out.new ≡ more (codes "error memory\n") (O.written out.old)) }
-    ensures sink { result ≡ 9 → Rose (O.faults out.old) (O.faults out.new) }
-    ensures front { IsNoCheck words.now → result ≡ 9 → IsFront words.now
-        (record { content = F.content files.old; asked = F.asked files.old; faults = F.faults files.old })
-        (record { content = F.content files.new; asked = F.asked files.new; faults = F.faults files.new })
-        (record { written = L.written own.old; taken = L.taken own.old; left = L.left own.old; faults = L.faults own.old })
-        (record { written = L.written own.new; taken = L.taken own.new; left = L.left own.new; faults = L.faults own.new })
-        (record { written = O.written out.old; faults = O.faults out.old })
-        (record { written = O.written out.new; faults = O.faults out.new }) }
-    ensures quiet { IsNoCheck words.now → result ≡ 0 → O.written out.new ≡ more [] (O.written out.old) }
+    // What each status says.
+    ensures done { result ≡ 0 → Tells (IsDone words.now (F.seen files.old) (F.seen files.new) (L.seen own.old) (L.seen own.new)) (O.seen out.old) (O.seen out.new) }
+    ensures words { result ≡ 1 → Tells (IsRefused words.now (F.seen files.old) (F.seen files.new) (L.seen own.old) (L.seen own.new)) (O.seen out.old) (O.seen out.new) }
+    ensures file { result ≡ 2 → Tells (IsFileFault words.now (F.seen files.old) (F.seen files.new) (L.seen own.old) (L.seen own.new)) (O.seen out.old) (O.seen out.new) }
+    ensures policy { result ≡ 3 → Tells (IsPolicyFault words.now (F.seen files.old) (F.seen files.new) (L.seen own.old) (L.seen own.new)) (O.seen out.old) (O.seen out.new) }
+    ensures link { result ≡ 4 → Tells (IsLinkFault words.now (F.seen files.old) (F.seen files.new) (L.seen own.old) (L.seen own.new)) (O.seen out.old) (O.seen out.new) }
+    ensures memory { result ≡ 5 → Tells (LacksMemory words.now (F.seen files.old) (F.seen files.new) (L.seen own.old) (L.seen own.new)) (O.seen out.old) (O.seen out.new) }
+    ensures reply { result ≡ 6 → Tells (IsReplyFault words.now (F.seen files.old) (F.seen files.new) (L.seen own.old) (L.seen own.new)) (O.seen out.old) (O.seen out.new) }
+    ensures query { result ≡ 10 → Tells (IsNoQuery words.now (F.seen files.old) (F.seen files.new) (L.seen own.old) (L.seen own.new)) (O.seen out.old) (O.seen out.new) }
+    ensures cut { result ≡ 9 → TellsPart (IsDue words.now (F.seen files.old) (F.seen files.new) (L.seen own.old) (L.seen own.new)) (O.seen out.old) (O.seen out.new) }
 
-    // What is left of the link: what is gone of its input was taken, and that is at most the first byte too many.
-    ensures takes { (input : List ℕ) × IsRead
-        (record { written = L.written own.old; taken = L.taken own.old; left = L.left own.old; faults = L.faults own.old })
-        (record { written = L.written own.new; taken = L.taken own.new; left = L.left own.new; faults = L.faults own.new })
-        input }
-    ensures untouched { (1 ≤ result) × (result ≤ 3) →
-        (L.written own.new ≡ L.written own.old) × (L.taken own.new ≡ L.taken own.old) × (L.left own.new ≡ L.left own.old) }
-    ensures nothing_written { result ≢ 0 → ¬ Rose (L.faults own.old) (L.faults own.new) → L.written own.new ≡ L.written own.old }
-
-    // Which statuses are left where the words, the file or the input are known.
-    ensures no_words { IsNoCommand words.now → (result ≡ 1) ⊎ ((result ≡ 9) × Rose (O.faults out.old) (O.faults out.new)) }
-    ensures large { (file bytes : List ℕ) (content_of : List ℕ → Maybe (List ℕ)) → AskFor words.now file →
-        F.content files.old ≡ Some content_of → content_of file ≡ Some bytes → FILE_BYTES < length bytes →
-        ¬ Rose (F.faults files.old) (F.faults files.new) → ¬ Rose (O.faults out.old) (O.faults out.new) →
-        ((result ≡ 2) × (O.written out.new ≡ more (codes "error file " ++ file ++ codes " large\n") (O.written out.old))) ⊎ (result ≡ 5) }
-    ensures faulty { (file bytes : List ℕ) (content_of : List ℕ → Maybe (List ℕ)) (n : ℕ) (fault : ReadFault) → AskFor words.now file →
-        F.content files.old ≡ Some content_of → content_of file ≡ Some bytes → length bytes ≤ FILE_BYTES → IsFaultyAt (pieces_of bytes) n fault →
-        ¬ Rose (F.faults files.old) (F.faults files.new) → ¬ Rose (O.faults out.old) (O.faults out.new) →
-        ((result ≡ 3) × (O.written out.new ≡ more (fault_line file n fault) (O.written out.old))) ⊎ (result ≡ 5) }
-    ensures full { (file bytes : List ℕ) (content_of : List ℕ → Maybe (List ℕ)) (n : ℕ) (word : LimitWord) (count : ℕ) → AskFor words.now file →
-        F.content files.old ≡ Some content_of → content_of file ≡ Some bytes → length bytes ≤ FILE_BYTES → IsLimitAt (pieces_of bytes) n word count →
-        ¬ Rose (F.faults files.old) (F.faults files.new) → ¬ Rose (O.faults out.old) (O.faults out.new) →
-        ((result ≡ 3) × (O.written out.new ≡ more (limit_line file n word count) (O.written out.old))) ⊎ (result ≡ 5) }
-    ensures wrong_input { (file bytes : List ℕ) (content_of : List ℕ → Maybe (List ℕ)) → AskFor words.now file →
-        F.content files.old ≡ Some content_of → content_of file ≡ Some bytes → length bytes ≤ FILE_BYTES → IsLoadable (pieces_of bytes) →
-        (input : List ℕ) → L.left own.old ≡ Some input → ((script : Maybe Script) → IsFirstInput input script → ⊥) →
-        ¬ Rose (F.faults files.old) (F.faults files.new) → ¬ Rose (L.faults own.old) (L.faults own.new) → ¬ Rose (O.faults out.old) (O.faults out.new) →
-        ((result ≡ 4) × (O.written out.new ≡ more (codes "error link form\n") (O.written out.old))) ⊎ (result ≡ 5) }
-    ensures link_rose { (input : List ℕ) (script : Maybe Script) → L.left own.old ≡ Some input → IsFirstInput input script →
-        result ≡ 4 → Rose (L.faults own.old) (L.faults own.new) }
-    ensures complete { (file bytes input : List ℕ) (content_of : List ℕ → Maybe (List ℕ)) (script : Maybe Script) → AskFor words.now file →
-        F.content files.old ≡ Some content_of → content_of file ≡ Some bytes → length bytes ≤ FILE_BYTES → IsLoadable (pieces_of bytes) →
-        L.left own.old ≡ Some input → IsFirstInput input script →
-        ¬ Rose (F.faults files.old) (F.faults files.new) → ¬ Rose (L.faults own.old) (L.faults own.new) → ¬ Rose (O.faults out.old) (O.faults out.new) →
-        (result ≡ 0) ⊎ (result ≡ 5) }
-
-    // What the statuses say of `check`.
-    ensures proved { (names : Names) → CheckFor words.now names → result ≡ 0 → (value : ℕ) × (name : List ℕ) × EndsBy names
-        (record { content = F.content files.old; asked = F.asked files.old; faults = F.faults files.old })
-        (record { content = F.content files.new; asked = F.asked files.new; faults = F.faults files.new })
-        (record { written = O.written out.old; faults = O.faults out.old })
-        (record { written = O.written out.new; faults = O.faults out.new })
-        (E.Proved value name) }
-    ensures unproved { (names : Names) → CheckFor words.now names → result ≡ 6 → ((fault : ℕ) × (line : ℕ) × EndsBy names
-        (record { content = F.content files.old; asked = F.asked files.old; faults = F.faults files.old })
-        (record { content = F.content files.new; asked = F.asked files.new; faults = F.faults files.new })
-        (record { written = O.written out.old; faults = O.faults out.old })
-        (record { written = O.written out.new; faults = O.faults out.new })
-        (E.Faulty fault line)) ⊎ ((reject : Reject) × EndsBy names
-        (record { content = F.content files.old; asked = F.asked files.old; faults = F.faults files.old })
-        (record { content = F.content files.new; asked = F.asked files.new; faults = F.faults files.new })
-        (record { written = O.written out.old; faults = O.faults out.old })
-        (record { written = O.written out.new; faults = O.faults out.new })
-        (E.Rejected reject)) }
-    ensures no_query { (names : Names) → CheckFor words.now names → result ≡ 10 → EndsBy names
-        (record { content = F.content files.old; asked = F.asked files.old; faults = F.faults files.old })
-        (record { content = F.content files.new; asked = F.asked files.new; faults = F.faults files.new })
-        (record { written = O.written out.old; faults = O.faults out.old })
-        (record { written = O.written out.new; faults = O.faults out.new })
-        E.NoQuery }
-
-    // A proof is accepted where the files are told.
-    ensures proves { (names : Names) (content_of : List ℕ → Maybe (List ℕ)) (policy script text : List ℕ) → CheckFor words.now names →
-        F.content files.old ≡ Some content_of →
-        content_of names.policy ≡ Some policy → length policy ≤ FILE_BYTES → IsLoadable (pieces_of policy) →
-        content_of names.script ≡ Some script → length script ≤ FILE_BYTES →
-        (session : Session) (values : List (List ℕ)) → IsQuery (pieces_of policy) script session values →
-        content_of names.reply ≡ Some text → length text ≤ FILE_BYTES →
-        (reply : ReadReply) → IsReply text reply → IsReplyTo (length session.pinned) values reply →
-        IsProof (equations_of session values) reply.rows reply.value →
-        ¬ Rose (F.faults files.old) (F.faults files.new) → ¬ Rose (O.faults out.old) (O.faults out.new) →
-        (result ≡ 0) ⊎ (result ≡ 5) }
-    ensures own_untouched { (names : Names) → CheckFor words.now names →
-        (L.written own.new ≡ L.written own.old) × (L.taken own.new ≡ L.taken own.old) × (L.left own.new ≡ L.left own.old) }
-
-    // No file but those that the words name is asked for, in their order and each at most once.
-    ensures asks_in_order { (names : Names) → CheckFor words.now names →
-        (n : ℕ) × (n ≤ 3) × (F.asked files.new ≡ F.asked files.old ++ take n (in_order names)) }
-    ensures asks { IsNoCheck words.now → (F.asked files.new ≡ F.asked files.old)
-        ⊎ ((file : List ℕ) × AskFor words.now file × (F.asked files.new ≡ F.asked files.old ++ file ∷ [])) }
-    ensures keeps_content { F.content files.new ≡ F.content files.old }
+    // Which statuses are left where the words, the files or the input are known.
+    ensures no_words { IsNoCommand words.now → (result ≡ 1) ⊎ ((result ≡ 9) × Rose (O.seen out.old).faults (O.seen out.new).faults) }
+    ensures large { (file bytes : List ℕ) → IsCalmAsk words.now (F.seen files.old) (F.seen files.new) (O.seen out.old) (O.seen out.new) file bytes →
+        FILE_BYTES < length bytes → EndsWith 2 (codes "error file " ++ file ++ codes " large\n") (O.seen out.old) (O.seen out.new) result }
+    ensures faulty { (file bytes : List ℕ) (n : ℕ) (fault : ReadFault) → IsCalmAsk words.now (F.seen files.old) (F.seen files.new) (O.seen out.old) (O.seen out.new) file bytes →
+        length bytes ≤ FILE_BYTES → IsFaultyAt (pieces_of bytes) n fault → EndsWith 3 (fault_line file n fault) (O.seen out.old) (O.seen out.new) result }
+    ensures full { (file bytes : List ℕ) (n : ℕ) (word : LimitWord) (count : ℕ) → IsCalmAsk words.now (F.seen files.old) (F.seen files.new) (O.seen out.old) (O.seen out.new) file bytes →
+        length bytes ≤ FILE_BYTES → IsLimitAt (pieces_of bytes) n word count → EndsWith 3 (limit_line file n word count) (O.seen out.old) (O.seen out.new) result }
+    ensures wrong_input { (input : List ℕ) → IsCalmLink words.now (F.seen files.old) (F.seen files.new) (L.seen own.old) (L.seen own.new) (O.seen out.old) (O.seen out.new) input →
+        ((script : Maybe Script) → IsFirstInput input script → ⊥) → EndsWith 4 (codes "error link form\n") (O.seen out.old) (O.seen out.new) result }
+    ensures link_rose { (input : List ℕ) (script : Maybe Script) → (L.seen own.old).left ≡ Some input → IsFirstInput input script →
+        result ≡ 4 → Rose (L.seen own.old).faults (L.seen own.new).faults }
+    ensures complete { (input : List ℕ) (script : Maybe Script) → IsCalmLink words.now (F.seen files.old) (F.seen files.new) (L.seen own.old) (L.seen own.new) (O.seen out.old) (O.seen out.new) input →
+        IsFirstInput input script → EndsWith 0 [] (O.seen out.old) (O.seen out.new) result }
+    ensures proves { (c : IsCalmCheck words.now (F.seen files.old) (F.seen files.new) (O.seen out.old) (O.seen out.new)) →
+        EndsWith 0 (proved_line c.reply.value c.reply.name) (O.seen out.old) (O.seen out.new) result }
 {
     carry_out(alloc, words, files, own, out)
 }

@@ -33,13 +33,7 @@ struct NarrowLink {
 }
 
 impl Sink for NarrowLink {
-    ghost written = { λ n. Some n.link.written };
-
-    ghost taken = { λ n. Some n.link.taken };
-
-    ghost left = { λ n. Some n.link.left };
-
-    ghost faults = { λ n. n.link.faults };
+    ghost seen = { λ n. record { written = Some n.link.written; taken = Some n.link.taken; left = Some n.link.left; faults = n.link.faults } };
 
     fn write(&mut self, piece: &[u8]) -> Result<usize, Failed> {
         let front = piece.split_at(piece.len().min(7)).0;

@@ -15,24 +15,27 @@ use Rattle.kn_assert.specs.declared.fault.ReadFault.{ReadFault}
 use Rattle.kn_assert.specs.declared.fault.ReadFault.TheVariants as F
 use Rattle.kn_assert.specs.Faults.{fault_number}
 use Rattle.kn_assert.specs.Reading.{assertion_of, fault_of, IsSound}
-use Rattle.kn_meaning.specs.declared.update.Change.TheVariants.{Add}
-use Rattle.kn_meaning.specs.declared.refusal.LimitWord.TheVariants as W
-use Rattle.kn_meaning.specs.declared.refusal.Refusal.TheVariants.{Limit as TheLimit}
+use Rattle.kn_store.specs.declared.update.Change.TheVariants.{Add}
+use Rattle.kn_wire.specs.declared.refusal.LimitWord.TheVariants as W
+use Rattle.kn_wire.specs.declared.refusal.Refusal.TheVariants.{Limit as TheLimit}
 use Rattle.kn_meaning.specs.Equations.{Part}
 use Rattle.kn_proof.specs.declared.named.Id.TheVariants.{Shared}
-use Rattle.kn_meaning.specs.History.{Numbered, Credential, all_changes, live, live_bytes, logged_bytes, added_bytes, loaded_after, loaded_history, is_removal_of, StoreRefusal, LiveFull, BytesFull, HistoryFull, LogFull}
-use Rattle.kn_meaning.specs.Loading.{refusal_behind, IsReached, IsFaultyAt}
-use Rattle.kn_meaning.specs.Daemon.{parts_of}
-use Rattle.kn_meaning.proofs.Loading.{loadable_nothing, loadable_more}
-use Rattle.kn_answer.specs.Sizes.{IsReadablePart, size_of, total_size}
+use Rattle.kn_store.specs.declared.update.Numbered.{Numbered}
+use Rattle.kn_store.specs.History.{NumberedText, all_changes, live, text_bytes, logged_bytes, added_bytes, loaded_after, loaded_history, is_removal_of}
+use Rattle.kn_store.specs.declared.fault.StoreFault.{StoreFault}
+use Rattle.kn_store.specs.declared.fault.StoreFault.TheVariants.{LiveFull, BytesFull, HistoryFull, LogFull}
+use Rattle.kn_store.specs.Loading.{refusal_behind, IsNextText, IsFaultyAt}
+use Rattle.kn_daemon.specs.Daemon.{parts_of}
+use Rattle.kn_store.proofs.Loading.{loadable_nothing, loadable_more}
+use Rattle.kn_answer.specs.Sizes.{HaveTexts}
 use Rattle.kn_play.specs.Answering.{IsMadeBy, numbered_after, parts_in}
-use Rattle.kn_play.proofs.Numbered.{numbered-push}
+use Rattle.kn_play.proofs.Numbered.{parts_have}
 use Rattle.kn_commands.specs.Loaded.{HasLoaded, IsLimitAt, StopsLoading}
 use Rattle.kn_commands.specs.declared.stop.Stop.{Stop}
 use Rattle.kn_commands.specs.declared.stop.Stop.TheVariants as S
 
 -- the credentials of additions
-abbrev credentials_from : ℕ → List (List ℕ) → List Credential
+abbrev credentials_from : ℕ → List (List ℕ) → List NumberedText
 credentials_from n [] = []
 credentials_from n (text ∷ texts) = record { id = n + 1; text = text } ∷ credentials_from (n + 1) texts
 
@@ -49,7 +52,7 @@ loaded-length n [] = refl
 loaded-length n (text ∷ texts) = rw (loaded-length (n + 1) texts) refl
 
 loaded-parts : (n : ℕ) (texts : List (List ℕ)) (assertions : List Assertion) → map assertion_of texts ≡ map Some assertions →
-    parts_of (credentials_from n texts) ≡ numbered_after n assertions
+    parts_of Shared (credentials_from n texts) ≡ numbered_after n assertions
 loaded-parts n [] [] read = refl
 loaded-parts n [] (a ∷ as') read = absurd (cc)
 loaded-parts n (text ∷ texts) [] read = absurd (cc)
@@ -64,15 +67,15 @@ pub history_is_made : (texts : List (List ℕ)) (assertions : List Assertion) �
 history_is_made texts assertions read =
     record {
       count = loaded-length 0 texts ∙ (simp length-map at (ap length read));
-      parts = ap parts_of (loaded-live 0 texts) ∙ loaded-parts 0 texts assertions read;
+      parts = ap (parts_of Shared) (loaded-live 0 texts) ∙ loaded-parts 0 texts assertions read;
     }
 
 -- the bytes of additions, which all are live
-live_bytes-texts : (n : ℕ) (texts : List (List ℕ)) → live_bytes (credentials_from n texts) ≡ sum_by length texts
-live_bytes-texts n [] = refl
-live_bytes-texts n (text ∷ texts) =
-    sum_by-cons (λ (c : Credential). length c.text) (record { id = n + 1; text = text }) (credentials_from (n + 1) texts)
-    ∙ ap (λ (k : ℕ). length text + k) (live_bytes-texts (n + 1) texts) ∙ sym (sum_by-cons length text texts)
+text_bytes-texts : (n : ℕ) (texts : List (List ℕ)) → text_bytes (credentials_from n texts) ≡ sum_by length texts
+text_bytes-texts n [] = refl
+text_bytes-texts n (text ∷ texts) =
+    sum_by-cons (λ (c : NumberedText). length c.text) (record { id = n + 1; text = text }) (credentials_from (n + 1) texts)
+    ∙ ap (λ (k : ℕ). length text + k) (text_bytes-texts (n + 1) texts) ∙ sym (sum_by-cons length text texts)
 
 logged_bytes-texts : (n : ℕ) (texts : List (List ℕ)) → logged_bytes (all_changes (loaded_after n texts)) ≡ sum_by length texts
 logged_bytes-texts n [] = refl
@@ -89,7 +92,7 @@ changes-length n [] = refl
 changes-length n (text ∷ texts) = rw (changes-length (n + 1) texts) refl
 
 -- the limits of a history of so many additions with so many bytes
-limits : ℕ → ℕ → ℕ → Option StoreRefusal
+limits : ℕ → ℕ → ℕ → Option StoreFault
 limits count bytes more =
     if nat_le 2048 count then Some (LiveFull count)
     else if nat_lt 4194304 (bytes + more) then Some (BytesFull bytes)
@@ -100,7 +103,7 @@ limits count bytes more =
 refusal-limits : (front : List (List ℕ)) (text : List ℕ) → refusal_behind front text ≡ limits (length front) (sum_by length front) (length text)
 unfolding limits
 refusal-limits front text =
-    rw (loaded-live 0 front, credentials-length 0 front, live_bytes-texts 0 front, changes-length 0 front, logged_bytes-texts 0 front) refl
+    rw (loaded-live 0 front, credentials-length 0 front, text_bytes-texts 0 front, changes-length 0 front, logged_bytes-texts 0 front) refl
 
 limits-live : (count bytes more : ℕ) → 2048 ≤ count → limits count bytes more ≡ Some (LiveFull count)
 unfolding limits
@@ -125,8 +128,6 @@ loaded_nothing =
       bytes_there = refl;
       few = omega arith;
       most = omega arith;
-      readable = All-nil IsReadablePart;
-      small = omega arith;
     }
 
 -- so many assertions are those of so many texts
@@ -134,7 +135,7 @@ count_is : (front : List (List ℕ)) (assertions : List Assertion) (bytes : ℕ)
 count_is front assertions bytes h = simp length-map at (ap length h.loaded.read)
 
 reached_here : (front rest : List (List ℕ)) (text : List ℕ) (assertions : List Assertion) (bytes : ℕ) → HasLoaded front assertions bytes →
-    IsReached (front ++ text ∷ rest) (length assertions + 1) front text
+    IsNextText (front ++ text ∷ rest) (length assertions + 1) front text
 reached_here front rest text assertions bytes h =
     record { rest = rest; cut = refl; place = ap (λ (k : ℕ). k + 1) (sym (count_is front assertions bytes h)); loadable = h.loaded.loadable }
 
@@ -175,7 +176,7 @@ live_here front rest text assertions bytes assertion h read full =
         reads = reads_here text assertion read;
         refused = refusal-limits front text ∙ limits-live (length front) (sum_by length front) (length text) many;
       };
-      told = ap (TheLimit W.Live) count;
+      told = ap (λ (n : ℕ). Some (TheLimit W.Live n)) count;
     }
 
 -- nor for its bytes
@@ -196,34 +197,19 @@ bytes_here front rest text assertions bytes assertion h read few full =
         reads = reads_here text assertion read;
         refused = refusal-limits front text ∙ limits-bytes (length front) (sum_by length front) (length text) room over;
       };
-      told = ap (TheLimit W.LiveBytes) (sym there);
+      told = ap (λ (n : ℕ). Some (TheLimit W.LiveBytes n)) (sym there);
     }
-
-total_size-append : (xs : List Part) (x : Part) → total_size (xs ++ x ∷ []) ≡ total_size xs + size_of x
-total_size-append [] x = omega arith
-total_size-append (y ∷ xs) x = let more = total_size-append xs x in omega arith
-
-readable_here : (bytes : ℕ) (licensees : Option Formula) → IfSome licensees (λ formula. IsReadable bytes formula) →
-    IfSome licensees (λ formula. (n : ℕ) × IsReadable n formula) × (field_nodes licensees ≤ bytes)
-readable_here bytes None h = (tt, omega arith)
-readable_here bytes (Some formula) h = ((bytes, h), h.small)
 
 -- the next text is added
 pub loaded_more : (front : List (List ℕ)) (text : List ℕ) (assertions : List Assertion) (bytes : ℕ) (assertion : Assertion) →
-    HasLoaded front assertions bytes → assertion_of text ≡ Some assertion → IsSound (length text) assertion → length assertions < 2048 → bytes + length text ≤ 4194304 →
+    HasLoaded front assertions bytes → assertion_of text ≡ Some assertion → length assertions < 2048 → bytes + length text ≤ 4194304 →
     HasLoaded (front ++ text ∷ []) (assertions ++ assertion ∷ []) (bytes + length text)
-loaded_more front text assertions bytes assertion h read sound few short =
+loaded_more front text assertions bytes assertion h read few short =
     let count : length front ≡ length assertions = count_is front assertions bytes h in
     let room : length front < 2048 = omega arith in
     let there = h.bytes_there in
     let within : sum_by length front + length text ≤ 4194304 = omega arith in
-    let field = readable_here (length text) assertion.licensees sound.licensees in
     let longer : length (assertions ++ assertion ∷ []) ≡ length assertions + 1 = length-append assertions (assertion ∷ []) in
-    let part : Part = record { id = Shared (0 + length assertions + 1); assertion = assertion } in
-    let parts : parts_in (assertions ++ assertion ∷ []) ≡ parts_in assertions ++ part ∷ [] = numbered-push 0 assertions assertion in
-    let size : total_size (parts_in (assertions ++ assertion ∷ [])) ≡ total_size (parts_in assertions) + size_of part = ap total_size parts ∙ total_size-append (parts_in assertions) part in
-    let before = h.small in
-    let nodes : field_nodes assertion.licensees ≤ length text = field.1 in
     record {
       loaded = record {
         loadable = loadable_more front text h.loaded.loadable (record {
@@ -236,13 +222,11 @@ loaded_more front text assertions bytes assertion h read sound few short =
       bytes_there = ap (λ (k : ℕ). k + length text) there ∙ sym (sum_by-append length front (text ∷ []) ∙ ap (λ (k : ℕ). sum_by length front + k) (sum_by-cons length text [] ∙ omega arith));
       few = omega arith;
       most = short;
-      readable = rw parts (All-append IsReadablePart (parts_in assertions) (part ∷ []) h.readable (All-cons IsReadablePart part [] field.0 (All-nil IsReadablePart)));
-      small = omega arith;
     }
 
--- they are few enough for a system
-pub loaded-small : (texts : List (List ℕ)) (assertions : List Assertion) (bytes : ℕ) → HasLoaded texts assertions bytes → 65 + total_size (parts_in assertions) < 2 ^ 24
-loaded-small texts assertions bytes h = let few = h.few in let most = h.most in let small = h.small in omega arith
+-- they are those of texts that are short enough for a query
+pub loaded_texts : (texts : List (List ℕ)) (assertions : List Assertion) (bytes : ℕ) → HasLoaded texts assertions bytes → HaveTexts (parts_in assertions)
+loaded_texts texts assertions bytes h = let most = h.most in let there = h.bytes_there in parts_have texts assertions h.loaded.read (omega arith)
 
 -- the pieces of a file around one of them
 pub pieces-around : (file : List ℕ) (spans : List Span) (i : ℕ) (d : Span) (text : List ℕ) → i < length spans → spans ≡ spans_of file → text ≡ bytes_at file (get_or spans i d) →

@@ -2,16 +2,19 @@
 use Rattle.std.proofs.Common.{◌≡◌, ℕ, ◌≤◌, List, [], ◌∷◌, ◌++◌, length, take, refl, sym, ap, ◌∙◌, subst, arith, append_assoc, append-nil, Option, Some, inl, inr}
 use Rattle.std.specs.Prelude.{IfSome, IsSomeAnd, ◌<◌}
 use Rattle.kn_base.specs.declared.limits.TheConstants.{FILE_BYTES}
+use Rattle.kn_outside.specs.Seen.{FilesSeen}
+use Rattle.kn_outside.specs.Faults.{Rose}
+use Rattle.kn_outside.specs.Asked.{HasAsked, HasFailed}
 use Rattle.kn_files.specs.Pieces.{pieces_of}
 use Rattle.kn_trees.specs.declared.assertion.Assertion.{Assertion}
-use Rattle.kn_meaning.specs.declared.script.Script.{Script}
-use Rattle.kn_meaning.specs.History.{loaded_history}
-use Rattle.kn_meaning.specs.Requests.{Request, Takes}
-use Rattle.kn_meaning.specs.Daemon.{Session}
-use Rattle.kn_meaning.specs.FirstInput.{IsFirstInput, requests_of}
-use Rattle.kn_meaning.specs.Played.{IsMeant}
-use Rattle.kn_meaning.proofs.Asked.{input_is_taken}
-use Rattle.kn_meaning.proofs.Readings.{takes_once}
+use Rattle.kn_script.specs.declared.asks.Script.{Script}
+use Rattle.kn_store.specs.History.{loaded_history}
+use Rattle.kn_wire.specs.Requests.{Request, Takes}
+use Rattle.kn_session.specs.Sessions.{Session}
+use Rattle.kn_script.specs.FirstInput.{IsFirstInput, requests_of}
+use Rattle.kn_daemon.specs.Played.{IsMeant}
+use Rattle.kn_script.proofs.Asked.{input_is_taken}
+use Rattle.kn_wire.proofs.Readings.{takes_once}
 use Rattle.kn_commands.specs.declared.stop.Stop.{Stop}
 use Rattle.kn_commands.specs.declared.stop.Stop.TheVariants.{Words, FileFailed, FileTooLarge, Limit, ReadFailed, InputForm, WriteFailed, Memory}
 use Rattle.kn_commands.specs.declared.stop.Stop.TheVariants as S
@@ -20,10 +23,9 @@ use Rattle.kn_commands.specs.declared.ending.Source.TheVariants.{Policy, Script 
 use Rattle.kn_commands.specs.declared.ending.Ending.{Ending}
 use Rattle.kn_commands.specs.declared.ending.Ending.TheVariants.{Stopped, NoQuery, Faulty, Rejected, Proved}
 use Rattle.kn_commands.specs.Names.{Names, in_order}
-use Rattle.kn_commands.specs.Seen.{FilesSeen, HasContent, IsTooLarge, IsPolicy}
+use Rattle.kn_commands.specs.Held.{HasContent, IsTooLarge, IsPolicy}
 use Rattle.kn_commands.specs.Loaded.{IsLoaded, StopsLoading}
-use Rattle.kn_commands.specs.Checking.{IsQuery, HasQuery, name_of, count_before, count_to, Reached, HasComeTo, StopsAt, Shows, CheckCause, IsUnread, HaveAsked}
-use Rattle.kn_commands.proofs.Read.{rose-earlier}
+use Rattle.kn_commands.specs.Checking.{IsQuery, HasQuery, name_of, count_before, count_to, Reached, HasComeTo, StopsAt, Shows, IsTried, CheckCause, IsUnread}
 
 -- what a file holds was there before
 pub content_there : (f f' : FilesSeen) (name bytes : List ℕ) → f'.content ≡ f.content → HasContent f' name bytes → HasContent f name bytes
@@ -36,36 +38,52 @@ too_large_there : (f f' : FilesSeen) (name : List ℕ) → f'.content ≡ f.cont
 too_large_there f f' name same large =
     subst (λ (told : Option (List ℕ → Option (List ℕ))). IfSome told (λ content_of. IsSomeAnd (content_of name) (λ bytes. FILE_BYTES < length bytes))) same large
 
-pub asked_nothing : (f : FilesSeen) (names : Names) → HaveAsked f f names 0
-asked_nothing f names = record { asked = sym (append-nil f.asked); content = refl; later = omega arith }
+pub keeps_content : (names : List (List ℕ)) (f f' : FilesSeen) → HasAsked names f f' → f'.content ≡ f.content
+keeps_content names f f' asked = ap (λ (x : FilesSeen). x.content) asked
 
-one_more : (names : Names) (source : Source) → take (count_before source) (in_order names) ++ name_of names source ∷ [] ≡ take (count_to source) (in_order names)
+-- some files were asked for, and then others
+asked_both : (a b : List (List ℕ)) (f f' f'' : FilesSeen) → HasAsked a f f' → HasAsked b f' f'' → HasAsked (a ++ b) f f''
+asked_both a b f f' f'' first second =
+    second ∙ ap (λ (x : FilesSeen). record x { asked = x.asked ++ b }) first ∙ ap (λ (l : List (List ℕ)). record f { asked = l }) (append_assoc f.asked a b)
+
+failed_behind : (a b : List (List ℕ)) (f f' f'' : FilesSeen) → HasAsked a f f' → HasFailed b f' f'' → HasFailed (a ++ b) f f''
+failed_behind a b f f' f'' first second =
+    record {
+      asked =
+          second.asked ∙ ap (λ (x : FilesSeen). record x { asked = x.asked ++ b; faults = f''.faults }) first
+          ∙ ap (λ (l : List (List ℕ)). record f { asked = l; faults = f''.faults }) (append_assoc f.asked a b);
+      rose = subst (λ (count : ℕ). Rose count f''.faults) (ap (λ (x : FilesSeen). x.faults) first) second.rose;
+    }
+
+pub asked_nothing : (f : FilesSeen) → HasAsked [] f f
+asked_nothing f = ap (λ (l : List (List ℕ)). record f { asked = l }) (sym (append-nil f.asked))
+
+-- the files behind one more
+pub one_more : (names : Names) (source : Source) → take (count_before source) (in_order names) ++ name_of names source ∷ [] ≡ take (count_to source) (in_order names)
 one_more names Policy = refl
 one_more names TheScript = refl
 one_more names Reply = refl
 
-asked_more : (f f' f'' : FilesSeen) (names : Names) (source : Source) → HaveAsked f f' names (count_before source) →
-    f''.asked ≡ f'.asked ++ name_of names source ∷ [] → f''.asked ≡ f.asked ++ take (count_to source) (in_order names)
-asked_more f f' f'' names source before asked =
-    asked ∙ ap (λ (l : List (List ℕ)). l ++ name_of names source ∷ []) before.asked
-    ∙ append_assoc f.asked (take (count_before source) (in_order names)) (name_of names source ∷ [])
-    ∙ ap (λ (l : List (List ℕ)). f.asked ++ l) (one_more names source)
-
 -- one more file is read
-pub read_more : (f f' f'' : FilesSeen) (names : Names) (source : Source) → HaveAsked f f' names (count_before source) →
-    f''.asked ≡ f'.asked ++ name_of names source ∷ [] → f''.content ≡ f'.content → f'.faults ≤ f''.faults → HaveAsked f f'' names (count_to source)
-read_more f f' f'' names source before asked content later =
-    let first = before.later in
-    record { asked = asked_more f f' f'' names source before asked; content = content ∙ before.content; later = omega arith }
+pub read_more : (f f' f'' : FilesSeen) (names : Names) (source : Source) → HasAsked (take (count_before source) (in_order names)) f f' →
+    HasAsked (name_of names source ∷ []) f' f'' → HasAsked (take (count_to source) (in_order names)) f f''
+read_more f f' f'' names source before asked =
+    subst (λ (l : List (List ℕ)). HasAsked l f f'') (one_more names source) (asked_both (take (count_before source) (in_order names)) (name_of names source ∷ []) f f' f'' before asked)
 
 -- a file that isn't read stops the run
-pub unread_stops : (f f' f'' : FilesSeen) (names : Names) (source : Source) (stop : Stop) → HaveAsked f f' names (count_before source) → Reached f names source →
+pub unread_stops : (f f' f'' : FilesSeen) (names : Names) (source : Source) (stop : Stop) → HasAsked (take (count_before source) (in_order names)) f f' → Reached f names source →
     IsUnread f' f'' (name_of names source) stop → StopsAt f f'' names source stop
-unread_stops f f' f'' names source FileFailed before reached unread =
-    (record { asked = asked_more f f' f'' names source before unread.0; reached = reached }, rose-earlier f.faults f'.faults f''.faults before.later unread.1)
-unread_stops f f' f'' names source FileTooLarge before reached unread =
-    (record { asked = asked_more f f' f'' names source before unread.0; reached = reached }, too_large_there f f' (name_of names source) before.content unread.1)
-unread_stops f f' f'' names source Memory before reached unread = record { asked = inl (unread ∙ before.asked); reached = reached }
+unread_stops f f' f'' names source FileFailed before reached unread = (
+  reached,
+  subst (λ (l : List (List ℕ)). HasFailed l f f'') (one_more names source) (failed_behind (take (count_before source) (in_order names)) (name_of names source ∷ []) f f' f'' before unread),
+)
+unread_stops f f' f'' names source FileTooLarge before reached unread = (
+  reached,
+  read_more f f' f'' names source before unread.0,
+  too_large_there f f' (name_of names source) (keeps_content (take (count_before source) (in_order names)) f f' before) unread.1,
+)
+unread_stops f f' f'' names source Memory before reached unread =
+    (reached, inl (subst (HasAsked (take (count_before source) (in_order names)) f) (sym unread) before))
 unread_stops f f' f'' names source Words before reached unread = absurd unread
 unread_stops f f' f'' names source (S.Policy n fault) before reached unread = absurd unread
 unread_stops f f' f'' names source (Limit n word count) before reached unread = absurd unread
@@ -74,17 +92,17 @@ unread_stops f f' f'' names source InputForm before reached unread = absurd unre
 unread_stops f f' f'' names source WriteFailed before reached unread = absurd unread
 
 -- and so does a policy that isn't loaded
-pub load_stops : (f f' : FilesSeen) (names : Names) (bytes : List ℕ) (stop : Stop) → HaveAsked f f' names 1 → HasContent f names.policy bytes →
+pub load_stops : (f f' : FilesSeen) (names : Names) (bytes : List ℕ) (stop : Stop) → HasAsked (names.policy ∷ []) f f' → HasContent f names.policy bytes →
     StopsLoading (pieces_of bytes) stop → StopsAt f f' names Policy stop
-load_stops f f' names bytes (S.Policy n fault) before has stops = (refl, bytes, record { asked = before.asked; content = has }, stops)
-load_stops f f' names bytes (Limit n word count) before has stops = (refl, bytes, record { asked = before.asked; content = has }, stops)
-load_stops f f' names bytes Memory before has stops = record { asked = inr before.asked; reached = tt }
-load_stops f f' names bytes Words before has stops = absurd stops
-load_stops f f' names bytes FileFailed before has stops = absurd stops
-load_stops f f' names bytes FileTooLarge before has stops = absurd stops
-load_stops f f' names bytes ReadFailed before has stops = absurd stops
-load_stops f f' names bytes InputForm before has stops = absurd stops
-load_stops f f' names bytes WriteFailed before has stops = absurd stops
+load_stops f f' names bytes (S.Policy n fault) asked has stops = (refl, bytes, record { asked = asked; content = has }, stops)
+load_stops f f' names bytes (Limit n word count) asked has stops = (refl, bytes, record { asked = asked; content = has }, stops)
+load_stops f f' names bytes Memory asked has stops = (tt, inr asked)
+load_stops f f' names bytes Words asked has stops = absurd stops
+load_stops f f' names bytes FileFailed asked has stops = absurd stops
+load_stops f f' names bytes FileTooLarge asked has stops = absurd stops
+load_stops f f' names bytes ReadFailed asked has stops = absurd stops
+load_stops f f' names bytes InputForm asked has stops = absurd stops
+load_stops f f' names bytes WriteFailed asked has stops = absurd stops
 
 -- a script of the form means what its lines request
 pub query_there : (texts : List (List ℕ)) (script : List ℕ) (parsed : Option Script) (session : Session) (values : List (List ℕ)) → IsFirstInput script parsed →
@@ -110,15 +128,12 @@ pub policy_there : (f : FilesSeen) (name bytes : List ℕ) (assertions : List As
 policy_there f name bytes assertions has loaded = record { content = has; loadable = loaded.loadable }
 
 -- a text that shows how the run ends
-pub shown_cause : (f f' : FilesSeen) (names : Names) (session : Session) (values : List (List ℕ)) (text : List ℕ) (ending : Ending) → HaveAsked f f' names 3 →
-    HasQuery f names session values → HasContent f names.reply text → Shows session values text ending → CheckCause f f' names ending
-shown_cause f f' names session values text (Stopped source stop) asked query has shows =
+pub shown_cause : (f f' : FilesSeen) (names : Names) (session : Session) (values : List (List ℕ)) (text : List ℕ) (ending : Ending) → IsTried f f' names session values text →
+    Shows session values text ending → CheckCause f f' names ending
+shown_cause f f' names session values text (Stopped source stop) tried shows =
     subst (λ (s : Stop). StopsAt f f' names source s) (sym shows.1)
-    (subst (λ (at : Source). HasComeTo f f' names at) (sym shows.0) (record { asked = inr asked.asked; reached = (session, values, query) }))
-shown_cause f f' names session values text NoQuery asked query has shows = absurd shows
-shown_cause f f' names session values text (Faulty fault line) asked query has shows =
-    record { asked = asked.asked; session = session; values = values; query = query; text = text; content = has; shows = shows }
-shown_cause f f' names session values text (Rejected reject) asked query has shows =
-    record { asked = asked.asked; session = session; values = values; query = query; text = text; content = has; shows = shows }
-shown_cause f f' names session values text (Proved value name) asked query has shows =
-    record { asked = asked.asked; session = session; values = values; query = query; text = text; content = has; shows = shows }
+    (subst (λ (at : Source). Reached f names at × HasComeTo f f' names at) (sym shows.0) ((session, values, tried.query), inr tried.asked))
+shown_cause f f' names session values text NoQuery tried shows = absurd shows
+shown_cause f f' names session values text (Faulty fault line) tried shows = record { session = session; values = values; text = text; tried = tried; shows = shows }
+shown_cause f f' names session values text (Rejected reject) tried shows = record { session = session; values = values; text = text; tried = tried; shows = shows }
+shown_cause f f' names session values text (Proved value name) tried shows = record { session = session; values = values; text = text; tried = tried; shows = shows }

@@ -1,23 +1,26 @@
 -- What the verdict on a reply shows of the query that a script means over a loaded policy.
-use Rattle.std.proofs.Common.{◌≡◌, ℕ, List, length, sym, ap, subst}
+use Rattle.std.proofs.Common.{◌≡◌, ◌∙◌, ℕ, List, length, sym, ap, subst, append-nil}
 use Rattle.kn_trees.specs.declared.assertion.Assertion.{Assertion}
 use Rattle.kn_proof.specs.declared.reply.ReadReply.{ReadReply}
 use Rattle.kn_check.specs.declared.reject.Reject.{Reject}
 use Rattle.kn_meaning.specs.Equations.{Equations, Part, equations_over}
-use Rattle.kn_meaning.specs.History.{loaded_history}
-use Rattle.kn_meaning.specs.Daemon.{equations_of}
-use Rattle.kn_play.specs.declared.session.Session.{Session}
+use Rattle.kn_proof.specs.declared.named.Id.TheVariants.{Shared}
+use Rattle.kn_store.specs.History.{credentials_of, loaded_history}
+use Rattle.kn_daemon.specs.Daemon.{equations_of, parts_of}
+use Rattle.kn_play.specs.declared.entered.Entered.{Entered}
 use Rattle.kn_play.specs.Answering.{IsMadeBy, asked_in, session_at}
 use Rattle.kn_verify.specs.Verdicts.{IsReplyTo, IsProved, IsUnproved, equations_in}
 use Rattle.kn_commands.specs.Loaded.{IsLoaded}
 use Rattle.kn_commands.proofs.Loaded.{history_is_made}
 
-module _ (texts : List (List ℕ)) (assertions : List Assertion) (loaded : IsLoaded texts assertions) (session : Session) where
+module _ (texts : List (List ℕ)) (assertions : List Assertion) (loaded : IsLoaded texts assertions) (session : Entered) where
   made : IsMadeBy (loaded_history texts) assertions
   made = history_is_made texts assertions loaded.read
 
   same_equations : (values : List (List ℕ)) → equations_in session values assertions ≡ equations_of (session_at (loaded_history texts) session) values
-  same_equations values = ap (λ (parts : List Part). equations_over (asked_in session values) parts) (sym made.parts)
+  same_equations values =
+      ap (λ (parts : List Part). equations_over (asked_in session values) parts)
+      (sym (append-nil (parts_of Shared (credentials_of (loaded_history texts))) ∙ made.parts))
 
   same_version : length assertions ≡ length (loaded_history texts)
   same_version = sym made.count

@@ -1,21 +1,18 @@
 -- The lines that tell what stops loading, by their parts.
-use Rattle.std.proofs.Common.{◌≡◌, ℕ, ◌<◌, List, [], ◌++◌, length, take, subst, append_assoc, Option}
-use Rattle.std.specs.Prelude.{Result, OnOk, OnErr, codes, decimal}
+use Rattle.std.proofs.Common.{◌≡◌, ℕ, Bool, List, [], ◌++◌, subst, append_assoc}
+use Rattle.std.specs.Prelude.{codes, decimal}
 use Rattle.std.specs.Option.{unwrap_or}
-use Rattle.kn_outside.specs.Told.{more}
+use Rattle.kn_outside.specs.Seen.{LinkSeen}
+use Rattle.kn_outside.specs.Printing.{Prints}
 use Rattle.kn_assert.specs.declared.fault.ReadFault.{ReadFault}
 use Rattle.kn_assert.specs.Faults.{fault_number, fault_place}
-use Rattle.kn_meaning.specs.declared.refusal.LimitWord.{LimitWord}
-use Rattle.kn_meaning.specs.Replies.{word_text}
+use Rattle.kn_wire.specs.declared.refusal.LimitWord.{LimitWord}
+use Rattle.kn_wire.specs.Replies.{word_text}
 use Rattle.kn_commands.specs.Asking.{fault_line, limit_line}
 
 -- the same line, printed whole or in part
-pub told_ok : {T E : Type 0} (r : Result T E) (text line : List ℕ) (old new : Option (List ℕ)) → text ≡ line → OnOk r (new ≡ more text old) → OnOk r (new ≡ more line old)
-told_ok r text line old new same told = subst (λ (l : List ℕ). OnOk r (new ≡ more l old)) same told
-
-pub told_err : {T E : Type 0} (r : Result T E) (text line : List ℕ) (old new : Option (List ℕ)) → text ≡ line →
-    OnErr r ((n : ℕ) × (n < length text) × (new ≡ more (take n text) old)) → OnErr r ((n : ℕ) × (n < length line) × (new ≡ more (take n line) old))
-told_err r text line old new same told = subst (λ (l : List ℕ). OnErr r ((n : ℕ) × (n < length l) × (new ≡ more (take n l) old))) same told
+pub told : (whole : Bool) (text line : List ℕ) (l l' : LinkSeen) → text ≡ line → Prints whole text l l' → Prints whole line l l'
+told whole text line l l' same prints = subst (λ (t : List ℕ). Prints whole t l l') same prints
 
 -- the parts of a line, one after the other
 abbrev pub parts_of : List ℕ → List ℕ → List ℕ → List ℕ → List ℕ → List ℕ

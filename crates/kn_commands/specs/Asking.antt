@@ -1,56 +1,65 @@
 -- How answering a link ends: its status, the line that tells it, and what it leaves (keynoted's own).
-use Rattle.std.specs.Prelude.{ℕ, ◌≡◌, ◌<◌, ◌≤◌, List, [], ◌∷◌, ◌++◌, length, take, codes, decimal, Option, Some, None, IfSome, ◌⊎◌}
+use Rattle.std.specs.Prelude.{ℕ, ◌≡◌, ◌≤◌, Bool, true, false, List, [], ◌∷◌, ◌++◌, length, codes, decimal, Option, Some, None, IfSome, ◌⊎◌}
 use Rattle.std.specs.Option.{unwrap_or}
-use Rattle.kn_outside.specs.Told.{more, before}
-use Rattle.kn_outside.specs.Faults.{Rose}
+use Rattle.kn_outside.specs.Seen.{FilesSeen, LinkSeen}
+use Rattle.kn_outside.specs.Asked.{HasAsked, HasFailed}
+use Rattle.kn_outside.specs.Reading.{Reads, Fails}
+use Rattle.kn_outside.specs.Printing.{Writes}
 use Rattle.kn_assert.specs.declared.fault.ReadFault.{ReadFault}
 use Rattle.kn_assert.specs.Faults.{fault_number, fault_place}
 use Rattle.kn_files.specs.Pieces.{pieces_of}
-use Rattle.kn_meaning.specs.declared.refusal.LimitWord.{LimitWord}
-use Rattle.kn_meaning.specs.Replies.{word_text}
-use Rattle.kn_meaning.specs.Loading.{IsFaultyAt}
-use Rattle.kn_meaning.specs.declared.script.Script.{Script}
-use Rattle.kn_meaning.specs.FirstInput.{IsFirstInput}
-use Rattle.kn_meaning.specs.Asked.{IsAsked}
+use Rattle.kn_wire.specs.declared.refusal.LimitWord.{LimitWord}
+use Rattle.kn_wire.specs.Replies.{word_text}
+use Rattle.kn_store.specs.Loading.{IsFaultyAt}
+use Rattle.kn_script.specs.declared.asks.Script.{Script}
+use Rattle.kn_script.specs.FirstInput.{IsFirstInput}
+use Rattle.kn_play.specs.Asked.{IsAsked}
 use Rattle.kn_commands.specs.Loaded.{IsLimitAt}
-use Rattle.kn_commands.specs.Seen.{FilesSeen, LinkSeen, HasContent, IsTooLarge, IsPolicy}
+use Rattle.kn_commands.specs.Held.{HasContent, IsTooLarge, IsPolicy}
 use Rattle.kn_commands.specs.declared.stop.Stop.{Stop}
 use Rattle.kn_commands.specs.declared.stop.Stop.TheVariants.{Words, FileFailed, FileTooLarge, Policy, Limit, ReadFailed, InputForm, WriteFailed, Memory}
 
--- This much of the input was read, if the link tells it: what is gone from what was left was added to what was taken. It is
--- at most the first byte too many of an input.
-pub record IsRead (old new : LinkSeen) (input : List ℕ) : Type 0 where
-  pub taken : new.taken ≡ more input old.taken
-  pub left : old.left ≡ before input new.left
+-- This is at most the first byte too many of an input, and it was read.
+pub record IsRead (input : List ℕ) (o o' : LinkSeen) : Type 0 where
+  pub reads : Reads input o o'
   pub within : length input ≤ 65537
 
 -- the input was read to its end
-pub record IsReadWhole (old new : LinkSeen) (input : List ℕ) : Type 0 where
-  pub read : IsRead old new input
-  pub ended : IfSome new.left (λ left. left ≡ [])
+pub record IsReadWhole (input : List ℕ) (o o' : LinkSeen) : Type 0 where
+  pub read : IsRead input o o'
+  pub ended : IfSome o'.left (λ left. left ≡ [])
 
 -- the input hasn't the first form: what was read of it to its end, or it is longer than that form may be, and was read to the
 -- first byte too many
-pub record IsWrongInput (old new : LinkSeen) (input : List ℕ) : Type 0 where
-  pub read : IsRead old new input
-  pub wrong : (IfSome new.left (λ left. left ≡ []) × ((script : Option Script) → IsFirstInput input script → ⊥)) ⊎ (length input ≡ 65537)
+pub record IsWrongInput (input : List ℕ) (o o' : LinkSeen) : Type 0 where
+  pub read : IsRead input o o'
+  pub wrong : (IfSome o'.left (λ left. left ≡ []) × ((script : Option Script) → IsFirstInput input script → ⊥)) ⊎ (length input ≡ 65537)
 
--- the reply to the whole input over the policy file of these bytes
-pub record IsDue (bytes : List ℕ) (old new : LinkSeen) (reply : List ℕ) : Type 0 where
+-- a read failed behind this input, which isn't longer than an input may be
+pub record IsFailedRead (input : List ℕ) (o o' : LinkSeen) : Type 0 where
+  pub mid : LinkSeen
+  pub reads : Reads input o mid
+  pub within : length input ≤ 65536
+  pub fails : Fails mid o'
+
+-- the whole input was read, and the reply to it over the policy file of these bytes was written: all of it, or a front where that failed
+pub record IsReplied (whole : Bool) (bytes : List ℕ) (o o' : LinkSeen) : Type 0 where
   pub input : List ℕ
-  pub whole : IsReadWhole old new input
+  pub mid : LinkSeen
+  pub read : IsReadWhole input o mid
   pub script : Option Script
   pub form : IsFirstInput input script
+  pub reply : List ℕ
   pub asked : IsAsked (pieces_of bytes) input reply
+  pub writes : Writes whole reply mid o'
 
--- What answering the link over the policy file of these bytes does where this stops it. At None the reply was written whole. No
--- read fails behind the first byte too many.
+-- What answering the link over the policy file of these bytes does where this stops it; at None the reply was written whole.
 abbrev pub Answering : List ℕ → LinkSeen → LinkSeen → Option Stop → Type 0
-Answering bytes o o' None = (reply : List ℕ) × IsDue bytes o o' reply × (o'.written ≡ more reply o.written)
-Answering bytes o o' (Some WriteFailed) = (reply : List ℕ) × (n : ℕ) × IsDue bytes o o' reply × (n < length reply) × (o'.written ≡ more (take n reply) o.written) × Rose o.faults o'.faults
-Answering bytes o o' (Some InputForm) = (input : List ℕ) × IsWrongInput o o' input × (o'.written ≡ o.written)
-Answering bytes o o' (Some ReadFailed) = (input : List ℕ) × IsRead o o' input × (length input ≤ 65536) × Rose o.faults o'.faults × (o'.written ≡ o.written)
-Answering bytes o o' (Some Memory) = (input : List ℕ) × IsRead o o' input × (o'.written ≡ o.written)
+Answering bytes o o' None = IsReplied true bytes o o'
+Answering bytes o o' (Some WriteFailed) = IsReplied false bytes o o'
+Answering bytes o o' (Some InputForm) = (input : List ℕ) × IsWrongInput input o o'
+Answering bytes o o' (Some ReadFailed) = (input : List ℕ) × IsFailedRead input o o'
+Answering bytes o o' (Some Memory) = (input : List ℕ) × IsRead input o o'
 Answering bytes o o' (Some Words) = ⊥
 Answering bytes o o' (Some FileFailed) = ⊥
 Answering bytes o o' (Some FileTooLarge) = ⊥
@@ -59,24 +68,27 @@ Answering bytes o o' (Some (Limit n word count)) = ⊥
 
 -- the file of this name was asked for, and it is the policy over which the link was answered
 pub record IsAnswering (name : List ℕ) (f f' : FilesSeen) (o o' : LinkSeen) (due : Option Stop) : Type 0 where
-  pub asked : f'.asked ≡ f.asked ++ name ∷ []
+  pub asked : HasAsked (name ∷ []) f f'
   pub bytes : List ℕ
   pub policy : IsPolicy f name bytes
   pub answering : Answering bytes o o' due
 
+-- the file of this name was asked for, and holds these bytes
+pub record IsFileRead (name : List ℕ) (f f' : FilesSeen) (bytes : List ℕ) : Type 0 where
+  pub asked : HasAsked (name ∷ []) f f'
+  pub content : HasContent f name bytes
+
 -- Why a run ends so, and what it leaves of the files and of the link. Before the policy is loaded the link is untouched.
 abbrev pub Cause : List ℕ → FilesSeen → FilesSeen → LinkSeen → LinkSeen → Option Stop → Type 0
 Cause name f f' o o' (Some Words) = (f' ≡ f) × (o' ≡ o)
-Cause name f f' o o' (Some FileFailed) = (f'.asked ≡ f.asked ++ name ∷ []) × Rose f.faults f'.faults × (o' ≡ o)
-Cause name f f' o o' (Some FileTooLarge) = (f'.asked ≡ f.asked ++ name ∷ []) × IsTooLarge f name × (o' ≡ o)
-Cause name f f' o o' (Some (Policy n fault)) = (bytes : List ℕ) × (f'.asked ≡ f.asked ++ name ∷ []) × HasContent f name bytes
-    × IsFaultyAt (pieces_of bytes) n fault × (o' ≡ o)
-Cause name f f' o o' (Some (Limit n word count)) = (bytes : List ℕ) × (f'.asked ≡ f.asked ++ name ∷ []) × HasContent f name bytes
-    × IsLimitAt (pieces_of bytes) n word count × (o' ≡ o)
+Cause name f f' o o' (Some FileFailed) = HasFailed (name ∷ []) f f' × (o' ≡ o)
+Cause name f f' o o' (Some FileTooLarge) = HasAsked (name ∷ []) f f' × IsTooLarge f name × (o' ≡ o)
+Cause name f f' o o' (Some (Policy n fault)) = (bytes : List ℕ) × IsFileRead name f f' bytes × IsFaultyAt (pieces_of bytes) n fault × (o' ≡ o)
+Cause name f f' o o' (Some (Limit n word count)) = (bytes : List ℕ) × IsFileRead name f f' bytes × IsLimitAt (pieces_of bytes) n word count × (o' ≡ o)
 Cause name f f' o o' (Some ReadFailed) = IsAnswering name f f' o o' (Some ReadFailed)
 Cause name f f' o o' (Some InputForm) = IsAnswering name f f' o o' (Some InputForm)
 Cause name f f' o o' (Some WriteFailed) = IsAnswering name f f' o o' (Some WriteFailed)
-Cause name f f' o o' (Some Memory) = (((f'.asked ≡ f.asked) ⊎ (f'.asked ≡ f.asked ++ name ∷ [])) × (o' ≡ o)) ⊎ IsAnswering name f f' o o' (Some Memory)
+Cause name f f' o o' (Some Memory) = (((f' ≡ f) ⊎ HasAsked (name ∷ []) f f') × (o' ≡ o)) ⊎ IsAnswering name f f' o o' (Some Memory)
 Cause name f f' o o' None = IsAnswering name f f' o o' None
 
 abbrev pub status_of : Option Stop → ℕ

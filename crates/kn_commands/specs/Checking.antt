@@ -1,20 +1,22 @@
 -- How checking a reply ends: its status, the line that tells it, and what it leaves (keynoted's own).
 use Rattle.std.specs.Prelude.{ℕ, ◌≡◌, ◌≤◌, ◌⊎◌, List, ◌∷◌, [], ◌++◌, length, take, codes, decimal, Option, Some}
-use Rattle.kn_outside.specs.Faults.{Rose}
+use Rattle.kn_outside.specs.Seen.{FilesSeen}
+use Rattle.kn_outside.specs.Asked.{HasAsked, HasFailed}
 use Rattle.kn_files.specs.Pieces.{pieces_of}
 use Rattle.kn_proof.specs.declared.reply.ReadReply.{ReadReply}
 use Rattle.kn_check.specs.declared.reject.Reject.{Reject}
 use Rattle.kn_check.specs.Rejects.{reason_number, reason_row, reason_found}
-use Rattle.kn_meaning.specs.declared.script.Script.{Script}
-use Rattle.kn_meaning.specs.History.{loaded_history}
-use Rattle.kn_meaning.specs.Loading.{IsFaultyAt}
-use Rattle.kn_meaning.specs.Daemon.{Session, equations_of}
-use Rattle.kn_meaning.specs.FirstInput.{IsFirstInput}
-use Rattle.kn_meaning.specs.Requests.{Request, Takes}
-use Rattle.kn_meaning.specs.Played.{IsMeant}
-use Rattle.kn_reply.specs.declared.fault.ProofFault.{ProofFault}
-use Rattle.kn_reply.specs.declared.fault.ProofFault.TheVariants as F
-use Rattle.kn_reply.specs.Reading.{IsReply, IsFirstFault, fault_number, fault_line}
+use Rattle.kn_script.specs.declared.asks.Script.{Script}
+use Rattle.kn_store.specs.History.{loaded_history}
+use Rattle.kn_store.specs.Loading.{IsFaultyAt}
+use Rattle.kn_session.specs.Sessions.{Session}
+use Rattle.kn_daemon.specs.Daemon.{equations_of}
+use Rattle.kn_script.specs.FirstInput.{IsFirstInput}
+use Rattle.kn_wire.specs.Requests.{Request, Takes}
+use Rattle.kn_daemon.specs.Played.{IsMeant}
+use Rattle.kn_proof.specs.declared.fault.ProofFault.{ProofFault}
+use Rattle.kn_proof.specs.declared.fault.ProofFault.TheVariants as F
+use Rattle.kn_proof.specs.Reading.{IsReplyText, IsFirstFault, fault_number, fault_line}
 use Rattle.kn_verify.specs.Verdicts.{IsReplyTo, IsProved, IsUnproved}
 use Rattle.kn_commands.specs.declared.stop.Stop.{Stop}
 use Rattle.kn_commands.specs.declared.stop.Stop.TheVariants.{Words, FileFailed, FileTooLarge, Limit, ReadFailed, InputForm, WriteFailed, Memory}
@@ -25,8 +27,8 @@ use Rattle.kn_commands.specs.declared.ending.Ending.{Ending}
 use Rattle.kn_commands.specs.declared.ending.Ending.TheVariants.{Stopped, NoQuery, Faulty, Rejected, Proved}
 use Rattle.kn_commands.specs.Names.{Names, in_order}
 use Rattle.kn_commands.specs.Loaded.{IsLimitAt}
-use Rattle.kn_commands.specs.Seen.{FilesSeen, HasContent, IsTooLarge, IsPolicy}
-use Rattle.kn_commands.specs.Asking.{line_of, status_of}
+use Rattle.kn_commands.specs.Held.{HasContent, IsTooLarge, IsPolicy}
+use Rattle.kn_commands.specs.Asking.{IsFileRead, line_of, status_of}
 
 -- the script has the form of an input, and its requests mean this query over the policy of these texts
 pub record IsQuery (texts : List (List ℕ)) (script : List ℕ) (session : Session) (values : List (List ℕ)) : Type 0 where
@@ -76,28 +78,17 @@ Reached f names Policy = Unit {0}
 Reached f names TheScript = (bytes : List ℕ) × IsPolicy f names.policy bytes
 Reached f names Reply = (session : Session) × (values : List (List ℕ)) × HasQuery f names session values
 
--- a file was asked for after those before it, and they held what they have to
-pub record HasAskedFor (f f' : FilesSeen) (names : Names) (source : Source) : Type 0 where
-  pub asked : f'.asked ≡ f.asked ++ take (count_to source) (in_order names)
-  pub reached : Reached f names source
-
--- a file was about to be asked for, or was, and those before it held what they have to
-pub record HasComeTo (f f' : FilesSeen) (names : Names) (source : Source) : Type 0 where
-  pub asked : (f'.asked ≡ f.asked ++ take (count_before source) (in_order names)) ⊎ (f'.asked ≡ f.asked ++ take (count_to source) (in_order names))
-  pub reached : Reached f names source
-
--- the policy file was read, and holds this
-pub record IsPolicyRead (f f' : FilesSeen) (names : Names) (bytes : List ℕ) : Type 0 where
-  pub asked : f'.asked ≡ f.asked ++ names.policy ∷ []
-  pub content : HasContent f names.policy bytes
+-- a file was about to be asked for, or was, and nothing else changed
+abbrev pub HasComeTo : FilesSeen → FilesSeen → Names → Source → Type 0
+HasComeTo f f' names source = HasAsked (take (count_before source) (in_order names)) f f' ⊎ HasAsked (take (count_to source) (in_order names)) f f'
 
 -- why reading a file, or loading the policy, stops a run
 abbrev pub StopsAt : FilesSeen → FilesSeen → Names → Source → Stop → Type 0
-StopsAt f f' names source FileFailed = HasAskedFor f f' names source × Rose f.faults f'.faults
-StopsAt f f' names source FileTooLarge = HasAskedFor f f' names source × IsTooLarge f (name_of names source)
-StopsAt f f' names source (S.Policy n fault) = (source ≡ Policy) × (bytes : List ℕ) × IsPolicyRead f f' names bytes × IsFaultyAt (pieces_of bytes) n fault
-StopsAt f f' names source (Limit n word count) = (source ≡ Policy) × (bytes : List ℕ) × IsPolicyRead f f' names bytes × IsLimitAt (pieces_of bytes) n word count
-StopsAt f f' names source Memory = HasComeTo f f' names source
+StopsAt f f' names source FileFailed = Reached f names source × HasFailed (take (count_to source) (in_order names)) f f'
+StopsAt f f' names source FileTooLarge = Reached f names source × HasAsked (take (count_to source) (in_order names)) f f' × IsTooLarge f (name_of names source)
+StopsAt f f' names source (S.Policy n fault) = (source ≡ Policy) × (bytes : List ℕ) × IsFileRead names.policy f f' bytes × IsFaultyAt (pieces_of bytes) n fault
+StopsAt f f' names source (Limit n word count) = (source ≡ Policy) × (bytes : List ℕ) × IsFileRead names.policy f f' bytes × IsLimitAt (pieces_of bytes) n word count
+StopsAt f f' names source Memory = Reached f names source × HasComeTo f f' names source
 StopsAt f f' names source Words = ⊥
 StopsAt f f' names source ReadFailed = ⊥
 StopsAt f f' names source InputForm = ⊥
@@ -114,18 +105,18 @@ ending_of_fault F.NoMemory = Stopped Reply Memory
 abbrev pub IsFaultyText : Session → List (List ℕ) → List ℕ → ℕ → ℕ → Type 0
 IsFaultyText session values text fault line =
     ((own : ProofFault) × IsFirstFault text own × (fault_number own ≡ Some fault) × (fault_line own ≡ Some line))
-    ⊎ ((fault ≡ 1) × (line ≡ 1) × ((reply : ReadReply) × IsReply text reply × ¬ IsReplyTo (length session.pinned) values reply))
+    ⊎ ((fault ≡ 1) × (line ≡ 1) × ((reply : ReadReply) × IsReplyText text reply × ¬ IsReplyTo (length session.pinned) values reply))
 
 -- the text is that of a reply to the query whose rows don't prove its value: this is the first item that fails
 pub record IsUnprovedText (session : Session) (values : List (List ℕ)) (text : List ℕ) (reject : Reject) : Type 0 where
   pub reply : ReadReply
-  pub read : IsReply text reply
+  pub read : IsReplyText text reply
   pub unproved : IsUnproved (equations_of session values) (length session.pinned) values reply reject
 
 -- the text is that of a reply to the query whose rows prove this value of this name
 pub record IsProvedText (session : Session) (values : List (List ℕ)) (text : List ℕ) (value : ℕ) (name : List ℕ) : Type 0 where
   pub reply : ReadReply
-  pub read : IsReply text reply
+  pub read : IsReplyText text reply
   pub value_told : reply.value ≡ value
   pub name_told : reply.name ≡ name
   pub proved : IsProved (equations_of session values) (length session.pinned) values reply
@@ -138,41 +129,39 @@ Shows session values text (Faulty fault line) = IsFaultyText session values text
 Shows session values text (Rejected reject) = IsUnprovedText session values text reject
 Shows session values text (Proved value name) = IsProvedText session values text value name
 
+-- the files were read; the first two hold this query, and the third this text
+pub record IsTried (f f' : FilesSeen) (names : Names) (session : Session) (values : List (List ℕ)) (text : List ℕ) : Type 0 where
+  pub asked : HasAsked (in_order names) f f'
+  pub query : HasQuery f names session values
+  pub content : HasContent f names.reply text
+
 -- the files hold a query and a text, which shows why a run ends so
 pub record IsShown (f f' : FilesSeen) (names : Names) (ending : Ending) : Type 0 where
-  pub asked : f'.asked ≡ f.asked ++ in_order names
   pub session : Session
   pub values : List (List ℕ)
-  pub query : HasQuery f names session values
   pub text : List ℕ
-  pub content : HasContent f names.reply text
+  pub tried : IsTried f f' names session values text
   pub shows : Shows session values text ending
 
 -- why a run ends so
 abbrev pub CheckCause : FilesSeen → FilesSeen → Names → Ending → Type 0
 CheckCause f f' names (Stopped source stop) = StopsAt f f' names source stop
-CheckCause f f' names NoQuery = (f'.asked ≡ f.asked ++ take 2 (in_order names)) × HasNoQuery f names
+CheckCause f f' names NoQuery = HasAsked (take 2 (in_order names)) f f' × HasNoQuery f names
 CheckCause f f' names (Faulty fault line) = IsShown f f' names (Faulty fault line)
 CheckCause f f' names (Rejected reject) = IsShown f f' names (Rejected reject)
 CheckCause f f' names (Proved value name) = IsShown f f' names (Proved value name)
 
 -- why a file isn't read
 abbrev pub IsUnread : FilesSeen → FilesSeen → List ℕ → Stop → Type 0
-IsUnread f f' name FileFailed = (f'.asked ≡ f.asked ++ name ∷ []) × Rose f.faults f'.faults
-IsUnread f f' name FileTooLarge = (f'.asked ≡ f.asked ++ name ∷ []) × IsTooLarge f name
-IsUnread f f' name Memory = f'.asked ≡ f.asked
+IsUnread f f' name FileFailed = HasFailed (name ∷ []) f f'
+IsUnread f f' name FileTooLarge = HasAsked (name ∷ []) f f' × IsTooLarge f name
+IsUnread f f' name Memory = f' ≡ f
 IsUnread f f' name Words = ⊥
 IsUnread f f' name (S.Policy n fault) = ⊥
 IsUnread f f' name (Limit n word count) = ⊥
 IsUnread f f' name ReadFailed = ⊥
 IsUnread f f' name InputForm = ⊥
 IsUnread f f' name WriteFailed = ⊥
-
--- so many of the files were asked for, and what they hold is as it was
-pub record HaveAsked (f f' : FilesSeen) (names : Names) (n : ℕ) : Type 0 where
-  pub asked : f'.asked ≡ f.asked ++ take n (in_order names)
-  pub content : f'.content ≡ f.content
-  pub later : f.faults ≤ f'.faults
 
 abbrev pub status_of_ending : Ending → ℕ
 status_of_ending (Stopped source stop) = status_of (Some stop)

@@ -1,5 +1,5 @@
 pub mod Names
-pub mod Seen
+pub mod Held
 pub mod Loaded
 pub mod Asking
 pub mod Checking

@@ -1,13 +1,12 @@
 -- What loading has made of texts.
-use Rattle.std.specs.Prelude.{ℕ, ◌≡◌, ◌+◌, ◌*◌, ◌≤◌, List, length, map, sum_by, Some, All}
+use Rattle.std.specs.Prelude.{ℕ, ◌≡◌, ◌≤◌, List, length, map, sum_by, Some}
 use Rattle.kn_trees.specs.declared.assertion.Assertion.{Assertion}
 use Rattle.kn_assert.specs.Reading.{assertion_of}
-use Rattle.kn_meaning.specs.declared.refusal.LimitWord.{LimitWord}
-use Rattle.kn_meaning.specs.declared.refusal.Refusal.TheVariants.{Limit as TheLimit}
-use Rattle.kn_meaning.specs.History.{StoreRefusal}
-use Rattle.kn_meaning.specs.Loading.{IsLoadable, IsFaultyAt, IsFullAt, told_refusal}
-use Rattle.kn_answer.specs.Sizes.{IsReadablePart, total_size}
-use Rattle.kn_play.specs.Answering.{parts_in}
+use Rattle.kn_wire.specs.declared.refusal.LimitWord.{LimitWord}
+use Rattle.kn_wire.specs.declared.refusal.Refusal.TheVariants.{Limit as TheLimit}
+use Rattle.kn_store.specs.declared.fault.StoreFault.{StoreFault}
+use Rattle.kn_store.specs.Loading.{IsLoadable, IsFaultyAt, IsFullAt}
+use Rattle.kn_daemon.specs.Daemon.{refusal_of_store}
 use Rattle.kn_commands.specs.declared.stop.Stop.{Stop}
 use Rattle.kn_commands.specs.declared.stop.Stop.TheVariants.{Words, FileFailed, FileTooLarge, Policy, Limit, ReadFailed, InputForm, WriteFailed, Memory}
 
@@ -22,14 +21,12 @@ pub record HasLoaded (texts : List (List ℕ)) (assertions : List Assertion) (by
   pub bytes_there : bytes ≡ sum_by length texts
   pub few : length assertions ≤ 2048
   pub most : bytes ≤ 4194304
-  pub readable : All IsReadablePart (parts_in assertions)
-  pub small : total_size (parts_in assertions) ≤ 2 * length assertions + bytes
 
 -- the n-th text is the first that isn't added, for the limit of this word, where the counted quantity was this
 pub record IsLimitAt (texts : List (List ℕ)) (n : ℕ) (word : LimitWord) (count : ℕ) : Type 0 where
-  pub refusal : StoreRefusal
+  pub refusal : StoreFault
   pub full : IsFullAt texts n refusal
-  pub told : told_refusal refusal ≡ TheLimit word count
+  pub told : refusal_of_store refusal ≡ Some (TheLimit word count)
 
 -- why loading these texts stops
 abbrev pub StopsLoading : List (List ℕ) → Stop → Type 0

@@ -1,14 +1,13 @@
 //! Answering the input of a link over the policy in a file.
 ghost use Rattle.std.specs.Prelude.{◌≡◌, ◌≢◌, ◌<◌, ◌≤◌, ◌+◌, ◌^◌, [], ℕ, List, Option as Maybe, ◌⊎◌, length, All, IfOk, IfErr, IfSome};
 ghost use Rattle.std.specs.Result.{result_err};
-ghost use Rattle.kn_outside.specs.Faults.{Rose};
 ghost use Rattle.kn_files.specs.Pieces.{pieces_of};
-ghost use Rattle.kn_answer.specs.Sizes.{IsReadablePart, total_size};
+ghost use Rattle.kn_answer.specs.Sizes.{HaveTexts};
 ghost use Rattle.kn_play.specs.Answering.{parts_in};
-ghost use Rattle.kn_meaning.specs.declared.script.Script.{Script};
-ghost use Rattle.kn_meaning.specs.FirstInput.{IsFirstInput, requests_of};
-ghost use Rattle.kn_meaning.specs.History.{loaded_history};
-ghost use Rattle.kn_meaning.specs.Asked.{IsAnswered};
+ghost use Rattle.kn_script.specs.declared.asks.Script.{Script};
+ghost use Rattle.kn_script.specs.FirstInput.{IsFirstInput, requests_of};
+ghost use Rattle.kn_store.specs.History.{loaded_history};
+ghost use Rattle.kn_play.specs.Asked.{IsAnswered};
 ghost use Rattle.kn_commands.specs.Loaded.{IsLoaded};
 ghost use Rattle.kn_commands.specs.Asking.{Answering, Cause, IsRead};
 ghost use Rattle.kn_commands.specs.declared.stop.Stop.TheVariants as S;
@@ -17,7 +16,6 @@ use crate::load::load;
 use crate::stop::Stop;
 use kn_assert::Assertion;
 use kn_base::{List, NoMemory, Octets};
-use kn_meaning::laws;
 use kn_outside::{Failed, FileFault, Files, Link, write_all};
 use kn_play::replies;
 use kn_script::{INPUT_BYTES, ScriptFault, read_script};
@@ -25,14 +23,9 @@ use std::alloc::Global;
 
 /// The input of a link, to its end or to the first byte too many.
 fn read_input<L: Link>(alloc: Global, own: &mut L) -> Result<Octets, Stop>
-    ensures read { IfOk result (λ input. IsRead (record { written = L.written own.old; taken = L.taken own.old; left = L.left own.old; faults = L.faults own.old })
-        (record { written = L.written own.new; taken = L.taken own.new; left = L.left own.new; faults = L.faults own.new }) input) }
-    ensures ended { IfOk result (λ input. length input ≤ 65536 → IfSome (L.left own.new) (λ left. left ≡ [])) }
-    ensures err { IfErr result (λ stop. (input : List ℕ) × IsRead (record { written = L.written own.old; taken = L.taken own.old; left = L.left own.old; faults = L.faults own.old })
-        (record { written = L.written own.new; taken = L.taken own.new; left = L.left own.new; faults = L.faults own.new }) input
-        × ((stop ≡ S.Memory) ⊎ ((stop ≡ S.ReadFailed) × (length input ≤ 65536) × Rose (L.faults own.old) (L.faults own.new)))) }
-    ensures keeps_written { L.written own.new ≡ L.written own.old }
-    ensures later { L.faults own.old ≤ L.faults own.new }
+    ensures read { IfOk result (λ input. IsRead input (L.seen own.old) (L.seen own.new)) }
+    ensures ended { IfOk result (λ input. length input ≤ 65536 → IfSome (L.seen own.new).left (λ left. left ≡ [])) }
+    ensures err { (bytes : List ℕ) → IfErr result (λ stop. Answering bytes (L.seen own.old) (L.seen own.new) (Some stop)) }
 {
     let mut input = Octets::new(alloc);
     let mut buffer = [0u8; 4096];
@@ -61,8 +54,7 @@ fn reply_to(
     input: &Octets,
 ) -> Result<Octets, Stop>
     requires loaded { IsLoaded (pieces_of file.now) assertions.now }
-    requires readable { All IsReadablePart (parts_in assertions.now) }
-    requires small { 65 + total_size (parts_in assertions.now) < 2 ^ 24 }
+    requires texts { HaveTexts (parts_in assertions.now) }
     ensures ok { IfOk result (λ reply. (script : Maybe Script) × IsFirstInput input.now script × IsAnswered (loaded_history (pieces_of file.now)) (requests_of script) reply) }
     ensures err { IfErr result (λ stop. (stop ≡ S.Memory) ⊎ ((stop ≡ S.InputForm) × ((script : Maybe Script) → IsFirstInput input.now script → ⊥))) }
 {
@@ -85,14 +77,10 @@ fn answer<L: Link>(
     own: &mut L,
 ) -> Result<(), Stop>
     requires loaded { IsLoaded (pieces_of file.now) assertions.now }
-    requires readable { All IsReadablePart (parts_in assertions.now) }
-    requires small { 65 + total_size (parts_in assertions.now) < 2 ^ 24 }
-    ensures { Answering file.now
-        (record { written = L.written own.old; taken = L.taken own.old; left = L.left own.old; faults = L.faults own.old })
-        (record { written = L.written own.new; taken = L.taken own.new; left = L.left own.new; faults = L.faults own.new })
-        (result_err result) }
+    requires texts { HaveTexts (parts_in assertions.now) }
+    ensures { Answering file.now (L.seen own.old) (L.seen own.new) (result_err result) }
 {
-    laws::input_is_taken();
+    kn_script::laws::input_is_taken();
     let input = read_input(alloc, own)?;
     let reply = reply_to(alloc, file, assertions, &input)?;
     match write_all(own, reply.as_slice()) {
@@ -108,14 +96,8 @@ pub fn ask<F: Files, L: Link>(
     files: &mut F,
     own: &mut L,
 ) -> Result<(), Stop>
-    ensures cause { Cause name.now
-        (record { content = F.content files.old; asked = F.asked files.old; faults = F.faults files.old })
-        (record { content = F.content files.new; asked = F.asked files.new; faults = F.faults files.new })
-        (record { written = L.written own.old; taken = L.taken own.old; left = L.left own.old; faults = L.faults own.old })
-        (record { written = L.written own.new; taken = L.taken own.new; left = L.left own.new; faults = L.faults own.new })
-        (result_err result) }
+    ensures cause { Cause name.now (F.seen files.old) (F.seen files.new) (L.seen own.old) (L.seen own.new) (result_err result) }
     ensures words { result ≢ Err S.Words }
-    ensures keeps_content { F.content files.new ≡ F.content files.old }
 {
     let file = match files.read(name) {
         Ok(file) => file,

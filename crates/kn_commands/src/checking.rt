@@ -1,15 +1,16 @@
 //! Checking a reply: whether it proves the value of the query that a script means over a policy.
-ghost use Rattle.std.specs.Prelude.{◌≡◌, ◌+◌, ◌≤◌, ◌<◌, ◌^◌, ◌++◌, ◌∷◌, [], ℕ, List as Of, false, length, All, OnOk, IfOk, IfErr};
-ghost use Rattle.std.specs.List.{list_any};
-ghost use Rattle.std.specs.Str.{bytes_eq};
-ghost use Rattle.kn_principal.specs.Principals.{policy};
+ghost use Rattle.std.specs.Prelude.{◌≡◌, ◌+◌, ◌≤◌, ◌<◌, ◌^◌, ◌++◌, ◌∷◌, [], ℕ, List as Of, false, length, take, All, OnOk, IfOk, IfErr};
+ghost use Rattle.kn_env.specs.Environment.{AreRequesters};
 ghost use Rattle.kn_files.specs.Pieces.{pieces_of};
-ghost use Rattle.kn_answer.specs.Sizes.{IsReadablePart, total_size};
+ghost use Rattle.kn_answer.specs.Sizes.{HaveTexts};
 ghost use Rattle.kn_play.specs.Answering.{parts_in, session_at};
-ghost use Rattle.kn_meaning.specs.History.{loaded_history};
-ghost use Rattle.kn_commands.specs.Seen.{FilesSeen, HasContent};
+ghost use Rattle.kn_store.specs.History.{loaded_history};
+ghost use Rattle.kn_outside.specs.Seen.{FilesSeen};
+ghost use Rattle.kn_outside.specs.Asked.{HasAsked};
+ghost use Rattle.kn_commands.specs.Held.{HasContent};
+ghost use Rattle.kn_commands.specs.Names.{in_order};
 ghost use Rattle.kn_commands.specs.Loaded.{IsLoaded};
-ghost use Rattle.kn_commands.specs.Checking.{CheckCause, HasQuery, HaveAsked, IsUnread, Shows, ending_of_fault, name_of};
+ghost use Rattle.kn_commands.specs.Checking.{CheckCause, HasQuery, IsUnread, Shows, ending_of_fault, name_of};
 
 use crate::ending::{Ending, Source};
 use crate::load::load;
@@ -17,7 +18,7 @@ use crate::stop::Stop;
 use kn_assert::Assertion;
 use kn_base::{List, NoMemory, Octets};
 use kn_outside::{FileFault, Files};
-use kn_reply::{ProofFault, read_reply};
+use kn_proof::{ProofFault, read_reply};
 use kn_script::{ScriptFault, read_script};
 use kn_verify::{MeantQuery, Refused, meant, verify};
 use std::alloc::Global;
@@ -56,11 +57,7 @@ impl<'a> CheckFiles<'a> {
 ///
 /// The files are read in the order of the words, and what each holds is tried before the next is read.
 pub fn check<F: Files>(alloc: Global, names: &CheckFiles<'_>, files: &mut F) -> Ending
-    ensures cause { CheckCause
-        (record { content = F.content files.old; asked = F.asked files.old; faults = F.faults files.old })
-        (record { content = F.content files.new; asked = F.asked files.new; faults = F.faults files.new })
-        names.now result }
-    ensures keeps_content { F.content files.new ≡ F.content files.old }
+    ensures { CheckCause (F.seen files.old) (F.seen files.new) names.now result }
 {
     let source = Source::Policy;
     let file = match read_file(files, names.name(source)) {
@@ -75,15 +72,9 @@ pub fn check<F: Files>(alloc: Global, names: &CheckFiles<'_>, files: &mut F) -> 
 
 /// The content of a file.
 fn read_file<F: Files>(files: &mut F, name: &[u8]) -> Result<Octets, Stop>
-    ensures content { IfOk result (λ bytes. HasContent
-        (record { content = F.content files.old; asked = F.asked files.old; faults = F.faults files.old }) name.now bytes) }
-    ensures asked { OnOk result (F.asked files.new ≡ F.asked files.old ++ name.now ∷ []) }
-    ensures err { IfErr result (λ stop. IsUnread
-        (record { content = F.content files.old; asked = F.asked files.old; faults = F.faults files.old })
-        (record { content = F.content files.new; asked = F.asked files.new; faults = F.faults files.new })
-        name.now stop) }
-    ensures keeps_content { F.content files.new ≡ F.content files.old }
-    ensures later { F.faults files.old ≤ F.faults files.new }
+    ensures content { IfOk result (λ bytes. HasContent (F.seen files.old) name.now bytes) }
+    ensures asked { OnOk result (HasAsked (name.now ∷ []) (F.seen files.old) (F.seen files.new)) }
+    ensures err { IfErr result (λ stop. IsUnread (F.seen files.old) (F.seen files.new) name.now stop) }
 {
     match files.read(name) {
         Ok(bytes) => Ok(bytes),
@@ -100,12 +91,9 @@ fn check_script<F: Files>(
     names: &CheckFiles<'_>,
     files: &mut F,
 ) -> Ending
-    requires readable { All IsReadablePart (parts_in assertions.now) }
-    requires small { 65 + total_size (parts_in assertions.now) < 2 ^ 24 }
-    ensures cause { (f : FilesSeen) (bytes : Of ℕ) → HasContent f names.now.policy bytes → IsLoaded (pieces_of bytes) assertions.now
-        → HaveAsked f (record { content = F.content files.old; asked = F.asked files.old; faults = F.faults files.old }) names.now 1
-        → CheckCause f (record { content = F.content files.new; asked = F.asked files.new; faults = F.faults files.new }) names.now result }
-    ensures keeps_content { F.content files.new ≡ F.content files.old }
+    requires texts { HaveTexts (parts_in assertions.now) }
+    ensures { (f : FilesSeen) (bytes : Of ℕ) → HasContent f names.now.policy bytes → IsLoaded (pieces_of bytes) assertions.now
+        → HasAsked (take 1 (in_order names.now)) f (F.seen files.old) → CheckCause f (F.seen files.new) names.now result }
 {
     let source = Source::Script;
     let text = match read_file(files, names.name(source)) {
@@ -136,15 +124,11 @@ fn check_reply<F: Files>(
     names: &CheckFiles<'_>,
     files: &mut F,
 ) -> Ending
-    requires readable { All IsReadablePart (parts_in assertions.now) }
-    requires small { 65 + total_size (parts_in assertions.now) < 2 ^ 24 }
-    requires few { length meant.now.session.requesters ≤ 64 }
-    requires others { list_any (bytes_eq policy) meant.now.session.requesters ≡ false }
-    ensures cause { (f : FilesSeen) (texts : Of (Of ℕ)) → IsLoaded texts assertions.now
+    requires texts { HaveTexts (parts_in assertions.now) }
+    requires requesters { AreRequesters meant.now.session.requesters }
+    ensures { (f : FilesSeen) (texts : Of (Of ℕ)) → IsLoaded texts assertions.now
         → HasQuery f names.now (session_at (loaded_history texts) meant.now.session) meant.now.values.now
-        → HaveAsked f (record { content = F.content files.old; asked = F.asked files.old; faults = F.faults files.old }) names.now 2
-        → CheckCause f (record { content = F.content files.new; asked = F.asked files.new; faults = F.faults files.new }) names.now result }
-    ensures keeps_content { F.content files.new ≡ F.content files.old }
+        → HasAsked (take 2 (in_order names.now)) f (F.seen files.old) → CheckCause f (F.seen files.new) names.now result }
 {
     let source = Source::Reply;
     match read_file(files, names.name(source)) {
@@ -155,10 +139,8 @@ fn check_reply<F: Files>(
 
 /// What the text of a reply shows of a query over these assertions.
 fn judge(alloc: Global, assertions: &List<Assertion>, meant: &MeantQuery<'_>, text: &[u8]) -> Ending
-    requires readable { All IsReadablePart (parts_in assertions.now) }
-    requires small { 65 + total_size (parts_in assertions.now) < 2 ^ 24 }
-    requires few { length meant.now.session.requesters ≤ 64 }
-    requires others { list_any (bytes_eq policy) meant.now.session.requesters ≡ false }
+    requires texts { HaveTexts (parts_in assertions.now) }
+    requires requesters { AreRequesters meant.now.session.requesters }
     ensures { (texts : Of (Of ℕ)) → IsLoaded texts assertions.now
         → Shows (session_at (loaded_history texts) meant.now.session) meant.now.values.now text.now result }
 {

@@ -1,7 +1,5 @@
 //! The line that tells how checking a reply ended.
-ghost use Rattle.std.specs.Prelude.{◌≡◌, ◌<◌, ℕ, length, take, OnOk, OnErr};
-ghost use Rattle.kn_outside.specs.Told.{more};
-ghost use Rattle.kn_outside.specs.Faults.{Rose};
+ghost use Rattle.kn_outside.specs.Printing.{Prints, is_whole};
 ghost use Rattle.kn_commands.specs.Checking.{line_of_ending, text_line, reject_line, proved_line};
 
 use crate::checking::CheckFiles;
@@ -13,10 +11,7 @@ use kn_outside::{Failed, Sink, write_all};
 
 /// Prints the line of a fault in the text of a reply.
 fn print_text_fault<O: Sink>(out: &mut O, fault: u8, line: u32) -> Result<(), Failed>
-    ensures ok { OnOk result (O.written out.new ≡ more (text_line fault line) (O.written out.old)) }
-    ensures err { OnErr result ((n : ℕ) × (n < length (text_line fault line))
-        × (O.written out.new ≡ more (take n (text_line fault line)) (O.written out.old))) }
-    ensures failed { OnErr result (Rose (O.faults out.old) (O.faults out.new)) }
+    ensures { Prints (is_whole result) (text_line fault line) (O.seen out.old) (O.seen out.new) }
 {
     let mut fault_digits = Buffer::new();
     let mut line_digits = Buffer::new();
@@ -34,10 +29,7 @@ fn print_text_fault<O: Sink>(out: &mut O, fault: u8, line: u32) -> Result<(), Fa
 
 /// Prints the line of the first item of a proof that fails.
 fn print_reject<O: Sink>(out: &mut O, reject: &Reject) -> Result<(), Failed>
-    ensures ok { OnOk result (O.written out.new ≡ more (reject_line reject.now) (O.written out.old)) }
-    ensures err { OnErr result ((n : ℕ) × (n < length (reject_line reject.now))
-        × (O.written out.new ≡ more (take n (reject_line reject.now)) (O.written out.old))) }
-    ensures failed { OnErr result (Rose (O.faults out.old) (O.faults out.new)) }
+    ensures { Prints (is_whole result) (reject_line reject.now) (O.seen out.old) (O.seen out.new) }
 {
     let mut number_digits = Buffer::new();
     let mut row_digits = Buffer::new();
@@ -58,10 +50,7 @@ fn print_reject<O: Sink>(out: &mut O, reject: &Reject) -> Result<(), Failed>
 
 /// Prints the line of a value that is proved.
 fn print_proved<O: Sink>(out: &mut O, value: u8, name: &[u8]) -> Result<(), Failed>
-    ensures ok { OnOk result (O.written out.new ≡ more (proved_line value name.now) (O.written out.old)) }
-    ensures err { OnErr result ((n : ℕ) × (n < length (proved_line value name.now))
-        × (O.written out.new ≡ more (take n (proved_line value name.now)) (O.written out.old))) }
-    ensures failed { OnErr result (Rose (O.faults out.old) (O.faults out.new)) }
+    ensures { Prints (is_whole result) (proved_line value name.now) (O.seen out.old) (O.seen out.new) }
 {
     let mut value_digits = Buffer::new();
     print_all(
@@ -82,10 +71,7 @@ pub fn print_ending<O: Sink>(
     ending: &Ending,
     names: &CheckFiles<'_>,
 ) -> Result<(), Failed>
-    ensures ok { OnOk result (O.written out.new ≡ more (line_of_ending names.now ending.now) (O.written out.old)) }
-    ensures err { OnErr result ((n : ℕ) × (n < length (line_of_ending names.now ending.now))
-        × (O.written out.new ≡ more (take n (line_of_ending names.now ending.now)) (O.written out.old))) }
-    ensures failed { OnErr result (Rose (O.faults out.old) (O.faults out.new)) }
+    ensures { Prints (is_whole result) (line_of_ending names.now ending.now) (O.seen out.old) (O.seen out.new) }
 {
     match ending {
         Ending::Stopped { source, stop } => print_line(out, *stop, names.name(*source)),

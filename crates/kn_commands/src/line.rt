@@ -1,21 +1,17 @@
 //! The line that tells what stopped the program.
-ghost use Rattle.std.specs.Prelude.{◌≡◌, ◌<◌, ◌++◌, ℕ, Some, codes, flat_map, length, take, OnOk, OnErr};
-ghost use Rattle.kn_outside.specs.Told.{more};
-ghost use Rattle.kn_outside.specs.Faults.{Rose};
+ghost use Rattle.std.specs.Prelude.{◌++◌, Some, codes, flat_map};
+ghost use Rattle.kn_outside.specs.Printing.{Prints, is_whole};
 ghost use Rattle.kn_commands.specs.Asking.{line_of, fault_line, limit_line};
 
 use crate::stop::Stop;
 use itoa::Buffer;
 use kn_assert::ReadFault;
-use kn_meaning::refusal::LimitWord;
 use kn_outside::{Failed, Sink, write_all};
+use kn_wire::LimitWord;
 
 /// Prints texts one after the other.
 pub(crate) fn print_all<O: Sink>(out: &mut O, texts: &[&[u8]]) -> Result<(), Failed>
-    ensures ok { OnOk result (O.written out.new ≡ more (flat_map (λ t. t.now) texts.now) (O.written out.old)) }
-    ensures err { OnErr result ((n : ℕ) × (n < length (flat_map (λ t. t.now) texts.now))
-        × (O.written out.new ≡ more (take n (flat_map (λ t. t.now) texts.now)) (O.written out.old))) }
-    ensures failed { OnErr result (Rose (O.faults out.old) (O.faults out.new)) }
+    ensures { Prints (is_whole result) (flat_map (λ t. t.now) texts.now) (O.seen out.old) (O.seen out.new) }
 {
     for text in texts {
         write_all(out, *text)?;
@@ -25,10 +21,7 @@ pub(crate) fn print_all<O: Sink>(out: &mut O, texts: &[&[u8]]) -> Result<(), Fai
 
 /// Prints the line of a file that could not be read, which ends so.
 fn print_file<O: Sink>(out: &mut O, name: &[u8], end: &[u8]) -> Result<(), Failed>
-    ensures ok { OnOk result (O.written out.new ≡ more (codes "error file " ++ name.now ++ end.now) (O.written out.old)) }
-    ensures err { OnErr result ((n : ℕ) × (n < length (codes "error file " ++ name.now ++ end.now))
-        × (O.written out.new ≡ more (take n (codes "error file " ++ name.now ++ end.now)) (O.written out.old))) }
-    ensures failed { OnErr result (Rose (O.faults out.old) (O.faults out.new)) }
+    ensures { Prints (is_whole result) (codes "error file " ++ name.now ++ end.now) (O.seen out.old) (O.seen out.new) }
 {
     print_all(out, &[b"error file ", name, end])
 }
@@ -40,10 +33,7 @@ fn print_fault<O: Sink>(
     assertion: u32,
     fault: ReadFault,
 ) -> Result<(), Failed>
-    ensures ok { OnOk result (O.written out.new ≡ more (fault_line name.now assertion fault) (O.written out.old)) }
-    ensures err { OnErr result ((n : ℕ) × (n < length (fault_line name.now assertion fault))
-        × (O.written out.new ≡ more (take n (fault_line name.now assertion fault)) (O.written out.old))) }
-    ensures failed { OnErr result (Rose (O.faults out.old) (O.faults out.new)) }
+    ensures { Prints (is_whole result) (fault_line name.now assertion fault) (O.seen out.old) (O.seen out.new) }
 {
     let mut assertion_digits = Buffer::new();
     let mut fault_digits = Buffer::new();
@@ -72,10 +62,7 @@ fn print_limit<O: Sink>(
     word: LimitWord,
     count: u32,
 ) -> Result<(), Failed>
-    ensures ok { OnOk result (O.written out.new ≡ more (limit_line name.now assertion word count) (O.written out.old)) }
-    ensures err { OnErr result ((n : ℕ) × (n < length (limit_line name.now assertion word count))
-        × (O.written out.new ≡ more (take n (limit_line name.now assertion word count)) (O.written out.old))) }
-    ensures failed { OnErr result (Rose (O.faults out.old) (O.faults out.new)) }
+    ensures { Prints (is_whole result) (limit_line name.now assertion word count) (O.seen out.old) (O.seen out.new) }
 {
     let mut assertion_digits = Buffer::new();
     let mut count_digits = Buffer::new();
@@ -97,10 +84,7 @@ fn print_limit<O: Sink>(
 
 /// Prints the line of what stopped the program.
 pub fn print_line<O: Sink>(out: &mut O, stop: Stop, name: &[u8]) -> Result<(), Failed>
-    ensures ok { OnOk result (O.written out.new ≡ more (line_of name.now (Some stop)) (O.written out.old)) }
-    ensures err { OnErr result ((n : ℕ) × (n < length (line_of name.now (Some stop)))
-        × (O.written out.new ≡ more (take n (line_of name.now (Some stop))) (O.written out.old))) }
-    ensures failed { OnErr result (Rose (O.faults out.old) (O.faults out.new)) }
+    ensures { Prints (is_whole result) (line_of name.now (Some stop)) (O.seen out.old) (O.seen out.new) }
 {
     match stop {
         Stop::Words => write_all(out, b"error words\n"),

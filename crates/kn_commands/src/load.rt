@@ -2,7 +2,7 @@
 ghost use Rattle.std.specs.Prelude.{◌≡◌, ◌+◌, ◌^◌, ◌<◌, ◌≤◌, ◌∷◌, ◌++◌, [], All, length, IfOk, IfErr, MatchOption, ℕ, List as Of};
 ghost use Rattle.kn_assert.specs.Faults.{fault_number};
 ghost use Rattle.kn_files.specs.Pieces.{pieces_of, bytes_at, IsWithin};
-ghost use Rattle.kn_answer.specs.Sizes.{IsReadablePart, total_size};
+ghost use Rattle.kn_answer.specs.Sizes.{HaveTexts};
 ghost use Rattle.kn_play.specs.Answering.{parts_in};
 ghost use Rattle.kn_commands.specs.Loaded.{IsLoaded, HasLoaded, StopsLoading};
 ghost use Rattle.kn_commands.specs.declared.stop.Stop.TheVariants as S;
@@ -12,7 +12,7 @@ use kn_assert::{Assertion, ReadFault, read};
 use kn_base::limits::{FILE_BYTES, LIVE_BYTES, LIVE_CREDENTIALS};
 use kn_base::{List, NoMemory, Span};
 use kn_files::split_file;
-use kn_meaning::refusal::LimitWord;
+use kn_wire::LimitWord;
 use std::alloc::Global;
 
 /// The assertions of a policy file, in their order.
@@ -22,8 +22,7 @@ use std::alloc::Global;
 pub(crate) fn load(alloc: Global, file: &[u8]) -> Result<List<Assertion>, Stop>
     requires { length file.now ≤ FILE_BYTES }
     ensures loaded { IfOk result (λ assertions. IsLoaded (pieces_of file.now) assertions) }
-    ensures readable { IfOk result (λ assertions. All IsReadablePart (parts_in assertions)) }
-    ensures small { IfOk result (λ assertions. 65 + total_size (parts_in assertions) < 2 ^ 24) }
+    ensures texts { IfOk result (λ assertions. HaveTexts (parts_in assertions)) }
     ensures stopped { IfErr result (λ stop. StopsLoading (pieces_of file.now) stop) }
 {
     let spans = match split_file(alloc, file) {

@@ -2,7 +2,7 @@
 ghost use Rattle.std.specs.Prelude.{◌≡◌, Some};
 
 use kn_assert::ReadFault;
-use kn_meaning::refusal::LimitWord;
+use kn_wire::LimitWord;
 
 /// What stops a command before its work is done.
 #[derive(Debug, Clone, Copy, PartialEq, Eq)]

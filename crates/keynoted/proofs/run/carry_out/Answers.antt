@@ -1,12 +1,9 @@
-use Rattle.std.proofs.Common.{inr, [], refl, Some}
-use Rattle.kn_commands.specs.declared.stop.Stop.TheVariants.{Words}
+use Rattle.std.proofs.Common.{[], refl}
+use Rattle.keynoted.proofs.Due.{refused_ended, check_ended}
 use Rattle.keynoted.proofs.run.carry_out.Goals as goal
 
-pub returns-in-None-clause-ends : goal.returns-in-None-clause-ends
-returns-in-None-clause-ends g c = inr (record {
-  name = [];
-  due = Some Words;
-  words = record { ask = c.in_default.ensures.none; check = c.in-None.ensures.none };
-  cause = (refl, refl);
-  told = c.end.ensures;
-})
+pub returns-in-Some-check_files : goal.returns-in-Some-check_files
+returns-in-Some-check_files g c = check_ended _ _ _ _ _ _ c.in-Some-check_files.ensures.some refl _ _ _ _ c.check-ending.ensures c.end_check.ensures
+
+pub returns-in-None : goal.returns-in-None
+returns-in-None g c = refused_ended _ _ _ _ _ [] _ (record { ask = c.in_default.ensures.none; check = c.in-None.ensures.none }) c.end.ensures

@@ -1,6 +1,6 @@
 use Rattle.kn_commands.proofs.Loaded.{history_is_made}
 use Rattle.kn_files.specs.Pieces.{pieces_of}
-use Rattle.kn_meaning.specs.History.{loaded_history}
+use Rattle.kn_store.specs.History.{loaded_history}
 use Rattle.kn_commands.proofs.asking.reply_to.Goals as goal
 
 pub returns-in-Ok-replies-clause-ok : goal.returns-in-Ok-replies-clause-ok

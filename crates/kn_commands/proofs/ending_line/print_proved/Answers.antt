@@ -1,20 +1,13 @@
 use Rattle.std.proofs.Common.{◌≡◌, ◌∙◌, [], ◌++◌, codes}
 use Rattle.std.specs.Prelude.{decimal}
 use Rattle.kn_commands.specs.Checking.{proved_line}
-use Rattle.kn_commands.proofs.Told.{told_ok, told_err}
+use Rattle.kn_commands.proofs.Told.{told}
 use Rattle.kn_commands.proofs.Lines.{proved_parts}
 use Rattle.kn_commands.proofs.ending_line.print_proved.Goals as goal
 
-pub returns-clause-ok : goal.returns-clause-ok
-returns-clause-ok g c =
+pub returns : goal.returns
+returns g c =
     let a = c.as_bytes.result.now in
     let first : a ≡ decimal c.args.value = c.as_bytes.ensures.value ∙ c.format.ensures.text in
     let same : codes "PROVED " ++ (a ++ (codes " " ++ (c.args.name.now ++ (codes "\n" ++ [])))) ≡ proved_line c.args.value c.args.name.now = proved_parts a c.args.name.now c.args.value first in
-    told_ok c.print_all.result _ _ (g.O.Sink.written c.args.out.now) (g.O.Sink.written c.print_all.new.out) same c.print_all.ensures.ok
-
-pub returns-clause-err : goal.returns-clause-err
-returns-clause-err g c =
-    let a = c.as_bytes.result.now in
-    let first : a ≡ decimal c.args.value = c.as_bytes.ensures.value ∙ c.format.ensures.text in
-    let same : codes "PROVED " ++ (a ++ (codes " " ++ (c.args.name.now ++ (codes "\n" ++ [])))) ≡ proved_line c.args.value c.args.name.now = proved_parts a c.args.name.now c.args.value first in
-    told_err c.print_all.result _ _ (g.O.Sink.written c.args.out.now) (g.O.Sink.written c.print_all.new.out) same c.print_all.ensures.err
+    told _ _ _ _ _ same c.print_all.ensures

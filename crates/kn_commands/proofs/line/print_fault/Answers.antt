@@ -3,11 +3,11 @@ use Rattle.std.specs.Prelude.{decimal}
 use Rattle.std.specs.Option.{unwrap_or}
 use Rattle.kn_assert.specs.Faults.{fault_number, fault_place}
 use Rattle.kn_commands.specs.Asking.{fault_line}
-use Rattle.kn_commands.proofs.Told.{parts_of, fault_parts, told_ok, told_err}
+use Rattle.kn_commands.proofs.Told.{parts_of, fault_parts, told}
 use Rattle.kn_commands.proofs.line.print_fault.Goals as goal
 
-pub returns-clause-ok : goal.returns-clause-ok
-returns-clause-ok g c =
+pub returns : goal.returns
+returns g c =
     let a = c.as_bytes.result.now in
     let b = c.as_bytes-2.result.now in
     let p = c.as_bytes-3.result.now in
@@ -15,15 +15,4 @@ returns-clause-ok g c =
     let second : b ≡ decimal (unwrap_or (fault_number c.args.fault) 0) = c.as_bytes-2.ensures.value ∙ c.format-2.ensures.text ∙ ap decimal (c.unwrap_or.ensures ∙ ap (λ o. unwrap_or o 0) c.number.ensures) in
     let third : p ≡ decimal (fault_place c.args.fault) = c.as_bytes-3.ensures.value ∙ c.format-3.ensures.text ∙ ap decimal c.place.ensures in
     let same : parts_of c.args.name.now a (codes " ") b p ≡ fault_line c.args.name.now c.args.assertion c.args.fault = fault_parts c.args.name.now a b p c.args.assertion c.args.fault first second third in
-    told_ok c.print_all.result _ _ (g.O.Sink.written c.args.out.now) (g.O.Sink.written c.print_all.new.out) same c.print_all.ensures.ok
-
-pub returns-clause-err : goal.returns-clause-err
-returns-clause-err g c =
-    let a = c.as_bytes.result.now in
-    let b = c.as_bytes-2.result.now in
-    let p = c.as_bytes-3.result.now in
-    let first : a ≡ decimal c.args.assertion = c.as_bytes.ensures.value ∙ c.format.ensures.text in
-    let second : b ≡ decimal (unwrap_or (fault_number c.args.fault) 0) = c.as_bytes-2.ensures.value ∙ c.format-2.ensures.text ∙ ap decimal (c.unwrap_or.ensures ∙ ap (λ o. unwrap_or o 0) c.number.ensures) in
-    let third : p ≡ decimal (fault_place c.args.fault) = c.as_bytes-3.ensures.value ∙ c.format-3.ensures.text ∙ ap decimal c.place.ensures in
-    let same : parts_of c.args.name.now a (codes " ") b p ≡ fault_line c.args.name.now c.args.assertion c.args.fault = fault_parts c.args.name.now a b p c.args.assertion c.args.fault first second third in
-    told_err c.print_all.result _ _ (g.O.Sink.written c.args.out.now) (g.O.Sink.written c.print_all.new.out) same c.print_all.ensures.err
+    told _ _ _ _ _ same c.print_all.ensures

@@ -22,5 +22,5 @@ pub returns-clause-ok : goal.returns-clause-ok
 returns-clause-ok c = λ front h.
     let few : length c.args.assertions.now < 2048 = omega arith in
     let short : c.args.bytes + length c.args.text.now ≤ 4194304 = let most = c.requires.most in omega arith in
-    let more = loaded_more front c.args.text.now c.args.assertions.now c.args.bytes c.in-Ok.assertion h c.in-Ok.ensures.ok c.in-Ok.ensures.sound few short in
+    let more = loaded_more front c.args.text.now c.args.assertions.now c.args.bytes c.in-Ok.assertion h c.in-Ok.ensures.ok few short in
     elim c.match-push.branch [ in-Ok-push w ↦ rw (w.result-is, w.in-Ok-push.ensures.ok) more | in-Err-push w ↦ rw w.result-is tt ]

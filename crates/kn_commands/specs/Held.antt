@@ -1,0 +1,20 @@
+-- What files hold.
+use Rattle.std.specs.Prelude.{ℕ, ◌≡◌, ◌<◌, ◌≤◌, List, length, Some, IfSome, IsSomeAnd}
+use Rattle.kn_base.specs.declared.limits.TheConstants.{FILE_BYTES}
+use Rattle.kn_outside.specs.Seen.{FilesSeen}
+use Rattle.kn_files.specs.Pieces.{pieces_of}
+use Rattle.kn_store.specs.Loading.{IsLoadable}
+
+-- these bytes were read from the file of this name: its content, if contents are told, and not too large
+pub record HasContent (files : FilesSeen) (name bytes : List ℕ) : Type 0 where
+  pub content : IfSome files.content (λ content_of. content_of name ≡ Some bytes)
+  pub within : length bytes ≤ FILE_BYTES
+
+-- the file of this name is larger than any that is read, if contents are told
+abbrev pub IsTooLarge : FilesSeen → List ℕ → Type 0
+IsTooLarge files name = IfSome files.content (λ content_of. IsSomeAnd (content_of name) (λ bytes. FILE_BYTES < length bytes))
+
+-- a policy file whose assertions make a history
+pub record IsPolicy (files : FilesSeen) (name bytes : List ℕ) : Type 0 where
+  pub content : HasContent files name bytes
+  pub loadable : IsLoadable (pieces_of bytes)
