@@ -9,7 +9,8 @@
 #   memory    the KiB of address space that the program has (no file: as the shell has)
 #   make      a script that writes the large ones of these files into the copy
 #
-# An example is a folder with policy.kn, requests.txt and replies.txt: what `ask` writes for the requests.
+# An example is a folder with policy.kn, requests.txt and replies.txt: what `ask` writes for the requests. Other folders of
+# examples are passed over.
 #
 # Each VALUE reply of a case that ends with status 0 is given to `check` too, which has to prove it.
 set -u
@@ -71,6 +72,7 @@ fi
 passed=0 failed=0
 if (($# == 0)); then
     for example in "$top"/examples/*/; do
+        [[ -e $example/policy.kn ]] || continue
         if "$top/keynoted" ask "$example/policy.kn" <"$example/requests.txt" | cmp - "$example/replies.txt"; then
             ((passed += 1))
         else
