@@ -1,0 +1,10 @@
+use Rattle.std.proofs.Common.{◌≡◌, ◌++◌, take}
+use Rattle.kn_proof.specs.declared.named.Id.TheVariants.{Shared}
+use Rattle.kn_store.specs.History.{credentials_of}
+use Rattle.kn_daemon.specs.Daemon.{parts_of}
+use Rattle.kn_query.proofs.Texts.{AreRead}
+use Rattle.kn_query.proofs.parts.push_shared.Given as goal
+
+abbrev pub invariant-loop-place : goal.invariant-loop-place
+invariant-loop-place l =
+    (l.parts ≡ l.fn.parts ++ parts_of Shared (take l.place (credentials_of l.version))) × AreRead (take l.place (credentials_of l.version))

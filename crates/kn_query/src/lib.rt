@@ -1,0 +1,10 @@
+//! The query of a session: what its view asks becomes the assertions of a query, which is built into a system and
+//! answered. Each statement is over the session's equations of the sequential specification.
+#![tactic(auto)]
+
+mod parts;
+mod query;
+#[cfg(test)]
+mod tests;
+
+pub use query::{answer_query, build_query};

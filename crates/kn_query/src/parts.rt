@@ -1,0 +1,72 @@
+//! The assertions of a session by their ids.
+ghost use Rattle.std.specs.Prelude.{◌≡◌, ◌++◌, map, IfOk, IsSome, OnOk};
+ghost use Rattle.std.specs.List.{AllByRecursion};
+ghost use Rattle.kn_proof.specs.declared.named.Id.TheVariants.{Shared, Private as Own};
+ghost use Rattle.kn_session.specs.Views.{session_of_view, numbered_text, AreReadPrivates, ArePrivates};
+ghost use Rattle.kn_store.specs.History.{credentials_of};
+ghost use Rattle.kn_daemon.specs.Daemon.{session_parts, parts_of};
+ghost use Rattle.kn_answer.specs.Numbering.{AreDistinct};
+ghost use Rattle.kn_answer.specs.Sizes.{HaveTexts};
+ghost use Rattle.kn_assert.specs.Reading.{assertion_of};
+
+use kn_answer::Part;
+use kn_base::{List, NoMemory};
+use kn_proof::Id;
+use kn_session::laws::assertions_of_a_session;
+use kn_session::{Private, View};
+use kn_store::Version;
+use std::alloc::Global;
+
+/// What a session asks with: the credentials of the version that it is pinned to, in order of id, and then its private
+/// assertions.
+pub(crate) fn parts_of_view<'a>(alloc: Global, view: &View<'a>) -> Result<List<Part<'a>>, NoMemory>
+    requires privates { ArePrivates (session_of_view view.now).privates }
+    requires readings { AreReadPrivates view.now.private.now }
+    ensures parts { IfOk result (λ parts. parts ≡ session_parts (session_of_view view.now)) }
+    ensures texts { IfOk result (λ parts. HaveTexts parts) }
+    ensures ids { IfOk result (λ parts. AreDistinct (map (λ part. part.id) parts)) }
+{
+    assertions_of_a_session();
+    let version: &'a Version = view.snapshot;
+    let _live = version.len();
+    let mut parts = List::new(alloc);
+    push_shared(&mut parts, version)?;
+    push_private(&mut parts, view.private)?;
+    Ok(parts)
+}
+
+// Adds the credentials of a version under their ids.
+fn push_shared<'a>(parts: &mut List<Part<'a>>, version: &'a Version) -> Result<(), NoMemory>
+    ensures parts { OnOk result (parts.new ≡ parts.old ++ parts_of Shared (credentials_of version.now)) }
+    ensures read { OnOk result (AllByRecursion (λ c. IsSome (assertion_of c.text)) (credentials_of version.now)) }
+{
+    for place in 0..version.len() {
+        let part = Part {
+            id: Id::Shared(version.id(place)),
+            assertion: &version.credential(place).assertion,
+        };
+        match parts.push(part) {
+            Ok(()) => {}
+            Err(_) => return Err(NoMemory),
+        }
+    }
+    Ok(())
+}
+
+// Adds private assertions under their ids.
+fn push_private<'a>(parts: &mut List<Part<'a>>, privates: &'a List<Private>) -> Result<(), NoMemory>
+    requires readings { AreReadPrivates privates.now }
+    ensures { OnOk result (parts.new ≡ parts.old ++ parts_of Own (map numbered_text privates.now)) }
+{
+    for private in privates.as_slice() {
+        let part = Part {
+            id: Id::Private(private.id),
+            assertion: &private.assertion,
+        };
+        match parts.push(part) {
+            Ok(()) => {}
+            Err(_) => return Err(NoMemory),
+        }
+    }
+    Ok(())
+}
