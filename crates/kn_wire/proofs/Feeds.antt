@@ -55,6 +55,7 @@ spends_next line block from bytes buffer within spends =
           ∙ ap (λ t. Some (with_block (line_of (part_of (record { start = from + line.start; len = line.len }) buffer)) (part_of (record { start = from + block.start; len = block.len }) buffer), Bytes t)) (drop-drop bytes from buffer);
       line_within = omega arith;
       block_within = omega arith;
+      block_short = spends.block_short;
     }
 
 same_part : (part : Part) (start len : ℕ) → part.start ≡ start → part.len ≡ len → record { start = start; len = len } ≡ part

@@ -56,6 +56,7 @@ spends_line text line end ends short within bare line_within none =
       bytes_within = omega arith;
       line_within = omega arith;
       block_within = omega arith;
+      block_short = omega arith;
     }
 
 -- A line that names a block.
@@ -142,6 +143,7 @@ spends_block text line end n names small within here =
       bytes_within = omega arith;
       line_within = omega arith;
       block_within = omega arith;
+      block_short = omega arith;
     }
 
 -- a line of a text that was read

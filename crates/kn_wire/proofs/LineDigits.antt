@@ -1,17 +1,20 @@
--- The digits of a request are hexadecimal digits, an even number of them.
-use Rattle.std.proofs.Common.{◌≡◌, ℕ, List, sym, subst}
-use Rattle.kn_wire.specs.Digits.{HasDigits}
+-- The parts of a request that a line names are of their form, if its block isn't too long.
+use Rattle.std.proofs.Common.{◌≡◌, ◌≤◌, ℕ, List, length, sym, subst}
+use Rattle.kn_wire.specs.Digits.{IsWellFormed}
 use Rattle.kn_wire.specs.Lines.{with_block}
 use Rattle.kn_wire.specs.Requests.{Request, Line, Whole, Blocked, line_of}
 use Rattle.kn_wire.proofs.LineRequests.{OfEach, OfLine, of-line}
 
-each_digits : OfEach HasDigits
-each_digits =
+abbrev IsShort : List ℕ → Type 0
+IsShort block = length block ≤ 16384
+
+each_form : OfEach IsShort IsWellFormed
+each_form =
     record {
       of_open = tt;
       of_close = λ s. tt;
       of_pin = λ s. tt;
-      of_assert = λ s block. tt;
+      of_assert = λ s block short. short;
       of_retract = λ s k. tt;
       of_set = λ s name value. tt;
       of_set_hex = λ s name digits are. are;
@@ -21,16 +24,16 @@ each_digits =
       of_clear = λ s. tt;
       of_query = λ s names. tt;
       of_admin = λ digits are. are;
-      of_add = λ block. tt;
+      of_add = λ block short. short;
       of_drop = λ k. tt;
       of_bye = tt;
       of_syntax = tt;
       of_command = tt;
     }
 
-digits_with_block : (line : Line) (block : List ℕ) → OfLine HasDigits line → HasDigits (with_block line block)
-digits_with_block (Whole request) block each = each
-digits_with_block (Blocked n request) block each = each block
+form_with_block : (line : Line) (block : List ℕ) → OfLine IsShort IsWellFormed line → IsShort block → IsWellFormed (with_block line block)
+form_with_block (Whole request) block each short = each
+form_with_block (Blocked n request) block each short = each block short
 
-pub has_digits : (text block : List ℕ) (request : Request) → request ≡ with_block (line_of text) block → HasDigits request
-has_digits text block request e = subst HasDigits (sym e) (digits_with_block (line_of text) block (of-line HasDigits each_digits text))
+pub has_form : (text block : List ℕ) (request : Request) → length block ≤ 16384 → request ≡ with_block (line_of text) block → IsWellFormed request
+has_form text block request short e = subst IsWellFormed (sym e) (form_with_block (line_of text) block (of-line IsShort IsWellFormed each_form text) short)

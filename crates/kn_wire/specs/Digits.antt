@@ -1,5 +1,6 @@
 -- Bytes by hexadecimal digits of either case (keynoted's own).
-use Rattle.std.specs.Prelude.{ℕ, ◌≡◌, true, ⊤, ◌+◌, ◌-◌, ◌*◌, nat_le, List, [], ◌∷◌, if◌then◌else◌}
+use Rattle.std.specs.Prelude.{ℕ, ◌≡◌, ◌≤◌, length, true, ⊤, ◌+◌, ◌-◌, ◌*◌, nat_le, List, [], ◌∷◌, if◌then◌else◌}
+use Rattle.kn_base.specs.declared.limits.TheConstants.{ASSERTION_BYTES}
 use Rattle.kn_wire.specs.Requests.{Request, Open, Close, Pin, Assert, Retract, Set, SetHex, Unset, Auth, Unauth, Clear, Query, Admin, Add, Drop, Bye, Faulty, are_digits}
 
 -- the value of a digit
@@ -12,22 +13,22 @@ bytes_of_digits [] = []
 bytes_of_digits (digit ∷ []) = []
 bytes_of_digits (high ∷ low ∷ digits) = (digit_value high * 16 + digit_value low) ∷ bytes_of_digits digits
 
--- the digits of a request are hexadecimal digits, an even number of them
-abbrev pub HasDigits : Request → Type 0
-HasDigits Open = ⊤
-HasDigits (Close s) = ⊤
-HasDigits (Pin s) = ⊤
-HasDigits (Assert s block) = ⊤
-HasDigits (Retract s k) = ⊤
-HasDigits (Set s name value) = ⊤
-HasDigits (SetHex s name digits) = are_digits digits ≡ true
-HasDigits (Unset s name) = ⊤
-HasDigits (Auth s principal) = ⊤
-HasDigits (Unauth s principal) = ⊤
-HasDigits (Clear s) = ⊤
-HasDigits (Query s names) = ⊤
-HasDigits (Admin digits) = are_digits digits ≡ true
-HasDigits (Add block) = ⊤
-HasDigits (Drop k) = ⊤
-HasDigits Bye = ⊤
-HasDigits (Faulty fault) = ⊤
+-- the parts of a request are of their form: its digits are hexadecimal digits, an even number of them, and its block isn't too long
+abbrev pub IsWellFormed : Request → Type 0
+IsWellFormed Open = ⊤
+IsWellFormed (Close s) = ⊤
+IsWellFormed (Pin s) = ⊤
+IsWellFormed (Assert s block) = length block ≤ ASSERTION_BYTES
+IsWellFormed (Retract s k) = ⊤
+IsWellFormed (Set s name value) = ⊤
+IsWellFormed (SetHex s name digits) = are_digits digits ≡ true
+IsWellFormed (Unset s name) = ⊤
+IsWellFormed (Auth s principal) = ⊤
+IsWellFormed (Unauth s principal) = ⊤
+IsWellFormed (Clear s) = ⊤
+IsWellFormed (Query s names) = ⊤
+IsWellFormed (Admin digits) = are_digits digits ≡ true
+IsWellFormed (Add block) = length block ≤ ASSERTION_BYTES
+IsWellFormed (Drop k) = ⊤
+IsWellFormed Bye = ⊤
+IsWellFormed (Faulty fault) = ⊤

@@ -1,5 +1,6 @@
 -- What a feed holds, and what it answers.
 use Rattle.std.specs.Prelude.{◌≡◌, ◌+◌, ◌≤◌, ℕ, List, length, drop, Option, Some, None, Result, Ok, Err}
+use Rattle.kn_base.specs.declared.limits.TheConstants.{ASSERTION_BYTES}
 use Rattle.kn_wire.specs.declared.fault.WireFault.{WireFault}
 use Rattle.kn_wire.specs.declared.feed.Feed.{Feed}
 use Rattle.kn_wire.specs.declared.feed.Stage.{Stage}
@@ -50,6 +51,7 @@ pub record SpendsNext (old : Held) (line block : Part) (buffer : List ℕ) (new 
   pub next : next_of old ≡ Some (with_block (D.line_of (part_of line buffer)) (part_of block buffer), new)
   pub line_within : line.start + line.len ≤ length buffer
   pub block_within : block.start + block.len ≤ length buffer
+  pub block_short : block.len ≤ ASSERTION_BYTES
 
 abbrev pub Advances : Held → Advanced → List ℕ → Held → Type 0
 Advances old A.Nothing buffer new = (next_of old ≡ None) × (new ≡ old)

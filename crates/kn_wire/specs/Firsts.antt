@@ -1,6 +1,6 @@
 -- The first request of a text, as far as it is there.
 use Rattle.std.specs.Prelude.{ℕ, ◌≡◌, ◌+◌, ◌<◌, ◌≤◌, false, List, [], ◌++◌, length, take, drop, Some, is_some}
-use Rattle.kn_base.specs.declared.limits.TheConstants.{LINE_BYTES}
+use Rattle.kn_base.specs.declared.limits.TheConstants.{ASSERTION_BYTES, LINE_BYTES}
 use Rattle.kn_wire.specs.declared.fault.WireFault.TheVariants.{Block}
 use Rattle.kn_wire.specs.declared.first.First.{First}
 use Rattle.kn_wire.specs.declared.first.First.TheVariants as F
@@ -20,6 +20,7 @@ pub record SpendsParts (text : List ℕ) (line block : Part) (bytes : ℕ) : Typ
   pub bytes_within : bytes ≤ length text
   pub line_within : line.start + line.len ≤ length text
   pub block_within : block.start + block.len ≤ length text
+  pub block_short : block.len ≤ ASSERTION_BYTES
 
 pub record WaitsFor (text : List ℕ) (searched needed : ℕ) : Type 0 where
   pub clean : searched ≤ line_length text

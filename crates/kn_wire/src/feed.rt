@@ -1,5 +1,6 @@
 //! Requests from bytes that come in pieces.
 ghost use Rattle.std.specs.Prelude.{◌≡◌, ◌+◌, ◌<◌, ◌≤◌, ◌++◌, ℕ, List, false, length, drop, vec_len, vec_capacity, is_some};
+ghost use Rattle.kn_base.specs.declared.limits.TheConstants.{ASSERTION_BYTES};
 ghost use Rattle.kn_wire.specs.declared.feed.TheConstants.{BUFFER_BYTES};
 ghost use Rattle.kn_wire.specs.Requests.{first_of, line_length};
 
@@ -66,7 +67,7 @@ pub struct Feed {
 impl Feed {
     ghost use Rattle.std.specs.Prelude.{◌≡◌, ◌+◌, ◌<◌, ◌≤◌, ◌++◌, ⊤, length, drop, vec_len, Some, None, [], IfOk, IfSome};
     ghost use Rattle.std.specs.Borrow.{sem, follows_so};
-    ghost use Rattle.kn_wire.specs.Digits.{HasDigits};
+    ghost use Rattle.kn_wire.specs.Digits.{IsWellFormed};
     ghost use Rattle.kn_wire.specs.Wired.{request_of};
     ghost use mathlib.Core.Option.{none};
     ghost use Rattle.kn_wire.specs.Feeding.{Bytes, Shut, InLong, pushed, next_of, held_bytes};
@@ -112,7 +113,7 @@ impl Feed {
     /// The next request, which is spent; None where there is no whole one. A long line is answered as soon as it is
     /// known to be long. After `Block` each call answers the same.
     pub fn next(&mut self) -> Result<Option<Request<'_>>, WireFault>
-        ensures digits { IfOk result (λ asked. IfSome asked (λ request. HasDigits (request_of request))) }
+        ensures form { IfOk result (λ asked. IfSome asked (λ request. IsWellFormed (request_of request))) }
         ensures* after { sem 𝓛 (follows_so the_row the_row self.entry.ghost_name none (λ _ _. ⊤) (λ n. IsAnswer (held self.old) result (held n))) }
     {
         match self.advance() {
@@ -224,7 +225,8 @@ impl Feed {
     fn read_spent(&self, line: Part, block: Part) -> Result<Request<'_>, WireFault>
         requires line { line.start + line.len ≤ vec_len self.now.buf }
         requires block { block.start + block.len ≤ vec_len self.now.buf }
-        ensures digits { IfOk result (λ request. HasDigits (request_of request)) }
+        requires short { block.len ≤ ASSERTION_BYTES }
+        ensures form { IfOk result (λ request. IsWellFormed (request_of request)) }
         ensures request { request_of_line result ≡ with_block (line_of (part_of line self.now.buf.items)) (part_of block self.now.buf.items) }
     {
         let text = self.buf.as_slice();
