@@ -1,1 +1,2 @@
 pub mod PassMoves
+pub mod Crossing
