@@ -1,0 +1,10 @@
+pub mod HandlingLaws
+pub mod SessionLaws
+pub mod AssertingLaws
+pub mod GainsLaws
+pub mod StepLaws
+pub mod ServingLaws
+pub mod CompletenessLaws
+pub mod OpeningLaws
+pub mod QueryingLaws
+pub mod ChangingLaws

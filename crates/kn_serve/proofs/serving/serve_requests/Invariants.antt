@@ -1,0 +1,21 @@
+use Rattle.std.proofs.Common.{◌<◌}
+use Rattle.kn_base.specs.declared.limits.TheConstants.{REQUESTS}
+use Rattle.kn_registry.specs.Passes.{IsReady}
+use Rattle.kn_wire.specs.Feeds.{held}
+use Rattle.kn_serve.specs.Handling.{state_of}
+use Rattle.kn_serve.specs.Serving.{Serving}
+use Rattle.kn_serve.proofs.serving.serve_requests.Given as goal
+
+abbrev pub invariant-requests : goal.invariant-requests
+invariant-requests g l =
+    IsReady l.fn.reg l.pass
+    × (l.answered < REQUESTS)
+    × Serving
+    (record { secret = l.fn.secret; verdict = g.A.Authenticator.verdict l.fn.auth })
+    l.fn.pass
+    l.pass
+    (g.L.Sink.seen l.fn.link)
+    (g.L.Sink.seen l.link)
+    (state_of l.connection)
+    (held l.feed)
+    l.answered

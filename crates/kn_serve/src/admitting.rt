@@ -1,0 +1,26 @@
+//! Showing the administrators' secret.
+ghost use Rattle.std.specs.Prelude.{◌≡◌};
+ghost use Rattle.kn_outside.specs.Printing.{is_whole};
+ghost use Rattle.kn_wire.specs.Requests as Q;
+ghost use Rattle.kn_daemon.specs.Daemon.{Grounds};
+ghost use Rattle.kn_serve.specs.Handling.{state_of, IsTold};
+
+use crate::connection::Connection;
+use kn_outside::{Failed, Link};
+use kn_wire::{Refusal, Reply, are_digits_of, print};
+
+/// Answers ADMIN. A wrong secret doesn't take back an earlier right one.
+pub(crate) fn show_secret<L: Link>(
+    secret: &[u8],
+    connection: &mut Connection,
+    digits: &[u8],
+    link: &mut L,
+) -> Result<(), Failed>
+    ensures told { (g : Grounds) → g.secret ≡ secret.now → IsTold g (state_of connection.old) (state_of connection.new) (Q.Admin digits.now) (is_whole result) (L.seen link.old) (L.seen link.new) }
+{
+    if secret.is_empty() || !are_digits_of(digits, secret) {
+        return print(&Reply::No(Refusal::Admin), link);
+    }
+    connection.is_admin = true;
+    print(&Reply::Ok, link)
+}

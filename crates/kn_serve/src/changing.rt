@@ -1,0 +1,96 @@
+//! Adding and removing shared credentials.
+ghost use Rattle.std.specs.Prelude.{◌≡◌, ◌≤◌, length, None};
+ghost use Rattle.kn_base.specs.declared.limits.TheConstants.{ASSERTION_BYTES};
+ghost use Rattle.kn_outside.specs.Printing.{is_whole};
+ghost use Rattle.kn_wire.specs.Requests as Q;
+ghost use Rattle.kn_registry.specs.Passes.{IsReady};
+ghost use Rattle.kn_daemon.specs.Daemon.{Grounds, State, own_refusal};
+ghost use Rattle.kn_serve.specs.Handling.{state_of, Handled};
+
+use crate::connection::Connection;
+use crate::refusals::{print_refusal, refusal_of_read, refusal_of_store};
+use kn_assert::read;
+use kn_auth::Authenticator;
+use kn_base::NoMemory;
+use kn_outside::{Failed, Link};
+use kn_registry::{Pass, Registry};
+use kn_store::Ready;
+use kn_wire::{Refusal, Reply, print};
+use std::alloc::Global;
+use std::sync::Wait;
+
+/// Answers ADD.
+pub(crate) fn add<R: Wait, A: Authenticator, L: Link>(
+    rt: &R,
+    alloc: Global,
+    reg: &Registry,
+    pass: &mut Pass,
+    auth: &A,
+    connection: &Connection,
+    block: &[u8],
+    link: &mut L,
+) -> Result<(), Failed>
+    requires ready { IsReady reg.now pass.old }
+    requires short { length block.now ≤ ASSERTION_BYTES }
+    ensures ready { IsReady reg.now pass.new }
+    ensures handled { (g : Grounds) → g.verdict ≡ A.verdict auth.now → Handled g pass.old pass.new (state_of connection.now) (state_of connection.now) (Q.Add block.now) (is_whole result) (L.seen link.old) (L.seen link.new) }
+{
+    if !connection.is_admin {
+        return print(&Reply::No(Refusal::Admin), link);
+    }
+    let assertion = match read(alloc, block) {
+        Ok(assertion) => assertion,
+        Err(fault) => return print_refusal(refusal_of_read(&fault), link),
+    };
+    match auth.admit(block, &assertion) {
+        Ok(()) => {}
+        Err(fault) => {
+            let fault = fault.number();
+            return print(&Reply::No(Refusal::Auth { fault }), link);
+        }
+    }
+    match Ready::of(alloc, block, assertion) {
+        Ok(ready) => add_ready(rt, reg, pass, ready, link),
+        Err(NoMemory) => print(&Reply::NoMemory, link),
+    }
+}
+
+/// Adds a text that is admitted.
+fn add_ready<R: Wait, L: Link>(
+    rt: &R,
+    reg: &Registry,
+    pass: &mut Pass,
+    ready: Ready,
+    link: &mut L,
+) -> Result<(), Failed>
+    requires ready { IsReady reg.now pass.old }
+    ensures ready { IsReady reg.now pass.new }
+    ensures handled { (g : Grounds) (old : State) → own_refusal g old (Q.Add ready) ≡ None → Handled g pass.old pass.new old old (Q.Add ready) (is_whole result) (L.seen link.old) (L.seen link.new) }
+{
+    match reg.add(rt, pass, ready) {
+        Ok((k, version)) => print(&Reply::Added { k, version }, link),
+        Err(fault) => print_refusal(refusal_of_store(fault), link),
+    }
+}
+
+/// Answers DROP.
+pub(crate) fn remove<R: Wait, L: Link>(
+    rt: &R,
+    reg: &Registry,
+    pass: &mut Pass,
+    connection: &Connection,
+    k: u32,
+    link: &mut L,
+) -> Result<(), Failed>
+    requires ready { IsReady reg.now pass.old }
+    ensures ready { IsReady reg.now pass.new }
+    ensures handled { (g : Grounds) → Handled g pass.old pass.new (state_of connection.now) (state_of connection.now) (Q.Drop k) (is_whole result) (L.seen link.old) (L.seen link.new) }
+{
+    if !connection.is_admin {
+        return print(&Reply::No(Refusal::Admin), link);
+    }
+    match reg.drop_id(rt, pass, k) {
+        Ok(version) => print(&Reply::Number { version }, link),
+        Err(fault) => print_refusal(refusal_of_store(fault), link),
+    }
+}

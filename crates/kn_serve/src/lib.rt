@@ -1,0 +1,22 @@
+//! Serving connections: the requests of a link are answered in their order, over a registry and a pass.
+//!
+//! Each connection is served as by one thread over one history of updates, whatever other callers do meanwhile.
+#![tactic(auto)]
+
+mod admitting;
+mod answering;
+mod asserting;
+mod changing;
+mod connection;
+mod filling;
+mod opening;
+mod querying;
+mod refusals;
+mod serving;
+mod setting;
+mod step;
+#[cfg(test)]
+mod tests;
+
+pub use kn_daemon::ended::Ended;
+pub use serving::serve_connection;

@@ -1,0 +1,84 @@
+//! Opening a session, closing it, and pinning it to the newest version.
+ghost use Rattle.kn_outside.specs.Printing.{is_whole};
+ghost use Rattle.kn_wire.specs.Requests as Q;
+ghost use Rattle.kn_registry.specs.Passes.{IsReady};
+ghost use Rattle.kn_daemon.specs.Daemon.{Grounds};
+ghost use Rattle.kn_serve.specs.Handling.{state_of, HasRoom, Handled, IsTold};
+
+use crate::connection::Connection;
+use crate::refusals::print_call;
+use kn_base::NoMemory;
+use kn_base::limits::SESSIONS;
+use kn_outside::{Failed, Link};
+use kn_registry::{Pass, Registry};
+use kn_wire::{LimitWord, Refusal, Reply, print};
+use std::sync::Wait;
+
+/// Answers OPEN.
+pub(crate) fn open<R: Wait, L: Link>(
+    rt: &R,
+    reg: &Registry,
+    pass: &mut Pass,
+    connection: &mut Connection,
+    link: &mut L,
+) -> Result<(), Failed>
+    requires ready { IsReady reg.now pass.old }
+    requires room { HasRoom (state_of connection.old) }
+    ensures ready { IsReady reg.now pass.new }
+    ensures handled { (g : Grounds) → Handled g pass.old pass.new (state_of connection.old) (state_of connection.new) Q.Open (is_whole result) (L.seen link.old) (L.seen link.new) }
+{
+    let count = connection.sessions.len();
+    if count >= SESSIONS {
+        let word = LimitWord::Sessions;
+        return print(&Reply::No(Refusal::Limit { word, count }), link);
+    }
+    let snapshot = match reg.pin(rt, pass) {
+        Ok(snapshot) => snapshot,
+        Err(NoMemory) => return print(&Reply::NoMemory, link),
+    };
+    let version = snapshot.number();
+    match connection.sessions.start(snapshot) {
+        Ok(s) => print(&Reply::Started { s, version }, link),
+        Err(_) => print(&Reply::NoMemory, link),
+    }
+}
+
+/// Answers PIN.
+pub(crate) fn pin<R: Wait, L: Link>(
+    rt: &R,
+    reg: &Registry,
+    pass: &mut Pass,
+    connection: &mut Connection,
+    s: u32,
+    link: &mut L,
+) -> Result<(), Failed>
+    requires ready { IsReady reg.now pass.old }
+    ensures ready { IsReady reg.now pass.new }
+    ensures handled { (g : Grounds) → Handled g pass.old pass.new (state_of connection.old) (state_of connection.new) (Q.Pin s) (is_whole result) (L.seen link.old) (L.seen link.new) }
+{
+    match connection.sessions.view(s) {
+        Ok(_) => {}
+        Err(_) => return print(&Reply::No(Refusal::Session), link),
+    }
+    let snapshot = match reg.pin(rt, pass) {
+        Ok(snapshot) => snapshot,
+        Err(NoMemory) => return print(&Reply::NoMemory, link),
+    };
+    let version = snapshot.number();
+    match connection.sessions.repin(s, snapshot) {
+        Ok(()) => print(&Reply::Number { version }, link),
+        Err(_) => unreachable!(),
+    }
+}
+
+/// Answers CLOSE.
+pub(crate) fn close<L: Link>(
+    connection: &mut Connection,
+    s: u32,
+    link: &mut L,
+) -> Result<(), Failed>
+    ensures told { (g : Grounds) → IsTold g (state_of connection.old) (state_of connection.new) (Q.Close s) (is_whole result) (L.seen link.old) (L.seen link.new) }
+{
+    let called = connection.sessions.close(s);
+    print_call(called, link)
+}

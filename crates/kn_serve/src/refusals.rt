@@ -1,0 +1,114 @@
+//! How faults of the parts are told.
+ghost use Rattle.std.specs.Prelude.{◌≡◌, ◌<◌, ◌^◌};
+ghost use Rattle.kn_assert.specs.Faults.{fault_place};
+ghost use Rattle.kn_outside.specs.Printing.{Prints, is_whole};
+ghost use Rattle.kn_wire.specs.Replies.{reply_text};
+ghost use Rattle.kn_daemon.specs.Daemon.{refusal_of_fault, refusal_of_session, refusal_of_store};
+ghost use Rattle.kn_serve.specs.Handling.{refusal_of_read, refusal_of_values, refused_reply, reply_of_call};
+
+use kn_assert::ReadFault;
+use kn_env::ValuesFault;
+use kn_outside::{Failed, Link};
+use kn_session::SessionFault;
+use kn_store::StoreFault;
+use kn_wire::{LimitWord, Refusal, Reply, WireFault, print};
+
+/// The refusal of a line that is no request, or of a block.
+pub(crate) fn refusal_of_fault(fault: WireFault) -> Refusal
+    ensures { result ≡ refusal_of_fault fault }
+{
+    match fault {
+        WireFault::Syntax => Refusal::Syntax,
+        WireFault::Command => Refusal::Command,
+        WireFault::Long => Refusal::Long,
+        WireFault::Block { .. } => Refusal::Block,
+    }
+}
+
+/// The refusal of a text with this fault; None for want of memory.
+pub(crate) fn refusal_of_read(fault: &ReadFault) -> Option<Refusal>
+    requires { fault_place fault.now < 2 ^ 32 }
+    ensures { result ≡ refusal_of_read fault.now }
+{
+    let place = fault.place() as u32;
+    match fault.number() {
+        Some(fault) => Some(Refusal::Read { fault, place }),
+        None => None,
+    }
+}
+
+/// The refusal of names that are no compliance values; None for want of memory.
+pub(crate) fn refusal_of_values(fault: ValuesFault) -> Option<Refusal>
+    ensures { result ≡ refusal_of_values fault }
+{
+    match fault {
+        ValuesFault::Count { .. } => Some(Refusal::Values),
+        ValuesFault::BadName { .. } => Some(Refusal::Values),
+        ValuesFault::Twice { .. } => Some(Refusal::Values),
+        ValuesFault::NoMemory => None,
+    }
+}
+
+/// The refusal of a change of the shared credentials; None for want of memory.
+pub(crate) fn refusal_of_store(fault: StoreFault) -> Option<Refusal>
+    ensures { result ≡ refusal_of_store fault }
+{
+    match fault {
+        StoreFault::Unknown { .. } => Some(Refusal::Unknown),
+        StoreFault::LiveFull { count } => Some(limit(LimitWord::Live, count)),
+        StoreFault::BytesFull { bytes } => Some(limit(LimitWord::LiveBytes, bytes)),
+        StoreFault::HistoryFull { updates } => Some(limit(LimitWord::Updates, updates)),
+        StoreFault::LogFull { bytes } => Some(limit(LimitWord::LogBytes, bytes)),
+        StoreFault::NoMemory => None,
+    }
+}
+
+/// The refusal of a call of the sessions; None for want of memory.
+pub(crate) fn refusal_of_session(fault: SessionFault) -> Option<Refusal>
+    ensures { result ≡ refusal_of_session fault }
+{
+    match fault {
+        SessionFault::Unknown { .. } => Some(Refusal::Session),
+        SessionFault::Sessions { count } => Some(limit(LimitWord::Sessions, count)),
+        SessionFault::Privates { count } => Some(limit(LimitWord::Private, count)),
+        SessionFault::PrivateBytes { bytes } => Some(limit(LimitWord::PrivateBytes, bytes)),
+        SessionFault::NoSuch { .. } => Some(Refusal::Unknown),
+        SessionFault::Requesters { count } => Some(limit(LimitWord::Requesters, count)),
+        SessionFault::Principal => Some(Refusal::Principal),
+        SessionFault::ByPolicy => Some(Refusal::Policy),
+        SessionFault::Name => Some(Refusal::Name),
+        SessionFault::Value => Some(Refusal::Value),
+        SessionFault::Attributes { count } => Some(limit(LimitWord::Attributes, count)),
+        SessionFault::Absent => Some(Refusal::Unknown),
+        SessionFault::NoMemory => None,
+    }
+}
+
+fn limit(word: LimitWord, count: u32) -> Refusal
+    ensures { result ≡ Refusal.Limit word count }
+{
+    Refusal::Limit { word, count }
+}
+
+/// Prints a refusal, or that there was no memory.
+pub(crate) fn print_refusal<L: Link>(refusal: Option<Refusal>, link: &mut L) -> Result<(), Failed>
+    ensures prints { Prints (is_whole result) (reply_text (refused_reply refusal)) (L.seen link.old) (L.seen link.new) }
+{
+    match refusal {
+        Some(refusal) => print(&Reply::No(refusal), link),
+        None => print(&Reply::NoMemory, link),
+    }
+}
+
+/// Prints the reply to a request that a call of the sessions answered so.
+pub(crate) fn print_call<L: Link>(
+    called: Result<(), SessionFault>,
+    link: &mut L,
+) -> Result<(), Failed>
+    ensures prints { Prints (is_whole result) (reply_text (reply_of_call called)) (L.seen link.old) (L.seen link.new) }
+{
+    match called {
+        Ok(()) => print(&Reply::Ok, link),
+        Err(fault) => print_refusal(refusal_of_session(fault), link),
+    }
+}

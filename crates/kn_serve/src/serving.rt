@@ -1,0 +1,101 @@
+//! Serving a connection to its end.
+ghost use Rattle.std.specs.Prelude.{◌≡◌, ◌⊎◌, IfSome};
+ghost use Rattle.kn_registry.specs.Passes.{IsReady, IsSoundPass};
+ghost use Rattle.kn_serve.specs.Serving.{Serves, IsOrderly, IsFaultless};
+
+use crate::connection::Connection;
+use crate::filling::{Fill, end_of, read_more};
+use crate::step::{Step, answer_next};
+use kn_auth::Authenticator;
+use kn_base::NoMemory;
+use kn_base::limits::REQUESTS;
+use kn_daemon::ended::Ended;
+use kn_daemon::laws;
+use kn_outside::{Gate, Link};
+use kn_registry::{Pass, Registry};
+use kn_wire::Feed;
+use std::alloc::Global;
+use std::sync::Wait;
+
+/// Answers the requests of a connection in their order (keynoted's own line protocol). A reply is written before the next
+/// request is looked at.
+///
+/// Each reply is a one-thread daemon's, at a place of the one history that the pass then carries. The secret is the
+/// administrators'; where it is empty ADMIN is always refused. The gate is called before each reply.
+pub fn serve_connection<R: Wait, A: Authenticator, L: Link, G: Gate>(
+    rt: &R,
+    alloc: Global,
+    reg: &Registry,
+    pass: &mut Pass,
+    auth: &A,
+    secret: &[u8],
+    link: &mut L,
+    gate: &G,
+) -> Ended
+    requires ready { IsReady reg.now pass.old }
+    ensures ready { IsReady reg.now pass.new }
+    ensures serves { Serves (record { secret = secret.now; verdict = A.verdict auth.now }) pass.old pass.new (L.seen link.old) (L.seen link.new) result }
+    // Where the link tells an input that is in order, and no call of it fails, all is answered if there is memory.
+    ensures complete { IfSome (L.seen link.old).left (λ input. IsOrderly input → IsFaultless (L.seen link.old) (L.seen link.new) → (result ≡ Ended.Done) ⊎ (result ≡ Ended.Memory)) }
+{
+    serve_requests(rt, alloc, reg, pass, auth, secret, link, gate)
+}
+
+fn serve_requests<R: Wait, A: Authenticator, L: Link, G: Gate>(
+    rt: &R,
+    alloc: Global,
+    reg: &Registry,
+    pass: &mut Pass,
+    auth: &A,
+    secret: &[u8],
+    link: &mut L,
+    gate: &G,
+) -> Ended
+    requires ready { IsReady reg.now pass.old }
+    ensures ready { IsReady reg.now pass.new }
+    ensures serves { Serves (record { secret = secret.now; verdict = A.verdict auth.now }) pass.old pass.new (L.seen link.old) (L.seen link.new) result }
+{
+    laws::serving_begins();
+    laws::serving_takes();
+    laws::serving_answers();
+    laws::serving_ends();
+    laws::serving_stops();
+    laws::serving_is_small();
+    let mut feed = match Feed::new(alloc) {
+        Ok(feed) => feed,
+        Err(NoMemory) => return Ended::Memory,
+    };
+    let mut connection = Connection::new(alloc);
+    let mut answered: u32 = 0;
+    'requests: for _ in rt.forever() {
+        match answer_next(
+            rt,
+            alloc,
+            reg,
+            pass,
+            auth,
+            secret,
+            &mut connection,
+            &mut feed,
+            link,
+            gate,
+            answered + 1,
+        ) {
+            Step::Answered => {
+                answered += 1;
+                if answered >= REQUESTS {
+                    return Ended::Budget;
+                }
+            }
+            Step::SaidBye => return Ended::Done,
+            Step::Blocked { n } => return Ended::Block { n },
+            Step::WriteFailed => return Ended::WriteFault,
+            Step::Dry => match read_more(&mut feed, link) {
+                Fill::More => {}
+                Fill::Failed => return Ended::ReadFault,
+                Fill::End => return end_of(&feed),
+            },
+        }
+    }
+    unreachable!()
+}

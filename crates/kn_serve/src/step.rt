@@ -1,0 +1,101 @@
+//! The next request of a connection.
+ghost use Rattle.std.specs.Prelude.{◌≡◌, true, false};
+ghost use Rattle.kn_wire.specs.Requests.{Bye};
+ghost use Rattle.kn_wire.specs.Wired.{request_of};
+ghost use Rattle.kn_daemon.specs.Served.{is_bye, is_block};
+ghost use Rattle.kn_wire.specs.Feeds.{held};
+ghost use Rattle.kn_registry.specs.Passes.{IsReady};
+ghost use Rattle.kn_serve.specs.Handling.{state_of, HasRoom, Stepped};
+
+use crate::answering::{answer, refuse};
+use crate::connection::Connection;
+use kn_auth::Authenticator;
+use kn_outside::{Failed, Gate, Link};
+use kn_registry::{Pass, Registry};
+use kn_wire::{Feed, Request, WireFault};
+use std::alloc::Global;
+use std::sync::Wait;
+
+/// What became of the next request.
+#[derive(Drop)]
+pub(crate) enum Step {
+    /// There is none yet.
+    Dry,
+    Answered,
+    SaidBye,
+    Blocked { n: usize },
+    WriteFailed,
+}
+
+/// Answers the next request, if it is there. The reply is the `place`-th of the connection.
+pub(crate) fn answer_next<R: Wait, A: Authenticator, L: Link, G: Gate>(
+    rt: &R,
+    alloc: Global,
+    reg: &Registry,
+    pass: &mut Pass,
+    auth: &A,
+    secret: &[u8],
+    connection: &mut Connection,
+    feed: &mut Feed,
+    link: &mut L,
+    gate: &G,
+    place: u32,
+) -> Step
+    requires ready { IsReady reg.now pass.old }
+    requires room { HasRoom (state_of connection.old) }
+    ensures ready { IsReady reg.now pass.new }
+    ensures stepped { Stepped (record { secret = secret.now; verdict = A.verdict auth.now }) pass.old pass.new (state_of connection.old) (state_of connection.new) (held feed.old) (held feed.new) (L.seen link.old) (L.seen link.new) result }
+{
+    match feed.next() {
+        Ok(None) => Step::Dry,
+        Ok(Some(request)) => {
+            let is_bye = says_bye(&request);
+            gate.before_reply(rt, pass.number(), place);
+            match answer(
+                rt, alloc, reg, pass, auth, secret, connection, request, link,
+            ) {
+                Ok(()) => if is_bye {
+                    Step::SaidBye
+                } else {
+                    Step::Answered
+                },
+                Err(Failed) => Step::WriteFailed,
+            }
+        }
+        Err(fault) => {
+            gate.before_reply(rt, pass.number(), place);
+            match refuse(fault, link) {
+                Ok(()) => match fault {
+                    WireFault::Block { n } => Step::Blocked { n },
+                    WireFault::Syntax | WireFault::Command | WireFault::Long => Step::Answered,
+                },
+                Err(Failed) => Step::WriteFailed,
+            }
+        }
+    }
+}
+
+fn says_bye(request: &Request<'_>) -> bool
+    ensures bye { result ≡ true → request_of request.now ≡ Bye }
+    ensures others { result ≡ false → is_bye (request_of request.now) ≡ false }
+    ensures no_block { is_block (request_of request.now) ≡ false }
+{
+    match request {
+        Request::Bye => true,
+        Request::Start
+        | Request::Close { .. }
+        | Request::Pin { .. }
+        | Request::Assert { .. }
+        | Request::Retract { .. }
+        | Request::Set { .. }
+        | Request::SetHex { .. }
+        | Request::Unset { .. }
+        | Request::Auth { .. }
+        | Request::Unauth { .. }
+        | Request::Clear { .. }
+        | Request::Query { .. }
+        | Request::Admin { .. }
+        | Request::Add { .. }
+        | Request::Remove { .. } => false,
+    }
+}
