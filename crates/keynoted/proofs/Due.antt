@@ -1,67 +1,116 @@
 -- The line that is due where a command ends so.
-use Rattle.std.proofs.Common.{◌≡◌, ℕ, ◌⊎◌, inl, inr, List, [], ◌∷◌, ◌++◌, take, refl, sym, ap, ◌∙◌, subst, ⊎_elim, Option, Some, None}
+use Rattle.std.proofs.Common.{◌≡◌, ℕ, inl, inr, List, [], ◌∷◌, take, refl, sym, subst, ⊎_elim}
 use Rattle.kn_outside.specs.Seen.{FilesSeen, LinkSeen}
 use Rattle.kn_outside.specs.Asked.{HasAsked, HasFailed}
-use Rattle.kn_outside.specs.Printing.{Writes}
-use Rattle.kn_outside.proofs.PrintLaws.{writes_nothing}
+use Rattle.kn_daemon.specs.declared.ended.Ended.{Ended}
+use Rattle.kn_daemon.specs.declared.ended.Ended.TheVariants as E
 use Rattle.kn_commands.specs.declared.stop.Stop.{Stop}
-use Rattle.kn_commands.specs.declared.stop.Stop.TheVariants.{Words, FileFailed, FileTooLarge, Policy, Limit, ReadFailed, InputForm, WriteFailed, Memory}
+use Rattle.kn_commands.specs.declared.stop.Stop.TheVariants.{Words, FileFailed, FileTooLarge, Policy, Limit, KeyLine, Memory}
 use Rattle.kn_commands.specs.declared.ending.Source.{Source}
 use Rattle.kn_commands.specs.declared.ending.Source.TheVariants as At
 use Rattle.kn_commands.specs.declared.ending.Ending.{Ending}
 use Rattle.kn_commands.specs.declared.ending.Ending.TheVariants.{Stopped, NoQuery, Faulty, Rejected, Proved}
-use Rattle.kn_commands.specs.Names.{Names, in_order}
-use Rattle.kn_commands.specs.Asking.{IsAnswering, Cause, status_of, line_of, fault_line, limit_line}
-use Rattle.kn_commands.specs.Checking.{HasComeTo, StopsAt, CheckCause, Reached, name_of, count_before, count_to, status_of_ending, line_of_ending}
-use Rattle.kn_commands.proofs.Reached.{asked_nothing, one_more}
+use Rattle.kn_commands.specs.declared.ask_ending.AskEnding.{AskEnding}
+use Rattle.kn_commands.specs.declared.ask_ending.AskEnding.TheVariants.{PolicyStopped, KeysStopped, Served}
+use Rattle.kn_commands.specs.Names.{AskNames, CheckNames, in_order}
+use Rattle.kn_commands.specs.Stopping.{status_of, stop_line, policy_fault_line, limit_line}
+use Rattle.kn_commands.specs.Asking.{IsLinkAnswered, AskCause, StopsAtPolicy, StopsAtKeys, AreKeysStopped, status_of_ended, line_of_ended, status_of_ask, line_of_ask}
+use Rattle.kn_commands.specs.Checking.{StopsCheckAt, CheckCause, Reached, name_of, count_before, count_to, status_of_ending, line_of_ending}
+use Rattle.kn_commands.proofs.Files.{asked_nothing}
+use Rattle.kn_commands.proofs.Reached.{one_more}
 use Rattle.keynoted.specs.Commands.{AskFor, CheckFor, IsNoCommand}
-use Rattle.keynoted.specs.Running.{AsksOver, IsNext, IsDue, IsTold, IsEnded}
+use Rattle.keynoted.specs.Running.{AsksServed, IsNext, IsKeysOfAsk, IsDue, IsPrinted, IsEnded}
 use Rattle.keynoted.specs.Running as D
 
-pub refused_ended : (given : List (List ℕ)) (f : FilesSeen) (o s s' : LinkSeen) (name : List ℕ) (status : ℕ) → IsNoCommand given → IsTold (line_of name (Some Words)) 1 s s' status →
+pub refused_ended : (given : List (List ℕ)) (f : FilesSeen) (o s s' : LinkSeen) (status : ℕ) → IsNoCommand given → IsPrinted (stop_line [] Words) 1 s s' status →
     IsEnded given f f o o s s' status
-refused_ended given f o s s' name status none told =
-    record { due = 1; line = line_of name (Some Words); cause = D.Words refl (record { words = none; files = refl; link = refl; told = refl }); told = told }
+refused_ended given f o s s' status none told =
+    record { due = 1; line = stop_line [] Words; cause = D.Words refl (record { words = none; files = refl; link = refl; told = refl }); told = told }
 
-module _ (given : List (List ℕ)) (name : List ℕ) (f f' : FilesSeen) (o o' : LinkSeen) (words : AskFor given name) where
-  over : (due : Option Stop) (a : IsAnswering name f f' o o' due) → AsksOver given f f' a.bytes
-  over due a = record { name = name; words = words; asked = a.asked; policy = a.policy }
+module _ (given : List (List ℕ)) (names : AskNames) (f f' : FilesSeen) (o o' : LinkSeen) (words : AskFor given names) where
+  ask_policy_next : IsNext given f [] names.policy
+  ask_policy_next = inl (record { names = names; words = words; behind = refl; named = refl })
 
-  ask_due : (due : Option Stop) → (due ≡ Some Words → ⊥) → Cause name f f' o o' due → IsDue given f f' o o' (status_of due) (line_of name due)
-  ask_due None other cause = D.Done refl (inl (cause.bytes, over None cause, cause.answering, refl))
-  ask_due (Some Words) other cause = absurd (other refl)
-  ask_due (Some FileFailed) other cause = D.File refl (record { front = []; name = name; next = inl (words, refl); fault = inl (cause.0, refl); link = cause.1 })
-  ask_due (Some FileTooLarge) other cause = D.File refl (record { front = []; name = name; next = inl (words, refl); fault = inr (cause.0, cause.1, refl); link = cause.2 })
-  ask_due (Some (Policy n fault)) other cause =
-      D.PolicyFile refl (record { name = name; next = inl (words, refl); bytes = cause.0; read = cause.1; fault = inl (n, fault, cause.2, refl); link = cause.3 })
-  ask_due (Some (Limit n word count)) other cause =
-      D.PolicyFile refl (record { name = name; next = inl (words, refl); bytes = cause.0; read = cause.1; fault = inr (n, word, count, cause.2, refl); link = cause.3 })
-  ask_due (Some ReadFailed) other cause = D.Link refl (cause.bytes, over (Some ReadFailed) cause, inl (cause.answering.0, cause.answering.1, refl))
-  ask_due (Some InputForm) other cause = D.Link refl (cause.bytes, over (Some InputForm) cause, inr (inl (cause.answering.0, cause.answering.1, refl)))
-  ask_due (Some WriteFailed) other cause = D.Link refl (cause.bytes, over (Some WriteFailed) cause, inr (inr (cause.answering, refl)))
-  ask_due (Some Memory) other cause =
-      ⊎_elim
-      (λ (early : ((f' ≡ f) ⊎ HasAsked (name ∷ []) f f') × (o' ≡ o)).
-      D.Memory refl (refl, inl ([], name, inl (words, refl), ⊎_elim (λ (none : f' ≡ f). inl (subst (HasAsked [] f) (sym none) (asked_nothing f))) (λ (one : HasAsked (name ∷ []) f f'). inr one) early.0, early.1)))
-      (λ (late : IsAnswering name f f' o o' (Some Memory)). D.Memory refl (refl, inr (late.bytes, over (Some Memory) late, late.answering.0, late.answering.1)))
-      cause
+  policy_due : (stop : Stop) → StopsAtPolicy f f' names.policy stop → o' ≡ o → IsDue given f f' o o' (status_of stop) (stop_line names.policy stop)
+  policy_due FileFailed stops same = D.File refl (record { front = []; name = names.policy; next = ask_policy_next; fault = inl (stops, refl); link = same })
+  policy_due FileTooLarge stops same = D.File refl (record { front = []; name = names.policy; next = ask_policy_next; fault = inr (stops.0, stops.1, refl); link = same })
+  policy_due (Policy n fault) stops same =
+      D.PolicyFile refl (record { name = names.policy; next = ask_policy_next; bytes = stops.0; read = stops.1; fault = inl (n, fault, stops.2, refl); link = same })
+  policy_due (Limit n word count) stops same =
+      D.PolicyFile refl (record { name = names.policy; next = ask_policy_next; bytes = stops.0; read = stops.1; fault = inr (n, word, count, stops.2, refl); link = same })
+  policy_due Memory stops same =
+      D.Memory refl (
+        refl,
+        same,
+        inl (
+          [],
+          names.policy,
+          ask_policy_next,
+          ⊎_elim (λ (none : f' ≡ f). inl (subst (HasAsked [] f) (sym none) (asked_nothing f))) (λ (one : HasAsked (names.policy ∷ []) f f'). inr one) stops,
+        ),
+      )
+  policy_due Words stops same = absurd stops
+  policy_due (KeyLine n) stops same = absurd stops
 
-  pub ask_stopped : (stop : Stop) (s s' : LinkSeen) (status : ℕ) → (stop ≡ Words → ⊥) → Cause name f f' o o' (Some stop) → IsTold (line_of name (Some stop)) (status_of (Some stop)) s s' status →
+  module _ (name bytes : List ℕ) (next : IsKeysOfAsk given f (names.policy ∷ []) name) (same : o' ≡ o) where
+    keys_due : (stop : Stop) → StopsAtKeys f f' (names.policy ∷ []) name stop → IsDue given f f' o o' (status_of stop) (stop_line name stop)
+    keys_due FileFailed stops = D.File refl (record { front = names.policy ∷ []; name = name; next = inr (inl next); fault = inl (stops, refl); link = same })
+    keys_due FileTooLarge stops = D.File refl (record { front = names.policy ∷ []; name = name; next = inr (inl next); fault = inr (stops.0, stops.1, refl); link = same })
+    keys_due (KeyLine n) stops = D.Keys refl (record {
+      front = names.policy ∷ [];
+      name = name;
+      next = next;
+      asked = stops.0;
+      text = stops.1;
+      content = stops.2;
+      number = n;
+      malformed = stops.3;
+      link = same;
+      told = refl;
+    })
+    keys_due Memory stops = D.Memory refl (refl, same, inl (names.policy ∷ [], name, inr (inl next), stops))
+    keys_due Words stops = absurd stops
+    keys_due (Policy n fault) stops = absurd stops
+    keys_due (Limit n word count) stops = absurd stops
+
+  keys_stopped_due : (stop : Stop) → AreKeysStopped f f' names stop → o' ≡ o → IsDue given f f' o o' (status_of stop) (line_of_ask names (KeysStopped stop))
+  keys_stopped_due stop stopped same =
+      let next : IsKeysOfAsk given f (names.policy ∷ []) stopped.name =
+      record { names = names; words = words; behind = refl; named = stopped.named; bytes = stopped.bytes; policy = stopped.policy } in
+      rw stopped.named (keys_due stopped.name stopped.bytes next same stop stopped.stops)
+
+  served : (ended : Ended) → IsLinkAnswered f f' o o' names ended → AsksServed given f f' o o' ended
+  served ended answered = record { names = names; words = words; answered = answered }
+
+  link_due : (ended : Ended) → status_of_ended ended ≡ 4 → IsLinkAnswered f f' o o' names ended → IsDue given f f' o o' (status_of_ended ended) (line_of_ended ended)
+  link_due ended early answered = D.Link early (record { ended = ended; early = early; served = served ended answered; told = refl })
+
+  served_due : (ended : Ended) → IsLinkAnswered f f' o o' names ended → IsDue given f f' o o' (status_of_ended ended) (line_of_ended ended)
+  served_due E.Done answered = D.Done refl (inl (served E.Done answered, refl))
+  served_due E.Memory answered = D.Memory refl (refl, answered.served.cause, inr (served E.Memory answered))
+  served_due E.ReadFault answered = link_due E.ReadFault refl answered
+  served_due E.WriteFault answered = link_due E.WriteFault refl answered
+  served_due (E.Cut held) answered = link_due (E.Cut held) refl answered
+  served_due (E.Block n) answered = link_due (E.Block n) refl answered
+  served_due E.Budget answered = link_due E.Budget refl answered
+
+  ask_due : (ending : AskEnding) → AskCause f f' o o' names ending → IsDue given f f' o o' (status_of_ask ending) (line_of_ask names ending)
+  ask_due (PolicyStopped stop) cause = policy_due stop cause.0 cause.1
+  ask_due (KeysStopped stop) cause = keys_stopped_due stop cause.0 cause.1
+  ask_due (Served ended) cause = served_due ended cause
+
+  pub ask_ended : (ending : AskEnding) (s s' : LinkSeen) (status : ℕ) → AskCause f f' o o' names ending → IsPrinted (line_of_ask names ending) (status_of_ask ending) s s' status →
       IsEnded given f f' o o' s s' status
-  ask_stopped stop s s' status other cause told =
-      record { due = status_of (Some stop); line = line_of name (Some stop); cause = ask_due (Some stop) (λ e. other (cc)) cause; told = told }
+  ask_ended ending s s' status cause told = record { due = status_of_ask ending; line = line_of_ask names ending; cause = ask_due ending cause; told = told }
 
-  pub ask_answered : (s : LinkSeen) → Cause name f f' o o' None → IsEnded given f f' o o' s s 0
-  ask_answered s cause = record { due = 0; line = []; cause = ask_due None (λ e. (cc)) cause; told = inl (refl, writes_nothing s) }
-
-module _ (given : List (List ℕ)) (names : Names) (f f' : FilesSeen) (o o' : LinkSeen) (words : CheckFor given names) (untouched : o' ≡ o) where
+module _ (given : List (List ℕ)) (names : CheckNames) (f f' : FilesSeen) (o o' : LinkSeen) (words : CheckFor given names) (untouched : o' ≡ o) where
   next : (source : Source) → Reached f names source → IsNext given f (take (count_before source) (in_order names)) (name_of names source)
-  next source reached = inr (record { names = names; words = words; source = source; reached = reached; behind = refl; named = refl })
+  next source reached = inr (inr (record { names = names; words = words; source = source; reached = reached; behind = refl; named = refl }))
 
-  policy_next : IsNext given f [] names.policy
-  policy_next = inr (record { names = names; words = words; source = At.Policy; reached = tt; behind = refl; named = refl })
+  check_policy_next : IsNext given f [] names.policy
+  check_policy_next = inr (inr (record { names = names; words = words; source = At.Policy; reached = tt; behind = refl; named = refl }))
 
-  stopped_due : (source : Source) (stop : Stop) → StopsAt f f' names source stop → IsDue given f f' o o' (status_of (Some stop)) (line_of (name_of names source) (Some stop))
+  stopped_due : (source : Source) (stop : Stop) → StopsCheckAt f f' names source stop → IsDue given f f' o o' (status_of stop) (stop_line (name_of names source) stop)
   stopped_due source FileFailed cause = D.File refl (record {
     front = take (count_before source) (in_order names);
     name = name_of names source;
@@ -77,14 +126,15 @@ module _ (given : List (List ℕ)) (names : Names) (f f' : FilesSeen) (o o' : Li
     link = untouched;
   })
   stopped_due source (Policy n fault) cause =
-      subst (λ (at : Source). IsDue given f f' o o' 3 (fault_line (name_of names at) n fault)) (sym cause.0)
-      (D.PolicyFile refl (record { name = names.policy; next = policy_next; bytes = cause.1; read = cause.2; fault = inl (n, fault, cause.3, refl); link = untouched }))
+      subst (λ (at : Source). IsDue given f f' o o' 3 (policy_fault_line (name_of names at) n fault)) (sym cause.0)
+      (D.PolicyFile refl (record { name = names.policy; next = check_policy_next; bytes = cause.1; read = cause.2; fault = inl (n, fault, cause.3, refl); link = untouched }))
   stopped_due source (Limit n word count) cause =
       subst (λ (at : Source). IsDue given f f' o o' 3 (limit_line (name_of names at) n word count)) (sym cause.0)
-      (D.PolicyFile refl (record { name = names.policy; next = policy_next; bytes = cause.1; read = cause.2; fault = inr (n, word, count, cause.3, refl); link = untouched }))
+      (D.PolicyFile refl (record { name = names.policy; next = check_policy_next; bytes = cause.1; read = cause.2; fault = inr (n, word, count, cause.3, refl); link = untouched }))
   stopped_due source Memory cause =
       D.Memory refl (
         refl,
+        untouched,
         inl (
           take (count_before source) (in_order names),
           name_of names source,
@@ -93,13 +143,10 @@ module _ (given : List (List ℕ)) (names : Names) (f f' : FilesSeen) (o o' : Li
               (λ (before : HasAsked (take (count_before source) (in_order names)) f f'). inl before)
               (λ (to : HasAsked (take (count_to source) (in_order names)) f f'). inr (subst (λ (l : List (List ℕ)). HasAsked l f f') (sym (one_more names source)) to))
               cause.1,
-          untouched,
         ),
       )
   stopped_due source Words cause = absurd cause
-  stopped_due source ReadFailed cause = absurd cause
-  stopped_due source InputForm cause = absurd cause
-  stopped_due source WriteFailed cause = absurd cause
+  stopped_due source (KeyLine n) cause = absurd cause
 
   check_due : (ending : Ending) → CheckCause f f' names ending → IsDue given f f' o o' (status_of_ending ending) (line_of_ending names ending)
   check_due (Stopped source stop) cause = stopped_due source stop cause
@@ -111,6 +158,6 @@ module _ (given : List (List ℕ)) (names : Names) (f f' : FilesSeen) (o o' : Li
   check_due (Proved value name) cause =
       D.Done refl (inr (cause.session, cause.values, cause.text, record { names = names; words = words; tried = cause.tried }, value, name, cause.shows, refl, untouched))
 
-  pub check_ended : (ending : Ending) (s s' : LinkSeen) (status : ℕ) → CheckCause f f' names ending → IsTold (line_of_ending names ending) (status_of_ending ending) s s' status →
+  pub check_ended : (ending : Ending) (s s' : LinkSeen) (status : ℕ) → CheckCause f f' names ending → IsPrinted (line_of_ending names ending) (status_of_ending ending) s s' status →
       IsEnded given f f' o o' s s' status
   check_ended ending s s' status cause told = record { due = status_of_ending ending; line = line_of_ending names ending; cause = check_due ending cause; told = told }

@@ -1,10 +1,10 @@
 -- The words of a command, one by one.
-use Rattle.std.proofs.Common.{◌≡◌, ℕ, Bool, true, false, List, [], ◌∷◌, length, get_or, sym, ◌∙◌, ap, ⊎_elim, arith}
-use Rattle.std.specs.Prelude.{not, codes}
+use Rattle.std.proofs.Common.{◌≡◌, ℕ, ◌≤◌, Bool, true, false, List, [], ◌∷◌, length, get_or, sym, ◌∙◌, ap, ⊎_elim, arith, Option, Some, None}
+use Rattle.std.specs.Prelude.{not, codes, slice_get, option_to_list}
 use Rattle.std.specs.Str.{bytes_eq}
 use Rattle.std.proofs.lemmas.Bool.{cases_Bool}
 use Rattle.std.proofs.lemmas.Slice.Eq.{bytes_eq-Decides}
-use Rattle.kn_commands.specs.Names.{Names, in_order}
+use Rattle.kn_commands.specs.Names.{AskNames, ask_order, CheckNames, in_order}
 
 -- a word that doesn't differ from a text is that text
 same_word : (first given text literal : List ℕ) (differs : Bool) → given ≡ first → text ≡ literal → differs ≡ not (bytes_eq given text) → differs ≡ false → first ≡ literal
@@ -15,12 +15,14 @@ same_word first given text literal differs same is tested none =
     (cases_Bool (bytes_eq given text)) in
     sym same ∙ (bytes_eq-Decides given text).0 equal ∙ is
 
--- two words are these
-two_words : (words : List (List ℕ)) (first second : List ℕ) → length words ≡ 2 → first ≡ get_or words 0 first → second ≡ get_or words 1 second → words ≡ first ∷ second ∷ []
-two_words [] first second count a b = absurd (omega arith)
-two_words (x ∷ []) first second count a b = absurd (omega arith)
-two_words (x ∷ y ∷ []) first second count a b = cc
-two_words (x ∷ y ∷ z ∷ zs) first second count a b = absurd (omega arith)
+-- two or three words are these
+two_or_three : (words : List (List ℕ)) (first second : List ℕ) (third : Option (List ℕ)) → 2 ≤ length words → length words ≤ 3 →
+    first ≡ get_or words 0 first → second ≡ get_or words 1 second → third ≡ slice_get words 2 → words ≡ first ∷ second ∷ option_to_list third
+two_or_three [] first second third least most a b c = absurd (omega arith)
+two_or_three (x ∷ []) first second third least most a b c = absurd (omega arith)
+two_or_three (x ∷ y ∷ []) first second third least most a b c = let is : third ≡ None = c in rw is (cc)
+two_or_three (x ∷ y ∷ z ∷ []) first second third least most a b c = let is : third ≡ Some z = c in rw is (cc)
+two_or_three (x ∷ y ∷ z ∷ w ∷ ws) first second third least most a b c = absurd (omega arith)
 
 -- and four
 four_words : (words : List (List ℕ)) (first second third fourth : List ℕ) → length words ≡ 4 →
@@ -33,15 +35,18 @@ four_words (x ∷ y ∷ z ∷ []) first second third fourth count a b c d = absu
 four_words (x ∷ y ∷ z ∷ w ∷ []) first second third fourth count a b c d = cc
 four_words (x ∷ y ∷ z ∷ w ∷ v ∷ vs) first second third fourth count a b c d = absurd (omega arith)
 
--- the words are `ask` and one more, where the first doesn't differ from it
-pub spell_ask : (words : List (List ℕ)) (first second given ask : List ℕ) (differs : Bool) → length words ≡ 2 →
-    first ≡ get_or words 0 first → second ≡ get_or words 1 second → given ≡ first → ask ≡ codes "ask" →
-    differs ≡ not (bytes_eq given ask) → differs ≡ false → words ≡ codes "ask" ∷ second ∷ []
-spell_ask words first second given ask differs count a b same is tested none =
-    two_words words first second count a b ∙ ap (λ (w : List ℕ). w ∷ second ∷ []) (same_word first given ask (codes "ask") differs same is tested none)
+-- the words are `ask` and one or two more, where the first doesn't differ from it
+pub spell_ask : (words : List (List ℕ)) (names : AskNames) (first second given ask : List ℕ) (third : Option (List ℕ)) (differs : Bool) → 2 ≤ length words → length words ≤ 3 →
+    first ≡ get_or words 0 first → second ≡ get_or words 1 second → third ≡ slice_get words 2 → names.policy ≡ second → names.keys ≡ third → given ≡ first → ask ≡ codes "ask" →
+    differs ≡ not (bytes_eq given ask) → differs ≡ false → words ≡ codes "ask" ∷ ask_order names
+spell_ask words names first second given ask third differs least most a b c policy keys same is tested none =
+    two_or_three words first second third least most a b c
+    ∙ ap (λ (w : List ℕ). w ∷ second ∷ option_to_list third) (same_word first given ask (codes "ask") differs same is tested none)
+    ∙ ap (λ (w : List ℕ). codes "ask" ∷ w ∷ option_to_list third) (sym policy)
+    ∙ ap (λ (k : Option (List ℕ)). codes "ask" ∷ names.policy ∷ option_to_list k) (sym keys)
 
 -- the words are `check` and three more
-pub spell_check : (words : List (List ℕ)) (names : Names) (first second third fourth given check : List ℕ) (differs : Bool) → length words ≡ 4 →
+pub spell_check : (words : List (List ℕ)) (names : CheckNames) (first second third fourth given check : List ℕ) (differs : Bool) → length words ≡ 4 →
     first ≡ get_or words 0 first → second ≡ get_or words 1 second → third ≡ get_or words 2 third → fourth ≡ get_or words 3 fourth →
     names.policy ≡ second → names.script ≡ third → names.reply ≡ fourth → given ≡ first → check ≡ codes "check" →
     differs ≡ not (bytes_eq given check) → differs ≡ false → words ≡ codes "check" ∷ in_order names

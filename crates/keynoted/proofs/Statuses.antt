@@ -5,12 +5,12 @@ use Rattle.kn_outside.specs.Faults.{Rose}
 use Rattle.kn_outside.specs.Printing.{Writes}
 use Rattle.keynoted.specs.Commands.{IsNoCommand}
 use Rattle.kn_outside.specs.Asked.{HasAsked}
-use Rattle.kn_commands.specs.Asking.{IsRead}
-use Rattle.keynoted.specs.Running.{AsksOver, IsNext, IsDone, IsRefused, IsFileFault, IsPolicyFault, IsLinkFault, LacksMemory, IsReplyFault, IsNoQuery, IsDue, IsTold, IsEnded, Tells, TellsPart}
+use Rattle.kn_daemon.specs.declared.ended.Ended.TheVariants as E
+use Rattle.keynoted.specs.Running.{AsksServed, IsNext, IsDone, HasNoCommand, IsFileFault, IsPolicyFault, IsLinkFault, LacksMemory, IsReplyFault, IsKeyFault, MeansNoQuery, IsDue, IsPrinted, IsEnded, Tells, TellsPart}
 use Rattle.keynoted.specs.Running as D
 
 -- a status other than 9 is that of what was due, and its line was written whole
-pub told_whole : (line : List ℕ) (due : ℕ) (s s' : LinkSeen) (status : ℕ) → IsTold line due s s' status → (status ≡ 9 → ⊥) → (status ≡ due) × Writes true line s s'
+pub told_whole : (line : List ℕ) (due : ℕ) (s s' : LinkSeen) (status : ℕ) → IsPrinted line due s s' status → (status ≡ 9 → ⊥) → (status ≡ due) × Writes true line s s'
 told_whole line due s s' status told other =
     ⊎_elim (λ (t : (status ≡ due) × Writes true line s s'). t) (λ (t : (status ≡ 9) × Writes false line s s'). absurd (other t.0)) told
 
@@ -23,6 +23,7 @@ module _ (given : List (List ℕ)) (f f' : FilesSeen) (o o' : LinkSeen) where
   not_nine due line (D.Link at cause) e = absurd (omega arith)
   not_nine due line (D.Memory at cause) e = absurd (omega arith)
   not_nine due line (D.Reply at cause) e = absurd (omega arith)
+  not_nine due line (D.Keys at cause) e = absurd (omega arith)
   not_nine due line (D.Query at cause) e = absurd (omega arith)
 
   is_done : (due : ℕ) (line : List ℕ) → IsDue given f f' o o' due line → due ≡ 0 → IsDone given f f' o o' line
@@ -33,9 +34,10 @@ module _ (given : List (List ℕ)) (f f' : FilesSeen) (o o' : LinkSeen) where
   is_done due line (D.Link at cause) e = absurd (omega arith)
   is_done due line (D.Memory at cause) e = absurd (omega arith)
   is_done due line (D.Reply at cause) e = absurd (omega arith)
+  is_done due line (D.Keys at cause) e = absurd (omega arith)
   is_done due line (D.Query at cause) e = absurd (omega arith)
 
-  is_words : (due : ℕ) (line : List ℕ) → IsDue given f f' o o' due line → due ≡ 1 → IsRefused given f f' o o' line
+  is_words : (due : ℕ) (line : List ℕ) → IsDue given f f' o o' due line → due ≡ 1 → HasNoCommand given f f' o o' line
   is_words due line (D.Done at cause) e = absurd (omega arith)
   is_words due line (D.Words at cause) e = cause
   is_words due line (D.File at cause) e = absurd (omega arith)
@@ -43,6 +45,7 @@ module _ (given : List (List ℕ)) (f f' : FilesSeen) (o o' : LinkSeen) where
   is_words due line (D.Link at cause) e = absurd (omega arith)
   is_words due line (D.Memory at cause) e = absurd (omega arith)
   is_words due line (D.Reply at cause) e = absurd (omega arith)
+  is_words due line (D.Keys at cause) e = absurd (omega arith)
   is_words due line (D.Query at cause) e = absurd (omega arith)
 
   is_file : (due : ℕ) (line : List ℕ) → IsDue given f f' o o' due line → due ≡ 2 → IsFileFault given f f' o o' line
@@ -53,6 +56,7 @@ module _ (given : List (List ℕ)) (f f' : FilesSeen) (o o' : LinkSeen) where
   is_file due line (D.Link at cause) e = absurd (omega arith)
   is_file due line (D.Memory at cause) e = absurd (omega arith)
   is_file due line (D.Reply at cause) e = absurd (omega arith)
+  is_file due line (D.Keys at cause) e = absurd (omega arith)
   is_file due line (D.Query at cause) e = absurd (omega arith)
 
   is_policy : (due : ℕ) (line : List ℕ) → IsDue given f f' o o' due line → due ≡ 3 → IsPolicyFault given f f' o o' line
@@ -63,6 +67,7 @@ module _ (given : List (List ℕ)) (f f' : FilesSeen) (o o' : LinkSeen) where
   is_policy due line (D.Link at cause) e = absurd (omega arith)
   is_policy due line (D.Memory at cause) e = absurd (omega arith)
   is_policy due line (D.Reply at cause) e = absurd (omega arith)
+  is_policy due line (D.Keys at cause) e = absurd (omega arith)
   is_policy due line (D.Query at cause) e = absurd (omega arith)
 
   is_link : (due : ℕ) (line : List ℕ) → IsDue given f f' o o' due line → due ≡ 4 → IsLinkFault given f f' o o' line
@@ -73,6 +78,7 @@ module _ (given : List (List ℕ)) (f f' : FilesSeen) (o o' : LinkSeen) where
   is_link due line (D.Link at cause) e = cause
   is_link due line (D.Memory at cause) e = absurd (omega arith)
   is_link due line (D.Reply at cause) e = absurd (omega arith)
+  is_link due line (D.Keys at cause) e = absurd (omega arith)
   is_link due line (D.Query at cause) e = absurd (omega arith)
 
   is_memory : (due : ℕ) (line : List ℕ) → IsDue given f f' o o' due line → due ≡ 5 → LacksMemory given f f' o o' line
@@ -83,6 +89,7 @@ module _ (given : List (List ℕ)) (f f' : FilesSeen) (o o' : LinkSeen) where
   is_memory due line (D.Link at cause) e = absurd (omega arith)
   is_memory due line (D.Memory at cause) e = cause
   is_memory due line (D.Reply at cause) e = absurd (omega arith)
+  is_memory due line (D.Keys at cause) e = absurd (omega arith)
   is_memory due line (D.Query at cause) e = absurd (omega arith)
 
   is_reply : (due : ℕ) (line : List ℕ) → IsDue given f f' o o' due line → due ≡ 6 → IsReplyFault given f f' o o' line
@@ -93,9 +100,21 @@ module _ (given : List (List ℕ)) (f f' : FilesSeen) (o o' : LinkSeen) where
   is_reply due line (D.Link at cause) e = absurd (omega arith)
   is_reply due line (D.Memory at cause) e = absurd (omega arith)
   is_reply due line (D.Reply at cause) e = cause
+  is_reply due line (D.Keys at cause) e = absurd (omega arith)
   is_reply due line (D.Query at cause) e = absurd (omega arith)
 
-  is_query : (due : ℕ) (line : List ℕ) → IsDue given f f' o o' due line → due ≡ 10 → IsNoQuery given f f' o o' line
+  is_keys : (due : ℕ) (line : List ℕ) → IsDue given f f' o o' due line → due ≡ 8 → IsKeyFault given f f' o o' line
+  is_keys due line (D.Done at cause) e = absurd (omega arith)
+  is_keys due line (D.Words at cause) e = absurd (omega arith)
+  is_keys due line (D.File at cause) e = absurd (omega arith)
+  is_keys due line (D.PolicyFile at cause) e = absurd (omega arith)
+  is_keys due line (D.Link at cause) e = absurd (omega arith)
+  is_keys due line (D.Memory at cause) e = absurd (omega arith)
+  is_keys due line (D.Reply at cause) e = absurd (omega arith)
+  is_keys due line (D.Keys at cause) e = cause
+  is_keys due line (D.Query at cause) e = absurd (omega arith)
+
+  is_query : (due : ℕ) (line : List ℕ) → IsDue given f f' o o' due line → due ≡ 10 → MeansNoQuery given f f' o o' line
   is_query due line (D.Done at cause) e = absurd (omega arith)
   is_query due line (D.Words at cause) e = absurd (omega arith)
   is_query due line (D.File at cause) e = absurd (omega arith)
@@ -103,6 +122,7 @@ module _ (given : List (List ℕ)) (f f' : FilesSeen) (o o' : LinkSeen) where
   is_query due line (D.Link at cause) e = absurd (omega arith)
   is_query due line (D.Memory at cause) e = absurd (omega arith)
   is_query due line (D.Reply at cause) e = absurd (omega arith)
+  is_query due line (D.Keys at cause) e = absurd (omega arith)
   is_query due line (D.Query at cause) e = cause
 
 module _ (given : List (List ℕ)) (f f' : FilesSeen) (o o' s s' : LinkSeen) (status : ℕ) (ended : IsEnded given f f' o o' s s' status) where
@@ -111,7 +131,7 @@ module _ (given : List (List ℕ)) (f f' : FilesSeen) (o o' s s' : LinkSeen) (st
       let whole = told_whole ended.line ended.due s s' status ended.told (λ nine. absurd (omega arith)) in
       (ended.line, is_done given f f' o o' ended.due ended.line ended.cause (sym whole.0 ∙ at), whole.1)
 
-  pub says_words : status ≡ 1 → Tells (IsRefused given f f' o o') s s'
+  pub says_words : status ≡ 1 → Tells (HasNoCommand given f f' o o') s s'
   says_words at =
       let whole = told_whole ended.line ended.due s s' status ended.told (λ nine. absurd (omega arith)) in
       (ended.line, is_words given f f' o o' ended.due ended.line ended.cause (sym whole.0 ∙ at), whole.1)
@@ -141,7 +161,12 @@ module _ (given : List (List ℕ)) (f f' : FilesSeen) (o o' s s' : LinkSeen) (st
       let whole = told_whole ended.line ended.due s s' status ended.told (λ nine. absurd (omega arith)) in
       (ended.line, is_reply given f f' o o' ended.due ended.line ended.cause (sym whole.0 ∙ at), whole.1)
 
-  pub says_query : status ≡ 10 → Tells (IsNoQuery given f f' o o') s s'
+  pub says_keys : status ≡ 8 → Tells (IsKeyFault given f f' o o') s s'
+  says_keys at =
+      let whole = told_whole ended.line ended.due s s' status ended.told (λ nine. absurd (omega arith)) in
+      (ended.line, is_keys given f f' o o' ended.due ended.line ended.cause (sym whole.0 ∙ at), whole.1)
+
+  pub says_query : status ≡ 10 → Tells (MeansNoQuery given f f' o o') s s'
   says_query at =
       let whole = told_whole ended.line ended.due s s' status ended.told (λ nine. absurd (omega arith)) in
       (ended.line, is_query given f f' o o' ended.due ended.line ended.cause (sym whole.0 ∙ at), whole.1)
@@ -158,28 +183,29 @@ module _ (given : List (List ℕ)) (f f' : FilesSeen) (o o' s s' : LinkSeen) (st
   says_refused none = by ended.due ended.line ended.cause ended.told
     where
       next : (front : List (List ℕ)) (name : List ℕ) → IsNext given f front name → ⊥
-      next front name (inl ask) = none.ask name ask.0
-      next front name (inr check) = none.check check.names check.words
+      next front name (inl policy) = none.ask policy.names policy.words
+      next front name (inr (inl keys)) = none.ask keys.names keys.words
+      next front name (inr (inr check)) = none.check check.names check.words
 
       done : (line : List ℕ) → IsDone given f f' o o' line → ⊥
-      done line (inl ask) = none.ask ask.1.name ask.1.words
+      done line (inl ask) = none.ask ask.0.names ask.0.words
       done line (inr check) = none.check check.3.names check.3.words
 
       lacks : (line : List ℕ) → LacksMemory given f f' o o' line → ⊥
-      lacks line cause = way cause.1
+      lacks line cause = way cause.2
         where
-          way : ((front : List (List ℕ)) × (name : List ℕ) × IsNext given f front name × (HasAsked front f f' ⊎ HasAsked (front ++ name ∷ []) f f') × (o' ≡ o))
-              ⊎ ((bytes : List ℕ) × AsksOver given f f' bytes × (input : List ℕ) × IsRead input o o') → ⊥
+          way : ((front : List (List ℕ)) × (name : List ℕ) × IsNext given f front name × (HasAsked front f f' ⊎ HasAsked (front ++ name ∷ []) f f')) ⊎ AsksServed given f f' o o' E.Memory → ⊥
           way (inl early) = next early.0 early.1 early.2
-          way (inr late) = none.ask late.1.name late.1.words
+          way (inr late) = none.ask late.names late.words
 
-      by : (due : ℕ) (line : List ℕ) → IsDue given f f' o o' due line → IsTold line due s s' status → (status ≡ 1) ⊎ ((status ≡ 9) × Rose s.faults s'.faults)
+      by : (due : ℕ) (line : List ℕ) → IsDue given f f' o o' due line → IsPrinted line due s s' status → (status ≡ 1) ⊎ ((status ≡ 9) × Rose s.faults s'.faults)
       by due line (D.Words at cause) told =
           ⊎_elim (λ (t : (status ≡ due) × Writes true line s s'). inl (t.0 ∙ at)) (λ (t : (status ≡ 9) × Writes false line s s'). inr (t.0, t.1.2)) told
       by due line (D.Done at cause) told = absurd (done line cause)
       by due line (D.File at cause) told = absurd (next cause.front cause.name cause.next)
       by due line (D.PolicyFile at cause) told = absurd (next [] cause.name cause.next)
-      by due line (D.Link at cause) told = absurd (none.ask cause.1.name cause.1.words)
+      by due line (D.Link at cause) told = absurd (none.ask cause.served.names cause.served.words)
       by due line (D.Memory at cause) told = absurd (lacks line cause)
       by due line (D.Reply at cause) told = absurd (none.check cause.3.names cause.3.words)
+      by due line (D.Keys at cause) told = absurd (none.ask cause.next.names cause.next.words)
       by due line (D.Query at cause) told = absurd (none.check cause.names cause.words)

@@ -4,6 +4,7 @@
 mod real;
 #[cfg(test)]
 mod real_tests;
+mod retry;
 mod run;
 #[cfg(test)]
 mod run_tests;
@@ -11,6 +12,7 @@ mod start;
 mod words;
 
 use crate::real::{RealFiles, StdLink, StdOut};
+use kn_outside::Passing;
 use std::process::ExitCode;
 
 fn main(rt: HostRuntime) -> ExitCode {
@@ -18,5 +20,14 @@ fn main(rt: HostRuntime) -> ExitCode {
     let mut files = RealFiles::new(rt);
     let mut own = StdLink::new(&rt);
     let mut out = StdOut::new(&rt);
-    ExitCode::from(start::start(rt.alloc(), words, &mut files, &mut own, &mut out))
+    let status = start::start(
+        &rt,
+        rt.alloc(),
+        words,
+        &mut files,
+        &mut own,
+        &mut out,
+        &Passing,
+    );
+    ExitCode::from(status)
 }

@@ -10,12 +10,13 @@ ghost use Rattle.kn_outside.specs.Asked.{Leaves};
 ghost use Rattle.kn_outside.specs.Faults.{raised};
 ghost use Rattle.kn_outside.specs.declared.files.FileFault.{FileFault};
 
+use crate::retry::{read_some, write_some};
 use kn_base::limits::FILE_BYTES;
 use kn_base::{List, NoMemory, Octets};
 use kn_outside::{Failed, FileFault, Files, Link, Sink};
 use std::alloc::Global;
 use std::fs::File;
-use std::io::{self, ErrorKind, Read, Stdin, Stdout, Write};
+use std::io::{self, ErrorKind, Read, Stdin, Stdout};
 use std::str;
 
 /// The bytes that a file is asked for at once.
@@ -50,7 +51,7 @@ impl Sink for StdOut {
         ensures err { OnErr result (self.new.faults ≡ raised self.old.faults) }
         ensures later { self.old.faults ≤ self.new.faults }
     {
-        match self.output.write(piece) {
+        match write_some(&mut self.output, piece) {
             Ok(bytes) if bytes > 0 => Ok(bytes),
             _ => {
                 self.faults = self.faults.saturating_add(1);
@@ -106,7 +107,7 @@ impl Link for StdLink {
         // What a failed read leaves in its buffer isn't known, so the bytes come by a buffer of their own.
         let mut piece = [0; PIECE];
         let room = PIECE.min(buf.len());
-        match self.input.read(piece.split_at_mut(room).0) {
+        match read_some(&mut self.input, piece.split_at_mut(room).0) {
             Ok(bytes) => {
                 buf.split_at_mut(bytes)
                     .0
@@ -199,7 +200,7 @@ fn read_to_limit<R: Read>(alloc: Global, reader: &mut R) -> Result<Octets, FileF
     let mut buf = [0; PIECE];
     while content.len() <= FILE_BYTES {
         let room = PIECE.min(FILE_BYTES + 1 - content.len());
-        let bytes = match reader.read(buf.split_at_mut(room).0) {
+        let bytes = match read_some(reader, buf.split_at_mut(room).0) {
             Ok(bytes) => bytes,
             Err(error) => return Err(fault_of(&error)),
         };

@@ -4,9 +4,10 @@ ghost use Rattle.kn_outside.specs.Faults.{Rose};
 
 use crate::run::run;
 use kn_base::{List, NoMemory, Octets};
-use kn_outside::{Failed, FileEntry, Link, MemFiles, MemLink, MemSink, Sink};
+use kn_outside::{Failed, FileEntry, Link, MemFiles, MemLink, MemSink, Passing, Sink};
 use std::alloc::Global;
 use std::process::Abort;
+use std::sync::Wait;
 use std::test::Fail;
 
 // Two of three may do what is asked, of which y may only log where w asks.
@@ -14,6 +15,10 @@ const POLICY: &[u8] =
     b"Authorizer: \"POLICY\"\nLicensees: 2-of(\"x\",\"y\",\"z\")\n\nAuthorizer: \"y\"\nLicensees: \"w\"\nConditions: true -> \"log\";\n";
 
 const FAULTY: &[u8] = b"Authorizer: \"x\ny\"\n";
+
+const KEYS: &[u8] = b"secret 733363726574\n";
+
+const BAD_KEYS: &[u8] = b"# keys\nmac 0b0 alice\n";
 
 const SCRIPT: &[u8] = b"OPEN\nAUTH 1 x\nAUTH 1 w\nQUERY 1 no,log,yes\n";
 
@@ -23,6 +28,8 @@ const REPLIES: &[u8] =
     b"OK 1 2\nOK\nOK\nVALUE 1 log 2 2\nROW 1 a2 \"y\"\nROW 1 a1 \"POLICY\"\nEND\n";
 
 const ASK: &[&[u8]] = &[b"ask", b"p.kn"];
+
+const ASK_KEYS: &[&[u8]] = &[b"ask", b"p.kn", b"k.txt"];
 
 const CHECK: &[&[u8]] = &[b"check", b"p.kn", b"s.in", b"r.out"];
 
@@ -76,9 +83,11 @@ fn octets(alloc: Global, words: &[&[u8]]) -> Result<List<Octets>, NoMemory> {
 
 fn entries(alloc: Global) -> Result<List<FileEntry>, NoMemory> {
     let mut list = List::new(alloc);
-    let files: [(&[u8], &[u8]); 4] = [
+    let files: [(&[u8], &[u8]); 6] = [
         (b"p.kn", POLICY),
         (b"f.kn", FAULTY),
+        (b"k.txt", KEYS),
+        (b"b.txt", BAD_KEYS),
         (b"s.in", SCRIPT),
         (b"r.out", REPLY),
     ];
@@ -101,44 +110,47 @@ fn files(alloc: Global, failing: u32) -> Result<MemFiles, NoMemory> {
 }
 
 // The first read gives at most 20 bytes.
-fn link(alloc: Global, failing: u32) -> Result<NarrowLink, NoMemory> {
+fn link(alloc: Global, input: &[u8], failing: u32) -> Result<NarrowLink, NoMemory> {
     let cuts = numbers(alloc, 20)?;
     let failing = numbers(alloc, failing)?;
-    let input = Octets::from_slice(alloc, SCRIPT)?;
+    let input = Octets::from_slice(alloc, input)?;
     let link = MemLink::of(alloc, input, cuts, failing);
     Ok(NarrowLink { link })
 }
 
 // An outside where these calls of the files, of the link and of the output fail; 0 for none.
-fn outside_of(alloc: Global, failing: (u32, u32, u32)) -> Result<Outside, NoMemory> {
+fn outside_of(alloc: Global, input: &[u8], failing: (u32, u32, u32)) -> Result<Outside, NoMemory> {
     let files = files(alloc, failing.0)?;
-    let own = link(alloc, failing.1)?;
+    let own = link(alloc, input, failing.1)?;
     let out = MemSink::of(alloc, numbers(alloc, failing.2)?);
     Ok(Outside { files, own, out })
 }
 
 // The status of a run, without what is proved of it: what follows a test's run looks through less.
-fn status_of(alloc: Global, words: &[Octets], outside: &mut Outside) -> u8 {
+fn status_of<R: Wait>(rt: &R, alloc: Global, words: &[Octets], outside: &mut Outside) -> u8 {
     run(
+        rt,
         alloc,
         words,
         &mut outside.files,
         &mut outside.own,
         &mut outside.out,
+        &Passing,
     )
 }
 
-// Over such an outside a run of these words ends with this status, so many files asked for, these bytes on the link, and this line.
-fn ends(
-    rt: &impl Abort,
+// Over this input a run of these words ends with this status, so many files asked for, these bytes on the link, and this line.
+fn ends_over<R: Abort + Wait>(
+    rt: &R,
     alloc: Global,
+    input: &[u8],
     words: &[&[u8]],
     failing: (u32, u32, u32),
     expected: (u8, u32, &[u8], &[u8]),
 ) -> Result<(), Fail> {
-    let mut left = outside_of(alloc, failing)?;
+    let mut left = outside_of(alloc, input, failing)?;
     let words = octets(alloc, words)?;
-    let status = status_of(alloc, words.as_slice(), &mut left);
+    let status = status_of(rt, alloc, words.as_slice(), &mut left);
     assert_eq!(rt; status, expected.0);
     assert_eq!(rt; left.files.asked().len(), expected.1);
     assert_eq!(rt; left.own.link.written(), expected.2);
@@ -146,18 +158,49 @@ fn ends(
     Ok(())
 }
 
+// The same over the script.
+fn ends<R: Abort + Wait>(
+    rt: &R,
+    alloc: Global,
+    words: &[&[u8]],
+    failing: (u32, u32, u32),
+    expected: (u8, u32, &[u8], &[u8]),
+) -> Result<(), Fail> {
+    ends_over(rt, alloc, SCRIPT, words, failing, expected)
+}
+
 #[test]
 fn runs_in_which_no_call_fails(rt: HostRuntime) -> Result<(), Fail> {
     let alloc = rt.alloc();
     ends(&rt, alloc, ASK, (0, 0, 0), (0, 1, REPLIES, b""))?;
+    ends(&rt, alloc, ASK_KEYS, (0, 0, 0), (0, 2, REPLIES, b""))?;
     ends(&rt, alloc, CHECK, (0, 0, 0), (0, 3, b"", b"PROVED 1 log\n"))
+}
+
+#[test]
+fn the_secret_is_that_of_the_key_file(rt: HostRuntime) -> Result<(), Fail> {
+    let alloc = rt.alloc();
+    let input = b"ADMIN 733363726574\nDROP a1\n";
+    let refused = b"NO 4 admin\nNO 4 admin\n";
+    ends_over(&rt, alloc, input, ASK, (0, 0, 0), (0, 1, refused, b""))?;
+    ends_over(
+        &rt,
+        alloc,
+        input,
+        ASK_KEYS,
+        (0, 0, 0),
+        (0, 2, b"OK\nOK 3\n", b""),
+    )?;
+    let bad: &[&[u8]] = &[b"ask", b"p.kn", b"b.txt"];
+    ends(&rt, alloc, bad, (0, 0, 0), (8, 2, b"", b"error keys 2\n"))
 }
 
 #[test]
 fn each_failed_file_is_told(rt: HostRuntime) -> Result<(), Fail> {
     let alloc = rt.alloc();
-    let table: [(&[&[u8]], u32, &[u8]); 4] = [
+    let table: [(&[&[u8]], u32, &[u8]); 5] = [
         (ASK, 1, b"error file p.kn read\n"),
+        (ASK_KEYS, 2, b"error file k.txt read\n"),
         (CHECK, 1, b"error file p.kn read\n"),
         (CHECK, 2, b"error file s.in read\n"),
         (CHECK, 3, b"error file r.out read\n"),
@@ -168,47 +211,66 @@ fn each_failed_file_is_told(rt: HostRuntime) -> Result<(), Fail> {
     Ok(())
 }
 
-// The input comes in two reads, the third tells its end, and the reply of 64 bytes is written by calls 4 to 13.
+// The reads are calls 1, 4 and 14. The other calls write, where a reply of 51 bytes is written by calls 6 to 13.
 #[test]
 fn each_failed_call_of_the_link_is_told(rt: HostRuntime) -> Result<(), Fail> {
     let alloc = rt.alloc();
-    for call in 1..4 {
+    for (call, bytes) in [(1, 0), (4, 10), (14, 64)] {
+        let front = REPLIES.split_at(bytes).0;
         ends(
             &rt,
             alloc,
             ASK,
             (0, call, 0),
-            (4, 1, b"", b"error link read\n"),
+            (4, 1, front, b"error link read\n"),
         )?;
     }
-    for write in 0..10 {
-        let front = REPLIES.split_at((7 * write as usize).min(REPLIES.len())).0;
-        ends(
-            &rt,
-            alloc,
-            ASK,
-            (0, 4 + write, 0),
-            (4, 1, front, b"error link write\n"),
-        )?;
+    for (call, bytes) in [(2, 0), (3, 7), (5, 10), (6, 13), (7, 20), (13, 62)] {
+        let front = REPLIES.split_at(bytes).0;
+        let line = b"error link write\n";
+        ends(&rt, alloc, ASK, (0, call, 0), (4, 1, front, line))?;
     }
     Ok(())
 }
 
-// Each write of a line fails: that of a file has three parts, that of a policy nine, and that of a proof five.
+#[test]
+fn an_unfinished_input_is_told(rt: HostRuntime) -> Result<(), Fail> {
+    let alloc = rt.alloc();
+    let table: [(&[u8], &[u8], &[u8]); 3] = [
+        (
+            b"OPEN\nADD 40\n0123456789",
+            b"OK 1 2\n",
+            b"error link cut 17\n",
+        ),
+        (
+            b"ADD 16385\n",
+            b"NO 15 block\n",
+            b"error link block 16385\n",
+        ),
+        (b"ADD 1\nab", b"NO 15 block\n", b"error link block 1\n"),
+    ];
+    for (input, written, line) in table {
+        ends_over(&rt, alloc, input, ASK, (0, 0, 0), (4, 1, written, line))?;
+    }
+    Ok(())
+}
+
+// A line is written at once, where it isn't long.
 #[test]
 fn a_front_of_a_line_may_be_written(rt: HostRuntime) -> Result<(), Fail> {
     let alloc = rt.alloc();
-    let none: &[&[u8]] = &[b"ask", b"none"];
+    let long: &[&[u8]] = &[b"ask", &[b'n'; 600]];
     let faulty: &[&[u8]] = &[b"ask", b"f.kn"];
-    let table: [(&[&[u8]], (u32, u32, u32), (u8, u32, &[u8], &[u8])); 8] = [
-        (none, (0, 0, 1), (9, 1, b"", b"")),
-        (none, (0, 0, 2), (9, 1, b"", b"error file ")),
-        (none, (0, 0, 3), (9, 1, b"", b"error file none")),
-        (faulty, (0, 0, 5), (9, 1, b"", b"error policy f.kn 1")),
-        (ASK, (0, 5, 1), (9, 1, b"OK 1 2\n", b"")),
+    let table: [(&[&[u8]], (u32, u32, u32), (u8, u32, &[u8], &[u8])); 5] = [
+        (faulty, (0, 0, 1), (9, 1, b"", b"")),
+        (
+            faulty,
+            (0, 0, 2),
+            (3, 1, b"", b"error policy f.kn 1 2 12\n"),
+        ),
+        (long, (0, 0, 2), (9, 1, b"", b"error file ")),
+        (ASK, (0, 5, 1), (9, 1, b"OK 1 2\nOK\n", b"")),
         (CHECK, (0, 0, 1), (9, 3, b"", b"")),
-        (CHECK, (0, 0, 3), (9, 3, b"", b"PROVED 1")),
-        (CHECK, (0, 0, 5), (9, 3, b"", b"PROVED 1 log")),
     ];
     for (words, failing, expected) in table {
         ends(&rt, alloc, words, failing, expected)?;

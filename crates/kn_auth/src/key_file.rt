@@ -66,7 +66,8 @@ impl KeyFile {
     ghost use Rattle.std.specs.Bool.{MatchBool};
     ghost use Rattle.kn_auth.specs.Reading.{with_entry, IsTaken, IsRefused};
 
-    fn empty(alloc: Global) -> KeyFile
+    /// What a key file without lines says: no key and no digest is known, and the secret is empty.
+    pub fn empty(alloc: Global) -> KeyFile
         ensures keys { result.auth.keys ≡ [] }
         ensures digests { result.auth.digests ≡ [] }
         ensures secret { result.secret ≡ [] }

@@ -1,8 +1,8 @@
+pub mod Alone
 pub mod Loaded
+pub mod Files
 pub mod Printed
 pub mod Told
-pub mod Read
-pub mod Due
 pub mod Lines
 pub mod Reached
-pub mod Shown
+pub mod Asked

@@ -1,127 +1,129 @@
--- How answering a link ends: its status, the line that tells it, and what it leaves (keynoted's own).
-use Rattle.std.specs.Prelude.{ℕ, ◌≡◌, ◌≤◌, Bool, true, false, List, [], ◌∷◌, ◌++◌, length, codes, decimal, Option, Some, None, IfSome, ◌⊎◌}
+-- How serving a link over a policy ends: its status, the line that tells it, and what it leaves (keynoted's own).
+use Rattle.std.specs.Prelude.{ℕ, ◌≡◌, ◌⊎◌, List, [], ◌∷◌, ◌++◌, codes, decimal, Some, IfSome}
 use Rattle.std.specs.Option.{unwrap_or}
 use Rattle.kn_outside.specs.Seen.{FilesSeen, LinkSeen}
 use Rattle.kn_outside.specs.Asked.{HasAsked, HasFailed}
-use Rattle.kn_outside.specs.Reading.{Reads, Fails}
-use Rattle.kn_outside.specs.Printing.{Writes}
-use Rattle.kn_assert.specs.declared.fault.ReadFault.{ReadFault}
-use Rattle.kn_assert.specs.Faults.{fault_number, fault_place}
+use Rattle.kn_outside.specs.Told.{more, before}
 use Rattle.kn_files.specs.Pieces.{pieces_of}
-use Rattle.kn_wire.specs.declared.refusal.LimitWord.{LimitWord}
-use Rattle.kn_wire.specs.Replies.{word_text}
+use Rattle.kn_auth.specs.KeyFiles.{IsFirstMalformed}
+use Rattle.kn_auth.specs.Verdicts.{verdict_of}
+use Rattle.kn_auth.specs.declared.key_file.KeyFile.{KeyFile}
+use Rattle.kn_store.specs.declared.update.Update.{Update}
+use Rattle.kn_store.specs.History.{loaded_history}
 use Rattle.kn_store.specs.Loading.{IsFaultyAt}
-use Rattle.kn_script.specs.declared.asks.Script.{Script}
-use Rattle.kn_script.specs.FirstInput.{IsFirstInput}
-use Rattle.kn_play.specs.Asked.{IsAsked}
+use Rattle.kn_daemon.specs.Daemon.{Grounds}
+use Rattle.kn_daemon.specs.Alone.{IsServedAlone}
+use Rattle.kn_daemon.specs.declared.ended.Ended.{Ended}
+use Rattle.kn_daemon.specs.declared.ended.Ended.TheVariants as E
+use Rattle.kn_serve.specs.Serving.{is_over, HasCause, IsOrderly, IsFaultless}
+use Rattle.kn_commands.specs.Names.{AskNames, ask_order}
+use Rattle.kn_commands.specs.Held.{HasContent, IsTooLarge, IsPolicy, AreKeys, IsFileRead}
 use Rattle.kn_commands.specs.Loaded.{IsLimitAt}
-use Rattle.kn_commands.specs.Held.{HasContent, IsTooLarge, IsPolicy}
+use Rattle.kn_commands.specs.Stopping.{status_of, stop_line}
 use Rattle.kn_commands.specs.declared.stop.Stop.{Stop}
-use Rattle.kn_commands.specs.declared.stop.Stop.TheVariants.{Words, FileFailed, FileTooLarge, Policy, Limit, ReadFailed, InputForm, WriteFailed, Memory}
+use Rattle.kn_commands.specs.declared.stop.Stop.TheVariants.{Words, FileFailed, FileTooLarge, Policy, Limit, KeyLine, Memory}
+use Rattle.kn_commands.specs.declared.ask_ending.AskEnding.{AskEnding}
+use Rattle.kn_commands.specs.declared.ask_ending.AskEnding.TheVariants.{PolicyStopped, KeysStopped, Served}
 
--- This is at most the first byte too many of an input, and it was read.
-pub record IsRead (input : List ℕ) (o o' : LinkSeen) : Type 0 where
-  pub reads : Reads input o o'
-  pub within : length input ≤ 65537
+-- what a connection is served with: the secret and the verdicts of a key file
+abbrev pub grounds_of : KeyFile → Grounds
+grounds_of keys = record { secret = keys.secret; verdict = verdict_of keys.auth }
 
--- the input was read to its end
-pub record IsReadWhole (input : List ℕ) (o o' : LinkSeen) : Type 0 where
-  pub read : IsRead input o o'
-  pub ended : IfSome o'.left (λ left. left ≡ [])
+-- The link was served by a daemon of one thread, of which caller 0 is the only one, over this history: the bytes that were
+-- taken of it and written to it, the history in the end, and why the connection ended so. An input that is in order is served to
+-- its end, if no call of the link fails and there is memory.
+pub record IsLinkServed (g : Grounds) (past : List Update) (o o' : LinkSeen) (ended : Ended) : Type 0 where
+  pub taken : List ℕ
+  pub written : List ℕ
+  pub history : List Update
+  pub served : IsServedAlone g taken written ended (is_over o'.left) past history 0
+  pub took : o'.taken ≡ more taken o.taken
+  pub left : o.left ≡ before taken o'.left
+  pub wrote : o'.written ≡ more written o.written
+  pub cause : HasCause ended o o'
+  pub complete : IfSome o.left (λ input. IsOrderly input → IsFaultless o o' → (ended ≡ E.Done) ⊎ (ended ≡ E.Memory))
 
--- the input hasn't the first form: what was read of it to its end, or it is longer than that form may be, and was read to the
--- first byte too many
-pub record IsWrongInput (input : List ℕ) (o o' : LinkSeen) : Type 0 where
-  pub read : IsRead input o o'
-  pub wrong : (IfSome o'.left (λ left. left ≡ []) × ((script : Option Script) → IsFirstInput input script → ⊥)) ⊎ (length input ≡ 65537)
-
--- a read failed behind this input, which isn't longer than an input may be
-pub record IsFailedRead (input : List ℕ) (o o' : LinkSeen) : Type 0 where
-  pub mid : LinkSeen
-  pub reads : Reads input o mid
-  pub within : length input ≤ 65536
-  pub fails : Fails mid o'
-
--- the whole input was read, and the reply to it over the policy file of these bytes was written: all of it, or a front where that failed
-pub record IsReplied (whole : Bool) (bytes : List ℕ) (o o' : LinkSeen) : Type 0 where
-  pub input : List ℕ
-  pub mid : LinkSeen
-  pub read : IsReadWhole input o mid
-  pub script : Option Script
-  pub form : IsFirstInput input script
-  pub reply : List ℕ
-  pub asked : IsAsked (pieces_of bytes) input reply
-  pub writes : Writes whole reply mid o'
-
--- What answering the link over the policy file of these bytes does where this stops it; at None the reply was written whole.
-abbrev pub Answering : List ℕ → LinkSeen → LinkSeen → Option Stop → Type 0
-Answering bytes o o' None = IsReplied true bytes o o'
-Answering bytes o o' (Some WriteFailed) = IsReplied false bytes o o'
-Answering bytes o o' (Some InputForm) = (input : List ℕ) × IsWrongInput input o o'
-Answering bytes o o' (Some ReadFailed) = (input : List ℕ) × IsFailedRead input o o'
-Answering bytes o o' (Some Memory) = (input : List ℕ) × IsRead input o o'
-Answering bytes o o' (Some Words) = ⊥
-Answering bytes o o' (Some FileFailed) = ⊥
-Answering bytes o o' (Some FileTooLarge) = ⊥
-Answering bytes o o' (Some (Policy n fault)) = ⊥
-Answering bytes o o' (Some (Limit n word count)) = ⊥
-
--- the file of this name was asked for, and it is the policy over which the link was answered
-pub record IsAnswering (name : List ℕ) (f f' : FilesSeen) (o o' : LinkSeen) (due : Option Stop) : Type 0 where
-  pub asked : HasAsked (name ∷ []) f f'
+-- The files of these names were read: a policy and, where one is named, a key file. Over them the link was served.
+pub record IsLinkAnswered (f f' : FilesSeen) (o o' : LinkSeen) (names : AskNames) (ended : Ended) : Type 0 where
+  pub asked : HasAsked (ask_order names) f f'
   pub bytes : List ℕ
-  pub policy : IsPolicy f name bytes
-  pub answering : Answering bytes o o' due
+  pub policy : IsPolicy f names.policy bytes
+  pub keys : KeyFile
+  pub known : AreKeys f names.keys keys
+  pub served : IsLinkServed (grounds_of keys) (loaded_history (pieces_of bytes)) o o' ended
 
--- the file of this name was asked for, and holds these bytes
-pub record IsFileRead (name : List ℕ) (f f' : FilesSeen) (bytes : List ℕ) : Type 0 where
-  pub asked : HasAsked (name ∷ []) f f'
-  pub content : HasContent f name bytes
+-- why reading or loading the policy file stops a command
+abbrev pub StopsAtPolicy : FilesSeen → FilesSeen → List ℕ → Stop → Type 0
+StopsAtPolicy f f' name FileFailed = HasFailed (name ∷ []) f f'
+StopsAtPolicy f f' name FileTooLarge = HasAsked (name ∷ []) f f' × IsTooLarge f name
+StopsAtPolicy f f' name (Policy n fault) = (bytes : List ℕ) × IsFileRead name f f' bytes × IsFaultyAt (pieces_of bytes) n fault
+StopsAtPolicy f f' name (Limit n word count) = (bytes : List ℕ) × IsFileRead name f f' bytes × IsLimitAt (pieces_of bytes) n word count
+StopsAtPolicy f f' name Memory = (f' ≡ f) ⊎ HasAsked (name ∷ []) f f'
+StopsAtPolicy f f' name Words = ⊥
+StopsAtPolicy f f' name (KeyLine n) = ⊥
 
--- Why a run ends so, and what it leaves of the files and of the link. Before the policy is loaded the link is untouched.
-abbrev pub Cause : List ℕ → FilesSeen → FilesSeen → LinkSeen → LinkSeen → Option Stop → Type 0
-Cause name f f' o o' (Some Words) = (f' ≡ f) × (o' ≡ o)
-Cause name f f' o o' (Some FileFailed) = HasFailed (name ∷ []) f f' × (o' ≡ o)
-Cause name f f' o o' (Some FileTooLarge) = HasAsked (name ∷ []) f f' × IsTooLarge f name × (o' ≡ o)
-Cause name f f' o o' (Some (Policy n fault)) = (bytes : List ℕ) × IsFileRead name f f' bytes × IsFaultyAt (pieces_of bytes) n fault × (o' ≡ o)
-Cause name f f' o o' (Some (Limit n word count)) = (bytes : List ℕ) × IsFileRead name f f' bytes × IsLimitAt (pieces_of bytes) n word count × (o' ≡ o)
-Cause name f f' o o' (Some ReadFailed) = IsAnswering name f f' o o' (Some ReadFailed)
-Cause name f f' o o' (Some InputForm) = IsAnswering name f f' o o' (Some InputForm)
-Cause name f f' o o' (Some WriteFailed) = IsAnswering name f f' o o' (Some WriteFailed)
-Cause name f f' o o' (Some Memory) = (((f' ≡ f) ⊎ HasAsked (name ∷ []) f f') × (o' ≡ o)) ⊎ IsAnswering name f f' o o' (Some Memory)
-Cause name f f' o o' None = IsAnswering name f f' o o' None
+-- why reading a key file stops a command, behind files of these names
+abbrev pub StopsAtKeys : FilesSeen → FilesSeen → List (List ℕ) → List ℕ → Stop → Type 0
+StopsAtKeys f f' front name FileFailed = HasFailed (front ++ name ∷ []) f f'
+StopsAtKeys f f' front name FileTooLarge = HasAsked (front ++ name ∷ []) f f' × IsTooLarge f name
+StopsAtKeys f f' front name (KeyLine n) = HasAsked (front ++ name ∷ []) f f' × (text : List ℕ) × HasContent f name text × IsFirstMalformed text n
+StopsAtKeys f f' front name Memory = HasAsked front f f' ⊎ HasAsked (front ++ name ∷ []) f f'
+StopsAtKeys f f' front name Words = ⊥
+StopsAtKeys f f' front name (Policy n fault) = ⊥
+StopsAtKeys f f' front name (Limit n word count) = ⊥
 
-abbrev pub status_of : Option Stop → ℕ
-status_of None = 0
-status_of (Some Words) = 1
-status_of (Some FileFailed) = 2
-status_of (Some FileTooLarge) = 2
-status_of (Some (Policy n fault)) = 3
-status_of (Some (Limit n word count)) = 3
-status_of (Some ReadFailed) = 4
-status_of (Some InputForm) = 4
-status_of (Some WriteFailed) = 4
-status_of (Some Memory) = 5
+-- a key file is named, the policy file is a policy, and this stops the command
+pub record AreKeysStopped (f f' : FilesSeen) (names : AskNames) (stop : Stop) : Type 0 where
+  pub name : List ℕ
+  pub named : names.keys ≡ Some name
+  pub bytes : List ℕ
+  pub policy : IsPolicy f names.policy bytes
+  pub stops : StopsAtKeys f f' (names.policy ∷ []) name stop
 
--- the line that tells a fault of the n-th assertion of a policy file; want of memory has no number, and is told otherwise
-unfoldable pub fault_line : List ℕ → ℕ → ReadFault → List ℕ
-fault_line name n fault =
-    codes "error policy " ++ name ++ codes " " ++ decimal n ++ codes " " ++ decimal (unwrap_or (fault_number fault) 0) ++ codes " " ++ decimal (fault_place fault) ++ codes "\n"
+-- Why `ask` ends so, and what it leaves of the files and of the link. Before both files are tried the link is untouched.
+abbrev pub AskCause : FilesSeen → FilesSeen → LinkSeen → LinkSeen → AskNames → AskEnding → Type 0
+AskCause f f' o o' names (PolicyStopped stop) = StopsAtPolicy f f' names.policy stop × (o' ≡ o)
+AskCause f f' o o' names (KeysStopped stop) = AreKeysStopped f f' names stop × (o' ≡ o)
+AskCause f f' o o' names (Served ended) = IsLinkAnswered f f' o o' names ended
 
--- the line that tells which limit refuses the n-th assertion of a policy file
-unfoldable pub limit_line : List ℕ → ℕ → LimitWord → ℕ → List ℕ
-limit_line name n word count =
-    codes "error policy " ++ name ++ codes " " ++ decimal n ++ codes " limit " ++ word_text word ++ codes " " ++ decimal count ++ codes "\n"
+abbrev pub status_of_ended : Ended → ℕ
+status_of_ended E.Done = 0
+status_of_ended E.Memory = 5
+status_of_ended E.ReadFault = 4
+status_of_ended E.WriteFault = 4
+status_of_ended (E.Cut held) = 4
+status_of_ended (E.Block n) = 4
+status_of_ended E.Budget = 4
 
--- the line that is due, with the name of the file
-abbrev pub line_of : List ℕ → Option Stop → List ℕ
-line_of name None = []
-line_of name (Some Words) = codes "error words\n"
-line_of name (Some FileFailed) = codes "error file " ++ name ++ codes " read\n"
-line_of name (Some FileTooLarge) = codes "error file " ++ name ++ codes " large\n"
-line_of name (Some (Policy n fault)) = fault_line name n fault
-line_of name (Some (Limit n word count)) = limit_line name n word count
-line_of name (Some ReadFailed) = codes "error link read\n"
-line_of name (Some InputForm) = codes "error link form\n"
-line_of name (Some WriteFailed) = codes "error link write\n"
-line_of name (Some Memory) = codes "error memory\n"
+abbrev pub status_of_ask : AskEnding → ℕ
+status_of_ask (PolicyStopped stop) = status_of stop
+status_of_ask (KeysStopped stop) = status_of stop
+status_of_ask (Served ended) = status_of_ended ended
+
+-- the line that tells that the input ended while so many bytes of an unfinished request were held
+unfoldable pub cut_line : ℕ → List ℕ
+cut_line held = codes "error link cut " ++ decimal held ++ codes "\n"
+
+-- the line that tells that a block of so many bytes was refused
+unfoldable pub block_line : ℕ → List ℕ
+block_line n = codes "error link block " ++ decimal n ++ codes "\n"
+
+-- the line that tells how a connection ended; where it is done there is none
+abbrev pub line_of_ended : Ended → List ℕ
+line_of_ended E.Done = []
+line_of_ended E.Memory = codes "error memory\n"
+line_of_ended E.ReadFault = codes "error link read\n"
+line_of_ended E.WriteFault = codes "error link write\n"
+line_of_ended (E.Cut held) = cut_line held
+line_of_ended (E.Block n) = block_line n
+line_of_ended E.Budget = codes "error link budget\n"
+
+-- the name of the key file
+abbrev pub keys_name : AskNames → List ℕ
+keys_name names = unwrap_or names.keys []
+
+-- the line that is due
+abbrev pub line_of_ask : AskNames → AskEnding → List ℕ
+line_of_ask names (PolicyStopped stop) = stop_line names.policy stop
+line_of_ask names (KeysStopped stop) = stop_line (keys_name names) stop
+line_of_ask names (Served ended) = line_of_ended ended

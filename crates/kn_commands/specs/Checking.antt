@@ -1,61 +1,50 @@
 -- How checking a reply ends: its status, the line that tells it, and what it leaves (keynoted's own).
-use Rattle.std.specs.Prelude.{ℕ, ◌≡◌, ◌≤◌, ◌⊎◌, List, ◌∷◌, [], ◌++◌, length, take, codes, decimal, Option, Some}
+use Rattle.std.specs.Prelude.{ℕ, ◌≡◌, ◌⊎◌, List, ◌++◌, length, take, codes, decimal, Some}
 use Rattle.kn_outside.specs.Seen.{FilesSeen}
 use Rattle.kn_outside.specs.Asked.{HasAsked, HasFailed}
 use Rattle.kn_files.specs.Pieces.{pieces_of}
 use Rattle.kn_proof.specs.declared.reply.ReadReply.{ReadReply}
 use Rattle.kn_check.specs.declared.reject.Reject.{Reject}
 use Rattle.kn_check.specs.Rejects.{reason_number, reason_row, reason_found}
-use Rattle.kn_script.specs.declared.asks.Script.{Script}
 use Rattle.kn_store.specs.History.{loaded_history}
 use Rattle.kn_store.specs.Loading.{IsFaultyAt}
 use Rattle.kn_session.specs.Sessions.{Session}
 use Rattle.kn_daemon.specs.Daemon.{equations_of}
-use Rattle.kn_script.specs.FirstInput.{IsFirstInput}
-use Rattle.kn_wire.specs.Requests.{Request, Takes}
-use Rattle.kn_daemon.specs.Played.{IsMeant}
+use Rattle.kn_play.specs.Meaning.{Means}
 use Rattle.kn_proof.specs.declared.fault.ProofFault.{ProofFault}
 use Rattle.kn_proof.specs.declared.fault.ProofFault.TheVariants as F
 use Rattle.kn_proof.specs.Reading.{IsReplyText, IsFirstFault, fault_number, fault_line}
 use Rattle.kn_verify.specs.Verdicts.{IsReplyTo, IsProved, IsUnproved}
 use Rattle.kn_commands.specs.declared.stop.Stop.{Stop}
-use Rattle.kn_commands.specs.declared.stop.Stop.TheVariants.{Words, FileFailed, FileTooLarge, Limit, ReadFailed, InputForm, WriteFailed, Memory}
+use Rattle.kn_commands.specs.declared.stop.Stop.TheVariants.{Words, FileFailed, FileTooLarge, Limit, KeyLine, Memory}
 use Rattle.kn_commands.specs.declared.stop.Stop.TheVariants as S
 use Rattle.kn_commands.specs.declared.ending.Source.{Source}
 use Rattle.kn_commands.specs.declared.ending.Source.TheVariants.{Policy, Script as TheScript, Reply}
 use Rattle.kn_commands.specs.declared.ending.Ending.{Ending}
 use Rattle.kn_commands.specs.declared.ending.Ending.TheVariants.{Stopped, NoQuery, Faulty, Rejected, Proved}
-use Rattle.kn_commands.specs.Names.{Names, in_order}
+use Rattle.kn_commands.specs.Names.{CheckNames, in_order}
 use Rattle.kn_commands.specs.Loaded.{IsLimitAt}
-use Rattle.kn_commands.specs.Held.{HasContent, IsTooLarge, IsPolicy}
-use Rattle.kn_commands.specs.Asking.{IsFileRead, line_of, status_of}
-
--- the script has the form of an input, and its requests mean this query over the policy of these texts
-pub record IsQuery (texts : List (List ℕ)) (script : List ℕ) (session : Session) (values : List (List ℕ)) : Type 0 where
-  pub parsed : Option Script
-  pub form : IsFirstInput script parsed
-  pub requests : List Request
-  pub whole : Takes script requests []
-  pub meant : IsMeant (loaded_history texts) requests session values
+use Rattle.kn_commands.specs.Held.{HasContent, IsTooLarge, IsPolicy, IsFileRead}
+use Rattle.kn_commands.specs.Stopping.{stop_line, status_of}
 
 -- the files hold a policy, and a script that means this query over it
-pub record HasQuery (f : FilesSeen) (names : Names) (session : Session) (values : List (List ℕ)) : Type 0 where
+pub record HasQuery (f : FilesSeen) (names : CheckNames) (session : Session) (values : List (List ℕ)) : Type 0 where
   pub bytes : List ℕ
   pub policy : IsPolicy f names.policy bytes
   pub script : List ℕ
   pub content : HasContent f names.script script
-  pub query : IsQuery (pieces_of bytes) script session values
+  pub query : Means (loaded_history (pieces_of bytes)) script session values
 
 -- the files hold a policy, and a script that means no query over it
-pub record HasNoQuery (f : FilesSeen) (names : Names) : Type 0 where
+pub record HasNoQuery (f : FilesSeen) (names : CheckNames) : Type 0 where
   pub bytes : List ℕ
   pub policy : IsPolicy f names.policy bytes
   pub script : List ℕ
   pub content : HasContent f names.script script
-  pub none : (session : Session) (values : List (List ℕ)) → ¬ IsQuery (pieces_of bytes) script session values
+  pub none : (session : Session) (values : List (List ℕ)) → ¬ Means (loaded_history (pieces_of bytes)) script session values
 
 -- the name of a file
-abbrev pub name_of : Names → Source → List ℕ
+abbrev pub name_of : CheckNames → Source → List ℕ
 name_of names Policy = names.policy
 name_of names TheScript = names.script
 name_of names Reply = names.reply
@@ -73,26 +62,24 @@ count_to TheScript = 2
 count_to Reply = 3
 
 -- what was found before a file was asked for
-abbrev pub Reached : FilesSeen → Names → Source → Type 0
+abbrev pub Reached : FilesSeen → CheckNames → Source → Type 0
 Reached f names Policy = Unit {0}
 Reached f names TheScript = (bytes : List ℕ) × IsPolicy f names.policy bytes
 Reached f names Reply = (session : Session) × (values : List (List ℕ)) × HasQuery f names session values
 
 -- a file was about to be asked for, or was, and nothing else changed
-abbrev pub HasComeTo : FilesSeen → FilesSeen → Names → Source → Type 0
+abbrev pub HasComeTo : FilesSeen → FilesSeen → CheckNames → Source → Type 0
 HasComeTo f f' names source = HasAsked (take (count_before source) (in_order names)) f f' ⊎ HasAsked (take (count_to source) (in_order names)) f f'
 
 -- why reading a file, or loading the policy, stops a run
-abbrev pub StopsAt : FilesSeen → FilesSeen → Names → Source → Stop → Type 0
-StopsAt f f' names source FileFailed = Reached f names source × HasFailed (take (count_to source) (in_order names)) f f'
-StopsAt f f' names source FileTooLarge = Reached f names source × HasAsked (take (count_to source) (in_order names)) f f' × IsTooLarge f (name_of names source)
-StopsAt f f' names source (S.Policy n fault) = (source ≡ Policy) × (bytes : List ℕ) × IsFileRead names.policy f f' bytes × IsFaultyAt (pieces_of bytes) n fault
-StopsAt f f' names source (Limit n word count) = (source ≡ Policy) × (bytes : List ℕ) × IsFileRead names.policy f f' bytes × IsLimitAt (pieces_of bytes) n word count
-StopsAt f f' names source Memory = Reached f names source × HasComeTo f f' names source
-StopsAt f f' names source Words = ⊥
-StopsAt f f' names source ReadFailed = ⊥
-StopsAt f f' names source InputForm = ⊥
-StopsAt f f' names source WriteFailed = ⊥
+abbrev pub StopsCheckAt : FilesSeen → FilesSeen → CheckNames → Source → Stop → Type 0
+StopsCheckAt f f' names source FileFailed = Reached f names source × HasFailed (take (count_to source) (in_order names)) f f'
+StopsCheckAt f f' names source FileTooLarge = Reached f names source × HasAsked (take (count_to source) (in_order names)) f f' × IsTooLarge f (name_of names source)
+StopsCheckAt f f' names source (S.Policy n fault) = (source ≡ Policy) × (bytes : List ℕ) × IsFileRead names.policy f f' bytes × IsFaultyAt (pieces_of bytes) n fault
+StopsCheckAt f f' names source (Limit n word count) = (source ≡ Policy) × (bytes : List ℕ) × IsFileRead names.policy f f' bytes × IsLimitAt (pieces_of bytes) n word count
+StopsCheckAt f f' names source Memory = Reached f names source × HasComeTo f f' names source
+StopsCheckAt f f' names source Words = ⊥
+StopsCheckAt f f' names source (KeyLine n) = ⊥
 
 -- how a run ends at a fault of a text; want of memory has no number
 abbrev pub ending_of_fault : ProofFault → Ending
@@ -122,49 +109,37 @@ pub record IsProvedText (session : Session) (values : List (List ℕ)) (text : L
   pub proved : IsProved (equations_of session values) (length session.pinned) values reply
 
 -- what the text of a reply to a query shows where a run ends so; for want of memory it shows nothing
-abbrev pub Shows : Session → List (List ℕ) → List ℕ → Ending → Type 0
-Shows session values text (Stopped source stop) = (source ≡ Reply) × (stop ≡ Memory)
-Shows session values text NoQuery = ⊥
-Shows session values text (Faulty fault line) = IsFaultyText session values text fault line
-Shows session values text (Rejected reject) = IsUnprovedText session values text reject
-Shows session values text (Proved value name) = IsProvedText session values text value name
+abbrev pub ReplyShows : Session → List (List ℕ) → List ℕ → Ending → Type 0
+ReplyShows session values text (Stopped source stop) = (source ≡ Reply) × (stop ≡ Memory)
+ReplyShows session values text NoQuery = ⊥
+ReplyShows session values text (Faulty fault line) = IsFaultyText session values text fault line
+ReplyShows session values text (Rejected reject) = IsUnprovedText session values text reject
+ReplyShows session values text (Proved value name) = IsProvedText session values text value name
 
 -- the files were read; the first two hold this query, and the third this text
-pub record IsTried (f f' : FilesSeen) (names : Names) (session : Session) (values : List (List ℕ)) (text : List ℕ) : Type 0 where
+pub record IsTried (f f' : FilesSeen) (names : CheckNames) (session : Session) (values : List (List ℕ)) (text : List ℕ) : Type 0 where
   pub asked : HasAsked (in_order names) f f'
   pub query : HasQuery f names session values
   pub content : HasContent f names.reply text
 
 -- the files hold a query and a text, which shows why a run ends so
-pub record IsShown (f f' : FilesSeen) (names : Names) (ending : Ending) : Type 0 where
+pub record IsShown (f f' : FilesSeen) (names : CheckNames) (ending : Ending) : Type 0 where
   pub session : Session
   pub values : List (List ℕ)
   pub text : List ℕ
   pub tried : IsTried f f' names session values text
-  pub shows : Shows session values text ending
+  pub shows : ReplyShows session values text ending
 
 -- why a run ends so
-abbrev pub CheckCause : FilesSeen → FilesSeen → Names → Ending → Type 0
-CheckCause f f' names (Stopped source stop) = StopsAt f f' names source stop
+abbrev pub CheckCause : FilesSeen → FilesSeen → CheckNames → Ending → Type 0
+CheckCause f f' names (Stopped source stop) = StopsCheckAt f f' names source stop
 CheckCause f f' names NoQuery = HasAsked (take 2 (in_order names)) f f' × HasNoQuery f names
 CheckCause f f' names (Faulty fault line) = IsShown f f' names (Faulty fault line)
 CheckCause f f' names (Rejected reject) = IsShown f f' names (Rejected reject)
 CheckCause f f' names (Proved value name) = IsShown f f' names (Proved value name)
 
--- why a file isn't read
-abbrev pub IsUnread : FilesSeen → FilesSeen → List ℕ → Stop → Type 0
-IsUnread f f' name FileFailed = HasFailed (name ∷ []) f f'
-IsUnread f f' name FileTooLarge = HasAsked (name ∷ []) f f' × IsTooLarge f name
-IsUnread f f' name Memory = f' ≡ f
-IsUnread f f' name Words = ⊥
-IsUnread f f' name (S.Policy n fault) = ⊥
-IsUnread f f' name (Limit n word count) = ⊥
-IsUnread f f' name ReadFailed = ⊥
-IsUnread f f' name InputForm = ⊥
-IsUnread f f' name WriteFailed = ⊥
-
 abbrev pub status_of_ending : Ending → ℕ
-status_of_ending (Stopped source stop) = status_of (Some stop)
+status_of_ending (Stopped source stop) = status_of stop
 status_of_ending NoQuery = 10
 status_of_ending (Faulty fault line) = 6
 status_of_ending (Rejected reject) = 6
@@ -183,8 +158,8 @@ unfoldable pub proved_line : ℕ → List ℕ → List ℕ
 proved_line value name = codes "PROVED " ++ decimal value ++ codes " " ++ name ++ codes "\n"
 
 -- the line that is due
-abbrev pub line_of_ending : Names → Ending → List ℕ
-line_of_ending names (Stopped source stop) = line_of (name_of names source) (Some stop)
+abbrev pub line_of_ending : CheckNames → Ending → List ℕ
+line_of_ending names (Stopped source stop) = stop_line (name_of names source) stop
 line_of_ending names NoQuery = codes "error query\n"
 line_of_ending names (Faulty fault line) = text_line fault line
 line_of_ending names (Rejected reject) = reject_line reject

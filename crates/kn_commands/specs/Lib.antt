@@ -1,5 +1,6 @@
 pub mod Names
 pub mod Held
 pub mod Loaded
+pub mod Stopping
 pub mod Asking
 pub mod Checking

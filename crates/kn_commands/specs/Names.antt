@@ -1,12 +1,21 @@
 -- The names of files (keynoted's own).
-use Rattle.std.specs.Prelude.{ℕ, List, [], ◌∷◌}
+use Rattle.std.specs.Prelude.{ℕ, List, [], ◌∷◌, Option, option_to_list}
+
+-- the files of `ask`: the policy, and the key file where one is named
+pub record AskNames : Type 0 where
+  pub policy : List ℕ
+  pub keys : Option (List ℕ)
+
+-- in the order in which they are read
+abbrev pub ask_order : AskNames → List (List ℕ)
+ask_order names = names.policy ∷ option_to_list names.keys
 
 -- the files of `check`: the policy, the script, and the reply to the query that the script means
-pub record Names : Type 0 where
+pub record CheckNames : Type 0 where
   pub policy : List ℕ
   pub script : List ℕ
   pub reply : List ℕ
 
 -- in the order in which they are read
-abbrev pub in_order : Names → List (List ℕ)
+abbrev pub in_order : CheckNames → List (List ℕ)
 in_order names = names.policy ∷ names.script ∷ names.reply ∷ []

@@ -1,113 +1,134 @@
-//! Answering the input of a link over the policy in a file.
-ghost use Rattle.std.specs.Prelude.{◌≡◌, ◌≢◌, ◌<◌, ◌≤◌, ◌+◌, ◌^◌, [], ℕ, List, Option as Maybe, ◌⊎◌, length, All, IfOk, IfErr, IfSome};
-ghost use Rattle.std.specs.Result.{result_err};
+//! Serving a link over the policy in a file, with the keys in another.
+ghost use Rattle.std.specs.Prelude.{◌≡◌, ◌∷◌, [], ℕ, List, Some, IsSomeAnd, OnOk, IfOk, IfErr, option_map, option_to_list};
 ghost use Rattle.kn_files.specs.Pieces.{pieces_of};
-ghost use Rattle.kn_answer.specs.Sizes.{HaveTexts};
-ghost use Rattle.kn_play.specs.Answering.{parts_in};
-ghost use Rattle.kn_script.specs.declared.asks.Script.{Script};
-ghost use Rattle.kn_script.specs.FirstInput.{IsFirstInput, requests_of};
+ghost use Rattle.kn_outside.specs.Seen.{FilesSeen};
+ghost use Rattle.kn_outside.specs.Asked.{HasAsked};
 ghost use Rattle.kn_store.specs.History.{loaded_history};
-ghost use Rattle.kn_play.specs.Asked.{IsAnswered};
+ghost use Rattle.kn_commands.specs.Held.{IsPolicy, AreKeys};
 ghost use Rattle.kn_commands.specs.Loaded.{IsLoaded};
-ghost use Rattle.kn_commands.specs.Asking.{Answering, Cause, IsRead};
-ghost use Rattle.kn_commands.specs.declared.stop.Stop.TheVariants as S;
+ghost use Rattle.kn_commands.specs.Asking.{AskCause, IsLinkServed, StopsAtKeys, grounds_of};
 
+use crate::ask_ending::AskEnding;
+use crate::content::read_file;
 use crate::load::load;
 use crate::stop::Stop;
-use kn_assert::Assertion;
-use kn_base::{List, NoMemory, Octets};
-use kn_outside::{Failed, FileFault, Files, Link, write_all};
-use kn_play::replies;
-use kn_script::{INPUT_BYTES, ScriptFault, read_script};
+use kn_auth::{KeyFault, KeyFile, read_keys};
+use kn_daemon::laws::served_alone;
+use kn_outside::{Files, Gate, Link};
+use kn_registry::{Pass, Registry};
+use kn_serve::{Ended, serve_connection};
 use std::alloc::Global;
+use std::marker::Model;
+use std::sync::Wait;
 
-/// The input of a link, to its end or to the first byte too many.
-fn read_input<L: Link>(alloc: Global, own: &mut L) -> Result<Octets, Stop>
-    ensures read { IfOk result (λ input. IsRead input (L.seen own.old) (L.seen own.new)) }
-    ensures ended { IfOk result (λ input. length input ≤ 65536 → IfSome (L.seen own.new).left (λ left. left ≡ [])) }
-    ensures err { (bytes : List ℕ) → IfErr result (λ stop. Answering bytes (L.seen own.old) (L.seen own.new) (Some stop)) }
-{
-    let mut input = Octets::new(alloc);
-    let mut buffer = [0u8; 4096];
-    while input.len() <= INPUT_BYTES {
-        let room = buffer.len().min(INPUT_BYTES + 1 - input.len());
-        let read = match own.read(buffer.split_at_mut(room).0) {
-            Ok(read) => read,
-            Err(Failed) => return Err(Stop::ReadFailed),
-        };
-        if read == 0 {
-            return Ok(input);
-        }
-        match input.extend(buffer.split_at(read).0) {
-            Ok(()) => {}
-            Err(NoMemory) => return Err(Stop::Memory),
-        }
-    }
-    Ok(input)
+/// The files of `ask`, by their names.
+#[derive(Drop)]
+pub struct AskFiles<'a> {
+    pub policy: &'a [u8],
+    /// The key file, if there is one.
+    pub keys: Option<&'a [u8]>,
 }
 
-/// The reply to an input over the assertions of a policy.
-fn reply_to(
-    alloc: Global,
-    file: &Octets,
-    assertions: &List<Assertion>,
-    input: &Octets,
-) -> Result<Octets, Stop>
-    requires loaded { IsLoaded (pieces_of file.now) assertions.now }
-    requires texts { HaveTexts (parts_in assertions.now) }
-    ensures ok { IfOk result (λ reply. (script : Maybe Script) × IsFirstInput input.now script × IsAnswered (loaded_history (pieces_of file.now)) (requests_of script) reply) }
-    ensures err { IfErr result (λ stop. (stop ≡ S.Memory) ⊎ ((stop ≡ S.InputForm) × ((script : Maybe Script) → IsFirstInput input.now script → ⊥))) }
-{
-    let script = match read_script(alloc, input.as_slice()) {
-        Ok(script) => script,
-        Err(ScriptFault::Form) => return Err(Stop::InputForm),
-        Err(ScriptFault::NoMemory) => return Err(Stop::Memory),
-    };
-    match replies(alloc, assertions, &script) {
-        Ok(reply) => Ok(reply),
-        Err(NoMemory) => Err(Stop::Memory),
-    }
+impl<'a> Model for AskFiles<'a> {
+    ghost use Rattle.std.specs.Prelude.{option_map};
+    ghost use Rattle.kn_commands.specs.Names.{AskNames};
+
+    ghost Value = { AskNames };
+
+    ghost view = { λ f. record { policy = f.policy.now; keys = option_map (λ k. k.now) f.keys } };
 }
 
-/// Answers the whole input of a link over the assertions of a policy.
-fn answer<L: Link>(
+/// Serves the link over the policy in a file, with the secret and the keys of the key file, and tells how that ends.
+///
+/// The files are read in the order of the words, and what each holds is tried before the next is read.
+pub fn ask<R: Wait, F: Files, L: Link, G: Gate>(
+    rt: &R,
     alloc: Global,
-    file: &Octets,
-    assertions: &List<Assertion>,
-    own: &mut L,
-) -> Result<(), Stop>
-    requires loaded { IsLoaded (pieces_of file.now) assertions.now }
-    requires texts { HaveTexts (parts_in assertions.now) }
-    ensures { Answering file.now (L.seen own.old) (L.seen own.new) (result_err result) }
-{
-    kn_script::laws::input_is_taken();
-    let input = read_input(alloc, own)?;
-    let reply = reply_to(alloc, file, assertions, &input)?;
-    match write_all(own, reply.as_slice()) {
-        Ok(()) => Ok(()),
-        Err(Failed) => Err(Stop::WriteFailed),
-    }
-}
-
-/// Answers the link over the policy in the file of this name.
-pub fn ask<F: Files, L: Link>(
-    alloc: Global,
-    name: &[u8],
+    names: &AskFiles<'_>,
     files: &mut F,
     own: &mut L,
-) -> Result<(), Stop>
-    ensures cause { Cause name.now (F.seen files.old) (F.seen files.new) (L.seen own.old) (L.seen own.new) (result_err result) }
-    ensures words { result ≢ Err S.Words }
+    gate: &G,
+) -> AskEnding
+    ensures { AskCause (F.seen files.old) (F.seen files.new) (L.seen own.old) (L.seen own.new) names.now result }
 {
-    let file = match files.read(name) {
+    let file = match read_file(files, names.policy) {
         Ok(file) => file,
-        Err(FileFault::Failed) => return Err(Stop::FileFailed),
-        Err(FileFault::TooLarge) => return Err(Stop::FileTooLarge),
-        Err(FileFault::NoMemory) => return Err(Stop::Memory),
+        Err(stop) => return AskEnding::PolicyStopped(stop),
     };
-    let assertions = match load(alloc, file.as_slice()) {
-        Ok(assertions) => assertions,
-        Err(stop) => return Err(stop),
-    };
-    answer(alloc, &file, &assertions, own)
+    match load(rt, alloc, file.as_slice()) {
+        Ok((registry, root)) => ask_loaded(rt, alloc, &registry, root, names, files, own, gate),
+        Err(stop) => AskEnding::PolicyStopped(stop),
+    }
+}
+
+/// Serves the link over a policy that is loaded.
+fn ask_loaded<R: Wait, F: Files, L: Link, G: Gate>(
+    rt: &R,
+    alloc: Global,
+    registry: &Registry,
+    root: Pass,
+    names: &AskFiles<'_>,
+    files: &mut F,
+    own: &mut L,
+    gate: &G,
+) -> AskEnding
+    requires loaded { (texts : List (List ℕ)) × IsLoaded texts registry.now root }
+    ensures { (f : FilesSeen) (bytes : List ℕ) → IsPolicy f names.now.policy bytes → IsLoaded (pieces_of bytes) registry.now root
+        → HasAsked (names.now.policy ∷ []) f (F.seen files.old) → AskCause f (F.seen files.new) (L.seen own.old) (L.seen own.new) names.now result }
+{
+    match keys_of(alloc, names.keys, files) {
+        Ok(keys) => AskEnding::Served(serve(rt, alloc, registry, root, &keys, own, gate)),
+        Err(stop) => AskEnding::KeysStopped(stop),
+    }
+}
+
+/// What the key file says; where none is named, no key and no digest is known, and the secret is empty.
+fn keys_of<F: Files>(alloc: Global, name: Option<&[u8]>, files: &mut F) -> Result<KeyFile, Stop>
+    ensures known { IfOk result (λ keys. AreKeys (F.seen files.old) (option_map (λ n. n.now) name.entry) keys) }
+    ensures asked { OnOk result (HasAsked (option_to_list (option_map (λ n. n.now) name.entry)) (F.seen files.old) (F.seen files.new)) }
+    ensures err { IfErr result (λ stop. IsSomeAnd (option_map (λ n. n.now) name.entry) (λ n. StopsAtKeys (F.seen files.old) (F.seen files.new) [] n stop)) }
+{
+    match name {
+        Some(name) => read_key_file(alloc, name, files),
+        None => Ok(KeyFile::empty(alloc)),
+    }
+}
+
+/// What the key file of this name says.
+fn read_key_file<F: Files>(alloc: Global, name: &[u8], files: &mut F) -> Result<KeyFile, Stop>
+    ensures known { IfOk result (λ keys. AreKeys (F.seen files.old) (Some name.now) keys) }
+    ensures asked { OnOk result (HasAsked (name.now ∷ []) (F.seen files.old) (F.seen files.new)) }
+    ensures err { IfErr result (λ stop. StopsAtKeys (F.seen files.old) (F.seen files.new) [] name.now stop) }
+{
+    let text = read_file(files, name)?;
+    match read_keys(alloc, text.as_slice()) {
+        Ok(keys) => Ok(keys),
+        Err(KeyFault::Line { line }) => Err(Stop::KeyLine { line }),
+        Err(KeyFault::NoMemory) => Err(Stop::Memory),
+    }
+}
+
+/// Serves the link over a registry whose root has seen a policy's history, and tells how the connection ended.
+fn serve<R: Wait, L: Link, G: Gate>(
+    rt: &R,
+    alloc: Global,
+    registry: &Registry,
+    root: Pass,
+    keys: &KeyFile,
+    own: &mut L,
+    gate: &G,
+) -> Ended
+    requires loaded { (texts : List (List ℕ)) × IsLoaded texts registry.now root }
+    ensures { (texts : List (List ℕ)) → IsLoaded texts registry.now root
+        → IsLinkServed (grounds_of keys.now) (loaded_history texts) (L.seen own.old) (L.seen own.new) result }
+{
+    served_alone();
+    let mut root = root;
+    let secret = keys.secret.as_slice();
+    let ended = serve_connection(
+        rt, alloc, registry, &mut root, &keys.auth, secret, own, gate,
+    );
+    // what the number tells with it is that the root has seen no updates but its own
+    let _root = root.number();
+    ended
 }

@@ -1,16 +1,21 @@
-//! What the commands do, over whatever files, link and output they are given: `ask` answers an input over a policy, and
+//! What the commands do, over whatever files, link and output they are given: `ask` serves a link over a policy, and
 //! `check` tells whether a reply proves the value of the query that a script means.
 #![tactic(auto)]
 
+mod ask_ending;
+mod ask_line;
 mod asking;
 mod checking;
+mod content;
 mod ending;
 mod ending_line;
 mod line;
 mod load;
 mod stop;
 
-pub use asking::ask;
+pub use ask_ending::AskEnding;
+pub use ask_line::print_ask;
+pub use asking::{AskFiles, ask};
 pub use checking::{CheckFiles, check};
 pub use ending::{Ending, Source};
 pub use ending_line::print_ending;

@@ -1,16 +1,45 @@
-//! The line that tells what stopped the program.
-ghost use Rattle.std.specs.Prelude.{◌++◌, Some, codes, flat_map};
+//! The line that tells what stopped a command.
+ghost use Rattle.std.specs.Prelude.{◌≡◌, ◌++◌, [], true, codes, flat_map};
 ghost use Rattle.kn_outside.specs.Printing.{Prints, is_whole};
-ghost use Rattle.kn_commands.specs.Asking.{line_of, fault_line, limit_line};
+ghost use Rattle.kn_commands.specs.Stopping.{stop_line, policy_fault_line, limit_line, keys_line};
 
 use crate::stop::Stop;
+use arrayvec::ArrayVec;
 use itoa::Buffer;
 use kn_assert::ReadFault;
 use kn_outside::{Failed, Sink, write_all};
 use kn_wire::LimitWord;
 
-/// Prints texts one after the other.
+/// The bytes of a line that is written at once.
+const GATHERED_BYTES: usize = 512;
+
+/// Prints texts one after the other: at once, unless they are long together.
 pub(crate) fn print_all<O: Sink>(out: &mut O, texts: &[&[u8]]) -> Result<(), Failed>
+    ensures { Prints (is_whole result) (flat_map (λ t. t.now) texts.now) (O.seen out.old) (O.seen out.new) }
+{
+    let mut line = ArrayVec::new();
+    if gather(&mut line, texts) {
+        return write_all(out, line.as_slice());
+    }
+    print_each(out, texts)
+}
+
+/// Gathers texts one behind the other, where there is room for them.
+fn gather(line: &mut ArrayVec<u8, GATHERED_BYTES>, texts: &[&[u8]]) -> bool
+    requires empty { line.old.items ≡ [] }
+    ensures { result ≡ true → line.new.items ≡ flat_map (λ t. t.now) texts.now }
+{
+    for text in texts {
+        match line.try_extend_from_slice(*text) {
+            Ok(()) => {}
+            Err(_) => return false,
+        }
+    }
+    true
+}
+
+/// Prints texts one after the other, each by itself.
+fn print_each<O: Sink>(out: &mut O, texts: &[&[u8]]) -> Result<(), Failed>
     ensures { Prints (is_whole result) (flat_map (λ t. t.now) texts.now) (O.seen out.old) (O.seen out.new) }
 {
     for text in texts {
@@ -33,7 +62,7 @@ fn print_fault<O: Sink>(
     assertion: u32,
     fault: ReadFault,
 ) -> Result<(), Failed>
-    ensures { Prints (is_whole result) (fault_line name.now assertion fault) (O.seen out.old) (O.seen out.new) }
+    ensures { Prints (is_whole result) (policy_fault_line name.now assertion fault) (O.seen out.old) (O.seen out.new) }
 {
     let mut assertion_digits = Buffer::new();
     let mut fault_digits = Buffer::new();
@@ -82,9 +111,20 @@ fn print_limit<O: Sink>(
     )
 }
 
-/// Prints the line of what stopped the program.
+/// Prints the line of the first malformed line of a key file.
+fn print_key_line<O: Sink>(out: &mut O, line: usize) -> Result<(), Failed>
+    ensures { Prints (is_whole result) (keys_line line) (O.seen out.old) (O.seen out.new) }
+{
+    let mut digits = Buffer::new();
+    print_all(
+        out,
+        &[b"error keys ", digits.format(line).as_bytes(), b"\n"],
+    )
+}
+
+/// Prints the line of what stopped a command.
 pub fn print_line<O: Sink>(out: &mut O, stop: Stop, name: &[u8]) -> Result<(), Failed>
-    ensures { Prints (is_whole result) (line_of name.now (Some stop)) (O.seen out.old) (O.seen out.new) }
+    ensures { Prints (is_whole result) (stop_line name.now stop) (O.seen out.old) (O.seen out.new) }
 {
     match stop {
         Stop::Words => write_all(out, b"error words\n"),
@@ -96,9 +136,7 @@ pub fn print_line<O: Sink>(out: &mut O, stop: Stop, name: &[u8]) -> Result<(), F
             word,
             count,
         } => print_limit(out, name, assertion, word, count),
-        Stop::ReadFailed => write_all(out, b"error link read\n"),
-        Stop::InputForm => write_all(out, b"error link form\n"),
-        Stop::WriteFailed => write_all(out, b"error link write\n"),
+        Stop::KeyLine { line } => print_key_line(out, line),
         Stop::Memory => write_all(out, b"error memory\n"),
     }
 }

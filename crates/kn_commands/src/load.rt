@@ -1,43 +1,69 @@
-//! Loading a policy file: its assertions, added in their order to an empty history.
-ghost use Rattle.std.specs.Prelude.{◌≡◌, ◌+◌, ◌^◌, ◌<◌, ◌≤◌, ◌∷◌, ◌++◌, [], All, length, IfOk, IfErr, MatchOption, ℕ, List as Of};
+//! Loading a policy file: its assertions, added in their order to a new registry by its root pass.
+ghost use Rattle.std.specs.Prelude.{◌≡◌, ◌≢◌, ◌+◌, ◌≤◌, ◌∷◌, ◌++◌, [], length, All, OnOk, IfOk, IfErr, MatchOption, Some, ℕ, List as Of};
 ghost use Rattle.kn_assert.specs.Faults.{fault_number};
-ghost use Rattle.kn_files.specs.Pieces.{pieces_of, bytes_at, IsWithin};
-ghost use Rattle.kn_answer.specs.Sizes.{HaveTexts};
-ghost use Rattle.kn_play.specs.Answering.{parts_in};
-ghost use Rattle.kn_commands.specs.Loaded.{IsLoaded, HasLoaded, StopsLoading};
+ghost use Rattle.kn_files.specs.Pieces.{pieces_of, spans_of, bytes_at, IsWithin};
+ghost use Rattle.kn_store.specs.declared.fault.StoreFault.TheVariants as F;
+ghost use Rattle.kn_commands.specs.Loaded.{IsUnsplitRoot, IsLoaded, IsLimitStop, StopsLoading};
 ghost use Rattle.kn_commands.specs.declared.stop.Stop.TheVariants as S;
 
 use crate::stop::Stop;
-use kn_assert::{Assertion, ReadFault, read};
-use kn_base::limits::{FILE_BYTES, LIVE_BYTES, LIVE_CREDENTIALS};
+use kn_assert::{ReadFault, read};
+use kn_base::limits::FILE_BYTES;
 use kn_base::{List, NoMemory, Span};
 use kn_files::split_file;
+use kn_registry::{Pass, Registry};
+use kn_store::{Ready, StoreFault};
 use kn_wire::LimitWord;
 use std::alloc::Global;
+use std::sync::Wait;
 
-/// The assertions of a policy file, in their order.
+/// A registry with the assertions of a policy file, added by its root pass, caller 0, in their order.
 ///
 /// What stops loading is the first of its assertions that has a fault, or that the limits of live credentials refuse.
 /// Both are tried for one assertion before the next is looked at, the fault first (keynoted's own).
-pub(crate) fn load(alloc: Global, file: &[u8]) -> Result<List<Assertion>, Stop>
+pub(crate) fn load<R: Wait>(rt: &R, alloc: Global, file: &[u8]) -> Result<(Registry, Pass), Stop>
     requires { length file.now ≤ FILE_BYTES }
-    ensures loaded { IfOk result (λ assertions. IsLoaded (pieces_of file.now) assertions) }
-    ensures texts { IfOk result (λ assertions. HaveTexts (parts_in assertions)) }
+    ensures loaded { IfOk result (λ made. IsLoaded (pieces_of file.now) made.0 made.1) }
     ensures stopped { IfErr result (λ stop. StopsLoading (pieces_of file.now) stop) }
 {
     let spans = match split_file(alloc, file) {
         Ok(spans) => spans,
         Err(NoMemory) => return Err(Stop::Memory),
     };
-    let mut assertions = List::new(alloc);
-    let mut bytes = 0;
-    for span in spans.as_slice() {
-        match add(alloc, &mut assertions, bytes, text_at(file, *span)) {
-            Ok(sum) => bytes = sum,
+    let (registry, mut root) = match Registry::start(alloc) {
+        Ok(made) => made,
+        Err(NoMemory) => return Err(Stop::Memory),
+    };
+    match add_all(rt, alloc, &registry, &mut root, file, &spans) {
+        Ok(()) => Ok((registry, root)),
+        Err(stop) => Err(stop),
+    }
+}
+
+/// Adds the assertions at the spans of a file, in their order.
+fn add_all<R: Wait>(
+    rt: &R,
+    alloc: Global,
+    registry: &Registry,
+    root: &mut Pass,
+    file: &[u8],
+    spans: &List<Span>,
+) -> Result<(), Stop>
+    requires none { IsLoaded [] registry.now root.old }
+    requires spans { spans.now ≡ spans_of file.now }
+    requires within { All (IsWithin file.now) spans.now }
+    ensures loaded { OnOk result (IsLoaded (pieces_of file.now) registry.now root.new) }
+    ensures stopped { IfErr result (λ stop. StopsLoading (pieces_of file.now) stop) }
+{
+    let items = spans.as_slice();
+    for place in 0..spans.len() {
+        let span = &items[place as usize];
+        match add(rt, alloc, registry, root, text_at(file, *span), place + 1) {
+            Ok(()) => {}
             Err(stop) => return Err(stop),
         }
     }
-    Ok(assertions)
+    Ok(())
 }
 
 /// The text at a span of a file.
@@ -50,42 +76,32 @@ fn text_at(file: &[u8], span: Span) -> &[u8]
     file.split_at(start).1.split_at(end - start).0
 }
 
-/// Adds the assertion of a text behind these, whose texts have so many bytes, and tells how many bytes there are then.
-fn add(
+/// Adds the assertion of a text, the one of this number, behind those that were loaded before.
+fn add<R: Wait>(
+    rt: &R,
     alloc: Global,
-    assertions: &mut List<Assertion>,
-    bytes: usize,
+    registry: &Registry,
+    root: &mut Pass,
     text: &[u8],
-) -> Result<usize, Stop>
-    requires few { length assertions.old ≤ LIVE_CREDENTIALS }
-    requires most { bytes ≤ LIVE_BYTES }
-    ensures ok { (front : Of (Of ℕ)) → HasLoaded front assertions.old bytes
-        → IfOk result (λ sum. HasLoaded (front ++ text.now ∷ []) assertions.new sum) }
-    ensures stopped { (front rest : Of (Of ℕ)) → HasLoaded front assertions.old bytes
+    number: u32,
+) -> Result<(), Stop>
+    requires root { IsUnsplitRoot registry.now root.old }
+    ensures ok { (front : Of (Of ℕ)) → IsLoaded front registry.now root.old
+        → OnOk result (IsLoaded (front ++ text.now ∷ []) registry.now root.new) }
+    ensures stopped { (front rest : Of (Of ℕ)) → IsLoaded front registry.now root.old → number ≡ length front + 1
         → IfErr result (λ stop. StopsLoading (front ++ text.now ∷ rest) stop) }
 {
-    let count = assertions.len();
     let assertion = match read(alloc, text) {
         Ok(assertion) => assertion,
-        Err(fault) => return Err(fault_stop(count + 1, fault)),
+        Err(fault) => return Err(fault_stop(number, fault)),
     };
-    if count >= LIVE_CREDENTIALS {
-        return Err(Stop::Limit {
-            assertion: count + 1,
-            word: LimitWord::Live,
-            count,
-        });
-    }
-    if text.len() > LIVE_BYTES - bytes {
-        return Err(Stop::Limit {
-            assertion: count + 1,
-            word: LimitWord::LiveBytes,
-            count: bytes as u32,
-        });
-    }
-    match assertions.push(assertion) {
-        Ok(()) => Ok(bytes + text.len()),
-        Err(_) => Err(Stop::Memory),
+    let ready = match Ready::of(alloc, text, assertion) {
+        Ok(ready) => ready,
+        Err(NoMemory) => return Err(Stop::Memory),
+    };
+    match registry.add(rt, root, ready) {
+        Ok(_) => Ok(()),
+        Err(fault) => Err(limit_stop(number, fault)),
     }
 }
 
@@ -96,5 +112,25 @@ fn fault_stop(assertion: u32, fault: ReadFault) -> Stop
     match fault.number() {
         Some(_) => Stop::Policy { assertion, fault },
         None => Stop::Memory,
+    }
+}
+
+/// What stops loading at an assertion that is refused for this. No text is refused for an unknown id.
+fn limit_stop(assertion: u32, fault: StoreFault) -> Stop
+    requires known { (id : ℕ) → fault ≢ F.Unknown id }
+    ensures { IsLimitStop assertion fault result }
+{
+    let (word, count) = match fault {
+        StoreFault::LiveFull { count } => (LimitWord::Live, count),
+        StoreFault::BytesFull { bytes } => (LimitWord::LiveBytes, bytes),
+        StoreFault::HistoryFull { updates } => (LimitWord::Updates, updates),
+        StoreFault::LogFull { bytes } => (LimitWord::LogBytes, bytes),
+        StoreFault::Unknown { .. } => unreachable!(),
+        StoreFault::NoMemory => return Stop::Memory,
+    };
+    Stop::Limit {
+        assertion,
+        word,
+        count,
     }
 }

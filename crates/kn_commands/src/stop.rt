@@ -1,5 +1,5 @@
 //! What stops a command.
-ghost use Rattle.std.specs.Prelude.{◌≡◌, Some};
+ghost use Rattle.std.specs.Prelude.{◌≡◌};
 
 use kn_assert::ReadFault;
 use kn_wire::LimitWord;
@@ -25,28 +25,26 @@ pub enum Stop {
         word: LimitWord,
         count: u32,
     },
-    /// `ask`: reading the link failed.
-    ReadFailed,
-    /// `ask`: the input hasn't the first form.
-    InputForm,
-    /// `ask`: writing to the link failed.
-    WriteFailed,
+    /// The line of this number in the key file, counted from 1, is its first malformed one.
+    KeyLine {
+        line: usize,
+    },
     /// There was no memory.
     Memory,
 }
 
 impl Stop {
-    ghost use Rattle.kn_commands.specs.Asking.{status_of};
+    ghost use Rattle.kn_commands.specs.Stopping.{status_of};
 
     /// The exit status.
     pub fn status(self) -> u8
-        ensures { result ≡ status_of (Some self) }
+        ensures { result ≡ status_of self }
     {
         match self {
             Stop::Words => 1,
             Stop::FileFailed | Stop::FileTooLarge => 2,
             Stop::Policy { .. } | Stop::Limit { .. } => 3,
-            Stop::ReadFailed | Stop::InputForm | Stop::WriteFailed => 4,
+            Stop::KeyLine { .. } => 8,
             Stop::Memory => 5,
         }
     }

@@ -1,11 +1,13 @@
 -- So many requests start at most as many sessions, and add at most as many private assertions to each.
-use Rattle.std.proofs.Common.{◌≡◌, ℕ, ◌+◌, ◌≤◌, Bool, true, false, cond, ◌==◌, List, [], ◌∷◌, ◌++◌, length, map, filter, find, sym, subst, arith, Some, take, add-zero}
+use Rattle.std.proofs.Common.{◌≡◌, ℕ, ◌+◌, ◌≤◌, Option, None, Bool, true, false, cond, ◌==◌, List, [], ◌∷◌, ◌++◌, length, map, filter, find, sym, subst, arith, Some, take, add-zero}
 use Rattle.std.specs.List.{AllByRecursion}
 use Rattle.kn_principal.specs.Principals.{normal_form}
 use Rattle.kn_store.specs.declared.update.Update.{Update}
+use Rattle.kn_wire.specs.declared.refusal.Refusal.{Refusal}
 use Rattle.kn_wire.specs.Requests.{Request, Open, Close, Pin, Assert, Retract, Set, SetHex, Unset, Auth, Unauth, Clear, Query, Admin, Add, Drop, Bye, Faulty}
 use Rattle.kn_wire.specs.Replies.{Reply, Done, Started, Number, PrivateAdded, Added, Value, No, NoMemory}
-use Rattle.kn_daemon.specs.Daemon.{Grounds, State, first_state, with_session, changed, Does, Permits}
+use Rattle.kn_daemon.specs.Daemon.{Grounds, State, first_state, with_session, own_refusal, changed, Does, Permits}
+use Rattle.kn_daemon.specs.Played.{unless_refused, after_request, played}
 use Rattle.kn_session.specs.Sessions.{Session, started_session, add_requester, is_named}
 use Rattle.kn_daemon.specs.Linearized.{Exchange, Along}
 use Rattle.kn_wire.specs.Feeding.{Held}
@@ -108,4 +110,30 @@ small g taken written history start caller stops state held answered u =
     record {
       started = few.started;
       made = λ s session found. made-found answered s state.sessions session few.made found;
+    }
+
+-- Playing.
+
+few-after : (n : ℕ) (g : Grounds) (past : List Update) (state : State) (request : Request) → AreFew n state → AreFew (n + 1) (after_request g past state request)
+few-after n g past state request few = by (own_refusal g state request)
+  where
+    by : (o : Option Refusal) → AreFew (n + 1) (unless_refused o state (changed past state request))
+    by None = few-changed n past state request few
+    by (Some refusal) = few-more n state few
+
+few-played : (n : ℕ) (g : Grounds) (past : List Update) (state : State) (requests : List Request) → AreFew n state → AreFew (n + length requests) (played g past state requests)
+few-played n g past state [] few = subst (λ k. AreFew k state) (sym (add-zero n)) few
+few-played n g past state (request ∷ requests) few =
+    let rest = few-played (n + 1) g past (after_request g past state request) requests (few-after n g past state request few) in
+    subst (λ k. AreFew k (played g past (after_request g past state request) requests)) (omega arith) rest
+
+-- so many requests that are played start at most as many sessions, and add at most as many private assertions to each
+pub played-small : (g : Grounds) (past : List Update) (requests : List Request) → IsSmall (length requests) (played g past first_state requests)
+played-small g past requests =
+    let size : 0 + length requests ≡ length requests = omega arith in
+    let few : AreFew (length requests) (played g past first_state requests) =
+    subst (λ k. AreFew k (played g past first_state requests)) size (few-played 0 g past first_state requests (record { started = omega arith; made = tt })) in
+    record {
+      started = few.started;
+      made = λ s session found. made-found (length requests) s (played g past first_state requests).sessions session few.made found;
     }

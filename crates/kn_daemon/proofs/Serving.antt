@@ -60,7 +60,7 @@ not_shut-after text (Faulty F.Long) left h = by (list_any is_newline text)
     by false = refl
 not_shut-after text (Faulty (F.Block n)) left h = cc
 
-next-not_shut : (held after : Held) (request : Request) → is_shut held ≡ false → is_block request ≡ false → next_of held ≡ Some (request, after) → is_shut after ≡ false
+pub next-not_shut : (held after : Held) (request : Request) → is_shut held ≡ false → is_block request ≡ false → next_of held ≡ Some (request, after) → is_shut after ≡ false
 next-not_shut (Bytes text) after request no_block goes_on e = by (first_of text) e
   where
     spent : Request × List ℕ → Request × Held

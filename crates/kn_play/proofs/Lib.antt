@@ -1,3 +1,3 @@
-pub mod Numbered
-pub mod Entering
-pub mod Answered
+pub mod Requests
+pub mod Underway
+pub mod Finding

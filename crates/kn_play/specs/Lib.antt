@@ -1,2 +1,2 @@
-pub mod Asked
-pub mod Answering
+pub mod Meaning
+pub mod Playing

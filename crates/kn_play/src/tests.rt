@@ -1,102 +1,162 @@
-//! The lines of rows, and the replies to a script.
-ghost use Rattle.std.specs.Prelude.{◌≡◌, ◌∷◌, [], IfOk};
-ghost use Rattle.kn_answer.specs.Sizes.{HaveTexts};
-ghost use Rattle.kn_play.specs.Answering.{parts_in};
+//! The queries that scripts mean, each over a book of one credential.
+ghost use Rattle.std.specs.Prelude.{◌≤◌, length};
+ghost use Rattle.kn_base.specs.declared.limits.TheConstants.{FILE_BYTES};
 
-use crate::replies;
-use crate::text::push_rows;
-use kn_assert::{Assertion, read};
-use kn_base::{List, NoMemory, Octets};
-use kn_proof::{Id, NamedRow};
-use kn_script::read_script;
+use crate::{Meant, find_query};
+use kn_assert::read;
+use kn_base::limits::FILE_BYTES;
+use kn_base::{NoMemory, Octets};
+use kn_store::{Book, Ready};
 use std::alloc::Global;
 use std::process::Abort;
 use std::test::Fail;
 
-fn alone<T: Drop>(alloc: Global, item: T) -> Result<List<T>, NoMemory>
-    ensures { IfOk result (λ list. list ≡ item ∷ []) }
+const CREDENTIAL: &[u8] = b"Authorizer: \"POLICY\"\nLicensees: \"alice\"\n";
+
+/// What a script means over the book.
+fn found(alloc: Global, script: &[u8]) -> Result<Option<Meant>, Fail>
+    requires { length script.now ≤ FILE_BYTES }
 {
-    let mut list = List::new(alloc);
-    match list.push(item) {
-        Ok(()) => Ok(list),
-        Err(_) => Err(NoMemory),
+    let mut book = Book::empty(alloc)?;
+    let ready = Ready::of(alloc, CREDENTIAL, read(alloc, CREDENTIAL)?)?;
+    let prepared = book.prepare_add(0, ready)?;
+    let _done = book.commit(prepared);
+    Ok(find_query(alloc, book.snapshot(), script)?)
+}
+
+/// What a script means, where it means a query.
+fn meant(rt: &impl Abort, alloc: Global, script: &[u8]) -> Result<Meant, Fail>
+    requires { length script.now ≤ FILE_BYTES }
+{
+    match found(alloc, script)? {
+        Some(meant) => Ok(meant),
+        None => panic!(rt; "no query in {script:?}"),
     }
 }
 
-/// The line of one row.
-fn row_line(alloc: Global, value: u8, id: Id, principal: &[u8]) -> Result<Octets, NoMemory> {
-    let row = NamedRow {
-        value,
-        id,
-        principal: Octets::from_slice(alloc, principal)?,
-    };
-    let rows = alone(alloc, row)?;
-    let mut text = Octets::new(alloc);
-    push_rows(&mut text, &rows)?;
-    Ok(text)
+/// A script means a query of this session, which has so many requesters and private assertions, and so many values are
+/// asked for.
+fn means(
+    rt: &impl Abort,
+    alloc: Global,
+    script: &[u8],
+    shown: (u32, u32, u32, u8),
+) -> Result<(), Fail>
+    requires { length script.now ≤ FILE_BYTES }
+{
+    let (session, requesters, privates, values) = shown;
+    let meant = meant(rt, alloc, script)?;
+    let view = meant.view();
+    assert_eq!(rt; view.number, session);
+    assert_eq!(rt; view.requesters.len(), requesters);
+    assert_eq!(rt; view.private.len(), privates);
+    assert_eq!(rt; meant.values.len(), values);
+    assert_eq!(rt; view.snapshot.number(), 1);
+    Ok(())
 }
 
-fn names(rt: &impl Abort, alloc: Global, principal: &[u8], line: &[u8]) -> Result<(), Fail> {
-    let text = row_line(alloc, 1, Id::Shared(1), principal)?;
-    assert_eq!(rt; text.as_slice(), line);
+fn means_none(rt: &impl Abort, alloc: Global, script: &[u8]) -> Result<(), Fail>
+    requires { length script.now ≤ FILE_BYTES }
+{
+    let is_none = found(alloc, script)?.is_none();
+    assert!(rt; is_none);
     Ok(())
 }
 
 #[test]
-fn rows_tell_value_and_id(rt: HostRuntime) -> Result<(), Fail> {
+fn the_last_query_is_meant(rt: HostRuntime) -> Result<(), Fail> {
     let alloc = rt.alloc();
-    let shared = row_line(alloc, 63, Id::Shared(2048), b"POLICY")?;
-    assert_eq!(rt; shared.as_slice(), b"ROW 63 a2048 \"POLICY\"\n".as_slice());
-    let own = row_line(alloc, 2, Id::Private(1), b"y")?;
-    assert_eq!(rt; own.as_slice(), b"ROW 2 p1 \"y\"\n".as_slice());
-    Ok(())
+    let script =
+        b"OPEN\nAUTH 1 x\nQUERY 1 no,yes\nOPEN\nAUTH 2 x\nAUTH 2 y\nQUERY 2 no,log,yes\nAUTH 2 z\nPIN 2\n";
+    means(&rt, alloc, script, (2, 2, 0, 3))
 }
 
 #[test]
-fn principals_are_quoted(rt: HostRuntime) -> Result<(), Fail> {
+fn unanswered_queries_are_passed_over(rt: HostRuntime) -> Result<(), Fail> {
     let alloc = rt.alloc();
-    names(&rt, alloc, b"a b", b"ROW 1 a1 \"a b\"\n")?;
-    names(&rt, alloc, b"\"", b"ROW 1 a1 \"\\\"\"\n")?;
-    names(&rt, alloc, b"a\\", b"ROW 1 a1 \"a\\\\\"\n")?;
-    names(&rt, alloc, b"!~", b"ROW 1 a1 \"!~\"\n")
+    let script =
+        b"OPEN\nOPEN\nAUTH 1 x\nQUERY 1 no,yes\nCLOSE 1\nQUERY 1 a,b,c\nQUERY 9 a,b,c\nQUERY 2 no\nquery 2 a,b\n";
+    means(&rt, alloc, script, (1, 1, 0, 2))
 }
 
 #[test]
-fn bytes_that_are_not_printed_stand_in_octal(rt: HostRuntime) -> Result<(), Fail> {
+fn requests_behind_the_end_are_not_played(rt: HostRuntime) -> Result<(), Fail> {
     let alloc = rt.alloc();
-    names(&rt, alloc, b"\x00\n", b"ROW 1 a1 \"\\000\\012\"\n")?;
-    names(&rt, alloc, b"\x1f ", b"ROW 1 a1 \"\\037 \"\n")?;
-    names(&rt, alloc, b"~\x7f", b"ROW 1 a1 \"~\\177\"\n")?;
-    names(
+    means(
         &rt,
         alloc,
-        b"\xc3\xa9\xff",
-        b"ROW 1 a1 \"\\303\\251\\377\"\n",
+        b"OPEN\nQUERY 1 no,yes\nBYE\nAUTH 1 x\nQUERY 1 a,b,c\n",
+        (1, 0, 0, 2),
+    )?;
+    means(
+        &rt,
+        alloc,
+        b"OPEN\nQUERY 1 no,yes\nASSERT 1 1\nxyQUERY 1 a,b,c\n",
+        (1, 0, 0, 2),
+    )?;
+    means(
+        &rt,
+        alloc,
+        b"OPEN\nQUERY 1 no,yes\nQUERY 1 a,b,c",
+        (1, 0, 0, 2),
     )
 }
 
-/// The policy licenses alice.
-fn policy(rt: &impl Abort, alloc: Global) -> Result<List<Assertion>, NoMemory>
-    ensures { IfOk result (λ assertions. HaveTexts (parts_in assertions)) }
-{
-    match read(alloc, b"Authorizer: \"POLICY\"\nLicensees: \"alice\"\n") {
-        Ok(assertion) => alone(alloc, assertion),
-        Err(fault) => panic!(rt; "{fault:?}"),
-    }
+#[test]
+fn refused_requests_change_nothing(rt: HostRuntime) -> Result<(), Fail> {
+    let alloc = rt.alloc();
+    let script =
+        b"OPEN\nADMIN 00\nADD 37\nAuthorizer: \"alice\"\nLicensees: \"bob\"\n\nDROP a1\nAUTH 1 POLICY\nASSERT 1 1\nx\nSET 1 _x y\nAUTH 1 x\nUNAUTH 1 y\nQUERY 1 no,yes\n";
+    means(&rt, alloc, script, (1, 1, 0, 2))
 }
 
 #[test]
-fn a_script_is_answered(rt: HostRuntime) -> Result<(), Fail> {
+fn private_assertions_are_counted_in(rt: HostRuntime) -> Result<(), Fail> {
     let alloc = rt.alloc();
-    let assertions = policy(&rt, alloc)?;
-    let script = read_script(
-        alloc,
-        b"OPEN\nQUERY 1 no,yes\nAUTH 1 alice\nQUERY 1 no,yes\nBYE\n",
-    )?;
-    let written = replies(alloc, &assertions, &script)?;
-    assert_eq!(rt;
-        written.as_slice(),
-        b"OK 1 1\nVALUE 0 no 1 0\nEND\nOK\nVALUE 1 yes 1 1\nROW 1 a1 \"POLICY\"\nEND\nOK\n".as_slice()
-    );
+    let script =
+        b"OPEN\nASSERT 1 37\nAuthorizer: \"alice\"\nLicensees: \"bob\"\n\nASSERT 1 37\nAuthorizer: \"carol\"\nLicensees: \"bob\"\n\nRETRACT 1 p1\nAUTH 1 x\nUNAUTH 1 x\nQUERY 1 no,yes\n";
+    means(&rt, alloc, script, (1, 0, 1, 2))
+}
+
+#[test]
+fn attributes_hold_any_bytes(rt: HostRuntime) -> Result<(), Fail> {
+    let alloc = rt.alloc();
+    let script =
+        b"OPEN\nSET 1 raw a\x00b\nSETX 1 hex 00fF\nSET 1 gone x\nUNSET 1 gone\nQUERY 1 no,yes\nCLEAR 1\n";
+    let meant = meant(&rt, alloc, script)?;
+    let view = meant.view();
+    assert!(rt; view.attributes.get(b"raw") == Some(b"a\x00b".as_slice()));
+    assert!(rt; view.attributes.get(b"hex") == Some(b"\x00\xff".as_slice()));
+    assert!(rt; view.attributes.get(b"gone").is_none());
     Ok(())
+}
+
+/// A script of more than one piece: an attribute is set to long values before the query.
+fn long_script(alloc: Global) -> Result<Octets, NoMemory> {
+    let mut script = Octets::from_slice(alloc, b"OPEN\n")?;
+    for _ in 0..3 {
+        script.extend(b"SET 1 a ")?;
+        for _ in 0..4000 {
+            script.push(b'x')?;
+        }
+        script.push(b'\n')?;
+    }
+    script.extend(b"QUERY 1 no,yes\n")?;
+    Ok(script)
+}
+
+#[test]
+fn a_script_may_have_many_pieces(rt: HostRuntime) -> Result<(), Fail> {
+    let alloc = rt.alloc();
+    let script = long_script(alloc)?;
+    assert!(rt; script.len() <= FILE_BYTES);
+    means(&rt, alloc, script.as_slice(), (1, 0, 0, 2))
+}
+
+#[test]
+fn scripts_without_an_answered_query(rt: HostRuntime) -> Result<(), Fail> {
+    let alloc = rt.alloc();
+    means_none(&rt, alloc, b"")?;
+    means_none(&rt, alloc, b"QUERY 1 no,yes\nOPEN\nAUTH 1 x\nBYE\n")?;
+    means_none(&rt, alloc, b"OPEN\nQUERY 1 no,yes")
 }

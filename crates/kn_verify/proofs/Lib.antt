@@ -1,6 +1,3 @@
-pub mod Reached
-pub mod Asking
-pub mod Ids
 pub mod Rejected
 pub mod OneReason
 pub mod Verified

@@ -1,54 +1,35 @@
 -- What the checker of rows by numbers says of a reply, which tells them by names.
-use Rattle.std.proofs.Common.{◌≡◌, ℕ, ◌<◌, Bool, List, [], length, map, slice_get, slice_index, slice_index_or, Result, Ok, Err, OnOk, IfErr, IsTrue, Some, refl, sym, ap, ◌∙◌, subst}
+use Rattle.std.proofs.Common.{◌≡◌, ℕ, ◌<◌, Bool, List, [], length, map, slice_get, slice_index, slice_index_or, Result, Ok, Err, OnOk, IfErr, IsTrue, Some, sym, ap, ◌∙◌, subst}
 use Rattle.std.specs.Str.{bytes_eq}
 use Rattle.std.proofs.lemmas.Option.{get_or_from_slice_get}
 use Rattle.std.proofs.lemmas.Slice.Eq.{bytes_eq-Decides}
-use Rattle.kn_trees.specs.declared.assertion.Assertion.{Assertion}
 use Rattle.kn_proof.specs.declared.named.Id.{Id}
 use Rattle.kn_proof.specs.declared.row.Row.{Row}
 use Rattle.kn_proof.specs.declared.reply.ReadReply.{ReadReply}
-use Rattle.kn_env.specs.Environment.{Asked}
+use Rattle.kn_store.specs.declared.update.Update.{Update}
 use Rattle.kn_system.specs.Least.{least_levels}
 use Rattle.kn_system.specs.Lawful.{LeastLevelsAreLeast}
 use Rattle.kn_system.specs.Proofs.{IsProof}
-use Rattle.kn_meaning.specs.Equations.{Equations, Part, equations_over, IsPolicyLevel}
+use Rattle.kn_meaning.specs.Equations.{Equations, Statement, IsPolicyLevel}
 use Rattle.kn_answer.specs.Numbering.{AreDistinct}
 use Rattle.kn_answer.specs.Built.{Interned, IsBuilt}
 use Rattle.kn_answer.specs.Located.{AreLocated}
 use Rattle.kn_answer.specs.Laws.{LocatedProofs}
 use Rattle.kn_answer.proofs.Bridge.{IsPolicyLevel-by_name}
-use Rattle.kn_play.specs.declared.entered.Entered.{Entered}
-use Rattle.kn_play.specs.Answering.{parts_in, asked_in}
 use Rattle.kn_verify.specs.declared.verdict.Refused.{Refused}
 use Rattle.kn_verify.specs.declared.verdict.Refused.TheVariants.{Other, Rejected, NoMemory}
-use Rattle.kn_verify.specs.Verdicts.{IsReplyTo, IsProved, IsRefusal, IsStepsRefusal, equations_in}
-use Rattle.kn_verify.proofs.Ids.{ids_distinct}
+use Rattle.kn_verify.specs.Verdicts.{IsReplyTo, IsProved, IsRefusal, IsStepsRefusal}
+use Rattle.kn_check.specs.declared.reject.Reject.{Reject}
+use Rattle.kn_check.specs.Rejects.{IsReject}
+use Rattle.kn_verify.specs.Rejections.{IsRejected}
 use Rattle.kn_verify.proofs.Rejected.{rejected-named}
+use Rattle.kn_verify.proofs.OneReason.{one_reason}
 
 -- rows that were located in the system of a query
 pub record AreOf (e : Equations) (built : Interned) (reply : ReadReply) (rows : List Row) : Type 0 where
   pub is_built : IsBuilt e built
   pub distinct : AreDistinct built.ids
   pub located : AreLocated built reply.rows rows
-
-same_asked : (query : Asked) (session : Entered) (values : List (List ℕ)) → query.attributes ≡ session.attributes → query.values ≡ values → query.requesters ≡ session.requesters →
-    query ≡ asked_in session values
-same_asked query session values attributes names requesters =
-    let whole : query ≡ record { attributes = query.attributes; values = query.values; requesters = query.requesters } = refl in
-    cc
-
-pub located_rows : (session : Entered) (values : List (List ℕ)) (assertions : List Assertion) (query : Asked) (list : List Part) (built : Interned) (reply : ReadReply) (rows : List Row) →
-    query.attributes ≡ session.attributes → query.values ≡ values → query.requesters ≡ session.requesters → list ≡ parts_in assertions →
-    IsBuilt (equations_over query list) built → built.ids ≡ map (λ (part : Part). part.id) list → AreLocated built reply.rows rows →
-    AreOf (equations_in session values assertions) built reply rows
-located_rows session values assertions query list built reply rows attributes names requesters same is_built ids located =
-    let asked : query ≡ asked_in session values = same_asked query session values attributes names requesters in
-    let numbered : built.ids ≡ map (λ (part : Part). part.id) (parts_in assertions) = ids ∙ ap (map (λ (part : Part). part.id)) same in
-    record {
-      is_built = subst (λ (e : Equations). IsBuilt e built) (ap (λ (q : Asked). equations_over q list) asked ∙ ap (equations_over (asked_in session values)) same) is_built;
-      distinct = subst (λ (l : List Id). AreDistinct l) (sym numbered) (ids_distinct assertions);
-      located = located;
-    }
 
 -- rows that prove the value by numbers
 pub proved_by_name : LocatedProofs → LeastLevelsAreLeast → (e : Equations) (version : ℕ) (values : List (List ℕ)) (reply : ReadReply) (built : Interned) (rows : List Row) →
@@ -60,6 +41,12 @@ proved_by_name law leasts e version values reply built rows to_query of proof le
   least = subst (IsPolicyLevel e) (sym level) (IsPolicyLevel-by_name e built.names built.system of.is_built.of (least_levels built.system) (leasts built.system));
 }
 
+distinct_ids : (e : Equations) (built : Interned) (reply : ReadReply) (rows : List Row) → AreOf e built reply rows → AreDistinct (map (λ (s : Statement). s.id) e.statements)
+distinct_ids e built reply rows of = subst (λ (l : List Id). AreDistinct l) of.is_built.ids of.distinct
+
+first_item : (e : Equations) (built : Interned) (reply : ReadReply) (rows : List Row) (reject : Reject) → AreOf e built reply rows → IsReject built.system rows reply.value reject → IsRejected e reply.rows reply.value reject
+first_item e built reply rows reject of cause = rejected-named e built of.is_built reply.rows rows of.located reply.value reject cause
+
 -- rows that don't
 pub refused_by_name : LocatedProofs → (e : Equations) (version : ℕ) (values : List (List ℕ)) (reply : ReadReply) (built : Interned) (rows : List Row) (refused : Refused) →
     IsReplyTo version values reply → AreOf e built reply rows → IsStepsRefusal built.system rows reply.value refused →
@@ -68,7 +55,8 @@ refused_by_name law e version values reply built rows Other to_query of cause = 
 refused_by_name law e version values reply built rows (Rejected reject) to_query of cause = record {
   to_query = to_query;
   unproved = λ proof. cause.0 ((law e built of.is_built of.distinct reply.rows rows of.located reply.value).1 proof);
-  rejected = rejected-named e built of.is_built reply.rows rows of.located reply.value reject cause.1;
+  rejected = first_item e built reply rows reject of cause.1;
+  only = λ other others. one_reason e (distinct_ids e built reply rows of) reply.rows reply.value reject other (first_item e built reply rows reject of cause.1) others;
 }
 refused_by_name law e version values reply built rows NoMemory to_query of cause = tt
 
@@ -84,6 +72,10 @@ pub err_by_name : LocatedProofs → (e : Equations) (version : ℕ) (values : Li
     IfErr result (λ refused. IsRefusal e version values reply refused)
 err_by_name law e version values reply built rows (Ok u) to_query of cause = tt
 err_by_name law e version values reply built rows (Err refused) to_query of cause = refused_by_name law e version values reply built rows refused to_query of cause
+
+-- the version is the number of updates that the session is pinned to
+pub reply_to : (number : ℕ) (seen pinned : List Update) (values : List (List ℕ)) (reply : ReadReply) → number ≡ length seen → seen ≡ pinned → IsReplyTo number values reply → IsReplyTo (length pinned) values reply
+reply_to number seen pinned values reply count same to_query = subst (λ n. IsReplyTo n values reply) (count ∙ ap length same) to_query
 
 -- the name of a value that is there decides
 pub name_decides : (version : ℕ) (values : List (List ℕ)) (reply : ReadReply) (name : List ℕ) (test : Bool) → reply.version ≡ version → reply.value < length values →

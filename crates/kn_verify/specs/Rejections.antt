@@ -2,7 +2,6 @@
 use Rattle.std.specs.Prelude.{ℕ, ◌<◌, ◌≤◌, ◌≡◌, ◌≢◌, true, false, List, [], All, Any, map, take, slice_get, Some}
 use Rattle.std.specs.List.{list_any}
 use Rattle.std.specs.Str.{bytes_eq}
-use Rattle.kn_trees.specs.declared.assertion.Assertion.{Assertion}
 use Rattle.kn_principal.specs.Principals.{policy}
 use Rattle.kn_proof.specs.declared.named.NamedRow.{NamedRow}
 use Rattle.kn_check.specs.Rejects.{reason_number, reason_row, reason_found}
@@ -12,10 +11,7 @@ use Rattle.kn_meaning.specs.Formulas.{Levels}
 use Rattle.kn_meaning.specs.Equations.{Equations, Statement, is_requester, worth}
 use Rattle.kn_meaning.specs.Occurring.{occurring}
 use Rattle.kn_meaning.specs.Proofs.{levels_by, AreRows, IsClosed, IsProof}
-use Rattle.kn_session.specs.Sessions.{Session}
-use Rattle.kn_daemon.specs.Daemon.{equations_of}
 use Rattle.kn_answer.specs.Numbering.{AreDistinct}
-use Rattle.kn_play.specs.Answering.{IsMadeBy}
 
 -- the row's principal and assertion occur in the query, and its level is one of the query's
 pub record IsNamedInRange (e : Equations) (row : NamedRow) : Type 0 where
@@ -109,10 +105,3 @@ abbrev pub NotBoth : Type 0
 NotBoth =
     (e : Equations) → AreDistinct (map (λ s. s.id) e.statements)
     → (rows : List NamedRow) (level : ℕ) (reject : Reject) → IsProof e rows level → IsRejected e rows level reject → ⊥
-
--- the ids of a query's assertions differ where these are the credentials of a history that the assertions of a policy make, and
--- no private ones
-abbrev pub IdsDiffer : Type 0
-IdsDiffer =
-    (session : Session) (assertions : List Assertion) → IsMadeBy session.pinned assertions → session.privates ≡ []
-    → (values : List (List ℕ)) → AreDistinct (map (λ s. s.id) (equations_of session values).statements)

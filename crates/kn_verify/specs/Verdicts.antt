@@ -1,17 +1,14 @@
--- Whether a reply proves the value of a query over the assertions of a policy (keynoted's own).
+-- Whether a reply proves the value of a query (keynoted's own).
 use Rattle.std.specs.Prelude.{ℕ, ◌≡◌, ◌<◌, List, [], length, slice_index_or}
-use Rattle.kn_trees.specs.declared.assertion.Assertion.{Assertion}
 use Rattle.kn_proof.specs.declared.row.Row.{Row}
 use Rattle.kn_proof.specs.declared.reply.ReadReply.{ReadReply}
 use Rattle.kn_check.specs.declared.reject.Reject.{Reject}
 use Rattle.kn_check.specs.Rejects.{IsReject}
 use Rattle.kn_system.specs.Equations.{SystemEquations}
 use Rattle.kn_system.specs.Proofs as numbered
-use Rattle.kn_meaning.specs.Equations.{Equations, equations_over, IsPolicyLevel}
+use Rattle.kn_meaning.specs.Equations.{Equations, IsPolicyLevel}
 use Rattle.kn_meaning.specs.Proofs.{IsProof}
-use Rattle.kn_play.specs.declared.entered.Entered.{Entered}
-use Rattle.kn_play.specs.Answering.{parts_in, asked_in}
-use Rattle.kn_verify.specs.Rejections.{IsRejected}
+use Rattle.kn_verify.specs.Rejections.{IsRejected, SameReason}
 use Rattle.kn_verify.specs.declared.verdict.Refused.{Refused}
 use Rattle.kn_verify.specs.declared.verdict.Refused.TheVariants.{Other, Rejected, NoMemory}
 
@@ -21,21 +18,19 @@ pub record IsReplyTo (version : ℕ) (values : List (List ℕ)) (reply : ReadRep
   pub within : reply.value < length values
   pub name : reply.name ≡ slice_index_or values reply.value []
 
--- what a session asks of these assertions where these are the compliance values
-abbrev pub equations_in : Entered → List (List ℕ) → List Assertion → Equations
-equations_in session values assertions = equations_over (asked_in session values) (parts_in assertions)
-
 -- the rows of the reply prove its value, which is the policy's level in the least fixed point
 pub record IsProved (e : Equations) (version : ℕ) (values : List (List ℕ)) (reply : ReadReply) : Type 0 where
   pub to_query : IsReplyTo version values reply
   pub proof : IsProof e reply.rows reply.value
   pub least : IsPolicyLevel e reply.value
 
--- the reply is one to the query, but its rows prove no such value: this is the first item that fails
+-- The reply is one to the query, but its rows prove no such value: this is the first item that fails, and the only reason that
+-- can be told.
 pub record IsUnproved (e : Equations) (version : ℕ) (values : List (List ℕ)) (reply : ReadReply) (reject : Reject) : Type 0 where
   pub to_query : IsReplyTo version values reply
   pub unproved : ¬ IsProof e reply.rows reply.value
   pub rejected : IsRejected e reply.rows reply.value reject
+  pub only : (other : Reject) → IsRejected e reply.rows reply.value other → SameReason reject other
 
 -- why a reply is refused
 abbrev pub IsRefusal : Equations → ℕ → List (List ℕ) → ReadReply → Refused → Type 0

@@ -1,25 +1,23 @@
-ghost use Rattle.std.specs.Prelude.{◌≡◌, ◌≤◌, ◌∷◌, ◌++◌, [], Some, IfOk, length};
-ghost use Rattle.kn_base.specs.declared.limits.TheConstants.{ASSERTION_BYTES};
-ghost use Rattle.kn_assert.specs.Reading.{assertion_of};
-ghost use Rattle.kn_answer.specs.Sizes.{HaveTexts};
-ghost use Rattle.kn_play.specs.Answering.{parts_in};
+//! Replies to the query of a session over a policy of two credentials.
+ghost use Rattle.std.specs.Prelude.{◌≡◌, ◌∷◌, ◌++◌, [], IfOk};
 
-use crate::{Refused, meant, verify};
-use kn_assert::{Assertion, read};
+use crate::{Refused, verify};
+use kn_assert::read;
 use kn_base::{List, NoMemory, Octets};
 use kn_check::Reject;
+use kn_env::Values;
 use kn_proof::{Id, NamedRow, ReadReply};
-use kn_script::read_script;
+use kn_session::{SessionFault, Sessions};
+use kn_store::{Book, Ready};
 use std::alloc::Global;
 use std::process::Abort;
+use std::sync::Arc;
 use std::test::Fail;
 
 // Two of three may do what is asked, of which y may only log where w asks.
 const FIRST: &[u8] = b"Authorizer: \"POLICY\"\nLicensees: 2-of(\"x\",\"y\",\"z\")\n";
 
 const SECOND: &[u8] = b"Authorizer: \"y\"\nLicensees: \"w\"\nConditions: true -> \"log\";\n";
-
-const SCRIPT: &[u8] = b"OPEN\nAUTH 1 x\nAUTH 1 w\nQUERY 1 no,log,yes\n";
 
 // A row of a reply: the level, the id of the assertion, and the principal.
 type Told<'a> = (u8, Id, &'a [u8]);
@@ -28,31 +26,35 @@ const OF_Y: Told = (1, Id::Shared(2), b"y");
 
 const OF_POLICY: Told = (1, Id::Shared(1), b"POLICY");
 
-fn with_item<T: Drop>(items: List<T>, item: T) -> Result<List<T>, NoMemory>
-    ensures { IfOk result (λ longer. longer ≡ items ++ item ∷ []) }
-{
-    let mut items = items;
-    match items.push(item) {
-        Ok(()) => Ok(items),
-        Err(_) => Err(NoMemory),
-    }
+fn add(alloc: Global, book: &mut Book, text: &[u8]) -> Result<(), Fail> {
+    let ready = Ready::of(alloc, text, read(alloc, text)?)?;
+    let prepared = book.prepare_add(0, ready)?;
+    let _done = book.commit(prepared);
+    Ok(())
 }
 
-fn assertion(rt: &impl Abort, alloc: Global, text: &[u8]) -> Result<Assertion, NoMemory>
-    ensures read { IfOk result (λ a. assertion_of text.now ≡ Some a) }
-    ensures short { IfOk result (λ a. length text.now ≤ ASSERTION_BYTES) }
-{
-    match read(alloc, text) {
-        Ok(assertion) => Ok(assertion),
-        Err(fault) => panic!(rt; "{fault:?} in {text:?}"),
+/// The sessions of a connection that started one over the policy, and entered these requesters.
+fn sessions(alloc: Global, requesters: &[&[u8]]) -> Result<Sessions, Fail> {
+    let mut book = Book::empty(alloc)?;
+    add(alloc, &mut book, FIRST)?;
+    add(alloc, &mut book, SECOND)?;
+    let Ok(snapshot) = Arc::try_clone(book.snapshot()) else {
+        return Err(SessionFault::NoMemory.into());
+    };
+    let mut sessions = Sessions::new(alloc);
+    let s = sessions.start(snapshot)?;
+    for requester in requesters {
+        sessions.auth(s, *requester)?;
     }
+    Ok(sessions)
 }
 
-fn policy(rt: &impl Abort, alloc: Global) -> Result<List<Assertion>, NoMemory>
-    ensures { IfOk result (λ list. HaveTexts (parts_in list)) }
-{
-    let list = with_item(List::new(alloc), assertion(rt, alloc, FIRST)?)?;
-    with_item(list, assertion(rt, alloc, SECOND)?)
+/// What is found of a reply to what x and w ask.
+fn found(alloc: Global, reply: &ReadReply) -> Result<Result<(), Refused>, Fail> {
+    let sessions = sessions(alloc, &[b"x", b"w"])?;
+    let values = Values::of(alloc, b"no,log,yes")?;
+    let view = sessions.view(1)?;
+    Ok(verify(alloc, &view, &values, reply))
 }
 
 fn rows(alloc: Global, told: &[Told]) -> Result<List<NamedRow>, NoMemory> {
@@ -63,43 +65,38 @@ fn rows(alloc: Global, told: &[Told]) -> Result<List<NamedRow>, NoMemory> {
             id: *id,
             principal: Octets::from_slice(alloc, *principal)?,
         };
-        rows = with_item(rows, row)?;
+        match rows.push(row) {
+            Ok(()) => {}
+            Err(_) => return Err(NoMemory),
+        }
     }
     Ok(rows)
 }
 
-// What is found of a reply to a script over the policy.
-fn found(
-    rt: &impl Abort,
+fn reply(
     alloc: Global,
-    script: &[u8],
-    reply: &ReadReply,
-) -> Result<Result<(), Refused>, Fail> {
-    let assertions = policy(rt, alloc)?;
-    let Ok(script) = read_script(alloc, script) else {
-        panic!(rt; "{script:?}");
-    };
-    match meant(alloc, &script)? {
-        Some(meant) => Ok(verify(alloc, &assertions, &meant, reply)),
-        None => panic!(rt; "no query"),
-    }
+    (value, name): (u8, &[u8]),
+    version: u32,
+    told: &[Told],
+) -> Result<ReadReply, NoMemory> {
+    Ok(ReadReply {
+        value,
+        name: Octets::from_slice(alloc, name)?,
+        version,
+        rows: rows(alloc, told)?,
+    })
 }
 
-// A reply to the script of this value and name is judged so, where its rows are these.
+// A reply of this value and name is judged so, where its rows are these.
 fn judges(
     rt: &impl Abort,
     alloc: Global,
-    (value, name): (u8, &[u8]),
+    level: (u8, &[u8]),
     told: &[Told],
     expected: Result<(), Refused>,
 ) -> Result<(), Fail> {
-    let reply = ReadReply {
-        value,
-        name: Octets::from_slice(alloc, name)?,
-        version: 2,
-        rows: rows(alloc, told)?,
-    };
-    assert_eq!(rt; found(rt, alloc, SCRIPT, &reply)?, expected);
+    let reply = reply(alloc, level, 2, told)?;
+    assert_eq!(rt; found(alloc, &reply)?, expected);
     Ok(())
 }
 
@@ -149,53 +146,33 @@ fn a_value_is_one_of_the_query_by_its_name(rt: HostRuntime) -> Result<(), Fail> 
     judges(&rt, alloc, (255, b"log"), &[OF_Y, OF_POLICY], other)
 }
 
-// The reply that proves the value `log`, of this version.
-fn log_reply(alloc: Global, version: u32) -> Result<ReadReply, NoMemory> {
-    Ok(ReadReply {
-        value: 1,
-        name: Octets::from_slice(alloc, b"log")?,
-        version,
-        rows: rows(alloc, &[OF_Y, OF_POLICY])?,
-    })
-}
-
 #[test]
-fn a_version_is_the_number_of_assertions(rt: HostRuntime) -> Result<(), Fail> {
+fn a_version_is_the_one_that_the_session_is_pinned_to(rt: HostRuntime) -> Result<(), Fail> {
     let alloc = rt.alloc();
     for version in [0, 1, 3] {
-        let reply = log_reply(alloc, version)?;
-        assert_eq!(rt; found(&rt, alloc, SCRIPT, &reply)?, Err(Refused::Other));
+        let reply = reply(alloc, (1, b"log"), version, &[OF_Y, OF_POLICY])?;
+        assert_eq!(rt; found(alloc, &reply)?, Err(Refused::Other));
     }
     Ok(())
 }
 
-// What is entered behind the last query isn't part of it.
+// y asks, so it needs no row, and a private assertion lets x in.
 #[test]
-fn the_last_query_is_meant(rt: HostRuntime) -> Result<(), Fail> {
+fn private_assertions_prove_too(rt: HostRuntime) -> Result<(), Fail> {
     let alloc = rt.alloc();
-    let reply = log_reply(alloc, 2)?;
-    let several =
-        b"OPEN\nAUTH 1 x\nQUERY 1 no,yes\nAUTH 1 w\nQUERY 1 no,log,yes\nAUTH 1 y\nSET 1 a b\nBYE\n";
-    assert_eq!(rt; found(&rt, alloc, several, &reply)?, Ok(()));
-    let before = b"OPEN\nAUTH 1 w\nQUERY 1 no,log,yes\nAUTH 1 x\n";
-    let missing = rejected(Reject::Unsupported { row: 1, found: 0 });
-    assert_eq!(rt; found(&rt, alloc, before, &reply)?, missing);
+    let mut sessions = sessions(alloc, &[b"y"])?;
+    let text = b"Authorizer: \"x\"\nLicensees: \"y\"\n";
+    let assertion = read(alloc, text)?;
+    let made = sessions.view(1)?.made;
+    assert!(rt; made == 0);
+    assert_eq!(rt; sessions.add_private(1, text, assertion)?, 1);
+    let values = Values::of(alloc, b"no,yes")?;
+    let told = [
+        (1, Id::Private(1), b"x".as_slice()),
+        (1, Id::Shared(1), b"POLICY".as_slice()),
+    ];
+    let reply = reply(alloc, (1, b"yes"), 2, told.as_slice())?;
+    let view = sessions.view(1)?;
+    assert_eq!(rt; verify(alloc, &view, &values, &reply), Ok(()));
     Ok(())
-}
-
-fn means_none(rt: &impl Abort, alloc: Global, script: &[u8]) -> Result<(), Fail> {
-    let Ok(script) = read_script(alloc, script) else {
-        panic!(rt; "{script:?}");
-    };
-    let is_none = meant(alloc, &script)?.is_none();
-    assert!(rt; is_none);
-    Ok(())
-}
-
-#[test]
-fn scripts_without_a_query(rt: HostRuntime) -> Result<(), Fail> {
-    let alloc = rt.alloc();
-    means_none(&rt, alloc, b"")?;
-    means_none(&rt, alloc, b"OPEN\n")?;
-    means_none(&rt, alloc, b"OPEN\nAUTH 1 x\nSET 1 a b\nBYE\n")
 }

@@ -3,27 +3,27 @@ ghost use Rattle.std.specs.Prelude.{◌≡◌, ◌+◌, ◌^◌, ◌<◌, ◌↔
 ghost use Rattle.kn_env.specs.Environment.{AreRequesters};
 ghost use Rattle.kn_system.specs.Least.{least_levels};
 ghost use Rattle.kn_system.specs.Proofs.{IsProof};
-ghost use Rattle.kn_answer.specs.Sizes.{HaveTexts};
-ghost use Rattle.kn_play.specs.Answering.{parts_in};
-ghost use Rattle.kn_verify.specs.Verdicts.{IsReplyTo, IsProved, IsRefusal, IsStepsRefusal, equations_in};
+ghost use Rattle.kn_session.specs.Views.{session_of_view, AreReadPrivates, ArePrivates};
+ghost use Rattle.kn_daemon.specs.Daemon.{equations_of};
+ghost use Rattle.kn_verify.specs.Verdicts.{IsReplyTo, IsProved, IsRefusal, IsStepsRefusal};
 
-use crate::query::MeantQuery;
 use kn_answer::laws::located_proofs;
-use kn_answer::{Built, Tally, build, locate};
-use kn_assert::Assertion;
-use kn_base::{List, NoMemory, Steps};
+use kn_answer::{Built, Tally, locate};
+use kn_base::{NoMemory, Steps};
 use kn_check::{Reject, check};
-use kn_env::{Query, Values};
-use kn_play::parts;
+use kn_env::Values;
 use kn_proof::{Proof, ReadReply};
+use kn_query::build_query;
+use kn_session::View;
+use kn_store::Version;
 use kn_system::laws::least_levels_are_least;
 use std::alloc::Global;
 
 /// Why a reply isn't accepted.
 #[derive(Debug, Clone, Copy, PartialEq, Eq)]
 pub enum Refused {
-    /// It is the reply to another query: its version isn't the number of the assertions, or its name isn't that of its
-    /// value among the query's.
+    /// It is the reply to another query: its version isn't the one that the session is pinned to, or its name isn't that of
+    /// its value among the query's.
     Other,
     /// Its rows are no proof of its value: the first item that fails.
     Rejected(Reject),
@@ -42,37 +42,30 @@ impl From<NoMemory> for Refused {
     }
 }
 
-/// Whether a reply proves its value of the query that a script means, over the assertions of a policy, which are
-/// numbered from 1 in their order.
+/// Whether a reply proves its value of what a session asks where these are the compliance values.
 ///
 /// `NoMemory` comes only for want of memory.
 pub fn verify(
     alloc: Global,
-    assertions: &List<Assertion>,
-    meant: &MeantQuery<'_>,
+    view: &View<'_>,
+    values: &Values,
     reply: &ReadReply,
 ) -> Result<(), Refused>
-    requires texts { HaveTexts (parts_in assertions.now) }
-    requires requesters { AreRequesters meant.now.session.requesters }
-    ensures ok { OnOk result (IsProved (equations_in meant.now.session meant.now.values.now assertions.now)
-        (length assertions.now) meant.now.values.now reply.now) }
-    ensures refused { IfErr result (λ refused. IsRefusal (equations_in meant.now.session meant.now.values.now assertions.now)
-        (length assertions.now) meant.now.values.now reply.now refused) }
+    requires privates { ArePrivates (session_of_view view.now).privates }
+    requires readings { AreReadPrivates view.now.private.now }
+    requires requesters { AreRequesters view.now.requesters.now }
+    ensures ok { OnOk result (IsProved (equations_of (session_of_view view.now) values.now)
+        (length (session_of_view view.now).pinned) values.now reply.now) }
+    ensures refused { IfErr result (IsRefusal (equations_of (session_of_view view.now) values.now)
+        (length (session_of_view view.now).pinned) values.now reply.now) }
 {
-    if !is_reply_to(reply, assertions.len(), meant.values) {
+    let version: &Version = view.snapshot;
+    if !is_reply_to(reply, version.number(), values) {
         return Err(Refused::Other);
     }
     located_proofs();
     least_levels_are_least();
-    let list = parts(alloc, assertions)?;
-    let session = &meant.session;
-    let query = Query::of(
-        alloc,
-        &session.attributes,
-        meant.values,
-        &session.requesters,
-    )?;
-    let built = build(alloc, &list, &query)?;
+    let built = build_query(alloc, view, values)?;
     let proof = locate(alloc, &built, reply)?;
     follow(alloc, &built, &proof, reply.value)
 }

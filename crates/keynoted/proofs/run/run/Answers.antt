@@ -1,6 +1,5 @@
-use Rattle.keynoted.proofs.Statuses.{says_done, says_words, says_file, says_policy, says_link, says_memory, says_reply, says_query, says_cut, says_refused}
-use Rattle.keynoted.proofs.Calm.{ends_large, ends_faulty, ends_full, ends_wrong, ends_answered, link_rose}
-use Rattle.keynoted.proofs.Proved.{ends_proved}
+use Rattle.keynoted.proofs.Statuses.{says_done, says_words, says_file, says_policy, says_link, says_memory, says_reply, says_keys, says_query, says_cut, says_refused}
+use Rattle.keynoted.proofs.Came.{ends_called, ends_served}
 use Rattle.keynoted.proofs.run.run.Goals as goal
 
 pub returns-clause-done : goal.returns-clause-done
@@ -33,25 +32,11 @@ returns-clause-cut g c = says_cut _ _ _ _ _ _ _ _ c.carry_out.ensures
 pub returns-clause-no_words : goal.returns-clause-no_words
 returns-clause-no_words g c = says_refused _ _ _ _ _ _ _ _ c.carry_out.ensures
 
-pub returns-clause-large : goal.returns-clause-large
-returns-clause-large g c = λ file bytes calm over. ends_large _ _ _ _ _ _ _ file bytes calm _ c.carry_out.ensures over
+pub returns-clause-keys : goal.returns-clause-keys
+returns-clause-keys g c = says_keys _ _ _ _ _ _ _ _ c.carry_out.ensures
 
-pub returns-clause-faulty : goal.returns-clause-faulty
-returns-clause-faulty g c = λ file bytes n fault calm within at. ends_faulty _ _ _ _ _ _ _ file bytes calm _ c.carry_out.ensures n fault within at
-
-pub returns-clause-full : goal.returns-clause-full
-returns-clause-full g c = λ file bytes n word count calm within at. ends_full _ _ _ _ _ _ _ file bytes calm _ c.carry_out.ensures n word count within at
-
-pub returns-clause-wrong_input : goal.returns-clause-wrong_input
-returns-clause-wrong_input g c = λ input calm none.
-    ends_wrong _ _ _ _ _ _ _ calm.name calm.bytes calm.calm _ c.carry_out.ensures calm.within calm.loadable calm.link input calm.left none
+pub returns-clause-calls : goal.returns-clause-calls
+returns-clause-calls g c = λ status calls calm. ends_called c.one_query_is_meant.ensures _ _ _ _ _ _ _ _ c.carry_out.ensures calm status calls
 
 pub returns-clause-complete : goal.returns-clause-complete
-returns-clause-complete g c = λ input script calm form.
-    ends_answered _ _ _ _ _ _ _ calm.name calm.bytes calm.calm _ c.carry_out.ensures calm.within calm.loadable calm.link input script calm.left form
-
-pub returns-clause-link_rose : goal.returns-clause-link_rose
-returns-clause-link_rose g c = link_rose _ _ _ _ _ _ _ _ c.carry_out.ensures
-
-pub returns-clause-proves : goal.returns-clause-proves
-returns-clause-proves g c = λ calm. ends_proved _ _ _ _ _ calm _ _ _ c.carry_out.ensures
+returns-clause-complete g c = λ input calls orderly calm. ends_served c.one_query_is_meant.ensures _ _ _ _ _ _ _ _ c.carry_out.ensures calm input calls orderly

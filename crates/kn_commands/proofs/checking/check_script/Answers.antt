@@ -1,64 +1,57 @@
-use Rattle.std.proofs.Common.{◌∷◌, [], inr, take}
+use Rattle.std.proofs.Common.{◌≡◌, ◌∙◌, ◌∷◌, [], List as Of, ℕ, take, subst}
+use Rattle.std.specs.Arc.{arc_value}
 use Rattle.kn_outside.specs.Asked.{HasAsked}
 use Rattle.kn_files.specs.Pieces.{pieces_of}
-use Rattle.kn_script.specs.FirstInput.{IsFirstInput}
+use Rattle.kn_session.specs.Sessions.{Session}
+use Rattle.kn_store.specs.declared.update.Update.{Update}
 use Rattle.kn_store.specs.History.{loaded_history}
-use Rattle.kn_play.specs.Answering.{session_at}
+use Rattle.kn_play.specs.Meaning.{Means, IsMeantQuery}
 use Rattle.kn_commands.specs.Names.{in_order}
 use Rattle.kn_commands.specs.declared.ending.Source.TheVariants.{Script as TheScript}
 use Rattle.kn_commands.specs.Held.{HasContent}
-use Rattle.kn_commands.specs.Checking.{HasQuery, IsUnread}
-use Rattle.kn_commands.proofs.Reached.{content_there, keeps_content, read_more, unread_stops, query_there, no_query, policy_there}
+use Rattle.kn_commands.specs.Checking.{HasQuery}
+use Rattle.kn_commands.proofs.Alone.{looks_alone}
+use Rattle.kn_commands.proofs.Files.{content_there, keeps_content}
+use Rattle.kn_commands.proofs.Reached.{read_more}
 use Rattle.kn_commands.proofs.checking.check_script.Goals as goal
-
-pub returns-in-Err : goal.returns-in-Err
-returns-in-Err g c = λ f bytes has loaded before.
-    let mid = g.F.Files.seen c.args.files.now in
-    let unread : IsUnread mid (g.F.Files.seen c.read_file.new.files) c.args.names.now.script c.in-Err.stop = rw c.name.ensures at c.in-Err.ensures.err in
-    unread_stops f mid _ c.args.names.now TheScript c.in-Err.stop before (bytes, policy_there f c.args.names.now.policy bytes c.args.assertions.now has loaded) unread
-
-pub returns-in-Err-NoMemory : goal.returns-in-Err-NoMemory
-returns-in-Err-NoMemory g c = λ f bytes has loaded before.
-    let mid = g.F.Files.seen c.args.files.now in
-    let asked : HasAsked (c.args.names.now.script ∷ []) mid (g.F.Files.seen c.read_file.new.files) = rw c.name.ensures at c.in-Ok.ensures.asked in
-    ((bytes, policy_there f c.args.names.now.policy bytes c.args.assertions.now has loaded), inr (read_more f mid _ c.args.names.now TheScript before asked))
 
 pub returns-in-Some : goal.returns-in-Some
 returns-in-Some g c = λ f bytes has loaded before.
     let mid = g.F.Files.seen c.args.files.now in
-    let asked : HasAsked (c.args.names.now.script ∷ []) mid (g.F.Files.seen c.read_file.new.files) = rw c.name.ensures at c.in-Ok.ensures.asked in
-    let script_there : HasContent mid c.args.names.now.script c.in-Ok.text = rw c.name.ensures at c.in-Ok.ensures.content in
-    let session = session_at (loaded_history (pieces_of bytes)) c.in-Some.meant.session in
-    let form : IsFirstInput c.in-Ok.text c.in-Ok-read_script.script = rw c.as_slice.ensures at c.in-Ok-read_script.ensures.ok in
-    let query : HasQuery f c.args.names.now session c.in-Some.meant.values.now = record {
+    let names = c.args.names.now in
+    let asked : HasAsked (names.script ∷ []) mid (g.F.Files.seen c.read_file.new.files) = rw c.name.ensures at c.in-Ok.ensures.asked in
+    let content : HasContent mid names.script c.in-Ok.script = rw c.name.ensures at c.in-Ok.ensures.content in
+    let seen : arc_value c.in-Ok-pin.snapshot ≡ loaded_history (pieces_of bytes) =
+    c.in-Ok-pin.ensures.version ∙ looks_alone c.args.root c.pin.new.pass loaded.root.number loaded.root.unsplit c.in-Ok-pin.ensures.sound c.in-Ok-pin.ensures.looked ∙ loaded.seen in
+    let first : IsMeantQuery (arc_value c.in-Ok-pin.snapshot) c.as_slice.result.now c.in-Some.meant = rw c.in-Some.is at c.in-Ok-find_query.ensures.some in
+    let second : IsMeantQuery (arc_value c.in-Ok-pin.snapshot) c.in-Ok.script c.in-Some.meant = rw c.as_slice.ensures at first in
+    let found : IsMeantQuery (loaded_history (pieces_of bytes)) c.in-Ok.script c.in-Some.meant =
+    subst (λ (h : Of Update). IsMeantQuery h c.in-Ok.script c.in-Some.meant) seen second in
+    let query : HasQuery f names found.0 c.in-Some.meant.values = record {
       bytes = bytes;
-      policy = policy_there f c.args.names.now.policy bytes c.args.assertions.now has loaded;
-      script = c.in-Ok.text;
-      content = content_there f mid c.args.names.now.script c.in-Ok.text (keeps_content (take 1 (in_order c.args.names.now)) f mid before) script_there;
-      query =
-          query_there (pieces_of bytes) c.in-Ok.text c.in-Ok-read_script.script session c.in-Some.meant.values.now form
-          (rw c.in-Some.is at (c.in-Ok-meant.ensures.some (loaded_history (pieces_of bytes))));
+      policy = record { content = has; loadable = loaded.loadable };
+      script = c.in-Ok.script;
+      content = content_there f mid names.script c.in-Ok.script (keeps_content (take 1 (in_order names)) f mid before) content;
+      query = found.2;
     } in
-    c.check_reply.ensures f (pieces_of bytes) loaded query (read_more f mid _ c.args.names.now TheScript before asked)
+    c.check_reply.ensures f found.0 found.1 query (read_more f mid _ names TheScript before asked)
 
 pub returns : goal.returns
 returns g c = λ f bytes has loaded before.
     let mid = g.F.Files.seen c.args.files.now in
-    let asked : HasAsked (c.args.names.now.script ∷ []) mid (g.F.Files.seen c.read_file.new.files) = rw c.name.ensures at c.in-Ok.ensures.asked in
-    let script_there : HasContent mid c.args.names.now.script c.in-Ok.text = rw c.name.ensures at c.in-Ok.ensures.content in
-    let form : IsFirstInput c.in-Ok.text c.in-Ok-read_script.script = rw c.as_slice.ensures at c.in-Ok-read_script.ensures.ok in (
-      read_more f mid _ c.args.names.now TheScript before asked,
+    let names = c.args.names.now in
+    let asked : HasAsked (names.script ∷ []) mid (g.F.Files.seen c.read_file.new.files) = rw c.name.ensures at c.in-Ok.ensures.asked in
+    let content : HasContent mid names.script c.in-Ok.script = rw c.name.ensures at c.in-Ok.ensures.content in
+    let seen : arc_value c.in-Ok-pin.snapshot ≡ loaded_history (pieces_of bytes) =
+    c.in-Ok-pin.ensures.version ∙ looks_alone c.args.root c.pin.new.pass loaded.root.number loaded.root.unsplit c.in-Ok-pin.ensures.sound c.in-Ok-pin.ensures.looked ∙ loaded.seen in
+    let first : (session : Session) (values : Of (Of ℕ)) → ¬ Means (arc_value c.in-Ok-pin.snapshot) c.as_slice.result.now session values = rw c.in-None.is at c.in-Ok-find_query.ensures.none in
+    let second : (session : Session) (values : Of (Of ℕ)) → ¬ Means (arc_value c.in-Ok-pin.snapshot) c.in-Ok.script session values = rw c.as_slice.ensures at first in (
+      read_more f mid _ names TheScript before asked,
       record {
         bytes = bytes;
-        policy = policy_there f c.args.names.now.policy bytes c.args.assertions.now has loaded;
-        script = c.in-Ok.text;
-        content = content_there f mid c.args.names.now.script c.in-Ok.text (keeps_content (take 1 (in_order c.args.names.now)) f mid before) script_there;
-        none = no_query (pieces_of bytes) c.in-Ok.text c.in-Ok-read_script.script form (rw c.in-None.is at (c.in-Ok-meant.ensures.none (loaded_history (pieces_of bytes))));
+        policy = record { content = has; loadable = loaded.loadable };
+        script = c.in-Ok.script;
+        content = content_there f mid names.script c.in-Ok.script (keeps_content (take 1 (in_order names)) f mid before) content;
+        none = subst (λ (h : Of Update). (session : Session) (values : Of (Of ℕ)) → ¬ Means h c.in-Ok.script session values) seen second;
       },
     )
-
-pub returns-in-Err-meant : goal.returns-in-Err-meant
-returns-in-Err-meant g c = λ f bytes has loaded before.
-    let mid = g.F.Files.seen c.args.files.now in
-    let asked : HasAsked (c.args.names.now.script ∷ []) mid (g.F.Files.seen c.read_file.new.files) = rw c.name.ensures at c.in-Ok.ensures.asked in
-    ((bytes, policy_there f c.args.names.now.policy bytes c.args.assertions.now has loaded), inr (read_more f mid _ c.args.names.now TheScript before asked))

@@ -1,6 +1,6 @@
 use Rattle.std.proofs.Common.{◌≡◌, ◌∙◌, codes}
 use Rattle.std.specs.Prelude.{decimal}
-use Rattle.kn_commands.specs.Asking.{limit_line}
+use Rattle.kn_commands.specs.Stopping.{limit_line}
 use Rattle.kn_commands.proofs.Told.{parts_of, limit_parts, told}
 use Rattle.kn_commands.proofs.line.print_limit.Goals as goal
 

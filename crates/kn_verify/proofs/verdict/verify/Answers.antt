@@ -1,20 +1,20 @@
-use Rattle.std.proofs.Common.{refl}
-use Rattle.kn_verify.proofs.Verified.{AreOf, located_rows, ok_by_name, err_by_name}
-use Rattle.kn_verify.specs.Verdicts.{equations_in}
+use Rattle.std.proofs.Common.{refl, length}
+use Rattle.std.specs.Arc.{arc_value}
+use Rattle.kn_session.specs.Views.{session_of_view}
+use Rattle.kn_daemon.specs.Daemon.{equations_of}
+use Rattle.kn_verify.proofs.Verified.{reply_to, ok_by_name, err_by_name}
 use Rattle.kn_verify.proofs.verdict.verify.Goals as goal
-
-located : (c : goal.After-drop-list-inside-2) → AreOf (equations_in c.args.meant.now.session c.args.meant.now.values.now c.args.assertions.now) c.in_ok-built.built c.args.reply.now c.in_ok-proof.proof.rows
-located c =
-    located_rows c.args.meant.now.session c.args.meant.now.values.now c.args.assertions.now c.in_ok-query.query c.in_ok-list.list c.in_ok-built.built c.args.reply.now c.in_ok-proof.proof.rows
-    c.in_ok-query.ensures.attributes c.in_ok-query.ensures.values c.in_ok-query.ensures.requesters c.in_ok-list.ensures
-    c.in_ok-built.ensures.built c.in_ok-built.ensures.ids c.in_ok-proof.ensures.located
 
 pub returns-clause-ok : goal.returns-clause-ok
 returns-clause-ok c =
-    ok_by_name c.located_proofs.ensures c.least_levels_are_least.ensures _ _ _ c.args.reply.now c.in_ok-built.built c.in_ok-proof.proof.rows c.follow.result
-    (rw (← c.len.ensures) (c.if-not-is_reply_to.ensures.0 refl)) (located c) c.follow.ensures.ok c.follow.ensures.least
+    ok_by_name c.located_proofs.ensures c.least_levels_are_least.ensures (equations_of (session_of_view c.args.view.now) c.args.values.now) (length (arc_value c.args.view.now.snapshot.now)) c.args.values.now
+    c.args.reply.now c.in_ok-built.built c.in_ok-proof.proof.rows c.follow.result
+    (reply_to c.number.result c.deref-version.result.now (arc_value c.args.view.now.snapshot.now) c.args.values.now c.args.reply.now c.number.ensures.number c.deref-version.ensures (c.if-not-is_reply_to.ensures.0 refl))
+    (record { is_built = c.in_ok-built.ensures.built; distinct = c.in_ok-built.ensures.ids; located = c.in_ok-proof.ensures.located }) c.follow.ensures.ok c.follow.ensures.least
 
 pub returns-clause-refused : goal.returns-clause-refused
 returns-clause-refused c =
-    err_by_name c.located_proofs.ensures _ _ _ c.args.reply.now c.in_ok-built.built c.in_ok-proof.proof.rows c.follow.result
-    (rw (← c.len.ensures) (c.if-not-is_reply_to.ensures.0 refl)) (located c) c.follow.ensures.refused
+    err_by_name c.located_proofs.ensures (equations_of (session_of_view c.args.view.now) c.args.values.now) (length (arc_value c.args.view.now.snapshot.now)) c.args.values.now
+    c.args.reply.now c.in_ok-built.built c.in_ok-proof.proof.rows c.follow.result
+    (reply_to c.number.result c.deref-version.result.now (arc_value c.args.view.now.snapshot.now) c.args.values.now c.args.reply.now c.number.ensures.number c.deref-version.ensures (c.if-not-is_reply_to.ensures.0 refl))
+    (record { is_built = c.in_ok-built.ensures.built; distinct = c.in_ok-built.ensures.ids; located = c.in_ok-proof.ensures.located }) c.follow.ensures.refused

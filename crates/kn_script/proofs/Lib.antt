@@ -1,9 +1,0 @@
-pub mod Lines
-pub mod Values
-pub mod SetLines
-pub mod Accepted
-pub mod Entered
-pub mod Session
-pub mod Words
-pub mod Asked
-pub mod Different

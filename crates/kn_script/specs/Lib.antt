@@ -1,4 +1,0 @@
-pub mod FirstInput
-pub mod Laws
-pub mod Requesters
-pub mod Session

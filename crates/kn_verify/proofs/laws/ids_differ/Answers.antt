@@ -1,5 +1,0 @@
-use Rattle.kn_verify.proofs.Ids.{ids_differ}
-use Rattle.kn_verify.proofs.laws.ids_differ.Goals as goal
-
-pub returns : goal.returns
-returns c = ids_differ
