@@ -8,23 +8,30 @@
 #   status    the exit status
 #   memory    the KiB of address space that the program has (no file: as the shell has)
 #   make      a script that writes the large ones of these files into the copy
+#   start     a script that starts the program, whose path is its first word, with an input or an output of another kind; what
+#             it writes and its status count as the program's
 #
-# An example is a folder with policy.kn, requests.txt and replies.txt: what `ask` writes for the requests. Other folders of
-# examples are passed over.
+# An example is a folder with policy.kn, requests.txt and replies.txt: what `ask` writes for the requests, with the key file
+# keys.txt where there is one.
 #
-# Each VALUE reply of a case that ends with status 0 is given to `check` too, which has to prove it.
+# KEYNOTED names another program than the one that is built here.
+#
+# Each VALUE reply of a case is given to `check` too, which has to prove it (tests/prove). With no names given, tests/pipe runs too.
 set -u
 
 top=$(cd "$(dirname "${BASH_SOURCE[0]}")/.." && pwd -P) || exit 1
+program=${KEYNOTED:-$top/crates/keynoted/out/keynoted}
 room=$(mktemp -d) || exit 1
 trap 'rm -rf "$room"' EXIT
 
 # Runs the program with these words. A limit of memory holds for the program alone, and not for the script that starts it.
 run_program() {
-    if [[ -e memory ]]; then
-        (ulimit -v "$(<memory)" && exec "$top/crates/keynoted/out/keynoted" "$@")
+    if [[ -e start ]]; then
+        ./start "$program"
+    elif [[ -e memory ]]; then
+        (ulimit -v "$(<memory)" && exec "$program" "$@")
     else
-        "$top/keynoted" "$@"
+        "$program" "$@"
     fi
 }
 
@@ -42,44 +49,40 @@ run_case() {
     [[ $status == "$(<status)" ]] || echo "status $status, and not $(<status)"
     cmp "$room/output" output 2>&1
     [[ -s $room/errors ]] && echo "on standard error: $(head -c 300 "$room/errors")"
-    [[ ${words[0]-} == ask && $status == 0 ]] && check_replies "${words[1]}"
-}
-
-# Has `check` prove each VALUE reply of the case in the current folder over this policy. The script of a reply is the input up
-# to its QUERY.
-check_replies() {
-    local queries starts ends at index name proved
-    mapfile -t queries < <(grep -an '^QUERY ' input | cut -d: -f1)
-    mapfile -t starts < <(grep -an '^VALUE ' output | cut -d: -f1)
-    mapfile -t ends < <(grep -an '^END$' output | cut -d: -f1)
-    [[ ${#queries[@]} == "${#starts[@]}" && ${#starts[@]} == "${#ends[@]}" ]] || { echo "not one reply for each query"; return; }
-    for at in "${!starts[@]}"; do
-        head -n "${queries[at]}" input >script
-        head -n "${ends[at]}" output | tail -n "+${starts[at]}" >reply
-        read -r _ index name _ <reply
-        proved=$("$top/keynoted" check "$1" script reply 2>&1)
-        [[ $proved == "PROVED $index $name" ]] || echo "check of reply $((at + 1)) prints '$proved'"
-    done
+    if [[ ${words[0]-} == ask ]] && grep -q '^VALUE ' "$room/output"; then
+        "$top/tests/prove" "$program" "${words[1]}" input "$room/output" 2>&1
+    fi
 }
 
 # What isn't built yet is built here, before the cases. The program itself never ends with 125.
-"$top/keynoted" </dev/null >/dev/null
-if [[ $? == 125 ]]; then
-    echo "the program can't be built"
-    exit 1
+if [[ -z ${KEYNOTED-} ]]; then
+    "$top/keynoted" </dev/null >/dev/null
+    if [[ $? == 125 ]]; then
+        echo "the program can't be built"
+        exit 1
+    fi
 fi
 
 passed=0 failed=0
 if (($# == 0)); then
     for example in "$top"/examples/*/; do
-        [[ -e $example/policy.kn ]] || continue
-        if "$top/keynoted" ask "$example/policy.kn" <"$example/requests.txt" | cmp - "$example/replies.txt"; then
+        keys=()
+        [[ -e $example/keys.txt ]] && keys=("$example/keys.txt")
+        if "$program" ask "$example/policy.kn" "${keys[@]}" <"$example/requests.txt" >"$room/output" &&
+            cmp "$room/output" "$example/replies.txt" &&
+            "$top/tests/prove" "$program" "$example/policy.kn" "$example/requests.txt" "$room/output"; then
             ((passed += 1))
         else
             ((failed += 1))
             printf 'FAILED example %s\n' "$example"
         fi
     done
+    if "$top/tests/pipe" "$program"; then
+        ((passed += 1))
+    else
+        ((failed += 1))
+        echo 'FAILED tests/pipe'
+    fi
     set -- "$top"/tests/cases/*
 fi
 for case in "$@"; do
