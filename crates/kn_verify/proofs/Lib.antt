@@ -1,3 +1,4 @@
 pub mod Rejected
 pub mod OneReason
 pub mod Verified
+pub mod Accepted

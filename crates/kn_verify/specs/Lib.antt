@@ -1,2 +1,3 @@
 pub mod Rejections
 pub mod Verdicts
+pub mod Accepted
