@@ -10,6 +10,7 @@ use Rattle.kn_store.specs.declared.update.Update.{Update}
 use Rattle.kn_store.specs.History.{loaded_history}
 use Rattle.kn_daemon.specs.Daemon.{Grounds}
 use Rattle.kn_daemon.specs.Alone.{IsServedAlone}
+use Rattle.kn_daemon.specs.Served.{IsServed}
 use Rattle.kn_daemon.specs.Laws.{ServedAlone}
 use Rattle.kn_daemon.specs.Linearized.{own_updates}
 use Rattle.kn_daemon.specs.declared.ended.Ended.{Ended}
@@ -108,14 +109,20 @@ link_served law g v w o o' ended number unsplit sound serves complete =
     let front : take (length v.seen) w.seen ≡ v.seen = ap (take (length v.seen)) gains.moves.seen ∙ take_at v.seen gains.seen (length v.seen) refl in
     let own : own_updates v.number (drop (length v.seen) w.seen) ≡ drop (length v.seen) w.seen =
     subst (λ (l : List Update). own_updates v.number l ≡ l) (sym behind) (gains.moves.named ∙ sym more_own) in
-    let served : IsServedAlone g serves.taken serves.written ended (is_over o'.left) (take (length v.seen) w.seen) w.seen v.number =
+    let by_replies : IsServedAlone g serves.taken serves.written ended (is_over o'.left) (take (length v.seen) w.seen) w.seen v.number =
     law g serves.taken serves.written ended (is_over o'.left) w.seen (length v.seen) v.number serves.stops serves.served own in
+    let served : IsServed g serves.taken serves.written ended (is_over o'.left) w.seen (length v.seen) (length w.seen) 0 serves.stops =
+    subst (λ (n : ℕ). IsServed g serves.taken serves.written ended (is_over o'.left) w.seen (length v.seen) (length w.seen) n serves.stops) number serves.served in
+    let alone : IsServedAlone g serves.taken serves.written ended (is_over o'.left) v.seen w.seen 0 =
+    subst (λ (n : ℕ). IsServedAlone g serves.taken serves.written ended (is_over o'.left) v.seen w.seen n) number
+    (subst (λ (l : List Update). IsServedAlone g serves.taken serves.written ended (is_over o'.left) l w.seen v.number) front by_replies) in
     record {
       taken = serves.taken;
       written = serves.written;
-      history = w.seen;
-      served = subst (λ (n : ℕ). IsServedAlone g serves.taken serves.written ended (is_over o'.left) v.seen w.seen n) number
-          (subst (λ (l : List Update). IsServedAlone g serves.taken serves.written ended (is_over o'.left) l w.seen v.number) front served);
+      added = gains.seen;
+      stops = serves.stops;
+      served = subst (λ (l : List Update). IsServed g serves.taken serves.written ended (is_over o'.left) l (length v.seen) (length l) 0 serves.stops) gains.moves.seen served;
+      alone = subst (λ (l : List Update). IsServedAlone g serves.taken serves.written ended (is_over o'.left) v.seen l 0) gains.moves.seen alone;
       took = gains.took;
       left = gains.left;
       wrote = gains.wrote;

@@ -1,5 +1,5 @@
 -- How serving a link over a policy ends: its status, the line that tells it, and what it leaves (keynoted's own).
-use Rattle.std.specs.Prelude.{ℕ, ◌≡◌, ◌⊎◌, List, [], ◌∷◌, ◌++◌, codes, decimal, Some, IfSome}
+use Rattle.std.specs.Prelude.{ℕ, ◌≡◌, ◌⊎◌, List, [], ◌∷◌, ◌++◌, codes, decimal, Some, IfSome, length}
 use Rattle.std.specs.Option.{unwrap_or}
 use Rattle.kn_outside.specs.Seen.{FilesSeen, LinkSeen}
 use Rattle.kn_outside.specs.Asked.{HasAsked, HasFailed}
@@ -13,6 +13,7 @@ use Rattle.kn_store.specs.History.{loaded_history}
 use Rattle.kn_store.specs.Loading.{IsFaultyAt}
 use Rattle.kn_daemon.specs.Daemon.{Grounds}
 use Rattle.kn_daemon.specs.Alone.{IsServedAlone}
+use Rattle.kn_daemon.specs.Served.{IsServed}
 use Rattle.kn_daemon.specs.declared.ended.Ended.{Ended}
 use Rattle.kn_daemon.specs.declared.ended.Ended.TheVariants as E
 use Rattle.kn_serve.specs.Serving.{is_over, HasCause, IsOrderly, IsFaultless}
@@ -29,14 +30,16 @@ use Rattle.kn_commands.specs.declared.ask_ending.AskEnding.TheVariants.{PolicySt
 abbrev pub grounds_of : KeyFile → Grounds
 grounds_of keys = record { secret = keys.secret; verdict = verdict_of keys.auth }
 
--- The link was served by a daemon of one thread, of which caller 0 is the only one, over this history: the bytes that were
--- taken of it and written to it, the history in the end, and why the connection ended so. An input that is in order is served to
--- its end, if no call of the link fails and there is memory.
+-- The link was served over this history, to which caller 0 added these updates: the bytes that were taken of it and written to
+-- it, where the turn was had, and why the connection ended so. Caller 0 is the only one, so the replies tell each place. An input
+-- that is in order is served to its end, if no call of the link fails and there is memory.
 pub record IsLinkServed (g : Grounds) (past : List Update) (o o' : LinkSeen) (ended : Ended) : Type 0 where
   pub taken : List ℕ
   pub written : List ℕ
-  pub history : List Update
-  pub served : IsServedAlone g taken written ended (is_over o'.left) past history 0
+  pub added : List Update
+  pub stops : List ℕ
+  pub served : IsServed g taken written ended (is_over o'.left) (past ++ added) (length past) (length (past ++ added)) 0 stops
+  pub alone : IsServedAlone g taken written ended (is_over o'.left) past (past ++ added) 0
   pub took : o'.taken ≡ more taken o.taken
   pub left : o.left ≡ before taken o'.left
   pub wrote : o'.written ≡ more written o.written

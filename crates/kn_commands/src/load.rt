@@ -19,7 +19,7 @@ use std::sync::Wait;
 
 /// A registry with the assertions of a policy file, added by its root pass, caller 0, in their order.
 ///
-/// What stops loading is the first of its assertions that has a fault, or that the limits of live credentials refuse.
+/// What stops loading is the first of its assertions that has a fault, or that a limit of the store refuses.
 /// Both are tried for one assertion before the next is looked at, the fault first (keynoted's own).
 pub(crate) fn load<R: Wait>(rt: &R, alloc: Global, file: &[u8]) -> Result<(Registry, Pass), Stop>
     requires { length file.now ≤ FILE_BYTES }

@@ -45,6 +45,14 @@ pub record Passed (piece text : List ℕ) (l l' : LinkSeen) : Type 0 where
   pub wrote : l'.written ≡ more text l.written
   pub later : l.faults ≤ l'.faults
 
+-- no call failed where a text was printed whole
+pub printed_calm : (l l' : LinkSeen) (text : List ℕ) → Prints true text l l' → l'.faults ≡ l.faults
+printed_calm l l' text p = ap (λ (x : LinkSeen). x.faults) p.writes
+
+-- nor where bytes were read
+pub read_calm : (piece : List ℕ) (l l' : LinkSeen) → Reads piece l l' → l'.faults ≡ l.faults
+read_calm piece l l' r = ap (λ (x : LinkSeen). x.faults) r.taken
+
 -- a text was printed whole
 pub passed_whole : (text : List ℕ) (l l' : LinkSeen) → Prints true text l l' → Passed [] text l l'
 passed_whole text l l' p = record {

@@ -1,5 +1,5 @@
 -- The serving loop: its invariant is kept, and each way out of it serves the connection.
-use Rattle.std.proofs.Common.{◌≡◌, ℕ, ◌+◌, ◌<◌, ◌≤◌, Bool, true, false, List, [], ◌++◌, length, refl, sym, arith, None, subst}
+use Rattle.std.proofs.Common.{◌≡◌, ℕ, ◌+◌, ◌<◌, ◌≤◌, Bool, true, false, List, [], ◌++◌, length, refl, sym, ◌∙◌, arith, None, subst}
 use Rattle.std.specs.Prelude.{take}
 use Rattle.kn_base.specs.declared.limits.TheConstants.{REQUESTS}
 use Rattle.kn_outside.specs.Seen.{LinkSeen}
@@ -19,11 +19,11 @@ use Rattle.kn_daemon.specs.Laws.{Begins, TakesPiece, AnswersOne, EndsByBye, Ends
 use Rattle.kn_registry.specs.Passes.{PassSeen}
 use Rattle.kn_serve.specs.Handling.{Handled, HasRoom, Took}
 use Rattle.kn_serve.specs.Serving.{Serving, Serves, IsInputEnd, is_over}
-use Rattle.kn_serve.proofs.GainsLaws.{passed_whole, passed_part, passed_read, passed_failed, gains_nothing, gains_answer, gains_read, gains_quiet}
+use Rattle.kn_serve.proofs.GainsLaws.{printed_calm, read_calm, passed_whole, passed_part, passed_read, passed_failed, gains_nothing, gains_answer, gains_read, gains_quiet}
 
 pub serving_begun : Begins → (g : Grounds) (v : PassSeen) (l : LinkSeen) (now : State) (h : Held) → now ≡ first_state → h ≡ Bytes [] → Serving g v v l l now h 0
 serving_begun law g v l now h first empty =
-    let begun : Serving g v v l l first_state (Bytes []) 0 = record { taken = []; written = []; stops = []; gains = gains_nothing v l; underway = law g v.seen v.number } in
+    let begun : Serving g v v l l first_state (Bytes []) 0 = record { taken = []; written = []; stops = []; gains = gains_nothing v l; underway = law g v.seen v.number; calm = refl } in
     subst (λ (x : State). Serving g v v l l x h 0) (sym first) (subst (λ (x : Held). Serving g v v l l first_state x 0) (sym empty) begun)
 
 -- a connection for which there was no memory
@@ -55,6 +55,7 @@ serving_answers law g u v w l l' l'' old new h h' answered request s t no_bye no
       stops = s.stops ++ d.entries;
       gains = gains_answer u v w l l' l'' s.taken s.written (reply_text d.reply) s.stops d.entries d.more _ s.gains d.moves (passed_whole (reply_text d.reply) l' l'' d.prints);
       underway = subst (λ (x : List Update). IsUnderway g s.taken (s.written ++ reply_text d.reply) x (length u.seen) u.number (s.stops ++ d.entries) new h' (answered + 1)) (sym d.moves.seen) next;
+      calm = printed_calm l' l'' _ d.prints ∙ s.calm;
     }
 
 -- one more piece was read
@@ -67,6 +68,7 @@ serving_reads law g u v l l' l'' now h h' answered piece s held reads = record {
   gains = gains_read u v l l' l'' s.taken s.written piece s.stops s.gains (passed_read piece l' l'' reads);
   underway = subst (λ (x : Held). IsUnderway g (s.taken ++ piece) s.written v.seen (length u.seen) u.number s.stops now x answered) (sym held)
       (law g s.taken s.written v.seen (length u.seen) u.number s.stops now h answered piece s.underway);
+  calm = read_calm piece l' l'' reads ∙ s.calm;
 }
 
 -- BYE was answered
@@ -82,7 +84,7 @@ serves_bye law g u v w l l' l'' old new h h' answered s few t valid =
       served = subst (λ (x : List Update). IsServed g s.taken (s.written ++ reply_text d.reply) E.Done (is_over l''.left) x (length u.seen) (length x) u.number (s.stops ++ d.entries)) (sym d.moves.seen)
           (law g s.taken s.written v.seen d.more (length u.seen) u.number s.stops d.entries old new h h' answered d.reply (is_over l''.left) s.underway few t.next
           (replied-at-first g u v w l l' l'' old new h answered Bye true s d) (subst (λ (x : List Update). is_valid_history x ≡ true) d.moves.seen valid));
-      cause = record {};
+      cause = printed_calm l' l'' _ d.prints ∙ s.calm;
     }
 
 -- a block was refused
@@ -98,7 +100,7 @@ serves_block law g u v w l l' l'' old new h h' answered n s few t valid =
       served = subst (λ (x : List Update). IsServed g s.taken (s.written ++ reply_text d.reply) (E.Block n) (is_over l''.left) x (length u.seen) (length x) u.number (s.stops ++ d.entries)) (sym d.moves.seen)
           (law g s.taken s.written v.seen d.more (length u.seen) u.number s.stops d.entries old new h h' answered n d.reply (is_over l''.left) s.underway few t.next
           (replied-at-first g u v w l l' l'' old new h answered (Faulty (F.Block n)) true s d) (subst (λ (x : List Update). is_valid_history x ≡ true) d.moves.seen valid));
-      cause = record {};
+      cause = printed_calm l' l'' _ d.prints ∙ s.calm;
     }
 
 -- a write failed
@@ -150,7 +152,7 @@ serves_end law g u v l l' l'' now h answered E.Done s few none valid reads over 
       stops = s.stops;
       gains = gains_quiet u v l l' l'' s.taken s.written s.stops s.gains (passed_read [] l' l'' reads);
       served = subst (λ (b : Bool). IsServed g s.taken s.written E.Done b v.seen (length u.seen) (length v.seen) u.number s.stops) (sym over) (dry.by_end end);
-      cause = record {};
+      cause = read_calm [] l' l'' reads ∙ s.calm;
     }
 serves_end law g u v l l' l'' now h answered (E.Cut n) s few none valid reads over end =
     let dry : IsDry g s.taken s.written v.seen (length u.seen) u.number s.stops h = law g s.taken s.written v.seen (length u.seen) u.number s.stops now h answered s.underway few none valid in
@@ -161,7 +163,7 @@ serves_end law g u v l l' l'' now h answered (E.Cut n) s few none valid reads ov
       gains = gains_quiet u v l l' l'' s.taken s.written s.stops s.gains (passed_read [] l' l'' reads);
       served = subst (λ (k : ℕ). IsServed g s.taken s.written (E.Cut k) (is_over l''.left) v.seen (length u.seen) (length v.seen) u.number s.stops) (sym end.0)
           (subst (λ (b : Bool). IsServed g s.taken s.written (E.Cut (length (held_bytes h))) b v.seen (length u.seen) (length v.seen) u.number s.stops) (sym over) (dry.by_cut end.1));
-      cause = record {};
+      cause = read_calm [] l' l'' reads ∙ s.calm;
     }
 serves_end law g u v l l' l'' now h answered E.Memory s few none valid reads over end = absurd end
 serves_end law g u v l l' l'' now h answered E.ReadFault s few none valid reads over end = absurd end
@@ -179,7 +181,7 @@ serves_budget law g u v l l' now h answered s full valid = record {
   gains = s.gains;
   served = law g s.taken s.written v.seen (length u.seen) u.number s.stops now h (is_over l'.left)
       (subst (λ (k : ℕ). IsUnderway g s.taken s.written v.seen (length u.seen) u.number s.stops now h k) full s.underway) valid;
-  cause = record {};
+  cause = s.calm;
 }
 
 -- nothing was done

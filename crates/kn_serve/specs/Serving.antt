@@ -39,23 +39,24 @@ pub record Gains (v w : PassSeen) (l l' : LinkSeen) (taken written : List ℕ) (
   pub wrote : l'.written ≡ more written l.written
   pub later : l.faults ≤ l'.faults
 
--- what holds between two requests
+-- what holds between two requests; no call of the link has failed
 pub record Serving (g : Grounds) (v w : PassSeen) (l l' : LinkSeen) (now : State) (held : Held) (answered : ℕ) : Type 0 where
   pub taken : List ℕ
   pub written : List ℕ
   pub stops : List ℕ
   pub gains : Gains v w l l' taken written stops
   pub underway : IsUnderway g taken written w.seen (length v.seen) v.number stops now held answered
+  pub calm : l'.faults ≡ l.faults
 
--- a fault has a cause; without memory nothing was read or written
+-- A fault has a cause, and at every other end no call of the link has failed; without memory nothing was read or written.
 abbrev pub HasCause : Ended → LinkSeen → LinkSeen → Type 0
-HasCause E.Done l l' = Unit {0}
+HasCause E.Done l l' = l'.faults ≡ l.faults
 HasCause E.Memory l l' = l' ≡ l
 HasCause E.ReadFault l l' = Rose l.faults l'.faults
 HasCause E.WriteFault l l' = Rose l.faults l'.faults
-HasCause (E.Cut held) l l' = Unit {0}
-HasCause (E.Block n) l l' = Unit {0}
-HasCause E.Budget l l' = Unit {0}
+HasCause (E.Cut held) l l' = l'.faults ≡ l.faults
+HasCause (E.Block n) l l' = l'.faults ≡ l.faults
+HasCause E.Budget l l' = l'.faults ≡ l.faults
 
 -- The call has served the connection: what it took and wrote, what the pass has seen and where it had the turn.
 pub record Serves (g : Grounds) (v w : PassSeen) (l l' : LinkSeen) (ended : Ended) : Type 0 where
