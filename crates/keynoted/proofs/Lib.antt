@@ -1,5 +1,4 @@
 pub mod Spelled
-pub mod Contents
 pub mod Due
 pub mod Statuses
 pub mod Known

@@ -1,25 +1,21 @@
 //! keynoted: may these principals do this?
 #![tactic(auto)]
 
-mod real;
-#[cfg(test)]
-mod real_tests;
-mod retry;
 mod run;
 #[cfg(test)]
 mod run_tests;
 mod start;
 mod words;
 
-use crate::real::{RealFiles, StdLink, StdOut};
 use kn_outside::Passing;
+use kn_real::{RealFiles, StdLink, StdOut};
 use std::process::ExitCode;
 
 fn main(rt: HostRuntime) -> ExitCode {
     let words = words::words(&rt);
     let mut files = RealFiles::new(rt);
-    let mut own = StdLink::new(&rt);
-    let mut out = StdOut::new(&rt);
+    let mut own = StdLink::new(rt.stdin(), rt.stdout());
+    let mut out = StdOut::new(rt.stdout());
     let status = start::start(
         &rt,
         rt.alloc(),

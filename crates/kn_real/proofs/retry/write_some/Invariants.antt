@@ -1,5 +1,5 @@
 use Rattle.std.specs.Io.KnownBytes.{Keeps}
-use Rattle.keynoted.proofs.retry.write_some.Given as goal
+use Rattle.kn_real.proofs.retry.write_some.Given as goal
 
 -- a write that was interrupted has written nothing
 abbrev pub invariant-loop : goal.invariant-loop

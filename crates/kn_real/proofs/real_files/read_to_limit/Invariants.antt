@@ -1,6 +1,6 @@
 use Rattle.std.proofs.Common.{◌-◌, length}
 use Rattle.std.specs.Io.KnownBytes.{Consumes}
-use Rattle.keynoted.proofs.real.read_to_limit.Given as goal
+use Rattle.kn_real.proofs.real_files.read_to_limit.Given as goal
 
 -- the bytes that may still be read, the one too many among them
 abbrev pub decreases-loop-buf : goal.decreases-loop-buf

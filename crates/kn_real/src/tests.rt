@@ -1,4 +1,5 @@
-use crate::real::RealFiles;
+//! The adapters on the system that runs the tests.
+use crate::RealFiles;
 use kn_outside::{FileFault, Files};
 use std::test::Fail;
 

@@ -1,6 +1,6 @@
 use Rattle.std.proofs.Common.{◌≡◌, length}
 use Rattle.std.specs.Io.KnownBytes.{Keeps}
-use Rattle.keynoted.proofs.retry.read_some.Given as goal
+use Rattle.kn_real.proofs.retry.read_some.Given as goal
 
 -- a read that was interrupted has read nothing
 abbrev pub invariant-loop : goal.invariant-loop
