@@ -1,6 +1,6 @@
 -- A registry may be shared by threads, and a pass may go to another one.
 use denote.Param.Send.{IsSend, IsSync, sendable}
-use Rattle.kn_store.proofs.Crossing.{book_send}
+use Rattle.kn_registry.proofs.StoreCrossing.{book_send}
 use Rattle.kn_turn.proofs.turn.Turn.TheSendSync as turn
 use Rattle.kn_registry.specs.contracts.registry.Shared as shared
 use Rattle.kn_registry.specs.contracts.registry.Registry as registry

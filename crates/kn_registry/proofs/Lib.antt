@@ -1,2 +1,3 @@
 pub mod PassMoves
 pub mod Crossing
+pub mod StoreCrossing

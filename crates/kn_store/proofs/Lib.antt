@@ -7,4 +7,3 @@ pub mod SearchLemmas
 pub mod LiveSetLemmas
 pub mod ViewLemmas
 pub mod VersionLemmas
-pub mod Crossing

@@ -1,4 +1,5 @@
--- Versions and books may go to other threads, and be looked at there. What lies in a field is spoken of as its field.
+-- Versions and books may go to other threads, and be looked at there. What lies in a field is spoken of as its field. They stand
+-- here, since the tests of kn_store, which are compiled with it, have no such facts of its own types.
 use denote.Param.Send.{IsSend, IsSync, sendable}
 use Rattle.std.proofs.Crossing.{crosses}
 use Rattle.kn_base.specs.contracts.octets.Octets as octets
