@@ -1,0 +1,15 @@
+use Rattle.kn_registry.specs.Passes.{IsReady}
+use Rattle.kn_workers.specs.Doors.{WorksAt}
+use Rattle.kn_workers.proofs.worker.serve_door.Given as goal
+
+abbrev pub invariant-connections : goal.invariant-connections
+invariant-connections g l =
+    IsReady l.fn.reg l.pass
+    × WorksAt
+    g.D.Conn.Sink.seen
+    (record { secret = l.fn.secret; verdict = g.A.Authenticator.verdict l.fn.auth })
+    l.fn.pass
+    l.pass
+    (g.D.Door.seen l.fn.door)
+    (g.D.Door.seen l.door)
+    l.finished

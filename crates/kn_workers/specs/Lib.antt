@@ -1,0 +1,5 @@
+pub mod Connections
+pub mod Doors
+pub mod Nets
+pub mod Workers
+pub mod Posts

@@ -1,0 +1,92 @@
+-- Workers side by side: each serves a door by a pass of its own, which is joined into the root (keynoted's own).
+use Rattle.std.specs.Prelude.{ℕ, zero, suc, ◌≡◌, ◌+◌, ◌≤◌, Bool, false, ◌||◌, List, [], ◌∷◌, ◌++◌, length, map, All, nat_lt}
+use mathlib.Core.List.{IsPrefix}
+use Rattle.kn_outside.specs.Seen.{LinkSeen}
+use Rattle.kn_store.specs.declared.update.Update.{Update}
+use Rattle.kn_turn.specs.declared.view.Ended.{Ended}
+use Rattle.kn_turn.specs.Passes.{split_of, after_split, after_join}
+use Rattle.kn_daemon.specs.Daemon.{Grounds}
+use Rattle.kn_registry.specs.Passes.{PassSeen, IsSoundPass}
+use Rattle.kn_workers.specs.Connections.{ServedSeen, IsConnection, FollowEachOther, stops_of, own_in}
+use Rattle.kn_workers.specs.Doors.{DoorSeen, with_more, HasGiven}
+use Rattle.kn_workers.specs.declared.worker.ServeEnd.{ServeEnd}
+
+-- the passes that are split from a root, so many
+abbrev pub splits_from : PassSeen → ℕ → List PassSeen
+splits_from root zero = []
+splits_from root (suc n) = split_of root ∷ splits_from (after_split root) n
+
+-- a root after passes were joined into it
+abbrev pub joined : PassSeen → List PassSeen → PassSeen
+joined root [] = root
+joined root (pass ∷ passes) = joined (after_join root pass) passes
+
+-- some passes were split from a root, and joined into it again
+pub record IsRejoined (v w : PassSeen) : Type 0 where
+  pub count : ℕ
+  pub is : w ≡ joined (record v { splits = v.splits + count }) (splits_from v count)
+  pub seen : w.seen ≡ v.seen
+
+-- what one worker did: its door before and after, its connections, and what is kept of its pass
+pub record Work (C D : Type 0) : Type 0 where
+  pub before : D
+  pub after : D
+  pub connections : List (ServedSeen C)
+  pub kept : Ended Update
+
+module _ {C D : Type 0} (door : D → DoorSeen (ServedSeen C)) where
+  -- whether a door has given less than its quota
+  abbrev pub gave_less : D → Bool
+  gave_less d = nat_lt (door d).given (door d).quota
+
+  -- how many connections all doors give together
+  abbrev pub all_quotas : List D → ℕ
+  all_quotas [] = 0
+  all_quotas (d ∷ doors) = (door d).quota + all_quotas doors
+
+  module _ (seen : C → LinkSeen) (g : Grounds) (start : ℕ) (history : List Update) where
+    -- The worker with this number served each connection that its door gave, over the history.
+    pub record HasWorked (caller : ℕ) (work : Work C D) : Type 0 where
+      pub each : All (IsConnection seen g history caller) work.connections
+      pub end : ℕ
+      pub follow : FollowEachOther start work.connections end
+      pub within : end ≤ length history
+      pub number : work.kept.number ≡ caller
+      pub stops : work.kept.stops ≡ stops_of work.connections
+      pub mine : work.kept.mine ≡ own_in history caller work.connections
+      pub given : (door work.after).given ≡ (door work.before).given + length work.connections
+      pub finished : (door work.after).finished ≡ (door work.before).finished + length work.connections
+      pub done : (door work.after).done ≡ with_more work.connections (door work.before).done
+      pub quota : (door work.after).quota ≡ (door work.before).quota
+      pub failed : HasGiven (gave_less work.after) (door work.before) (door work.after)
+
+    -- workers with the numbers from this one on
+    abbrev pub EachWorked : ℕ → List (Work C D) → Type 0
+    EachWorked caller [] = Unit {0}
+    EachWorked caller (work ∷ works) = HasWorked caller work × EachWorked (caller + 1) works
+
+  -- how many connections were served in all
+  abbrev pub all_served : List (Work C D) → ℕ
+  all_served [] = 0
+  all_served (work ∷ works) = length work.connections + all_served works
+
+  -- whether a door gave less than its quota
+  abbrev pub some_less : List (Work C D) → Bool
+  some_less [] = false
+  some_less (work ∷ works) = gave_less work.after || some_less works
+
+  -- Each door had a worker, whose pass was split from the root and joined into it again, in the doors' order. The root made no
+  -- update and didn't have the turn. So each update that the root has seen since is one of a connection.
+  pub record AllServed (link : C → LinkSeen) (g : Grounds) (v w : PassSeen) (doors doors' : List D) (end : ServeEnd) : Type 0 where
+    pub works : List (Work C D)
+    pub before : map (λ work. work.before) works ≡ doors
+    pub after : map (λ work. work.after) works ≡ doors'
+    pub each : EachWorked link g (length v.seen) w.seen (v.splits + 1) works
+    pub seen : IsPrefix v.seen w.seen
+    pub sound : IsSoundPass w
+    pub mine : w.mine ≡ v.mine
+    pub stops : w.stops ≡ v.stops
+    pub splits : w.splits ≡ v.splits + length works
+    pub ended : w.ended ≡ v.ended ++ map (λ work. work.kept) works
+    pub finished : end.finished ≡ all_served works
+    pub failed : end.failed ≡ some_less works

@@ -1,0 +1,20 @@
+//! Workers: each serves the connections of a door by a pass of its own, all over one registry.
+#![tactic(auto)]
+
+mod accepted;
+mod binding;
+mod door;
+mod hiring;
+mod net;
+mod post;
+mod served;
+mod worker;
+mod workers;
+
+pub use accepted::Accepted;
+pub use binding::{BindFault, Binding};
+pub use door::Door;
+pub use net::Net;
+pub use served::Served;
+pub use worker::{ServeEnd, serve_door};
+pub use workers::serve_all;
