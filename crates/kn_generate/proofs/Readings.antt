@@ -1,0 +1,242 @@
+-- That the generated texts read.
+use Rattle.std.proofs.Common.{◌≡◌, ℕ, zero, suc, true, false, Bool, ◌+◌, ◌*◌, ◌^◌, ◌<◌, ◌≤◌, ◌==◌, ◌&&◌, ◌||◌, if◌then◌else◌, List, [], ◌∷◌, ◌++◌, Option, Some, None, Result, Ok, Err, length, refl, sym, ◌∙◌, ap, subst, append_assoc, codes, arith}
+use Rattle.std.specs.List.{list_all}
+use Rattle.std.specs.Prelude.{pos, map, nat_lt, nat_le, is_ok, is_some, IsSome, decimal, flat_map}
+use Rattle.kn_lex.specs.Cutting.{Seen, start}
+use Rattle.kn_lex.specs.Literal.{literal_value}
+use Rattle.kn_lex.specs.Computed.{tokens_or_fault}
+use Rattle.kn_env.specs.declared.constant.Constant.{Constant}
+use Rattle.kn_fields.specs.Fields.{Field, field_of, fields_of, field_with, signed_to}
+use Rattle.kn_fields.specs.Faults.{constants_in}
+use Rattle.kn_fields.specs.Scanning.{fault_in, first_place, fault_at, fault_without, version_place, constant_place, departure, goes_deep}
+use Rattle.kn_fields.specs.Depth.{depth_behind, run_behind}
+use Rattle.kn_fields.specs.Computed.{fields_or_fault}
+use Rattle.kn_principal.specs.Principals.{normal_form}
+use Rattle.kn_trees.specs.declared.formula.Formula.{Formula}
+use Rattle.kn_trees.specs.declared.program.Program.{Program}
+use Rattle.kn_trees.specs.declared.assertion.Assertion.{Assertion}
+use Rattle.kn_trees.specs.Kinds.{kind_of, is_well_kinded, is_clause_well_kinded, is_then_well_kinded, then_step, clause_step, program_step}
+use Rattle.kn_trees.specs.declared.kinds.Kind.TheVariants as K
+use Rattle.kn_trees.specs.declared.program.Expr.{Expr}
+use Rattle.kn_trees.specs.declared.program.Expr.TheVariants as E
+use Rattle.kn_trees.specs.declared.program.Comparison.TheVariants.{Gt}
+use Rattle.kn_trees.specs.declared.program.Clause.{Clause}
+use Rattle.kn_trees.specs.declared.program.Then.TheVariants.{Value}
+use Rattle.kn_trees.specs.declared.program.Then.TheFolds.{fold-roll-Program}
+use Rattle.kn_trees.proofs.Kinded.{kind_of-Truth, kind_of-Whole, kind_of-Text, kind_of-Name, kind_of-Number, kind_of-Compare, is_then_well_kinded-Value, is_clause_well_kinded-parts}
+use Rattle.kn_program.specs.Grammar.{program_with}
+use Rattle.kn_formula.specs.Words as L
+use Rattle.kn_formula.specs.Words.{behind}
+use Rattle.kn_formula.specs.Trees.{joined, need_of, has_bad_threshold, has_bad_name, formula_of}
+use Rattle.kn_formula.specs.declared.written.Principal.TheVariants.{Literal}
+use Rattle.kn_formula.specs.declared.written.Rule.TheVariants.{Any, AtLeast}
+use Rattle.kn_formula.specs.declared.written.Written.{Written}
+use Rattle.kn_formula.specs.declared.written.Written.TheVariants.{Who, Several}
+use Rattle.kn_formula.proofs.TreeLemmas.{bad_threshold_who, bad_threshold_several, bad_name_who, bad_name_several}
+use Rattle.kn_formula.specs.Reading.{read_words, ors_at, ands_at, one_at, forms_at, parts_after}
+use Rattle.kn_formula.specs.Licensing as licensing
+use Rattle.kn_formula.specs.Licensing.{licensees_of}
+use Rattle.kn_program.specs.Words as W
+use Rattle.kn_program.specs.Words.{number_word, taken, itself}
+use Rattle.kn_program.specs.Signs.{operation_of, comparison_of, prefix_of, truth_of, number_of}
+use Rattle.kn_program.specs.Trees as trees
+use Rattle.kn_program.specs.Reading.{read_program, tail_at, list_at, tests_at, negation_at, comparison_at, chain_at, operand_at, atom_at, program_at, clause_at}
+use Rattle.kn_program.specs.Conditions as conditions
+use Rattle.kn_program.specs.Conditions.{program_of}
+use Rattle.kn_assert.specs.Parts.{named, principal_of, authorizer_of, licensees_by, conditions_by}
+use Rattle.kn_assert.specs.Reading.{authorizer_in, licensees_in, conditions_in, signature_in, fault_of_part, fault_by, first_of, unless, assembled, reading_with, reading_by, reading_of, assertion_in, assertion_of}
+use Rattle.kn_assert.specs.declared.fault.ReadFault.{ReadFault}
+use Rattle.kn_assert.specs.declared.order.Faults.{Faults}
+use Rattle.kn_generate.proofs.Scans.{bytes_of, tokens_at, AreCuts, text_tokens}
+use Rattle.kn_generate.proofs.Literals.{quoted, IsNaming}
+use Rattle.kn_generate.proofs.CutLemmas.{IsDigit, credential_cuts, policy_cuts, Cuts}
+
+no_faults : Faults
+no_faults = record { authorizer = None; conditions = None; licensees = None; signature = None }
+
+still_none : (b : Bool) (o : Option ReadFault) → o ≡ None → (if b then None else o) ≡ None
+still_none true o e = refl
+still_none false o e = e
+
+none_by : (o : Option ℕ) → fault_by no_faults o ≡ None
+unfolding no_faults
+none_by None = refl
+none_by (Some n) = still_none (n == 1) _ (still_none (n == 3) _ (still_none (n == 5) _ (still_none (n == 7) _ refl)))
+
+none_first : (fields : List Field) → first_of no_faults fields ≡ None
+unfolding first_of
+none_first [] = refl
+none_first (field ∷ fields) = rw (none_by (field_of field.label)) (none_first fields)
+
+put_together : (fields : List Field) (constants : List Constant) (signed : ℕ) (a : Result (List ℕ) ReadFault) (l : Result (Option Formula) ReadFault) (c : Result (Option Program) ReadFault) (s : Result (Option (List ℕ)) ReadFault)
+    → is_ok a ≡ true → is_ok l ≡ true → is_ok c ≡ true → is_ok s ≡ true
+    → is_some (assertion_in (unless (first_of (record { authorizer = fault_of_part a; conditions = fault_of_part c; licensees = fault_of_part l; signature = fault_of_part s }) fields) (assembled constants signed a l c s))) ≡ true
+unfolding no_faults
+put_together fields constants signed (Ok a) (Ok l) (Ok c) (Ok s) ea el ec es = rw (none_first fields) refl
+put_together fields constants signed (Err a) l c s ea el ec es = cc
+put_together fields constants signed (Ok a) (Err l) c s ea el ec es = cc
+put_together fields constants signed (Ok a) (Ok l) (Err c) s ea el ec es = cc
+put_together fields constants signed (Ok a) (Ok l) (Ok c) (Err s) ea el ec es = cc
+
+-- a text reads whose fields do
+pub fields_read : (text : List ℕ) (tokens : List Seen) (constants : List Constant) → is_ok (authorizer_in constants (field_with 1 tokens)) ≡ true → is_ok (licensees_in constants (field_with 5 tokens)) ≡ true
+    → is_ok (conditions_in (field_with 3 tokens)) ≡ true → is_ok (signature_in (field_with 7 tokens)) ≡ true → is_some (assertion_in (reading_with text tokens constants)) ≡ true
+unfolding reading_with
+fields_read text tokens constants a l c s =
+    put_together (fields_of tokens) constants (signed_to text tokens) (authorizer_in constants (field_with 1 tokens)) (licensees_in constants (field_with 5 tokens)) (conditions_in (field_with 3 tokens)) (signature_in (field_with 7 tokens)) a l c s
+
+fields_told : (text : List ℕ) (tokens : List Seen) → nat_lt 16384 (length text) ≡ false → tokens_or_fault text ≡ Ok tokens → fault_in tokens ≡ None → fields_or_fault text ≡ Ok tokens
+unfolding fields_or_fault
+fields_told text tokens short cut none = rw (short, cut, none) refl
+
+pub text_reads : (text : List ℕ) (tokens : List Seen) → nat_lt 16384 (length text) ≡ false → tokens_or_fault text ≡ Ok tokens → fault_in tokens ≡ None
+    → is_some (assertion_in (reading_with text tokens (constants_in (field_with 6 tokens)))) ≡ true → IsSome (assertion_of text)
+unfolding reading_of
+text_reads text tokens short cut none reads = rw (fields_told text tokens short cut none) reads
+
+named_ok : (b : Bool) (x : List ℕ) → b ≡ true → is_ok (named (if b then Some x else None)) ≡ true
+named_ok b x e = rw e refl
+
+-- the words of a formula, and what they spell
+abbrev formula_words : List ℕ → List ℕ → List ℕ → List ℕ → List L.Word
+formula_words va vb vc vd =
+    L.literal va ∷ L.sign (codes "||") ∷ L.number (codes "2") ∷ L.sign (codes "-") ∷ L.name (codes "of") ∷ L.sign (codes "(")
+    ∷ L.literal vb ∷ L.sign (codes ",") ∷ L.literal vc ∷ L.sign (codes ",") ∷ L.literal vd ∷ L.sign (codes ")") ∷ []
+
+abbrev three : List ℕ → List ℕ → List ℕ → List Written
+three vb vc vd = Who (Literal vb) ∷ Who (Literal vc) ∷ Who (Literal vd) ∷ []
+
+abbrev written : List ℕ → List ℕ → List ℕ → List ℕ → Written
+written va vb vc vd = Several Any (Who (Literal va) ∷ Several (AtLeast 2) (three vb vc vd) ∷ [])
+
+words_spell : (va vb vc vd : List ℕ) → read_words (formula_words va vb vc vd) ≡ Some (written va vb vc vd)
+unfolding read_words ors_at ands_at one_at forms_at parts_after behind joined need_of
+words_spell va vb vc vd = refl
+
+good_thresholds : (va vb vc vd : List ℕ) → has_bad_threshold (written va vb vc vd) ≡ false
+good_thresholds va vb vc vd =
+    bad_threshold_several Any (Who (Literal va) ∷ Several (AtLeast 2) (three vb vc vd) ∷ [])
+    ∙ rw (bad_threshold_who (Literal va), bad_threshold_several (AtLeast 2) (three vb vc vd), bad_threshold_who (Literal vb), bad_threshold_who (Literal vc), bad_threshold_who (Literal vd)) refl
+
+abbrev is_bad : List ℕ → Bool
+is_bad v = length v == 0 || nat_lt 4096 (length v)
+
+good_names : (va vb vc vd : List ℕ) → is_bad va ≡ false → is_bad vb ≡ false → is_bad vc ≡ false → is_bad vd ≡ false → has_bad_name [] (written va vb vc vd) ≡ false
+good_names va vb vc vd ea eb ec ed =
+    bad_name_several [] Any (Who (Literal va) ∷ Several (AtLeast 2) (three vb vc vd) ∷ [])
+    ∙ rw (bad_name_who [] (Literal va), bad_name_several [] (AtLeast 2) (three vb vc vd), bad_name_who [] (Literal vb), bad_name_who [] (Literal vc), bad_name_who [] (Literal vd), ea, eb, ec, ed) refl
+
+formula_judged : (read : Option Written) (tree : Written) → read ≡ Some tree → has_bad_threshold tree ≡ false → has_bad_name [] tree ≡ false → is_ok (licensees_by (licensing.judged_read [] read)) ≡ true
+formula_judged read tree e f g = rw (e, f, g) refl
+
+formula_ok : (va vb vc vd : List ℕ) → is_bad va ≡ false → is_bad vb ≡ false → is_bad vc ≡ false → is_bad vd ≡ false
+    → is_ok (licensees_by (licensing.judged_read [] (read_words (formula_words va vb vc vd)))) ≡ true
+formula_ok va vb vc vd ea eb ec ed =
+    formula_judged _ (written va vb vc vd) (words_spell va vb vc vd) (good_thresholds va vb vc vd) (good_names va vb vc vd ea eb ec ed)
+
+one_spells : (v : List ℕ) → read_words (L.literal v ∷ []) ≡ Some (Who (Literal v))
+unfolding read_words ors_at ands_at one_at forms_at parts_after behind joined
+one_spells v = refl
+
+one_ok : (v : List ℕ) → is_bad v ≡ false → is_ok (licensees_by (licensing.judged_read [] (read_words (L.literal v ∷ [])))) ≡ true
+one_ok v e = formula_judged _ (Who (Literal v)) (one_spells v) (bad_threshold_who (Literal v)) (bad_name_who [] (Literal v) ∙ e)
+
+-- the words of a program, and what they spell
+abbrev program_words : W.Word → List ℕ → List ℕ → List W.Word
+program_words limit ve vl =
+    W.sign (codes "@") ∷ W.name (codes "level") ∷ W.sign (codes ">") ∷ limit ∷ W.sign (codes "->") ∷ W.literal ve ∷ W.sign (codes ";")
+    ∷ W.truth true ∷ W.sign (codes "->") ∷ W.literal vl ∷ W.sign (codes ";") ∷ []
+
+abbrev passes : ℕ → Expr
+passes v = E.Compare Gt (E.Number (E.Name (codes "level"))) (E.Whole (pos v))
+
+abbrev clauses_of : ℕ → List ℕ → List ℕ → List Clause
+clauses_of v ve vl = (record { test = passes v; then = Value (E.Text ve) }) ∷ (record { test = E.Truth true; then = Value (E.Text vl) }) ∷ []
+
+program_reads : (v : ℕ) (ve vl : List ℕ) → read_program (program_words (W.number v) ve vl) ≡ Some (program_with (clauses_of v ve vl))
+unfolding read_program tail_at list_at tests_at negation_at comparison_at chain_at operand_at atom_at program_at clause_at taken itself operation_of comparison_of prefix_of trees.joined trees.chained
+program_reads v ve vl = refl
+
+well : (clauses : List Clause) → is_well_kinded (program_with clauses) ≡ list_all (λ right. right) (map is_clause_well_kinded clauses)
+unfolding is_well_kinded is_clause_well_kinded
+well clauses = fold-roll-Program Bool Bool Bool then_step clause_step program_step (record { clauses = clauses })
+
+value_well : (v : List ℕ) → is_then_well_kinded (Value (E.Text v)) ≡ true
+value_well v = is_then_well_kinded-Value (E.Text v) ∙ rw (kind_of-Text v) refl
+
+clause_well : (test : Expr) (v : List ℕ) → kind_of test ≡ Some K.Truth → is_clause_well_kinded (record { test = test; then = Value (E.Text v) }) ≡ true
+clause_well test v e = is_clause_well_kinded-parts (record { test = test; then = Value (E.Text v) }) ∙ rw (e, value_well v) refl
+
+passes_kind : (v : ℕ) → kind_of (passes v) ≡ Some K.Truth
+passes_kind v =
+    kind_of-Compare Gt (E.Number (E.Name (codes "level"))) (E.Whole (pos v))
+    ∙ rw (kind_of-Number (E.Name (codes "level")), kind_of-Name (codes "level"), kind_of-Whole (pos v)) refl
+
+program_well : (v : ℕ) (ve vl : List ℕ) → is_well_kinded (program_with (clauses_of v ve vl)) ≡ true
+program_well v ve vl = well (clauses_of v ve vl) ∙ rw (clause_well (passes v) ve (passes_kind v), clause_well (E.Truth true) vl (kind_of-Truth true)) refl
+
+program_judged : (read : Option Program) (program : Program) → read ≡ Some program → is_well_kinded program ≡ true → is_ok (conditions_by (conditions.judged_read read)) ≡ true
+program_judged read program e f = rw (e, f) refl
+
+program_ok : (v : ℕ) (ve vl : List ℕ) → is_ok (conditions_by (conditions.judged_read (read_program (program_words (number_word (Some v)) ve vl)))) ≡ true
+program_ok v ve vl = program_judged _ (program_with (clauses_of v ve vl)) (program_reads v ve vl) (program_well v ve vl)
+
+module _ (i a b c d e : List ℕ) (t : ℕ) where
+  abbrev cuts : Cuts
+  cuts = credential_cuts i a b c d ((48 + t) ∷ []) e
+
+  no_fault : fault_in (tokens_at start 0 cuts) ≡ None
+  unfolding fault_in first_place fault_at fault_without version_place constant_place departure field_with fields_of field_of
+  no_fault = refl
+
+  signature_ok : is_ok (signature_in (field_with 7 (tokens_at start 0 cuts))) ≡ true
+  unfolding field_with fields_of field_of
+  signature_ok = refl
+
+  authorizer_ok : IsNaming (quoted (112 ∷ i)) → is_ok (authorizer_in (constants_in (field_with 6 (tokens_at start 0 cuts))) (field_with 1 (tokens_at start 0 cuts))) ≡ true
+  unfolding field_with fields_of field_of goes_deep depth_behind run_behind authorizer_of principal_of
+  authorizer_ok naming =
+      named_ok (nat_lt 0 (length (literal_value (quoted (112 ∷ i)))) && nat_le (length (literal_value (quoted (112 ∷ i)))) 4096) (normal_form (literal_value (quoted (112 ∷ i)))) naming.named
+
+  licensees_ok : IsNaming (quoted (112 ∷ a)) → IsNaming (quoted (112 ∷ b)) → IsNaming (quoted (112 ∷ c)) → IsNaming (quoted (112 ∷ d))
+      → is_ok (licensees_in (constants_in (field_with 6 (tokens_at start 0 cuts))) (field_with 5 (tokens_at start 0 cuts))) ≡ true
+  unfolding field_with fields_of field_of goes_deep depth_behind run_behind licensees_of L.words_of
+  licensees_ok na nb nc nd =
+      formula_ok (literal_value (quoted (112 ∷ a))) (literal_value (quoted (112 ∷ b))) (literal_value (quoted (112 ∷ c))) (literal_value (quoted (112 ∷ d))) na.not_bad nb.not_bad nc.not_bad nd.not_bad
+
+  conditions_ok : IsDigit t → is_ok (conditions_in (field_with 3 (tokens_at start 0 cuts))) ≡ true
+  unfolding field_with fields_of field_of goes_deep depth_behind run_behind program_of W.words_of truth_of
+  conditions_ok digit =
+      subst (λ (o : Option ℕ). is_ok (conditions_by (conditions.judged_read (read_program (program_words (number_word o) (literal_value (quoted (118 ∷ e))) (literal_value (codes "\"v1\"")))))) ≡ true)
+      (sym digit.valued) (program_ok digit.value (literal_value (quoted (118 ∷ e))) (literal_value (codes "\"v1\"")))
+
+  -- a credential reads, where its literals name principals
+  pub credential_reads : (text : List ℕ) → text ≡ bytes_of cuts → AreCuts start cuts → nat_lt 16384 (length text) ≡ false → length cuts ≤ length text → IsDigit t
+      → IsNaming (quoted (112 ∷ i)) → IsNaming (quoted (112 ∷ a)) → IsNaming (quoted (112 ∷ b)) → IsNaming (quoted (112 ∷ c)) → IsNaming (quoted (112 ∷ d)) → IsSome (assertion_of text)
+  credential_reads text is are short enough digit ni na nb nc nd =
+      text_reads text (tokens_at start 0 cuts) short (text_tokens text cuts is are enough) no_fault
+      (fields_read text (tokens_at start 0 cuts) (constants_in (field_with 6 (tokens_at start 0 cuts))) (authorizer_ok ni) (licensees_ok na nb nc nd) (conditions_ok digit) signature_ok)
+
+policy_fault : fault_in (tokens_at start 0 policy_cuts) ≡ None
+unfolding fault_in first_place fault_at fault_without version_place constant_place departure field_with fields_of field_of
+policy_fault = refl
+
+policy_others : (is_ok (conditions_in (field_with 3 (tokens_at start 0 policy_cuts))) ≡ true) × (is_ok (signature_in (field_with 7 (tokens_at start 0 policy_cuts))) ≡ true)
+unfolding field_with fields_of field_of
+policy_others = (refl, refl)
+
+policy_authorizer : IsNaming (quoted (codes "POLICY")) → is_ok (authorizer_in (constants_in (field_with 6 (tokens_at start 0 policy_cuts))) (field_with 1 (tokens_at start 0 policy_cuts))) ≡ true
+unfolding field_with fields_of field_of goes_deep depth_behind run_behind authorizer_of principal_of
+policy_authorizer naming =
+    named_ok (nat_lt 0 (length (literal_value (quoted (codes "POLICY")))) && nat_le (length (literal_value (quoted (codes "POLICY")))) 4096) (normal_form (literal_value (quoted (codes "POLICY")))) naming.named
+
+policy_licensees : IsNaming (quoted (codes "p0")) → is_ok (licensees_in (constants_in (field_with 6 (tokens_at start 0 policy_cuts))) (field_with 5 (tokens_at start 0 policy_cuts))) ≡ true
+unfolding field_with fields_of field_of goes_deep depth_behind run_behind licensees_of L.words_of
+policy_licensees naming = one_ok (literal_value (quoted (codes "p0"))) naming.not_bad
+
+-- the policy's credential reads
+pub policy_reads : (text : List ℕ) → text ≡ bytes_of policy_cuts → AreCuts start policy_cuts → nat_lt 16384 (length text) ≡ false → length policy_cuts ≤ length text
+    → IsNaming (quoted (codes "POLICY")) → IsNaming (quoted (codes "p0")) → IsSome (assertion_of text)
+policy_reads text is are short enough policy first =
+    text_reads text (tokens_at start 0 policy_cuts) short (text_tokens text policy_cuts is are enough) policy_fault
+    (fields_read text (tokens_at start 0 policy_cuts) (constants_in (field_with 6 (tokens_at start 0 policy_cuts))) (policy_authorizer policy) (policy_licensees first) policy_others.0 policy_others.1)

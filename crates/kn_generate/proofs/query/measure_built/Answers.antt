@@ -1,0 +1,39 @@
+use Rattle.std.proofs.Common.{◌≡◌, ◌∙◌, ◌<◌, ◌≤◌, ℕ, List, length, sym, ap, subst, arith}
+use Rattle.std.specs.Prelude.{slice_index}
+use Rattle.kn_meaning.specs.Equations.{IsPolicyLevel}
+use Rattle.kn_system.specs.Equations.{SystemEquations, node_total, leaf_total}
+use Rattle.kn_system.specs.Least.{least_levels}
+use Rattle.kn_answer.proofs.Bridge.{IsPolicyLevel-by_name}
+use Rattle.kn_generate.specs.Measured.{granted}
+use Rattle.kn_generate.proofs.QueryLemmas.{least_size}
+use Rattle.kn_generate.proofs.query.measure_built.Goals as goal
+
+pub bounds-levels-0 : goal.bounds-levels-0
+bounds-levels-0 c =
+    let s = c.system-system.result.now in
+    let size : length c.as_slice-levels.result.now ≡ length s.requesters = ap length (c.as_slice-levels.ensures ∙ c.in_ok-settled.ensures.levels) ∙ least_size s (c.rounds_keep_levels.ensures s c.levels-count.ensures.well_formed) in
+    let some : 1 ≤ length s.requesters = c.levels-count.ensures.well_formed.principals_fit.0 in
+    omega (arith, size, some)
+
+pub count_granted-requires : goal.count_granted-requires
+count_granted-requires c =
+    let s = c.system-system.result.now in
+    record { one_each = ap length (c.as_slice-levels.ensures ∙ c.in_ok-settled.ensures.levels) ∙ least_size s (c.rounds_keep_levels.ensures s c.levels-count.ensures.well_formed) }
+
+pub returns : goal.returns
+returns c = λ e is.
+    let s : SystemEquations = c.args.built.now.system in
+    let same = c.system-system.ensures in
+    let levels : c.as_slice-levels.result.now ≡ least_levels s = c.as_slice-levels.ensures ∙ c.in_ok-settled.ensures.levels ∙ ap least_levels same in
+    record {
+      level = subst (λ (ls : List ℕ). IsPolicyLevel e (slice_index ls 0)) (sym levels) (IsPolicyLevel-by_name e c.args.built.now.names s is.of (least_levels s) (c.least_levels_are_least.ensures s));
+      built = c.args.built.now;
+      is_built = is;
+      counts = record {
+        rows = c.count_granted.ensures ∙ ap (λ (x : SystemEquations). granted x.requesters c.as_slice-levels.result.now) same ∙ ap (granted s.requesters) levels;
+        principals = c.principals.ensures.exact ∙ ap (λ (x : SystemEquations). length x.requesters) same;
+        nodes = c.nodes.ensures ∙ ap (λ (x : SystemEquations). node_total x.rows) same;
+        uses = c.uses_total.ensures ∙ ap (λ (x : SystemEquations). leaf_total x.rows) same;
+        levels = c.levels-count.ensures.exact ∙ ap (λ (x : SystemEquations). x.levels) same;
+      };
+    }
