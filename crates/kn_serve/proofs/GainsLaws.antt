@@ -7,7 +7,7 @@ use Rattle.kn_outside.specs.Told.{more, before}
 use Rattle.kn_outside.specs.Printing.{Prints}
 use Rattle.kn_outside.specs.Reading.{Reads, Fails}
 use Rattle.kn_store.specs.declared.update.Update.{Update}
-use Rattle.kn_registry.specs.Passes.{PassSeen, updates_of, Moves}
+use Rattle.kn_registry.specs.Passes.{PassSeen, updates_by, Moves}
 use Rattle.kn_serve.specs.Serving.{Gains}
 use Rattle.kn_serve.proofs.HandlingLaws.{moves-nothing}
 
@@ -31,7 +31,7 @@ moves-more : (u v w : PassSeen) (a b p q : List Update) (s t : List ℕ) → Mov
 moves-more u v w a b p q s t m n = record {
   number = n.number ∙ m.number;
   seen = n.seen ∙ ap (λ x. x ++ b) m.seen ∙ append_assoc u.seen a b;
-  named = filter-append (λ (x : Update). x.caller == u.number) a b ∙ ap (λ x. x ++ updates_of u.number b) m.named ∙ ap (λ x. p ++ x) (subst (λ (k : ℕ). updates_of k b ≡ q) m.number n.named);
+  named = filter-append (λ (x : Update). x.caller == u.number) a b ∙ ap (λ x. x ++ updates_by u.number b) m.named ∙ ap (λ x. p ++ x) (subst (λ (k : ℕ). updates_by k b ≡ q) m.number n.named);
   mine = n.mine ∙ ap (λ x. x ++ q) m.mine ∙ append_assoc u.mine p q;
   stops = n.stops ∙ ap (λ x. x ++ t) m.stops ∙ append_assoc u.stops s t;
   splits = n.splits ∙ m.splits;
