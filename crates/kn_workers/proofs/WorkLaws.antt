@@ -171,8 +171,14 @@ module _ {C : Type 0} where
     pub works_closed : (u v : PassSeen) (d d' after : DoorSeen (ServedSeen C)) (count : ℕ) → WorksAt seen g u v d d' count → after ≡ d' → WorksAt seen g u v d after count
     works_closed u v d d' after count k same = subst (λ (x : DoorSeen (ServedSeen C)). WorksAt seen g u v d x count) (sym same) k
 
-    pub gave_all : (d d' after : DoorSeen (ServedSeen C)) → d'.given ≡ d'.quota → after ≡ d' → HasGiven false d after
-    gave_all d d' after all same = subst (λ (x : DoorSeen (ServedSeen C)). x.given ≡ x.quota) (sym same) all
+    pub gave_all : (d d' after : DoorSeen (ServedSeen C)) → d'.given ≡ d'.quota → after ≡ d' → d'.faults ≡ d.faults → HasGiven false d after
+    gave_all d d' after all same calm =
+        (subst (λ (x : DoorSeen (ServedSeen C)). x.given ≡ x.quota) (sym same) all, ap (λ (x : DoorSeen (ServedSeen C)). x.faults) same ∙ calm)
+
+    -- a connection that is given and finished leaves the count of faults
+    pub works_calmly : (d d' given after : DoorSeen (ServedSeen C)) (s : ServedSeen C) → d'.faults ≡ d.faults → given ≡ record d' { given = d'.given + 1 } → after ≡ after_finish s given → after.faults ≡ d.faults
+    works_calmly d d' given after s calm given_is after_is =
+        ap (λ (x : DoorSeen (ServedSeen C)). x.faults) after_is ∙ ap (λ (x : DoorSeen (ServedSeen C)). x.faults) given_is ∙ calm
 
     pub count_fits : (u v : PassSeen) (d d' : DoorSeen (ServedSeen C)) (count : ℕ) → WorksAt seen g u v d d' count → d'.given < d'.quota → d.quota ≤ CONNECTIONS → count < CONNECTIONS
     count_fits u v d d' count k less few =

@@ -13,3 +13,4 @@ invariant-connections g l =
     (g.D.Door.seen l.fn.door)
     (g.D.Door.seen l.door)
     l.finished
+    × ((g.D.Door.seen l.door).faults ≡ (g.D.Door.seen l.fn.door).faults)
