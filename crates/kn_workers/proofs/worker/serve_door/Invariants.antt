@@ -1,3 +1,4 @@
+use Rattle.std.specs.Prelude.{◌≡◌}
 use Rattle.kn_registry.specs.Passes.{IsReady}
 use Rattle.kn_workers.specs.Doors.{WorksAt}
 use Rattle.kn_workers.proofs.worker.serve_door.Given as goal
