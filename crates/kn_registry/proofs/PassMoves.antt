@@ -18,6 +18,30 @@ named_more : (n : ℕ) (seen more mine own : List Update) → updates_by n seen 
 named_more n seen more mine own first whole =
     append_left mine (updates_by n more) own (sym (filter-append (λ (u : Update). u.caller == n) seen more ∙ ap (λ w. w ++ updates_by n more) first) ∙ whole)
 
+-- nothing was seen, added or waited for
+pub moves-nothing : (v : PassSeen) → Moves v v [] [] []
+moves-nothing v = record {
+  number = refl;
+  seen = sym (append-nil v.seen);
+  named = refl;
+  mine = sym (append-nil v.mine);
+  stops = sym (append-nil v.stops);
+  splits = refl;
+  ended = refl;
+}
+
+-- a pass moved, and then moved again
+pub moves-more : (u v w : PassSeen) (a b p q : List Update) (s t : List ℕ) → Moves u v a p s → Moves v w b q t → Moves u w (a ++ b) (p ++ q) (s ++ t)
+moves-more u v w a b p q s t m n = record {
+  number = n.number ∙ m.number;
+  seen = n.seen ∙ ap (λ x. x ++ b) m.seen ∙ append_assoc u.seen a b;
+  named = filter-append (λ (x : Update). x.caller == u.number) a b ∙ ap (λ x. x ++ updates_by u.number b) m.named ∙ ap (λ x. p ++ x) (subst (λ (k : ℕ). updates_by k b ≡ q) m.number n.named);
+  mine = n.mine ∙ ap (λ x. x ++ q) m.mine ∙ append_assoc u.mine p q;
+  stops = n.stops ∙ ap (λ x. x ++ t) m.stops ∙ append_assoc u.stops s t;
+  splits = n.splits ∙ m.splits;
+  ended = n.ended ∙ m.ended;
+}
+
 looks_once : (v : PassSeen) (log : List Update) → IsPrefix v.seen log → IsSoundPass v → IsSoundPass (after_look (after_take v log)) → Looks v (after_give (after_look (after_take v log)))
 looks_once v log p sound sound' = record {
   more = p.0;

@@ -13,7 +13,7 @@ use Rattle.kn_daemon.specs.Daemon.{Grounds}
 use Rattle.kn_daemon.specs.Laws.{ServedLonger}
 use Rattle.kn_base.specs.declared.limits.TheConstants.{CONNECTIONS}
 use Rattle.kn_registry.specs.Passes.{PassSeen, Moves, updates_by}
-use Rattle.kn_workers.proofs.PassLaws.{moves-nothing, moves-more}
+use Rattle.kn_registry.proofs.PassMoves.{moves-nothing, moves-more}
 use Rattle.kn_workers.specs.Connections.{ServedSeen, IsConnection, FollowEachOther, stops_of, own_in}
 use Rattle.kn_workers.specs.Doors.{DoorSeen, with_more, after_finish, WorksAt, HasGiven}
 use Rattle.kn_workers.proofs.ConnectionLaws.{connection_longer}
