@@ -55,6 +55,10 @@ range-added h more =
     let added : length (h ++ more) - length h ≡ length more = omega (arith, length-append h more) in
     ap (λ (n : ℕ). take n (drop (length h) (h ++ more))) added ∙ ap (take (length more)) (drop-append_seam h more) ∙ take-length more
 
+-- no call of a door failed meanwhile
+pub record IsCalm {S : Type 0} (d d' : DoorSeen S) : Type 0 where
+  pub same : d'.faults ≡ d.faults
+
 module _ {C : Type 0} where
   pub own-grows : (h more : List Update) (caller : ℕ) (connections : List (ServedSeen C)) → All (λ s. s.to ≤ length h) connections → own_in (h ++ more) caller connections ≡ own_in h caller connections
   own-grows h more caller [] within = refl
@@ -80,6 +84,18 @@ module _ {C : Type 0} where
   stops-one-more : (connections : List (ServedSeen C)) (s : ServedSeen C) → stops_of connections ++ s.stops ≡ stops_of (connections ++ s ∷ [])
   stops-one-more connections s =
       ap (λ (l : List ℕ). stops_of connections ++ l) (sym (append-nil s.stops)) ∙ sym (flat_map-append (λ (x : ServedSeen C). x.stops) connections (s ∷ []))
+
+  pub gave_all : (d d' after : DoorSeen (ServedSeen C)) → d'.given ≡ d'.quota → after ≡ d' → IsCalm d d' → HasGiven false d after
+  gave_all d d' after all same calm =
+      (subst (λ (x : DoorSeen (ServedSeen C)). x.given ≡ x.quota) (sym same) all, ap (λ (x : DoorSeen (ServedSeen C)). x.faults) same ∙ calm.same)
+
+  -- a connection that is given and finished leaves the count of faults
+  pub works_calmly : (d d' given after : DoorSeen (ServedSeen C)) (s : ServedSeen C) → IsCalm d d' → given ≡ record d' { given = d'.given + 1 } → after ≡ after_finish s given → IsCalm d after
+  works_calmly d d' given after s calm given_is after_is =
+      record { same = ap (λ (x : DoorSeen (ServedSeen C)). x.faults) after_is ∙ ap (λ (x : DoorSeen (ServedSeen C)). x.faults) given_is ∙ calm.same }
+
+  pub calm_nothing : (d : DoorSeen (ServedSeen C)) → IsCalm d d
+  calm_nothing d = record { same = refl }
 
   module _ (seen : C → LinkSeen) (g : Grounds) where
     pub works_nothing : (v : PassSeen) (d : DoorSeen (ServedSeen C)) → WorksAt seen g v v d d 0
@@ -170,15 +186,6 @@ module _ {C : Type 0} where
     -- the door has no more to give
     pub works_closed : (u v : PassSeen) (d d' after : DoorSeen (ServedSeen C)) (count : ℕ) → WorksAt seen g u v d d' count → after ≡ d' → WorksAt seen g u v d after count
     works_closed u v d d' after count k same = subst (λ (x : DoorSeen (ServedSeen C)). WorksAt seen g u v d x count) (sym same) k
-
-    pub gave_all : (d d' after : DoorSeen (ServedSeen C)) → d'.given ≡ d'.quota → after ≡ d' → d'.faults ≡ d.faults → HasGiven false d after
-    gave_all d d' after all same calm =
-        (subst (λ (x : DoorSeen (ServedSeen C)). x.given ≡ x.quota) (sym same) all, ap (λ (x : DoorSeen (ServedSeen C)). x.faults) same ∙ calm)
-
-    -- a connection that is given and finished leaves the count of faults
-    pub works_calmly : (d d' given after : DoorSeen (ServedSeen C)) (s : ServedSeen C) → d'.faults ≡ d.faults → given ≡ record d' { given = d'.given + 1 } → after ≡ after_finish s given → after.faults ≡ d.faults
-    works_calmly d d' given after s calm given_is after_is =
-        ap (λ (x : DoorSeen (ServedSeen C)). x.faults) after_is ∙ ap (λ (x : DoorSeen (ServedSeen C)). x.faults) given_is ∙ calm
 
     pub count_fits : (u v : PassSeen) (d d' : DoorSeen (ServedSeen C)) (count : ℕ) → WorksAt seen g u v d d' count → d'.given < d'.quota → d.quota ≤ CONNECTIONS → count < CONNECTIONS
     count_fits u v d d' count k less few =

@@ -1,9 +1,9 @@
-use Rattle.std.proofs.Common.{arith, refl}
-use Rattle.kn_workers.proofs.WorkLaws.{works_nothing, works_more, works_until, works_closed, works_calmly, gave_less, gave_all, count_fits}
+use Rattle.std.proofs.Common.{arith}
+use Rattle.kn_workers.proofs.WorkLaws.{works_nothing, works_more, works_until, works_closed, works_calmly, calm_nothing, gave_less, gave_all, count_fits}
 use Rattle.kn_workers.proofs.worker.serve_door.Goals as goal
 
 pub connections-init : goal.connections-init
-connections-init g c = (c.requires.ready, works_nothing _ _ _ _, refl)
+connections-init g c = (c.requires.ready, works_nothing _ _ _ _, calm_nothing _)
 
 pub returns-in-Closed-clause-works : goal.returns-in-Closed-clause-works
 returns-in-Closed-clause-works g c = works_closed _ _ _ _ _ _ _ _ c.connections.invariant.1 c.in-Closed.ensures.answer.1
