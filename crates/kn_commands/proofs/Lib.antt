@@ -4,5 +4,7 @@ pub mod Files
 pub mod Printed
 pub mod Told
 pub mod Lines
+pub mod GenLines
+pub mod GenLoads
 pub mod Reached
 pub mod Asked

@@ -161,3 +161,8 @@ pieces-around file spans i d text within is here =
     ap (map (bytes_at file)) (sym is ∙ sym (take-append-drop i spans) ∙ ap (λ (l : List Span). take i spans ++ l) (drop-cons spans i d within))
     ∙ map-append (bytes_at file) (take i spans) (get_or spans i d ∷ drop (suc i) spans)
     ∙ ap (λ (t : List ℕ). map (bytes_at file) (take i spans) ++ t ∷ map (bytes_at file) (drop (suc i) spans)) (sym here)
+
+-- texts around one of them
+pub texts-around : (texts items : List (List ℕ)) (i : ℕ) (d text : List ℕ) → i < length items → items ≡ texts → text ≡ get_or items i d → texts ≡ take i items ++ text ∷ drop (suc i) items
+texts-around texts items i d text within is here =
+    sym is ∙ sym (take-append-drop i items) ∙ ap (λ (l : List (List ℕ)). take i items ++ l) (drop-cons items i d within) ∙ ap (λ (t : List ℕ). take i items ++ t ∷ drop (suc i) items) (sym here)

@@ -4,3 +4,4 @@ pub mod Loaded
 pub mod Stopping
 pub mod Asking
 pub mod Checking
+pub mod Generating

@@ -1,5 +1,6 @@
-//! What the commands do, over whatever files, link and output they are given: `ask` serves a link over a policy, and
-//! `check` tells whether a reply proves the value of the query that a script means.
+//! What the commands do, over whatever files, link and output they are given: `ask` serves a link over a policy,
+//! `check` tells whether a reply proves the value of the query that a script means, and `gen` settles a query over
+//! generated credentials.
 #![tactic(auto)]
 
 mod ask_ending;
@@ -9,6 +10,8 @@ mod checking;
 mod content;
 mod ending;
 mod ending_line;
+mod gen_line;
+mod generating;
 mod line;
 mod load;
 mod stop;
@@ -19,5 +22,7 @@ pub use asking::{AskFiles, ask};
 pub use checking::{CheckFiles, check};
 pub use ending::{Ending, Source};
 pub use ending_line::print_ending;
+pub use gen_line::print_gen;
+pub use generating::{GenNumbers, generate};
 pub use line::print_line;
 pub use stop::Stop;

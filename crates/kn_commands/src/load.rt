@@ -77,7 +77,7 @@ fn text_at(file: &[u8], span: Span) -> &[u8]
 }
 
 /// Adds the assertion of a text, the one of this number, behind those that were loaded before.
-fn add<R: Wait>(
+pub(crate) fn add<R: Wait>(
     rt: &R,
     alloc: Global,
     registry: &Registry,

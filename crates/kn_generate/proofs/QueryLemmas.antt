@@ -1,6 +1,7 @@
 -- What is asked, and what is counted of its system.
 use Rattle.std.proofs.Common.{◌≡◌, ℕ, zero, suc, Bool, true, false, not, ◌&&◌, ◌+◌, ◌-◌, ◌*◌, ◌<◌, ◌≤◌, List, [], ◌∷◌, map, length, drop, drop-cons, refl, sym, ◌∙◌, ap, subst, codes, arith, if◌then◌else◌}
-use Rattle.std.specs.Prelude.{nat_lt, slice_index_or, decimal}
+use Rattle.std.specs.Prelude.{nat_lt, slice_index, slice_index_or, decimal}
+use Rattle.std.proofs.lemmas.List.Elements.{All-get_or}
 use Rattle.std.specs.List.{IsDistinct}
 use Rattle.kn_env.specs.Attributes.{Attribute}
 use Rattle.kn_env.specs.Environment.{AreRequesters}
@@ -14,7 +15,7 @@ use Rattle.kn_system.specs.Equations.{SystemEquations}
 use Rattle.kn_system.specs.Lawful.{AreLevels, KeepsLevels}
 use Rattle.kn_system.specs.Least.{round, rounds, at_first, least_levels}
 use Rattle.kn_generate.specs.Generated.{last_principal, generated_attributes, generated_values, query_over}
-use Rattle.kn_generate.specs.Measured.{granted, granted_at}
+use Rattle.kn_generate.specs.Measured.{granted_count, granted_count_at}
 
 no_privates : ArePrivates []
 unfolding IsDistinct
@@ -36,25 +37,30 @@ rounds_fit : (s : SystemEquations) → KeepsLevels s → (n : ℕ) (levels : Lis
 rounds_fit s keeps zero levels are = are
 rounds_fit s keeps (suc n) levels are = rounds_fit s keeps n (round s levels) (keeps.step levels are)
 
--- the least levels are those of all principals
-pub least_size : (s : SystemEquations) → KeepsLevels s → length (least_levels s) ≡ length s.requesters
-least_size s keeps =
-    let fit : AreLevels s (rounds s (length s.requesters * (s.levels - 1)) (at_first s)) = rounds_fit s keeps (length s.requesters * (s.levels - 1)) (at_first s) keeps.start in
-    fit.size
+-- the least levels fit the system
+pub least_fit : (s : SystemEquations) → KeepsLevels s → AreLevels s (least_levels s)
+least_fit s keeps = rounds_fit s keeps (length s.requesters * (s.levels - 1)) (at_first s) keeps.start
+
+-- that of the policy too
+pub policy_low : (s : SystemEquations) → KeepsLevels s → 1 ≤ length s.requesters → slice_index (least_levels s) 0 < s.levels
+policy_low s keeps some =
+    let fit = least_fit s keeps in
+    let size = fit.size in
+    All-get_or (λ (level : ℕ). level < s.levels) (least_levels s) 0 0 (omega (arith, size, some)) fit.low
 
 -- what one more principal counts
-pub granted_here : (rs : List Bool) (ls : List ℕ) (p : ℕ) → p < length rs → length ls ≡ length rs
-    → granted (drop p rs) (drop p ls) ≡ (if not (slice_index_or rs p false) && nat_lt 0 (slice_index_or ls p 0) then 1 else 0) + granted (drop (p + 1) rs) (drop (p + 1) ls)
-granted_here rs ls p below same =
+pub granted_count_here : (rs : List Bool) (ls : List ℕ) (p : ℕ) → p < length rs → length ls ≡ length rs
+    → granted_count (drop p rs) (drop p ls) ≡ (if not (slice_index_or rs p false) && nat_lt 0 (slice_index_or ls p 0) then 1 else 0) + granted_count (drop (p + 1) rs) (drop (p + 1) ls)
+granted_count_here rs ls p below same =
     let next : suc p ≡ p + 1 = omega arith in
     let requesters = drop-cons rs p false below in
     let levels = drop-cons ls p 0 (omega arith) in
-    ap (λ (l : List Bool). granted l (drop p ls)) requesters ∙ ap (λ (l : List ℕ). granted (slice_index_or rs p false ∷ drop (suc p) rs) l) levels
-    ∙ ap (λ (k : ℕ). (if not (slice_index_or rs p false) && nat_lt 0 (slice_index_or ls p 0) then 1 else 0) + granted (drop k rs) (drop k ls)) next
+    ap (λ (l : List Bool). granted_count l (drop p ls)) requesters ∙ ap (λ (l : List ℕ). granted_count (slice_index_or rs p false ∷ drop (suc p) rs) l) levels
+    ∙ ap (λ (k : ℕ). (if not (slice_index_or rs p false) && nat_lt 0 (slice_index_or ls p 0) then 1 else 0) + granted_count (drop k rs) (drop k ls)) next
 
 -- the count so far and what is left of it make the same with one more principal
-pub granted_more : (rs : List Bool) (ls : List ℕ) (p count one all : ℕ) → p < length rs → length ls ≡ length rs → one ≡ granted_at rs ls p
-    → count + granted (drop p rs) (drop p ls) ≡ all → (count + one) + granted (drop (p + 1) rs) (drop (p + 1) ls) ≡ all
-granted_more rs ls p count one all below same is before =
-    let here : granted (drop p rs) (drop p ls) ≡ granted_at rs ls p + granted (drop (p + 1) rs) (drop (p + 1) ls) = granted_here rs ls p below same in
+pub granted_count_more : (rs : List Bool) (ls : List ℕ) (p count one all : ℕ) → p < length rs → length ls ≡ length rs → one ≡ granted_count_at rs ls p
+    → count + granted_count (drop p rs) (drop p ls) ≡ all → (count + one) + granted_count (drop (p + 1) rs) (drop (p + 1) ls) ≡ all
+granted_count_more rs ls p count one all below same is before =
+    let here : granted_count (drop p rs) (drop p ls) ≡ granted_count_at rs ls p + granted_count (drop (p + 1) rs) (drop (p + 1) ls) = granted_count_here rs ls p below same in
     omega arith

@@ -7,5 +7,5 @@ mod query;
 mod text;
 mod texts;
 
-pub use query::{Measured, measure};
+pub use query::{Measured, build_generated, measure, measure_built, value_name};
 pub use texts::generate_texts;

@@ -1,10 +1,10 @@
 //! What is told of the generator's query.
-ghost use Rattle.std.specs.Prelude.{◌≡◌, ◌<◌, ◌≤◌, ◌∷◌, [], length, IfOk};
+ghost use Rattle.std.specs.Prelude.{◌≡◌, ◌<◌, ◌≤◌, ◌∷◌, [], length, slice_get, Some, IfOk};
 ghost use Rattle.std.specs.Arc.{arc_value};
 ghost use Rattle.kn_meaning.specs.Equations.{Equations};
 ghost use Rattle.kn_answer.specs.Built.{IsBuilt};
 ghost use Rattle.kn_generate.specs.Generated.{query_over, last_principal, generated_attributes, generated_values};
-ghost use Rattle.kn_generate.specs.Measured.{granted, granted_at, IsMeasured};
+ghost use Rattle.kn_generate.specs.Measured.{granted_count, granted_count_at, IsMeasured};
 
 use crate::text::principal;
 use kn_answer::{Built, Tally};
@@ -40,7 +40,20 @@ pub struct Measured {
 pub fn measure(alloc: Global, snapshot: &Snapshot, count: u32) -> Result<Measured, NoMemory>
     requires some { 1 ≤ count }
     requires most { count ≤ 2048 }
-    ensures { IfOk result (λ m. IsMeasured (query_over (arc_value snapshot.now) count) m) }
+    ensures measured { IfOk result (λ m. IsMeasured (query_over (arc_value snapshot.now) count) m) }
+    ensures low { IfOk result (λ m. m.level < length generated_values) }
+{
+    let built = build_generated(alloc, snapshot, count)?;
+    measure_built(alloc, &built)
+}
+
+/// Builds the system of the generator's query over a version, where the last of `count` principals requests.
+///
+/// `NoMemory` comes only for want of memory.
+pub fn build_generated(alloc: Global, snapshot: &Snapshot, count: u32) -> Result<Built, NoMemory>
+    requires some { 1 ≤ count }
+    requires most { count ≤ 2048 }
+    ensures { IfOk result (λ built. IsBuilt (query_over (arc_value snapshot.now) count) built) }
 {
     let values = values(alloc)?;
     let attributes = attributes(alloc)?;
@@ -54,8 +67,7 @@ pub fn measure(alloc: Global, snapshot: &Snapshot, count: u32) -> Result<Measure
         attributes: &attributes,
         requesters: &requesters,
     };
-    let built = build_query(alloc, &view, &values)?;
-    measure_built(alloc, &built)
+    build_query(alloc, &view, &values)
 }
 
 /// The compliance values of the query.
@@ -65,6 +77,19 @@ fn values(alloc: Global) -> Result<Values, NoMemory>
     match Values::of(alloc, b"v0,v1,v2,v3") {
         Ok(values) => Ok(values),
         Err(_) => Err(NoMemory),
+    }
+}
+
+/// The name of a level of the query.
+pub fn value_name(level: u8) -> &'static [u8]
+    requires { level < length generated_values }
+    ensures { slice_get generated_values level ≡ Some result.now }
+{
+    match level {
+        0 => b"v0",
+        1 => b"v1",
+        2 => b"v2",
+        _ => b"v3",
     }
 }
 
@@ -92,8 +117,11 @@ fn requesters(alloc: Global, count: u32) -> Result<List<Octets>, NoMemory>
 }
 
 /// Settles the system of a query.
-fn measure_built(alloc: Global, built: &Built) -> Result<Measured, NoMemory>
-    ensures { (e : Equations) → IsBuilt e built.now → IfOk result (λ m. IsMeasured e m) }
+///
+/// `NoMemory` comes only for want of memory.
+pub fn measure_built(alloc: Global, built: &Built) -> Result<Measured, NoMemory>
+    ensures measured { (e : Equations) → IsBuilt e built.now → IfOk result (λ m. IsMeasured e m) }
+    ensures low { IfOk result (λ m. m.level < built.now.system.levels) }
 {
     let system = built.system();
     let settled = settle(alloc, system, &mut Steps::start(Tally))?;
@@ -114,13 +142,13 @@ fn measure_built(alloc: Global, built: &Built) -> Result<Measured, NoMemory>
 /// How many principals have a level above the lowest and are no requesters.
 fn count_granted(system: &System<Tally>, levels: &[u8]) -> u32
     requires one_each { length levels.now ≡ length system.now.requesters }
-    ensures { result ≡ granted system.now.requesters levels.now }
+    ensures { result ≡ granted_count system.now.requesters levels.now }
 {
-    let mut granted = 0;
+    let mut count = 0;
     for principal in 0..system.principals() {
-        granted += count_if_granted(system, levels, principal);
+        count += count_if_granted(system, levels, principal);
     }
-    granted
+    count
 }
 
 /// 1 for a principal that has a level above the lowest and is no requester, and 0 for another.
@@ -128,7 +156,7 @@ fn count_granted(system: &System<Tally>, levels: &[u8]) -> u32
 fn count_if_granted(system: &System<Tally>, levels: &[u8], principal: u32) -> u32
     requires in_range { principal < length system.now.requesters }
     requires one_each { length levels.now ≡ length system.now.requesters }
-    ensures one { result ≡ granted_at system.now.requesters levels.now principal }
+    ensures one { result ≡ granted_count_at system.now.requesters levels.now principal }
     ensures few { result ≤ 1 }
 {
     if !system.is_requester(principal) && levels[principal as usize] > 0 {

@@ -1,25 +1,7 @@
-use Rattle.std.proofs.Common.{◌≡◌, ◌-◌, ◌≤◌, length, subst, arith}
-use Rattle.std.specs.Prelude.{decimal}
-use Rattle.std.specs.Arc.{arc_value}
-use Rattle.std.proofs.lemmas.Fmt.{length-decimal-le}
-use Rattle.kn_answer.specs.Built.{IsBuilt}
-use Rattle.kn_generate.specs.Generated.{query_over}
-use Rattle.kn_generate.proofs.QueryLemmas.{none_private, last_requests, query_is}
+use Rattle.std.proofs.Common.{◌<◌, ℕ, subst}
+use Rattle.std.specs.Prelude.{IfOk}
 use Rattle.kn_generate.proofs.query.measure.Goals as goal
 
-pub build_query-requires-clause-privates : goal.build_query-requires-clause-privates
-build_query-requires-clause-privates c = none_private c.new-private.result c.new-private.ensures
-
-pub build_query-requires-clause-requesters : goal.build_query-requires-clause-requesters
-build_query-requires-clause-requesters c =
-    let most = c.requires.most in
-    let low : c.args.count - 1 ≤ 2047 = omega (arith, most) in
-    last_requests c.args.count c.in_ok-requesters.requesters (length-decimal-le 20 (c.args.count - 1) (omega arith) (omega (arith, low)) (omega (arith, low))) c.in_ok-requesters.ensures
-
-pub returns : goal.returns
-returns c =
-    let h = arc_value c.args.snapshot.now in
-    c.measure_built.ensures (query_over h c.args.count)
-    (subst (λ e. IsBuilt e c.in_ok-built.built)
-    (query_is h c.args.count c.new-private.result c.in_ok-attributes.attributes c.in_ok-requesters.requesters c.in_ok-values.values c.new-private.ensures c.in_ok-attributes.ensures c.in_ok-requesters.ensures c.in_ok-values.ensures)
-    c.in_ok-built.ensures.built)
+pub returns-clause-low : goal.returns-clause-low
+returns-clause-low c =
+    subst (λ (levels : ℕ). IfOk c.measure_built.result (λ m. m.level < levels)) c.in_ok-built.ensures.of.top c.measure_built.ensures.low
