@@ -2,7 +2,7 @@
 use Rattle.std.proofs.Common.{◌≡◌, ◌≢◌, ℕ, ◌+◌, ◌<◌, ◌≤◌, ◌==◌, cond, Bool, true, false, List, [], ◌∷◌, ◌++◌, length, refl, ap, sym, ◌∙◌, subst, arith, append-nil, length-append, eq-eqb, ne_eqb}
 use Rattle.std.proofs.lemmas.List.Elements.{filter-append}
 use mathlib.Core.List.{IsPrefix}
-use Rattle.kn_turn.specs.declared.view.Ended.{Ended}
+use Rattle.kn_turn.specs.declared.view.EndedPass.{EndedPass}
 use Rattle.kn_turn.specs.Counts.{one_if}
 use Rattle.kn_turn.specs.Entries.{entries_of, AllNameUpTo}
 use Rattle.kn_turn.specs.Views.{ended_count, HasEnded}
@@ -37,17 +37,17 @@ module _ {E : Type 0} (by : E → ℕ) where
       let h_is : entries_of by n h ≡ (m ++ r) ++ z = ap (entries_of by n) (sym q.1) ∙ (entries_of-append n b q.0 ∙ ap (λ w. w ++ z) b_is) in
       b_is ∙ nothing_left m r z (sym h_is ∙ whole)
 
-  pub has_ended-between : (a b h : List E) (es : List (Ended E)) → IsPrefix a b → IsPrefix b h → HasEnded by a es → HasEnded by h es → HasEnded by b es
+  pub has_ended-between : (a b h : List E) (es : List (EndedPass E)) → IsPrefix a b → IsPrefix b h → HasEnded by a es → HasEnded by h es → HasEnded by b es
   has_ended-between a b h [] p q first whole = tt
   has_ended-between a b h (x ∷ xs) p q first whole =
       (entries_of-between x.number a b h x.mine p q first.0 whole.0, has_ended-between a b h xs p q first.1 whole.1)
 
-  pub has_ended-append : (l : List E) (xs ys : List (Ended E)) → HasEnded by l xs → HasEnded by l ys → HasEnded by l (xs ++ ys)
+  pub has_ended-append : (l : List E) (xs ys : List (EndedPass E)) → HasEnded by l xs → HasEnded by l ys → HasEnded by l (xs ++ ys)
   has_ended-append l [] ys p q = q
   has_ended-append l (x ∷ xs) ys p q = (p.0, has_ended-append l xs ys p.1 q)
 
   -- an entry of a pass that hasn't ended changes nothing
-  pub has_ended-more : (n : ℕ) (l : List E) (e : E) (es : List (Ended E)) → by e ≡ n → ended_count n es ≡ 0 → HasEnded by l es → HasEnded by (l ++ e ∷ []) es
+  pub has_ended-more : (n : ℕ) (l : List E) (e : E) (es : List (EndedPass E)) → by e ≡ n → ended_count n es ≡ 0 → HasEnded by l es → HasEnded by (l ++ e ∷ []) es
   has_ended-more n l e [] is none has = tt
   has_ended-more n l e (x ∷ xs) is none has =
       let first : one_if (x.number == n) ≡ 0 = omega arith in

@@ -9,7 +9,7 @@ use native.Mathlib.Decide.{ℕ_discrete}
 use lib.ListN.{get_elem?}
 use Rattle.atomic_table.specs.Table.{State, Me, Step, step, keeps, stepped, Allows, Splits, Joins, opening}
 use Rattle.atomic_table.proofs.Lists.{at_set, at_snoc, set_else}
-use Rattle.kn_turn.specs.declared.view.Ended.{Ended}
+use Rattle.kn_turn.specs.declared.view.EndedPass.{EndedPass}
 use Rattle.kn_turn.specs.declared.view.View.{View}
 use Rattle.kn_turn.specs.declared.view.Stage.{Stage}
 use Rattle.kn_turn.specs.declared.view.Stage.TheVariants.{Idle, Waits, Served, Holds}
@@ -193,8 +193,8 @@ module _ {S E : Type 0} (by : E → ℕ) (log : S → List E) where
       let a = named_live by log n v live in
       let b = named_live by log n w live' in
       let c = named_live by log n (after_absorb v w) live in
-      let d = total-append (λ (x : Ended E). one_if (x.number == n)) v.ended (w.ended ++ ended_of w ∷ []) in
-      let e = total-append (λ (x : Ended E). one_if (x.number == n)) w.ended (ended_of w ∷ []) in omega arith
+      let d = total-append (λ (x : EndedPass E). one_if (x.number == n)) v.ended (w.ended ++ ended_of w ∷ []) in
+      let e = total-append (λ (x : EndedPass E). one_if (x.number == n)) w.ended (ended_of w ∷ []) in omega arith
 
   -- a pass is joined into another
   pub absorbs : (id other : ℕ) (v w : View E) → v.stage ≡ Idle → v.live ≡ true → v.old ≡ [] → w.stage ≡ Idle → w.live ≡ true → w.old ≡ [] → Joins (IsKept by log) id v other w (after_absorb v w) spent_view

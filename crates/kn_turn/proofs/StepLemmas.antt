@@ -10,7 +10,7 @@ use native.Mathlib.Decide.{ℕ_discrete, dec_le}
 use lib.ListN.{get_elem?}
 use Rattle.atomic_table.specs.Table.{State, Me, Step, step, keeps, takes, gives, stepped, put_back, rest, Allows, Splits, Joins, opening}
 use Rattle.atomic_table.proofs.Lists.{at_set, set_again, at_snoc, set_else, one_turn}
-use Rattle.kn_turn.specs.declared.view.Ended.{Ended}
+use Rattle.kn_turn.specs.declared.view.EndedPass.{EndedPass}
 use Rattle.kn_turn.specs.declared.view.View.{View}
 use Rattle.kn_turn.specs.declared.view.Stage.{Stage}
 use Rattle.kn_turn.specs.declared.view.Stage.TheVariants.{Idle, Waits, Served, Holds}

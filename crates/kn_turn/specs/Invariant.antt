@@ -6,7 +6,7 @@ use mathlib.Core.Option as maybe
 use mathlib.Core.List.{IsPrefix}
 use lib.ListN.{get_elem?}
 use Rattle.atomic_table.specs.Table.{State, Me, Step, rest}
-use Rattle.kn_turn.specs.declared.view.Ended.{Ended}
+use Rattle.kn_turn.specs.declared.view.EndedPass.{EndedPass}
 use Rattle.kn_turn.specs.declared.view.View.{View}
 use Rattle.kn_turn.specs.declared.view.Stage.{Stage}
 use Rattle.kn_turn.specs.declared.view.Stage.TheVariants.{Idle, Waits, Served, Holds}
@@ -24,7 +24,7 @@ module _ {E : Type 0} where
 
   -- What holds of a pass between two calls: its own entries in what it has seen are those that it made, those of
   -- each pass that ended in it are those that were kept, and what the root has seen names no pass that wasn't split.
-  pub record IsSound (by : E → ℕ) (number : ℕ) (seen mine : List E) (ended : List (Ended E)) (splits : ℕ) : Type 0 where
+  pub record IsSound (by : E → ℕ) (number : ℕ) (seen mine : List E) (ended : List (EndedPass E)) (splits : ℕ) : Type 0 where
     pub own : entries_of by number seen ≡ mine
     pub kept : HasEnded by seen ended
     pub root : number ≡ 0 → AllNameUpTo by splits seen

@@ -2,7 +2,7 @@
 use Rattle.std.specs.Prelude.{◌≡◌, ℕ, ◌+◌, List, [], ◌∷◌, ◌++◌, length, Option, None, Bool, true, false}
 use Rattle.atomic_table.specs.Seated.{TableId}
 use Rattle.atomic_table.specs.declared.shared.Seat.{Seat}
-use Rattle.kn_turn.specs.declared.view.Ended.{Ended}
+use Rattle.kn_turn.specs.declared.view.EndedPass.{EndedPass}
 use Rattle.kn_turn.specs.declared.view.View.{View}
 use Rattle.kn_turn.specs.declared.view.Stage.{Stage}
 use Rattle.kn_turn.specs.declared.view.Stage.TheVariants.{Idle, Waits, Served, Holds}
@@ -21,7 +21,7 @@ pub record PassView (E : Type 0) : Type 0 where
   pub taken : List E
   pub stops : List ℕ
   pub splits : ℕ
-  pub ended : List (Ended E)
+  pub ended : List (EndedPass E)
 
 abbrev pub is_idle_at : Stage → Bool
 is_idle_at Idle = true

@@ -1,6 +1,6 @@
 -- The views of a turn's seats: what each counts, and how each kind of step changes them.
 use Rattle.std.specs.Prelude.{◌≡◌, ℕ, ◌+◌, ◌≤◌, ◌==◌, List, [], ◌∷◌, ◌++◌, length, Bool, true, false}
-use Rattle.kn_turn.specs.declared.view.Ended.{Ended}
+use Rattle.kn_turn.specs.declared.view.EndedPass.{EndedPass}
 use Rattle.kn_turn.specs.declared.view.View.{View}
 use Rattle.kn_turn.specs.declared.view.Stage.{Stage}
 use Rattle.kn_turn.specs.declared.view.Stage.TheVariants.{Idle, Waits, Served, Holds}
@@ -42,10 +42,10 @@ module _ {E : Type 0} where
   live_count v = one_if v.live
 
   -- how many of the ended passes had the number n
-  abbrev pub ended_count : ℕ → List (Ended E) → ℕ
-  ended_count n ended = total (λ (x : Ended E). one_if (x.number == n)) ended
+  abbrev pub ended_count : ℕ → List (EndedPass E) → ℕ
+  ended_count n ended = total (λ (x : EndedPass E). one_if (x.number == n)) ended
 
-  abbrev pub number_if : ℕ → Bool → ℕ → List (Ended E) → ℕ
+  abbrev pub number_if : ℕ → Bool → ℕ → List (EndedPass E) → ℕ
   number_if n true m ended = one_if (m == n) + ended_count n ended
   number_if n false m ended = 0
 
@@ -58,7 +58,7 @@ module _ {E : Type 0} where
   known_entries v = longer v.seen v.old
 
   -- the list has of each pass that ended just what was kept of it
-  abbrev pub HasEnded : (E → ℕ) → List E → List (Ended E) → Type 0
+  abbrev pub HasEnded : (E → ℕ) → List E → List (EndedPass E) → Type 0
   HasEnded by l [] = Unit {0}
   HasEnded by l (x ∷ xs) = (entries_of by x.number l ≡ x.mine) × HasEnded by l xs
 
@@ -99,7 +99,7 @@ module _ {E : Type 0} where
   abbrev pub spent_view : View E
   spent_view = record { live = false; number = 0; stage = Idle; ticket = 0; taken = []; seen = []; old = []; mine = []; stops = []; splits = 0; ended = [] }
 
-  abbrev pub ended_of : View E → Ended E
+  abbrev pub ended_of : View E → EndedPass E
   ended_of w = record { number = w.number; mine = w.mine; stops = w.stops }
 
   -- a pass after another was joined into it

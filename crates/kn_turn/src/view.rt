@@ -14,7 +14,7 @@ pub enum Stage {
 }
 
 /// A pass that was joined into another: its number, its entries, and the lengths at which it had the turn.
-pub struct Ended<E> {
+pub struct EndedPass<E> {
     pub number: u32,
     pub mine: LinkedList<E>,
     pub stops: LinkedList<u32>,
@@ -34,5 +34,5 @@ pub struct View<E> {
     pub mine: LinkedList<E>,
     pub stops: LinkedList<u32>,
     pub splits: u32,
-    pub ended: LinkedList<Ended<E>>,
+    pub ended: LinkedList<EndedPass<E>>,
 }

@@ -10,7 +10,7 @@ use Rattle.kn_base.specs.declared.limits.TheConstants.{CONNECTIONS}
 use Rattle.kn_outside.specs.Seen.{LinkSeen}
 use Rattle.kn_store.specs.declared.update.Update.{Update}
 use Rattle.kn_store.specs.History.{is_valid_history}
-use Rattle.kn_turn.specs.declared.view.Ended.{Ended}
+use Rattle.kn_turn.specs.declared.view.EndedPass.{EndedPass}
 use Rattle.kn_turn.specs.Passes.{split_of, after_split, after_join}
 use Rattle.kn_daemon.specs.Daemon.{Grounds}
 use Rattle.kn_daemon.specs.Laws.{ServedLonger}
@@ -32,7 +32,7 @@ false_of false never = refl
 not-less : (a : ℕ) → nat_lt a a ≡ false
 not-less a = false_of (nat_lt a a) (λ e. let less = ltb-true a a e in absurd (omega (arith, less)))
 
-abbrev kept_of : PassSeen → Ended Update
+abbrev kept_of : PassSeen → EndedPass Update
 kept_of pass = record { number = pass.number; mine = pass.mine; stops = pass.stops }
 
 -- what joining leaves of a root, and what it keeps
@@ -52,7 +52,7 @@ is_joined root (p ∷ passes) none =
       mine = rest.mine;
       stops = rest.stops;
       splits = rest.splits;
-      ended = rest.ended ∙ ap (λ (l : List (Ended Update)). (root.ended ++ (l ++ kept_of p ∷ [])) ++ map kept_of passes) none.0 ∙ append_assoc root.ended (kept_of p ∷ []) (map kept_of passes);
+      ended = rest.ended ∙ ap (λ (l : List (EndedPass Update)). (root.ended ++ (l ++ kept_of p ∷ [])) ++ map kept_of passes) none.0 ∙ append_assoc root.ended (kept_of p ∷ []) (map kept_of passes);
     }
 
 module _ {C D : Type 0} (registry : TableId) (door : D → DoorSeen (ServedSeen C)) (seen : C → LinkSeen) (g : Grounds) where
@@ -109,7 +109,7 @@ module _ {C D : Type 0} (registry : TableId) (door : D → DoorSeen (ServedSeen 
         before = ap (λ (l : List D). d ∷ l) rest.before;
         after = ap (λ (l : List D). p.door ∷ l) rest.after;
         each = (has_worked longer root history d (record { finished = 0; failed = false }) p k fronts.0 valid, rest.each);
-        kept = ap (λ (l : List (Ended Update)). kept_of p.pass ∷ l) rest.kept;
+        kept = ap (λ (l : List (EndedPass Update)). kept_of p.pass ∷ l) rest.kept;
         finished = ap (λ (n : ℕ × ℕ). n.0 + n.1) (λ i. (k.works.counted i, rest.finished i));
         failed = ap (λ (b : Bool × Bool). b.0 || b.1) (λ i. (less_is p.end.failed (door d) p.door k.failed i, rest.failed i));
         count = ap (λ (n : ℕ). suc n) rest.count;
@@ -136,7 +136,7 @@ module _ {C D : Type 0} (registry : TableId) (door : D → DoorSeen (ServedSeen 
         mine = j.mine;
         stops = j.stops;
         splits = j.splits ∙ ap (λ (n : ℕ). root.splits + n) (sym b.count);
-        ended = j.ended ∙ ap (λ (l : List (Ended Update)). root.ended ++ l) (sym b.kept);
+        ended = j.ended ∙ ap (λ (l : List (EndedPass Update)). root.ended ++ l) (sym b.kept);
         finished = finished ∙ b.finished;
         failed = failed ∙ b.failed;
       }

@@ -3,7 +3,7 @@ use Rattle.std.specs.Prelude.{ℕ, zero, suc, ◌≡◌, ◌+◌, ◌≤◌, Boo
 use mathlib.Core.List.{IsPrefix}
 use Rattle.kn_outside.specs.Seen.{LinkSeen}
 use Rattle.kn_store.specs.declared.update.Update.{Update}
-use Rattle.kn_turn.specs.declared.view.Ended.{Ended}
+use Rattle.kn_turn.specs.declared.view.EndedPass.{EndedPass}
 use Rattle.kn_turn.specs.Passes.{split_of, after_split, after_join}
 use Rattle.kn_daemon.specs.Daemon.{Grounds}
 use Rattle.kn_registry.specs.Passes.{PassSeen, IsSoundPass}
@@ -32,7 +32,7 @@ pub record Work (C D : Type 0) : Type 0 where
   pub before : D
   pub after : D
   pub connections : List (ServedSeen C)
-  pub kept : Ended Update
+  pub kept : EndedPass Update
 
 module _ {C D : Type 0} (door : D → DoorSeen (ServedSeen C)) where
   -- whether a door has given less than its quota
