@@ -56,7 +56,7 @@ run_case() {
 
 # What isn't built yet is built here, before the cases. The program itself never ends with 125.
 if [[ -z ${KEYNOTED-} ]]; then
-    "$top/keynoted" </dev/null >/dev/null
+    "$top/keynoted" ask "$top/crates/keynoted/data/p.kn" </dev/null >/dev/null
     if [[ $? == 125 ]]; then
         echo "the program can't be built"
         exit 1
