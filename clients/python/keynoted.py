@@ -46,9 +46,10 @@ class Refusal(KeynotedError):
     """The daemon refused the request, which has changed nothing; `line` is its reply."""
 
     of_code: Dict[int, Type[Refusal]] = {}
+    code = 0
 
     def __init_subclass__(cls, code: int) -> None:
-        Refusal.of_code[code] = cls
+        Refusal.of_code[code], cls.code = cls, code
 
     def __init__(self, line: str) -> None:
         super().__init__(f"{line}: {self.__doc__}")
@@ -656,6 +657,7 @@ LINES = {
     "proof text 1": "a line of the reply isn't of its form, is missing, or answers another query: line ",
     "proof text 2": "a number of the reply is too large: line ", "proof text 3": "the reply says another number of rows than it has: ",
 }
+AUTHS = {"1": "it has no signature", "2": "its signature isn't of sig-hmac-sha256-hex", "3": "its authorizer has no key", "4": "its code is another one"}
 REJECTS = (
     "the row names a principal or an assertion that the query doesn't have, or too high a level", "the row's principal is a requester",
     "the row's principal has a level by an earlier row", "the row's level is 0", "the assertion's authorizer is another principal",
@@ -740,7 +742,9 @@ def explain(line: str, file: str = "") -> str:
         at, what = fault_in(read_file(file), int(match[1]), int(match[2]))
         return f"{file}:{place_of(read_file(file), at)}: {what}"
     if REFUSAL.fullmatch(line):
-        return str(refusal_of(line))
+        refusal = refusal_of(line)
+        what = {7: AUTHS.get(refusal.parts[0]), 13: f"the limit of {refusal.parts[0]} is met: {refusal.parts[-1]}"} if refusal.parts else {}
+        return f"{line}: {what.get(refusal.code, refusal.__doc__)}"
     return "out of memory for this request: no answer" if line == "NOMEM" else ""
 
 
