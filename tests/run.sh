@@ -83,6 +83,7 @@ if (($# == 0)); then
             echo "$part is left out: there is no python3"
         elif "$top/$part" "$program" >"$room/output" 2>&1; then
             ((passed += 1))
+            grep 'left out' "$room/output"
         else
             ((failed += 1))
             printf 'FAILED %s\n' "$part"

@@ -264,8 +264,8 @@ class Session:
     def __exit__(self, *_: object) -> None:
         try:
             self.close()
-        except LinkEnded:
-            pass
+        except KeynotedError:
+            pass  # it was closed before, or the connection has ended
 
     def _line(self, word: bytes, *parts: Text) -> bytes:
         return words_of(word, b"%d" % self.number, *parts)
@@ -896,7 +896,8 @@ def run_query(args: argparse.Namespace) -> int:
     starts = split_file(read_file(args.policy)) if args.policy else []
     for row in answer.rows:
         number = int(row.id[1:])
-        where = f", {args.policy}:{place_of(read_file(args.policy), starts[number - 1][0])}" if number <= len(starts) else ""
+        known = row.id.startswith("a") and number <= len(starts)
+        where = f", {args.policy}:{place_of(read_file(args.policy), starts[number - 1][0])}" if known else ""
         print(f"{row.principal.decode('utf-8', 'replace')} has {values[row.level]} by {row.id}{where}")
     print(f"answer: {answer.name}, which is {answer.index} of {args.values}")
     return 0 if answer.at_least(args.at_least or values[-1]) else 1
