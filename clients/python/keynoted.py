@@ -435,12 +435,13 @@ def value_of(token: Token) -> bytes:
 
     def plain(match: re.Match[bytes]) -> bytes:
         told = match[1]
-        if told[-1:] in b" \t\r\n":
+        if told[:1] in (b"\r", b"\n"):
             return b""
-        return SHORT.get(told, told) if not told[:1].isdigit() or len(told) == 1 else bytes([int(told, 8) % 256])
+        if len(told) == 1 or told == b"000":
+            return SHORT.get(told, told)
+        return bytes([int(told, 8)])
 
-    inside = token.text[1:-1] if token.text.endswith(b'"') and len(token.text) > 1 else token.text[1:]
-    return ESCAPE.sub(lambda it: it[1] if it[1] == b"000" else plain(it), inside)
+    return ESCAPE.sub(plain, token.text[1:-1] if len(token.text) > 1 and token.text.endswith(b'"') else token.text[1:])
 
 
 def constants_of(fields: Sequence[Field]) -> Dict[bytes, Token]:
@@ -867,9 +868,8 @@ def lint_part(part: Part, asked: Set[bytes]) -> Iterator[str]:
 def lint_conditions(field: Field, constants: Dict[bytes, Token], asked: Set[bytes]) -> Iterator[Tuple[int, str]]:
     ends = field.tokens + [Token("end", 0, 0, b"")] * 2
     for before, token, after in zip(ends, ends[1:], ends[2:]):
-        for it in (before,):
-            if it.sort == "name" and it.text.startswith(b"_") and it.text not in SPECIAL and it.text not in constants:
-                yield it.start, f"{it.text.decode()} is always empty: no attribute begins with _"
+        if before.sort == "name" and before.text.startswith(b"_") and before.text not in SPECIAL:
+            yield before.start, f"{before.text.decode()} is always empty: no attribute begins with _"
         if before.text != b"->" or after.text not in (b";", b"}", b""):
             continue
         literal = constants.get(token.text, token)

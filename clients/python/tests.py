@@ -213,6 +213,13 @@ class Explanations(Room):
                             keynoted.Reader(field, fault, keynoted.constants_of(fields)).read()
         self.assertTrue(accepted > 20 and refused > 20, (accepted, refused))
 
+    def test_values_of_literals(self):
+        for spelled, value in (
+            (rb'"\012\101\000\7"', b"\nA0007"), (rb'"\n\r\t\f\q\"\\"', b'\n\r\t\fq"\\'), (b'"a\\\n   \n b"', b"ab"), (b'"a\\ b"', b"a b"),
+            (rb'"\07\078"', b"\x07\x078"), (rb'"\0778"', b"?8"), (rb'"\400"', b"400"), (rb'"\00"', b"00"), (b'""', b""), (b'"', b""),
+        ):
+            self.assertEqual(keynoted.value_of(keynoted.Token("text", 0, len(spelled), spelled)), value, spelled)
+
     def test_each_line_has_words(self):
         lines = ["error words", "error memory", "error query", "error listener", "error keys 3", "error file a b read", "error file a b large"]
         lines += [f"error link {it}" for it in ("read", "write", "cut 17", "block 16385", "budget")]
