@@ -18,6 +18,8 @@ install: all
 	cp -R examples/. service $(EXAMPLES)
 	cp clients/python/keynoted.py $(TO)/share/keynoted/python/keynoted.py
 	ln -sf ../share/keynoted/python/keynoted.py $(TO)/bin/keynoted-client
+	mkdir -p $(TO)/share/doc/keynoted
+	cp README.md CHANGELOG.md docs/*.md $(TO)/share/doc/keynoted
 	chmod 755 $(TO)/libexec/keynoted/keynoted $(TO)/bin/keynoted $(TO)/share/keynoted/python/keynoted.py
 
 test:
