@@ -139,7 +139,7 @@ class Answer:
 
 
 def bytes_of(text: Text) -> bytes:
-    return text.encode() if isinstance(text, str) else text
+    return text.encode("utf-8", "surrogateescape") if isinstance(text, str) else text
 
 
 def words_of(*parts: Text) -> bytes:
@@ -914,21 +914,27 @@ def connected(args: argparse.Namespace) -> Connection:
 
 def run_explain(args: argparse.Namespace) -> int:
     """Explains these lines, or copies standard input and explains what in it is an error."""
+    lines = [os.fsencode(line) for line in args.line]
     found = False
-    for line in args.line or (it.rstrip("\n") for it in sys.stdin):
-        if not args.line:
-            print(line, flush=True)
-        told = explain(line, args.file or "")
+    for raw in lines or sys.stdin.buffer:
+        if not lines:
+            sys.stdout.buffer.write(raw)
+            sys.stdout.buffer.flush()
+        line = raw.rstrip(b"\n").decode("utf-8", "surrogateescape")
+        try:
+            told = explain(line, args.file or "")
+        except OSError as why:
+            told = f"{line}: {why}"
         found = found or bool(told)
-        if told or args.line:
+        if told or lines:
             print(told or f"no error line: {line}", file=sys.stderr, flush=True)
-    return 0 if found or not args.line else 2
+    return 0 if found or not lines else 2
 
 
 def run_lint(args: argparse.Namespace) -> int:
     run = subprocess.run([program_of(), "ask", args.policy], stdin=subprocess.DEVNULL, stdout=subprocess.PIPE)
     if run.returncode:
-        raise LinkEnded(run.stdout.decode("utf-8", "replace").strip())
+        raise LinkEnded(run.stdout.decode("utf-8", "surrogateescape").strip())
     told = lint(args.policy, args.script)
     for line in told:
         print(line)

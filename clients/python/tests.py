@@ -231,6 +231,16 @@ class Explanations(Room):
         self.assertEqual(len(set(told)), len(told))
         self.assertEqual(keynoted.explain("OK 1 1"), "")
 
+    def test_standard_input_is_copied_and_explained(self):
+        self.write("p.kn", b'Authorizer: "POLICY"\nLicensees: alice\n')
+        given = b"OK 1 1\nerror policy p.kn 1 19 5\nerror policy gone.kn 1 2 3\n\xff\nNO 3 session"
+        run = subprocess.run([sys.executable, keynoted.__file__, "explain"], input=given, capture_output=True)
+        self.assertEqual((run.returncode, run.stdout), (0, given))
+        told = run.stderr.decode().splitlines()
+        self.assertEqual(told[0], 'p.kn:2:12: alice is no local constant: a principal stands in quotes, "alice"')
+        self.assertRegex(told[1], r"^error policy gone.kn 1 2 3: ")
+        self.assertEqual(told[2:], ["NO 3 session: no such session is open on this connection"])
+
     def test_a_path_with_spaces_and_a_later_assertion(self):
         os.rename("p.kn", "my policy 1.kn")
         self.write("my policy 1.kn", POLICY + b'# note\n\n\n# more\nAuthorizer: "a"\nLicensees: "b" or "c"\n')
