@@ -596,8 +596,8 @@ class Reader:
         if {left, right} == {"text", "number"}:
             at = at if left == "text" else behind
             self.kind(left, right, at, "a text is compared with a number: put '@' before the text, or the number in quotes")
-        at = at if left == "truth" else behind
-        self.kind(str("truth" in (left, right)), "False", at, "a truth can't be compared")
+        if "truth" in (left, right):
+            self.kind("truth", "text", at if left == "truth" else behind, "a truth can't be compared")
         return "truth"
 
     def chain(self, level: int) -> str:
