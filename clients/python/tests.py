@@ -108,6 +108,8 @@ class Refusals(Room):
             ):
                 self.assertRaises(ValueError, call)
             self.assertEqual(session.query("no", "yes").index, 0)
+        for word in ("a\n", "a\r", "\nb", b"a\nb"):
+            self.assertRaises(ValueError, keynoted.words_of, b"AUTH", word)
 
     def test_bytes_of_all_kinds_are_a_value(self):
         self.write("p.kn", POLICY + b'Conditions: x == "a\\nb\\015" -> "yes";\n')
@@ -134,9 +136,10 @@ class Replies(Room):
         for text in (
             b"", b"OK", b"VALUE 1 yes 1 1\nROW 1 a1 \"POLICY\"\n", b"VALUE 1 yes 1 0\nROW", b"VALUE 2 yes 1 0\nEND\n", b"VALUE 0 yes 1 0\nEND\n",
             b"VALUE 1 YES 1 0\nEND\n", b"VALUE 01 yes 1 0\nEND\n", b"VALUE 1 yes 1 1\nROW 1 a1 POLICY\nEND\n", b"OK\n", b"NO 3 limit\n",
-            b"NO 16 batch\n", b"error link budget\n", b"VALUE 1 yes 1 0 \nEND\n", b"yes\n",
+            b"VALUE 1 yes 1 0\nOK\n", b'VALUE 1 yes 1 0\nROW 1 a1 "POLICY"\nEND\n', b"NO 16 batch\n", b"error link budget\n", b"VALUE 1 yes 1 0 \nEND\n", b"yes\n",
         ):
-            session = self.reply(text)
+            # what stands behind it would be taken for the reply to the next request
+            session = self.reply(text + b"OK\nOK\n" if text.endswith(b"\n") else text)
             with self.assertRaises(keynoted.LinkEnded):
                 session.query("no", "yes")
             with self.assertRaises(keynoted.LinkEnded):
