@@ -7,7 +7,7 @@ use Rattle.hex.specs.declared.error.FromHexError.{FromHexError}
 use Rattle.kn_principal.specs.Principals.{normal_form}
 use Rattle.kn_auth.specs.KeyLines.{is_comment, SpellsKey, SpellsDigest, NamesPrincipal, StatesKey, States, StatesNothing}
 use Rattle.kn_auth.specs.KeyFiles.{IsKeyFile, IsFirstMalformed}
-use Rattle.kn_auth.specs.Reading.{with_entry, IsTaken, IsRefused}
+use Rattle.kn_auth.specs.Reading.{with_entry, IsTaken, IsLineRefused}
 use Rattle.kn_auth.specs.declared.entry.MacKey.{MacKey}
 use Rattle.kn_auth.specs.declared.entry.Entry.{Entry}
 use Rattle.kn_auth.specs.declared.entry.Entry.TheVariants.{Comment, Mac, Digest, Secret}
@@ -126,11 +126,11 @@ decided line =
       | inr other ↦ worded line other (front_or_none (codes "mac ") line) (front_or_none (codes "digest ") line) (front_or_none (codes "secret ") line)
     ]
 
-added : (old : KeyFile) (line : List ℕ) (entry : Entry) → States line entry → (r : Option KeyFile) → with_entry old entry ≡ r → ((new : KeyFile) × IsTaken old line new) ⊎ IsRefused old line
+added : (old : KeyFile) (line : List ℕ) (entry : Entry) → States line entry → (r : Option KeyFile) → with_entry old entry ≡ r → ((new : KeyFile) × IsTaken old line new) ⊎ IsLineRefused old line
 added old line entry s (Some new) is = inl (new, record { entry = entry; stated = s; added = is })
 added old line entry s None is = inr (λ other t. ap (with_entry old) (states_once line other entry t s) ∙ is)
 
-taken : (old : KeyFile) (line : List ℕ) → Decided line → ((new : KeyFile) × IsTaken old line new) ⊎ IsRefused old line
+taken : (old : KeyFile) (line : List ℕ) → Decided line → ((new : KeyFile) × IsTaken old line new) ⊎ IsLineRefused old line
 taken old line (inl stated) = added old line stated.0 stated.1 (with_entry old stated.0) refl
 taken old line (inr nothing) = inr (λ entry s. absurd (nothing entry s))
 

@@ -12,7 +12,7 @@ use Rattle.std.proofs.lemmas.List.Elements.{filter_map-append}
 use Rattle.std.proofs.lemmas.Slice.Eq.{bytes_eq-Decides}
 use Rattle.kn_auth.specs.KeyLines.{SpellsKey, States}
 use Rattle.kn_auth.specs.KeyFiles.{key_in, digest_in, secret_in, keys_in, principals_of, AreWellFormed, IsOfEntries, IsKeyFile, IsFirstMalformed}
-use Rattle.kn_auth.specs.Reading.{with_entry, with_secret, IsTaken, IsRefused}
+use Rattle.kn_auth.specs.Reading.{with_entry, with_secret, IsTaken, IsLineRefused}
 use Rattle.kn_auth.specs.Verdicts.{has_key, key_of}
 use Rattle.kn_auth.specs.Causes.{IsCause}
 use Rattle.kn_auth.specs.declared.entry.MacKey.{MacKey}
@@ -26,7 +26,7 @@ use Rattle.kn_auth.proofs.Stated.{states_once}
 -- a line whose entry is known is taken, or it is refused whatever it states
 pub taken_or_refused : {E : Type 0} (old new : KeyFile) (line : List ℕ) (entry : Entry) (r : Result Bool E) → States line entry
     → IfOk r (λ added. MatchBool added (with_entry old entry ≡ Some new) (with_entry old entry ≡ None))
-    → IfOk r (λ taken. MatchBool taken (IsTaken old line new) (IsRefused old line))
+    → IfOk r (λ taken. MatchBool taken (IsTaken old line new) (IsLineRefused old line))
 taken_or_refused old new line entry (Ok true) s added = record { entry = entry; stated = s; added = added }
 taken_or_refused old new line entry (Ok false) s refused = λ other t. ap (with_entry old) (states_once line other entry t s) ∙ refused
 taken_or_refused old new line entry (Err e) s h = tt
@@ -321,7 +321,7 @@ read_more text number old new line rest r taken =
     }
 
 -- a line that is refused is the first malformed one
-pub first_refused : (text : List ℕ) (number : ℕ) (old : KeyFile) (line : List ℕ) (rest : List (List ℕ)) → IsReadTo text number old (line ∷ rest) → IsRefused old line
+pub first_refused : (text : List ℕ) (number : ℕ) (old : KeyFile) (line : List ℕ) (rest : List (List ℕ)) → IsReadTo text number old (line ∷ rest) → IsLineRefused old line
     → IsFirstMalformed text (number + 1)
 first_refused text number old line rest r refused =
     let count = r.count in

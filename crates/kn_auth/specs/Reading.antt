@@ -27,5 +27,5 @@ pub record IsTaken (old : KeyFile) (line : List ℕ) (new : KeyFile) : Type 0 wh
   pub added : with_entry old entry ≡ Some new
 
 -- no entry that the line states may stand behind those before
-abbrev pub IsRefused : KeyFile → List ℕ → Type 0
-IsRefused old line = (entry : Entry) → States line entry → with_entry old entry ≡ None
+abbrev pub IsLineRefused : KeyFile → List ℕ → Type 0
+IsLineRefused old line = (entry : Entry) → States line entry → with_entry old entry ≡ None

@@ -3,7 +3,7 @@ ghost use Rattle.std.specs.Prelude.{◌≡◌, ◌⊎◌, ◌<◌, ◌+◌, ◌^
 ghost use Rattle.std.specs.Bool.{MatchBool};
 ghost use Rattle.kn_auth.specs.KeyFiles.{IsKeyFile, IsFirstMalformed};
 ghost use Rattle.kn_auth.specs.Causes.{IsCause};
-ghost use Rattle.kn_auth.specs.Reading.{with_entry, IsTaken, IsRefused};
+ghost use Rattle.kn_auth.specs.Reading.{with_entry, IsTaken, IsLineRefused};
 ghost use Rattle.kn_auth.specs.declared.key_file.KeyFile.{KeyFile};
 ghost use Rattle.kn_auth.specs.declared.fault.KeyFault.TheVariants as F;
 
@@ -64,7 +64,7 @@ fn read(alloc: Global, bytes: &[u8]) -> Result<KeyFile, KeyFault>
 impl KeyFile {
     ghost use Rattle.std.specs.Prelude.{◌≡◌, [], IfOk};
     ghost use Rattle.std.specs.Bool.{MatchBool};
-    ghost use Rattle.kn_auth.specs.Reading.{with_entry, IsTaken, IsRefused};
+    ghost use Rattle.kn_auth.specs.Reading.{with_entry, IsTaken, IsLineRefused};
 
     /// What a key file without lines says: no key and no digest is known, and the secret is empty.
     pub fn empty(alloc: Global) -> KeyFile
@@ -83,7 +83,7 @@ impl KeyFile {
 
     /// Adds what a line states; false where the line is malformed at its place.
     fn take_line(&mut self, alloc: Global, line: &[u8]) -> Result<bool, NoMemory>
-        ensures { IfOk result (λ taken. MatchBool taken (IsTaken self.old line.now self.new) (IsRefused self.old line.now)) }
+        ensures { IfOk result (λ taken. MatchBool taken (IsTaken self.old line.now self.new) (IsLineRefused self.old line.now)) }
     {
         match read_line(alloc, line)? {
             Some(entry) => self.add(entry),

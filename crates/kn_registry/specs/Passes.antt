@@ -14,8 +14,8 @@ abbrev pub PassSeen : Type 0
 PassSeen = PassView Update
 
 -- the updates that name a caller
-abbrev pub updates_of : ℕ → List Update → List Update
-updates_of caller updates = entries_of caller_of caller updates
+abbrev pub updates_by : ℕ → List Update → List Update
+updates_by caller updates = entries_of caller_of caller updates
 
 -- its own updates in what it has seen are those that it made, and so on for each pass that ended in it
 abbrev pub IsSoundPass : PassSeen → Type 0
@@ -31,7 +31,7 @@ pub record IsReady (registry : TableId) (pass : PassSeen) : Type 0 where
 pub record Moves (old new : PassSeen) (more own : List Update) (entries : List ℕ) : Type 0 where
   pub number : new.number ≡ old.number
   pub seen : new.seen ≡ old.seen ++ more
-  pub named : updates_of old.number more ≡ own
+  pub named : updates_by old.number more ≡ own
   pub mine : new.mine ≡ old.mine ++ own
   pub stops : new.stops ≡ old.stops ++ entries
   pub splits : new.splits ≡ old.splits

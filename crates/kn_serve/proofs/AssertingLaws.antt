@@ -13,7 +13,7 @@ use Rattle.kn_assert.specs.declared.fault.ReadFault.TheVariants as A
 use Rattle.kn_session.specs.declared.fault.SessionFault.{SessionFault}
 use Rattle.kn_session.specs.declared.fault.SessionFault.TheVariants as S
 use Rattle.kn_session.specs.Sessions.{Session, OpenSessions, session_in, fault_in, private_fault, add_private}
-use Rattle.kn_session.specs.Connection.{fault_at, with_session}
+use Rattle.kn_session.specs.Connection.{fault_at, with_open_session}
 use Rattle.kn_wire.specs.declared.refusal.Refusal.{Refusal}
 use Rattle.kn_wire.specs.declared.refusal.Refusal.TheVariants as R
 use Rattle.kn_wire.specs.Digits.{bytes_of_digits}
@@ -74,11 +74,11 @@ module _ (g : Grounds) (a b : OpenSessions) (is_admin : Bool) (s : ℕ) (text : 
   private_added k (Some session) e id = record { session = session; found = e; told = ap (λ (n : ℕ). PrivateAdded n) id }
 
   pub assert_done : (assertion : Assertion) (k : ℕ) → ReadingGoesOn → assertion_of text ≡ Some assertion → IsSomeAnd (session_in a.sessions s) (λ x. k ≡ x.made + 1) →
-      fault_at a s (private_fault text assertion) ≡ None → b ≡ with_session a s (add_private text) → Prints whole (reply_text (PrivateAdded k)) l l' →
+      fault_at a s (private_fault text assertion) ≡ None → b ≡ with_open_session a s (add_private text) → Prints whole (reply_text (PrivateAdded k)) l l' →
       IsTold g (state_with a is_admin) (state_with b is_admin) (Assert s text) whole l l'
   assert_done assertion k goes_on reading id accepted ok prints =
       subst (λ (x : OpenSessions). IsTold g (state_with a is_admin) (state_with x is_admin) (Assert s text) whole l l') (sym ok)
-      (told_done g (state_with a is_admin) (state_with (with_session a s (add_private text)) is_admin) (Assert s text) (PrivateAdded k) whole l l' refl
+      (told_done g (state_with a is_admin) (state_with (with_open_session a s (add_private text)) is_admin) (Assert s text) (PrivateAdded k) whole l l' refl
       (private_own assertion goes_on reading (session_in a.sessions s) ∙ ap (λ (x : Option SessionFault). refusal_by x) accepted)
       (λ caller past. private_added k (session_in a.sessions s) refl id) (λ past. refl) (λ caller. refl) refl prints)
 

@@ -1,15 +1,14 @@
 -- What a call takes, writes and sees, step by step.
 use Rattle.std.proofs.Common.{◌≡◌, ℕ, ◌≤◌, true, false, List, [], ◌++◌, refl, sym, ap, ◌∙◌, append_assoc, append-nil, arith, Option, Some, None, subst}
 use Rattle.std.specs.Prelude.{◌==◌, take}
-use Rattle.std.proofs.lemmas.List.Elements.{filter-append}
 use Rattle.kn_outside.specs.Seen.{LinkSeen}
 use Rattle.kn_outside.specs.Told.{more, before}
 use Rattle.kn_outside.specs.Printing.{Prints}
 use Rattle.kn_outside.specs.Reading.{Reads, Fails}
 use Rattle.kn_store.specs.declared.update.Update.{Update}
-use Rattle.kn_registry.specs.Passes.{PassSeen, updates_of, Moves}
+use Rattle.kn_registry.specs.Passes.{PassSeen, Moves}
+use Rattle.kn_registry.proofs.PassMoves.{moves-nothing, moves-more}
 use Rattle.kn_serve.specs.Serving.{Gains}
-use Rattle.kn_serve.proofs.HandlingLaws.{moves-nothing}
 
 more-nothing : (told : Option (List ℕ)) → told ≡ more [] told
 more-nothing None = refl
@@ -26,17 +25,6 @@ before-nothing (Some x) = refl
 before-before : (a b : List ℕ) (told : Option (List ℕ)) → before a (before b told) ≡ before (a ++ b) told
 before-before a b None = refl
 before-before a b (Some x) = ap (λ (y : List ℕ). Some y) (sym (append_assoc a b x))
-
-moves-more : (u v w : PassSeen) (a b p q : List Update) (s t : List ℕ) → Moves u v a p s → Moves v w b q t → Moves u w (a ++ b) (p ++ q) (s ++ t)
-moves-more u v w a b p q s t m n = record {
-  number = n.number ∙ m.number;
-  seen = n.seen ∙ ap (λ x. x ++ b) m.seen ∙ append_assoc u.seen a b;
-  named = filter-append (λ (x : Update). x.caller == u.number) a b ∙ ap (λ x. x ++ updates_of u.number b) m.named ∙ ap (λ x. p ++ x) (subst (λ (k : ℕ). updates_of k b ≡ q) m.number n.named);
-  mine = n.mine ∙ ap (λ x. x ++ q) m.mine ∙ append_assoc u.mine p q;
-  stops = n.stops ∙ ap (λ x. x ++ t) m.stops ∙ append_assoc u.stops s t;
-  splits = n.splits ∙ m.splits;
-  ended = n.ended ∙ m.ended;
-}
 
 -- what one step does to a link: these bytes were taken, which are the next of the input, and these written
 pub record Passed (piece text : List ℕ) (l l' : LinkSeen) : Type 0 where

@@ -11,18 +11,8 @@ use Rattle.kn_wire.specs.Replies.{Reply, Done, Started, Number, PrivateAdded, Ad
 use Rattle.kn_daemon.specs.Daemon.{Grounds, State, Permits, Answers, own_refusal, placed_refusal, or_else, changed, may_lack_memory, refusal_of_fault}
 use Rattle.kn_daemon.specs.Linearized.{update_by, is_placed, StandsFor}
 use Rattle.kn_registry.specs.Passes.{PassSeen, Moves, Looks, Stays}
+use Rattle.kn_registry.proofs.PassMoves.{moves-nothing}
 use Rattle.kn_serve.specs.Handling.{Handled, IsTold}
-
-pub moves-nothing : (v : PassSeen) → Moves v v [] [] []
-moves-nothing v = record {
-  number = refl;
-  seen = sym (append-nil v.seen);
-  named = refl;
-  mine = sym (append-nil v.mine);
-  stops = sym (append-nil v.stops);
-  splits = refl;
-  ended = refl;
-}
 
 -- a pass that moved so, and a reply that is permitted at what it has then seen
 pub handled_by : (g : Grounds) (v w : PassSeen) (old new : State) (request : Request) (reply : Reply) (whole : Bool) (l l' : LinkSeen) (more own : List Update) (entries : List ℕ) →

@@ -8,7 +8,7 @@ use Rattle.kn_outside.specs.Seen.{LinkSeen}
 use Rattle.kn_outside.specs.Printing.{Prints}
 use Rattle.kn_session.specs.declared.fault.SessionFault.{SessionFault}
 use Rattle.kn_session.specs.Sessions.{OpenSessions, session_in, start_fault, fault_in, with_started, pin_at}
-use Rattle.kn_session.specs.Connection.{with_session}
+use Rattle.kn_session.specs.Connection.{with_open_session}
 use Rattle.kn_wire.specs.declared.refusal.Refusal.TheVariants as R
 use Rattle.kn_wire.specs.declared.refusal.LimitWord.TheVariants as W
 use Rattle.kn_wire.specs.Requests.{Open, Pin}
@@ -65,11 +65,11 @@ pin_memory g v w old s whole l l' stays prints = stayed_handled g v w old old (P
 
 -- the session was pinned
 pub pin_done : (g : Grounds) (v w : PassSeen) (a b : OpenSessions) (is_admin : Bool) (s version : ℕ) (made : List Update) (whole : Bool) (l l' : LinkSeen) →
-    Looks v w → made ≡ w.seen → version ≡ length made → fault_in s (session_in a.sessions s) (λ x. None) ≡ None → b ≡ with_session a s (pin_at made) → Prints whole (reply_text (Number version)) l l' →
+    Looks v w → made ≡ w.seen → version ≡ length made → fault_in s (session_in a.sessions s) (λ x. None) ≡ None → b ≡ with_open_session a s (pin_at made) → Prints whole (reply_text (Number version)) l l' →
     Handled g v w (state_with a is_admin) (state_with b is_admin) (Pin s) whole l l'
 pin_done g v w a b is_admin s version made whole l l' looks seen at accepted after prints =
-    let after' : b ≡ with_session a s (pin_at w.seen) = subst (λ (m : List Update). b ≡ with_session a s (pin_at m)) seen after in
+    let after' : b ≡ with_open_session a s (pin_at w.seen) = subst (λ (m : List Update). b ≡ with_open_session a s (pin_at m)) seen after in
     let told : Number version ≡ Number (length w.seen) = rw (at, seen) refl in
     subst (λ (x : OpenSessions). Handled g v w (state_with a is_admin) (state_with x is_admin) (Pin s) whole l l') (sym after')
-    (looked_handled g v w (state_with a is_admin) (state_with (with_session a s (pin_at w.seen)) is_admin) (Pin s) (Number version) whole l l' looks refl
+    (looked_handled g v w (state_with a is_admin) (state_with (with_open_session a s (pin_at w.seen)) is_admin) (Pin s) (Number version) whole l l' looks refl
     (record { accepted = ap refusal_by accepted; answered = told; next = refl }) prints)

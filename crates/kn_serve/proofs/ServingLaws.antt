@@ -28,7 +28,7 @@ serving_begun law g v l now h first empty =
 
 -- a connection for which there was no memory
 pub serves_nothing : EndsByMemory → (g : Grounds) (v : PassSeen) (l : LinkSeen) → is_valid_history v.seen ≡ true → Serves g v v l l E.Memory
-serves_nothing law g v l valid = record { taken = []; written = []; stops = []; gains = gains_nothing v l; served = law g v.seen v.number (is_over l.left) valid; cause = refl }
+serves_nothing law g v l valid = record { taken = []; written = []; stops = []; gains = gains_nothing v l; served = law g v.seen v.number (is_over l.left) valid; cause = refl; still = λ same. refl }
 
 -- there is room for one more session and one more private assertion
 pub serving_room : UnderwayIsSmall → (g : Grounds) (u v : PassSeen) (l l' : LinkSeen) (now : State) (h : Held) (answered : ℕ) → Serving g u v l l' now h answered → answered < REQUESTS → HasRoom now
@@ -85,6 +85,7 @@ serves_bye law g u v w l l' l'' old new h h' answered s few t valid =
           (law g s.taken s.written v.seen d.more (length u.seen) u.number s.stops d.entries old new h h' answered d.reply (is_over l''.left) s.underway few t.next
           (replied-at-first g u v w l l' l'' old new h answered Bye true s d) (subst (λ (x : List Update). is_valid_history x ≡ true) d.moves.seen valid));
       cause = printed_calm l' l'' _ d.prints ∙ s.calm;
+      still = λ same. absurd (cc same);
     }
 
 -- a block was refused
@@ -101,6 +102,7 @@ serves_block law g u v w l l' l'' old new h h' answered n s few t valid =
           (law g s.taken s.written v.seen d.more (length u.seen) u.number s.stops d.entries old new h h' answered n d.reply (is_over l''.left) s.underway few t.next
           (replied-at-first g u v w l l' l'' old new h answered (Faulty (F.Block n)) true s d) (subst (λ (x : List Update). is_valid_history x ≡ true) d.moves.seen valid));
       cause = printed_calm l' l'' _ d.prints ∙ s.calm;
+      still = λ same. absurd (cc same);
     }
 
 -- a write failed
@@ -122,6 +124,7 @@ serves_write law g u v w l l' l'' old new h h' answered request s few t valid =
           (law g s.taken s.written v.seen d.more (length u.seen) u.number s.stops d.entries old new h h' answered at request d.reply (is_over l''.left) s.underway few t.next
           (replied-at-first g u v w l l' l'' old new h answered request false s d) cut.1 (subst (λ (x : List Update). is_valid_history x ≡ true) d.moves.seen valid));
       cause = omega arith;
+      still = λ same. absurd (cc same);
     }
 
 -- a read failed
@@ -138,6 +141,7 @@ serves_read law g u v l l' l'' now h answered s few none valid fails later =
       gains = gains_quiet u v l l' l'' s.taken s.written s.stops s.gains (passed_failed l' l'' fails later);
       served = dry.by_read (is_over l''.left);
       cause = omega arith;
+      still = λ same. absurd (cc same);
     }
 
 -- the input ended
@@ -153,6 +157,7 @@ serves_end law g u v l l' l'' now h answered E.Done s few none valid reads over 
       gains = gains_quiet u v l l' l'' s.taken s.written s.stops s.gains (passed_read [] l' l'' reads);
       served = subst (λ (b : Bool). IsServed g s.taken s.written E.Done b v.seen (length u.seen) (length v.seen) u.number s.stops) (sym over) (dry.by_end end);
       cause = read_calm [] l' l'' reads ∙ s.calm;
+      still = λ same. absurd (cc same);
     }
 serves_end law g u v l l' l'' now h answered (E.Cut n) s few none valid reads over end =
     let dry : IsDry g s.taken s.written v.seen (length u.seen) u.number s.stops h = law g s.taken s.written v.seen (length u.seen) u.number s.stops now h answered s.underway few none valid in
@@ -164,6 +169,7 @@ serves_end law g u v l l' l'' now h answered (E.Cut n) s few none valid reads ov
       served = subst (λ (k : ℕ). IsServed g s.taken s.written (E.Cut k) (is_over l''.left) v.seen (length u.seen) (length v.seen) u.number s.stops) (sym end.0)
           (subst (λ (b : Bool). IsServed g s.taken s.written (E.Cut (length (held_bytes h))) b v.seen (length u.seen) (length v.seen) u.number s.stops) (sym over) (dry.by_cut end.1));
       cause = read_calm [] l' l'' reads ∙ s.calm;
+      still = λ same. absurd (cc same);
     }
 serves_end law g u v l l' l'' now h answered E.Memory s few none valid reads over end = absurd end
 serves_end law g u v l l' l'' now h answered E.ReadFault s few none valid reads over end = absurd end
@@ -182,6 +188,7 @@ serves_budget law g u v l l' now h answered s full valid = record {
   served = law g s.taken s.written v.seen (length u.seen) u.number s.stops now h (is_over l'.left)
       (subst (λ (k : ℕ). IsUnderway g s.taken s.written v.seen (length u.seen) u.number s.stops now h k) full s.underway) valid;
   cause = s.calm;
+  still = λ same. absurd (cc same);
 }
 
 -- nothing was done

@@ -7,7 +7,7 @@ use Rattle.kn_store.specs.declared.update.Update.{Update}
 use Rattle.kn_session.specs.declared.fault.SessionFault.{SessionFault}
 use Rattle.kn_session.specs.declared.fault.SessionFault.TheVariants as S
 use Rattle.kn_session.specs.Sessions.{Session, OpenSessions, session_in, fault_in, fault_if, has_private, retract_fault, set_fault, unset_fault, auth_fault, unauth_fault, is_named, take_private, set_attribute, unset_attribute, add_requester, take_requester, cleared}
-use Rattle.kn_session.specs.Connection.{fault_at, with_session, with_closed}
+use Rattle.kn_session.specs.Connection.{fault_at, with_open_session, with_closed}
 use Rattle.kn_env.specs.Attributes.{has_attribute}
 use Rattle.kn_wire.specs.declared.refusal.Refusal.{Refusal}
 use Rattle.kn_wire.specs.declared.refusal.Refusal.TheVariants as R
@@ -88,26 +88,26 @@ module _ (g : Grounds) (a : OpenSessions) (is_admin : Bool) (s : ℕ) where
   pub close_call : IsCall g (state_with a is_admin) (Close s) (fault_at a s (λ x. None)) (state_with (with_closed a s) is_admin)
   close_call = record { own = refl; makes = λ past. refl; answered = λ caller past. refl; no_update = λ caller. refl; unplaced = λ reply. refl }
 
-  pub retract_call : (k : ℕ) → IsCall g (state_with a is_admin) (Retract s k) (fault_at a s (retract_fault k)) (state_with (with_session a s (take_private k)) is_admin)
+  pub retract_call : (k : ℕ) → IsCall g (state_with a is_admin) (Retract s k) (fault_at a s (retract_fault k)) (state_with (with_open_session a s (take_private k)) is_admin)
   retract_call k = record { own = refl; makes = λ past. refl; answered = λ caller past. refl; no_update = λ caller. refl; unplaced = λ reply. refl }
 
-  pub set_call : (name value : List ℕ) → IsCall g (state_with a is_admin) (Set s name value) (fault_at a s (set_fault name value)) (state_with (with_session a s (set_attribute name value)) is_admin)
+  pub set_call : (name value : List ℕ) → IsCall g (state_with a is_admin) (Set s name value) (fault_at a s (set_fault name value)) (state_with (with_open_session a s (set_attribute name value)) is_admin)
   set_call name value = record { own = refl; makes = λ past. refl; answered = λ caller past. refl; no_update = λ caller. refl; unplaced = λ reply. refl }
 
   pub set_digits_call : (name value digits : List ℕ) → value ≡ bytes_of_digits digits
-      → IsCall g (state_with a is_admin) (SetHex s name digits) (fault_at a s (set_fault name value)) (state_with (with_session a s (set_attribute name value)) is_admin)
+      → IsCall g (state_with a is_admin) (SetHex s name digits) (fault_at a s (set_fault name value)) (state_with (with_open_session a s (set_attribute name value)) is_admin)
   set_digits_call name value digits e = rw e (record { own = refl; makes = λ past. refl; answered = λ caller past. refl; no_update = λ caller. refl; unplaced = λ reply. refl })
 
-  pub unset_call : (name : List ℕ) → IsCall g (state_with a is_admin) (Unset s name) (fault_at a s (unset_fault name)) (state_with (with_session a s (unset_attribute name)) is_admin)
+  pub unset_call : (name : List ℕ) → IsCall g (state_with a is_admin) (Unset s name) (fault_at a s (unset_fault name)) (state_with (with_open_session a s (unset_attribute name)) is_admin)
   unset_call name = record { own = refl; makes = λ past. refl; answered = λ caller past. refl; no_update = λ caller. refl; unplaced = λ reply. refl }
 
-  pub auth_call : (text : List ℕ) → IsCall g (state_with a is_admin) (Auth s text) (fault_at a s (auth_fault text)) (state_with (with_session a s (add_requester text)) is_admin)
+  pub auth_call : (text : List ℕ) → IsCall g (state_with a is_admin) (Auth s text) (fault_at a s (auth_fault text)) (state_with (with_open_session a s (add_requester text)) is_admin)
   auth_call text = record { own = refl; makes = λ past. refl; answered = λ caller past. refl; no_update = λ caller. refl; unplaced = λ reply. refl }
 
-  pub unauth_call : (text : List ℕ) → IsCall g (state_with a is_admin) (Unauth s text) (fault_at a s (unauth_fault text)) (state_with (with_session a s (take_requester text)) is_admin)
+  pub unauth_call : (text : List ℕ) → IsCall g (state_with a is_admin) (Unauth s text) (fault_at a s (unauth_fault text)) (state_with (with_open_session a s (take_requester text)) is_admin)
   unauth_call text = record { own = refl; makes = λ past. refl; answered = λ caller past. refl; no_update = λ caller. refl; unplaced = λ reply. refl }
 
-  pub clear_call : IsCall g (state_with a is_admin) (Clear s) (fault_at a s (λ x. None)) (state_with (with_session a s cleared) is_admin)
+  pub clear_call : IsCall g (state_with a is_admin) (Clear s) (fault_at a s (λ x. None)) (state_with (with_open_session a s cleared) is_admin)
   clear_call = record { own = refl; makes = λ past. refl; answered = λ caller past. refl; no_update = λ caller. refl; unplaced = λ reply. refl }
 
 -- Calls that take no memory have no fault but one that is told.

@@ -58,7 +58,8 @@ HasCause (E.Cut held) l l' = l'.faults ≡ l.faults
 HasCause (E.Block n) l l' = l'.faults ≡ l.faults
 HasCause E.Budget l l' = l'.faults ≡ l.faults
 
--- The call has served the connection: what it took and wrote, what the pass has seen and where it had the turn.
+-- The call has served the connection: what it took and wrote, what the pass has seen and where it had the turn. Without memory
+-- the pass is as before.
 pub record Serves (g : Grounds) (v w : PassSeen) (l l' : LinkSeen) (ended : Ended) : Type 0 where
   pub taken : List ℕ
   pub written : List ℕ
@@ -66,6 +67,7 @@ pub record Serves (g : Grounds) (v w : PassSeen) (l l' : LinkSeen) (ended : Ende
   pub gains : Gains v w l l' taken written stops
   pub served : IsServed g taken written ended (is_over l'.left) w.seen (length v.seen) (length w.seen) v.number stops
   pub cause : HasCause ended l l'
+  pub still : ended ≡ E.Memory → w ≡ v
 
 -- how the input ended where this was held
 abbrev pub IsInputEnd : Ended → List ℕ → Type 0

@@ -7,7 +7,7 @@ use Rattle.kn_base.specs.declared.limits.TheConstants.{SESSIONS}
 use Rattle.kn_principal.specs.Principals.{normal_form}
 use Rattle.kn_session.specs.declared.fault.SessionFault.{SessionFault}
 use Rattle.kn_session.specs.Sessions.{Session, OpenSessions, session_in, fault_in, add_requester, is_named}
-use Rattle.kn_session.specs.Connection.{fault_at, with_session, AreNumbers, AreOpen}
+use Rattle.kn_session.specs.Connection.{fault_at, with_open_session, AreNumbers, AreOpen}
 use Rattle.kn_session.specs.Placed.{IsOneAt}
 use Rattle.kn_env.proofs.Requesters.{AllByRecursion-push}
 use Rattle.kn_session.proofs.Closing.{next_is_new, AllByRecursion-remove, AllByRecursion-weaker, IsDistinct-push, IsDistinct-remove, map-set_same, map-remove}
@@ -35,9 +35,9 @@ fault_here {n} {xs} {state} {s} {i} {x} h f = ap (λ o. fault_in s o f) (session
 
 -- its change is the change of the session of that number
 pub changed_here : {n : ℕ} {xs : List Session} {state : OpenSessions} {s i : ℕ} {x : Session} → IsHere n xs state s i x → (f : Session → Session) (new : Session)
-    → new ≡ f x → sessions_of n (set xs i new) ≡ with_session state s f
+    → new ≡ f x → sessions_of n (set xs i new) ≡ with_open_session state s f
 changed_here {n} {xs} {state} {s} {i} {x} h f new e =
-    subst (λ (t : OpenSessions). IsPlaced t s i → sessions_of n (set xs i new) ≡ with_session t s f) h.is
+    subst (λ (t : OpenSessions). IsPlaced t s i → sessions_of n (set xs i new) ≡ with_open_session t s f) h.is
     (λ (placed : IsPlaced (sessions_of n xs) s i). ap (sessions_of n) (ap (set xs i) (e ∙ ap f h.here) ∙ placed.changed f x)) h.one
 
 -- all numbers stay where the session's number does

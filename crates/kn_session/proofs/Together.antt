@@ -9,7 +9,7 @@ use Rattle.kn_proof.specs.declared.named.Id.TheVariants.{Shared, Private as Own}
 use Rattle.kn_store.specs.History.{NumberedText, text_bytes}
 use Rattle.kn_store.specs.LiveView.{IdsAscend}
 use Rattle.kn_session.specs.Views.{ids_of}
-use Rattle.kn_session.specs.Laws.{all_texts, all_ids, AreDifferent, TextsAreShort, IdsDiffer, PrivatesAreRead}
+use Rattle.kn_session.specs.Laws.{all_texts, all_ids, AreDifferent, TextsAreShort, AllIdsDiffer, PrivatesAreRead}
 
 sum-texts : (texts : List NumberedText) → sum_by length (map (λ (c : NumberedText). c.text) texts) ≡ text_bytes texts
 sum-texts [] = refl
@@ -58,7 +58,7 @@ all_differ : (low : ℕ) (live privates : List NumberedText) → IdsAscend low l
 all_differ low [] privates ids own = own_differ privates own
 all_differ low (c ∷ live) privates ids own = (apart_from_all c.id live privates ids.1, all_differ c.id live privates ids.1 own)
 
-pub ids_differ : IdsDiffer
+pub ids_differ : AllIdsDiffer
 ids_differ live privates ids own = all_differ 0 live privates ids own.different
 
 pub privates_are_read : PrivatesAreRead

@@ -10,8 +10,8 @@ abbrev pub fault_at : OpenSessions → ℕ → (Session → Option SessionFault)
 fault_at state s fault = fault_in s (session_in state.sessions s) fault
 
 -- this session changed, and the others as they were
-abbrev pub with_session : OpenSessions → ℕ → (Session → Session) → OpenSessions
-with_session state s change = record state { sessions = with_changed state.sessions s change }
+abbrev pub with_open_session : OpenSessions → ℕ → (Session → Session) → OpenSessions
+with_open_session state s change = record state { sessions = with_changed state.sessions s change }
 
 -- this session gone, and the others as they were
 abbrev pub with_closed : OpenSessions → ℕ → OpenSessions

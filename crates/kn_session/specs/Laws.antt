@@ -29,8 +29,8 @@ TextsAreShort = (live privates : List NumberedText) → text_bytes live ≤ LIVE
     → sum_by length (all_texts live privates) ≤ LIVE_BYTES + PRIVATE_BYTES
 
 -- all ids differ, since a shared credential and a private assertion have ids of two sorts
-abbrev pub IdsDiffer : Type 0
-IdsDiffer = (live privates : List NumberedText) → IdsAscend 0 live → ArePrivates privates → AreDifferent (all_ids live privates)
+abbrev pub AllIdsDiffer : Type 0
+AllIdsDiffer = (live privates : List NumberedText) → IdsAscend 0 live → ArePrivates privates → AreDifferent (all_ids live privates)
 
 -- the assertions of a view are those of its texts, in their order
 abbrev pub PrivatesAreRead : Type 0

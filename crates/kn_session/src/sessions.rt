@@ -41,7 +41,7 @@ impl Model for Sessions {
 }
 
 impl Sessions {
-    ghost use Rattle.kn_session.specs.Connection.{fault_at, with_session, with_closed};
+    ghost use Rattle.kn_session.specs.Connection.{fault_at, with_open_session, with_closed};
     ghost use Rattle.kn_session.specs.Views.{session_of_view, AreReadPrivates, ArePrivates, AreNormalForms};
 
     /// No sessions. Takes no memory.
@@ -106,7 +106,7 @@ impl Sessions {
     /// Pins a session to another version. Takes no memory.
     pub fn repin(&mut self, s: u32, snapshot: Snapshot) -> Result<(), SessionFault>
         ensures accepted { OnOk result (fault_at self.old s (λ x. None) ≡ None) }
-        ensures ok { OnOk result (self.new ≡ with_session self.old s (pin_at (arc_value snapshot))) }
+        ensures ok { OnOk result (self.new ≡ with_open_session self.old s (pin_at (arc_value snapshot))) }
         ensures err { OnErr result (self.new ≡ self.old) }
         ensures fault { IfErr result (λ fault. fault_at self.old s (λ x. None) ≡ Some fault) }
     {
@@ -120,7 +120,7 @@ impl Sessions {
     /// memory.
     pub fn clear(&mut self, s: u32) -> Result<(), SessionFault>
         ensures accepted { OnOk result (fault_at self.old s (λ x. None) ≡ None) }
-        ensures ok { OnOk result (self.new ≡ with_session self.old s cleared) }
+        ensures ok { OnOk result (self.new ≡ with_open_session self.old s cleared) }
         ensures err { OnErr result (self.new ≡ self.old) }
         ensures fault { IfErr result (λ fault. fault_at self.old s (λ x. None) ≡ Some fault) }
     {
@@ -143,7 +143,7 @@ impl Sessions {
         requires few { ForSome (session_in self.old.sessions s) (λ x. x.made < 2 ^ 31) }
         ensures id { IfOk result (λ id. IsSomeAnd (session_in self.old.sessions s) (λ x. id ≡ x.made + 1)) }
         ensures accepted { OnOk result (fault_at self.old s (private_fault text.now assertion) ≡ None) }
-        ensures ok { OnOk result (self.new ≡ with_session self.old s (add_private text.now)) }
+        ensures ok { OnOk result (self.new ≡ with_open_session self.old s (add_private text.now)) }
         ensures err { OnErr result (self.new ≡ self.old) }
         ensures fault { IfErr result (λ fault. (fault ≡ F.NoMemory) ⊎ (fault_at self.old s (private_fault text.now assertion) ≡ Some fault)) }
     {
@@ -156,7 +156,7 @@ impl Sessions {
     /// Takes the private assertion of this id away from a session. Takes no memory.
     pub fn retract(&mut self, s: u32, id: u32) -> Result<(), SessionFault>
         ensures accepted { OnOk result (fault_at self.old s (retract_fault id) ≡ None) }
-        ensures ok { OnOk result (self.new ≡ with_session self.old s (take_private id)) }
+        ensures ok { OnOk result (self.new ≡ with_open_session self.old s (take_private id)) }
         ensures err { OnErr result (self.new ≡ self.old) }
         ensures fault { IfErr result (λ fault. fault_at self.old s (retract_fault id) ≡ Some fault) }
     {
@@ -168,7 +168,7 @@ impl Sessions {
     /// Gives an attribute of a session this value. A name that is there keeps its place, and a new one comes last.
     pub fn set(&mut self, s: u32, name: &[u8], value: &[u8]) -> Result<(), SessionFault>
         ensures accepted { OnOk result (fault_at self.old s (set_fault name.now value.now) ≡ None) }
-        ensures ok { OnOk result (self.new ≡ with_session self.old s (set_attribute name.now value.now)) }
+        ensures ok { OnOk result (self.new ≡ with_open_session self.old s (set_attribute name.now value.now)) }
         ensures err { OnErr result (self.new ≡ self.old) }
         ensures fault { IfErr result (λ fault. (fault ≡ F.NoMemory) ⊎ (fault_at self.old s (set_fault name.now value.now) ≡ Some fault)) }
     {
@@ -180,7 +180,7 @@ impl Sessions {
     /// Takes an attribute away from a session. Takes no memory.
     pub fn unset(&mut self, s: u32, name: &[u8]) -> Result<(), SessionFault>
         ensures accepted { OnOk result (fault_at self.old s (unset_fault name.now) ≡ None) }
-        ensures ok { OnOk result (self.new ≡ with_session self.old s (unset_attribute name.now)) }
+        ensures ok { OnOk result (self.new ≡ with_open_session self.old s (unset_attribute name.now)) }
         ensures err { OnErr result (self.new ≡ self.old) }
         ensures fault { IfErr result (λ fault. fault_at self.old s (unset_fault name.now) ≡ Some fault) }
     {
@@ -193,7 +193,7 @@ impl Sessions {
     /// comes last.
     pub fn auth(&mut self, s: u32, principal: &[u8]) -> Result<(), SessionFault>
         ensures accepted { OnOk result (fault_at self.old s (auth_fault principal.now) ≡ None) }
-        ensures ok { OnOk result (self.new ≡ with_session self.old s (add_requester principal.now)) }
+        ensures ok { OnOk result (self.new ≡ with_open_session self.old s (add_requester principal.now)) }
         ensures err { OnErr result (self.new ≡ self.old) }
         ensures fault { IfErr result (λ fault. (fault ≡ F.NoMemory) ⊎ (fault_at self.old s (auth_fault principal.now) ≡ Some fault)) }
     {
@@ -206,7 +206,7 @@ impl Sessions {
     /// Takes a requester away from a session, who is found by the principal's normal form. Takes no memory.
     pub fn unauth(&mut self, s: u32, principal: &[u8]) -> Result<(), SessionFault>
         ensures accepted { OnOk result (fault_at self.old s (unauth_fault principal.now) ≡ None) }
-        ensures ok { OnOk result (self.new ≡ with_session self.old s (take_requester principal.now)) }
+        ensures ok { OnOk result (self.new ≡ with_open_session self.old s (take_requester principal.now)) }
         ensures err { OnErr result (self.new ≡ self.old) }
         ensures fault { IfErr result (λ fault. fault_at self.old s (unauth_fault principal.now) ≡ Some fault) }
     {

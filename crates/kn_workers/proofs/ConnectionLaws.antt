@@ -1,5 +1,5 @@
 -- One connection that was served.
-use Rattle.std.proofs.Common.{◌≡◌, ℕ, ◌<◌, ◌≤◌, true, List, [], ◌++◌, length, drop, sym, ap, ◌∙◌, arith, Option, Some, None, subst}
+use Rattle.std.proofs.Common.{◌≡◌, ℕ, ◌<◌, ◌≤◌, true, false, List, [], ◌++◌, length, drop, sym, ap, ◌∙◌, arith, Option, Some, None, subst}
 use Rattle.std.specs.Prelude.{◌⊎◌, IfSome}
 use Rattle.std.proofs.Math.Seq.{drop-append_seam}
 use Rattle.kn_outside.specs.Seen.{LinkSeen}
@@ -37,6 +37,15 @@ has-fault (E.Cut held) l l' none cause fault = absurd (cc fault)
 has-fault (E.Block n) l l' none cause fault = absurd (cc fault)
 has-fault E.Budget l l' none cause fault = absurd (cc fault)
 
+no-fault : (ended : Ended) (l l' : LinkSeen) → l.faults ≡ 0 → HasCause ended l l' → is_fault ended ≡ false → l'.faults ≡ 0
+no-fault E.Done l l' none cause calm = cause ∙ none
+no-fault E.Memory l l' none cause calm = ap (λ (x : LinkSeen). x.faults) cause ∙ none
+no-fault E.ReadFault l l' none cause calm = absurd (cc calm)
+no-fault E.WriteFault l l' none cause calm = absurd (cc calm)
+no-fault (E.Cut held) l l' none cause calm = cause ∙ none
+no-fault (E.Block n) l l' none cause calm = cause ∙ none
+no-fault E.Budget l l' none cause calm = cause ∙ none
+
 faultless : (old new : ℕ) → old ≡ 0 → new ≡ 0 → new < raised old
 faultless old new none none' = subst (λ (n : ℕ). new < raised n) (sym none) (subst (λ (n : ℕ). n < raised 0) (sym none') (omega arith))
 
@@ -66,6 +75,7 @@ module _ {C : Type 0} (seen : C → LinkSeen) (g : Grounds) (v w : PassSeen) (li
             (subst (λ (n : ℕ). IsServed g s.taken s.written ended (is_over (seen link').left) w.seen (length v.seen) n v.number stops) (sym to_is)
             (subst (λ (l : List ℕ). IsServed g s.taken s.written ended (is_over (seen link').left) w.seen (length v.seen) (length w.seen) v.number l) (sym same) s.served));
         cause = has-fault ended (seen link) (seen link') new.faults s.cause;
+        calm = no-fault ended (seen link) (seen link') new.faults s.cause;
         complete = faultless-rest (seen link').left s.taken (seen link').faults rest (λ none. faultless (seen link).faults (seen link').faults new.faults none);
       }
     where
@@ -94,5 +104,6 @@ connection_longer longer seen g history more caller s valid c = record {
   wrote = c.wrote;
   served = longer g c.taken c.written s.ended (is_over (seen s.link).left) history more s.from s.to caller s.stops valid c.served;
   cause = c.cause;
+  calm = c.calm;
   complete = c.complete;
 }

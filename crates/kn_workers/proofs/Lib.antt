@@ -1,7 +1,8 @@
-pub mod PassLaws
 pub mod ConnectionLaws
 pub mod WorkLaws
 pub mod HiringLaws
 pub mod ServingAll
+pub mod RoomLaws
 pub mod ShareLaws
+pub mod MemoryLaws
 pub mod Crossing

@@ -58,7 +58,7 @@ is_joined root (p ∷ passes) none =
 module _ {C D : Type 0} (registry : TableId) (door : D → DoorSeen (ServedSeen C)) (seen : C → LinkSeen) (g : Grounds) where
   less_is : (failed : Bool) (d : DoorSeen (ServedSeen C)) (d' : D) → HasGiven failed d (door d') → failed ≡ gave_less door d'
   less_is true d d' given = sym (lt-ltb (door d').given (door d').quota given.0)
-  less_is false d d' given = sym (ap (λ (n : ℕ). nat_lt n (door d').quota) given ∙ not-less (door d').quota)
+  less_is false d d' given = sym (ap (λ (n : ℕ). nat_lt n (door d').quota) given.0 ∙ not-less (door d').quota)
 
   -- the work at a post, as it is seen in a longer history
   has_worked : (longer : ServedLonger) (root : PassSeen) (history : List Update) (d : D) (end : ServeEnd) (p : Post D) (k : WorksAtPost registry door seen g (record { door = d; pass = split_of root; end = end }) p) →
@@ -132,6 +132,7 @@ module _ {C D : Type 0} (registry : TableId) (door : D → DoorSeen (ServedSeen 
         each = b.each;
         seen = subst (λ (w : PassSeen). IsPrefix w.seen new.seen) hired_is fronts.0;
         sound = sound;
+        number = j.number;
         mine = j.mine;
         stops = j.stops;
         splits = j.splits ∙ ap (λ (n : ℕ). root.splits + n) (sym b.count);
@@ -145,7 +146,7 @@ module _ {C D : Type 0} (registry : TableId) (door : D → DoorSeen (ServedSeen 
   served_few v w d d' count true k given =
       let quota = k.quota in let more = k.given in let less = given.0 in omega (arith, quota, more, less)
   served_few v w d d' count false k given =
-      let quota = k.quota in let more = k.given in omega (arith, quota, more, given)
+      let quota = k.quota in let more = k.given in let all = given.0 in omega (arith, quota, more, all)
 
   pub finished_few : (root : PassSeen) (doors : List D) (posts : List (Post D)) → AllZip (WorksAtPost registry door seen g) (posts_of doors (splits_from root (length doors))) posts →
       all_finished posts ≤ all_quotas door doors

@@ -12,8 +12,8 @@ use Rattle.kn_store.specs.History.{is_valid_history}
 use Rattle.kn_daemon.specs.Daemon.{Grounds}
 use Rattle.kn_daemon.specs.Laws.{ServedLonger}
 use Rattle.kn_base.specs.declared.limits.TheConstants.{CONNECTIONS}
-use Rattle.kn_registry.specs.Passes.{PassSeen, Moves, updates_of}
-use Rattle.kn_workers.proofs.PassLaws.{moves-nothing, moves-more}
+use Rattle.kn_registry.specs.Passes.{PassSeen, Moves, updates_by}
+use Rattle.kn_registry.proofs.PassMoves.{moves-nothing, moves-more}
 use Rattle.kn_workers.specs.Connections.{ServedSeen, IsConnection, FollowEachOther, stops_of, own_in}
 use Rattle.kn_workers.specs.Doors.{DoorSeen, with_more, after_finish, WorksAt, HasGiven}
 use Rattle.kn_workers.proofs.ConnectionLaws.{connection_longer}
@@ -55,22 +55,26 @@ range-added h more =
     let added : length (h ++ more) - length h ≡ length more = omega (arith, length-append h more) in
     ap (λ (n : ℕ). take n (drop (length h) (h ++ more))) added ∙ ap (take (length more)) (drop-append_seam h more) ∙ take-length more
 
+-- no call of a door failed meanwhile
+pub record IsCalm {S : Type 0} (d d' : DoorSeen S) : Type 0 where
+  pub same : d'.faults ≡ d.faults
+
 module _ {C : Type 0} where
   pub own-grows : (h more : List Update) (caller : ℕ) (connections : List (ServedSeen C)) → All (λ s. s.to ≤ length h) connections → own_in (h ++ more) caller connections ≡ own_in h caller connections
   own-grows h more caller [] within = refl
   own-grows h more caller (s ∷ connections) within =
       ap (λ (x : List Update × List Update). x.0 ++ x.1)
-      (λ i. (ap (updates_of caller) (range-grows h more s.from s.to (within 0 s (omega arith))) i, own-grows h more caller connections (λ k x lt. within (suc k) x (omega (arith, lt))) i))
+      (λ i. (ap (updates_by caller) (range-grows h more s.from s.to (within 0 s (omega arith))) i, own-grows h more caller connections (λ k x lt. within (suc k) x (omega (arith, lt))) i))
 
   -- the caller's own updates, with those of one connection more
   own-one-more : (h more : List Update) (caller : ℕ) (connections : List (ServedSeen C)) (s : ServedSeen C) (own : List Update) → All (λ s. s.to ≤ length h) connections → own ≡ own_in h caller connections →
-      s.from ≡ length h → s.to ≡ length (h ++ more) → own ++ updates_of caller more ≡ own_in (h ++ more) caller (connections ++ s ∷ [])
+      s.from ≡ length h → s.to ≡ length (h ++ more) → own ++ updates_by caller more ≡ own_in (h ++ more) caller (connections ++ s ∷ [])
   own-one-more h more caller connections s own within own_are from to =
       let last : slice_range (h ++ more) s.from s.to ≡ more = ap (λ (x : ℕ × ℕ). slice_range (h ++ more) x.0 x.1) (λ i. (from i, to i)) ∙ range-added h more in
-      ap (λ (x : List Update). x ++ updates_of caller more) (own_are ∙ sym (own-grows h more caller connections within))
-      ∙ ap (λ (x : List Update). own_in (h ++ more) caller connections ++ updates_of caller x) (sym last)
-      ∙ ap (λ (x : List Update). own_in (h ++ more) caller connections ++ x) (sym (append-nil (updates_of caller (slice_range (h ++ more) s.from s.to))))
-      ∙ sym (flat_map-append (λ (x : ServedSeen C). updates_of caller (slice_range (h ++ more) x.from x.to)) connections (s ∷ []))
+      ap (λ (x : List Update). x ++ updates_by caller more) (own_are ∙ sym (own-grows h more caller connections within))
+      ∙ ap (λ (x : List Update). own_in (h ++ more) caller connections ++ updates_by caller x) (sym last)
+      ∙ ap (λ (x : List Update). own_in (h ++ more) caller connections ++ x) (sym (append-nil (updates_by caller (slice_range (h ++ more) s.from s.to))))
+      ∙ sym (flat_map-append (λ (x : ServedSeen C). updates_by caller (slice_range (h ++ more) x.from x.to)) connections (s ∷ []))
 
   follow-one-more : (start middle end : ℕ) (connections : List (ServedSeen C)) (s : ServedSeen C) → FollowEachOther start connections middle → s.from ≡ middle → s.to ≡ end →
       FollowEachOther start (connections ++ s ∷ []) end
@@ -80,6 +84,18 @@ module _ {C : Type 0} where
   stops-one-more : (connections : List (ServedSeen C)) (s : ServedSeen C) → stops_of connections ++ s.stops ≡ stops_of (connections ++ s ∷ [])
   stops-one-more connections s =
       ap (λ (l : List ℕ). stops_of connections ++ l) (sym (append-nil s.stops)) ∙ sym (flat_map-append (λ (x : ServedSeen C). x.stops) connections (s ∷ []))
+
+  pub gave_all : (d d' after : DoorSeen (ServedSeen C)) → d'.given ≡ d'.quota → after ≡ d' → IsCalm d d' → HasGiven false d after
+  gave_all d d' after all same calm =
+      (subst (λ (x : DoorSeen (ServedSeen C)). x.given ≡ x.quota) (sym same) all, ap (λ (x : DoorSeen (ServedSeen C)). x.faults) same ∙ calm.same)
+
+  -- a connection that is given and finished leaves the count of faults
+  pub works_calmly : (d d' given after : DoorSeen (ServedSeen C)) (s : ServedSeen C) → IsCalm d d' → given ≡ record d' { given = d'.given + 1 } → after ≡ after_finish s given → IsCalm d after
+  works_calmly d d' given after s calm given_is after_is =
+      record { same = ap (λ (x : DoorSeen (ServedSeen C)). x.faults) after_is ∙ ap (λ (x : DoorSeen (ServedSeen C)). x.faults) given_is ∙ calm.same }
+
+  pub calm_nothing : (d : DoorSeen (ServedSeen C)) → IsCalm d d
+  calm_nothing d = record { same = refl }
 
   module _ (seen : C → LinkSeen) (g : Grounds) where
     pub works_nothing : (v : PassSeen) (d : DoorSeen (ServedSeen C)) → WorksAt seen g v v d d 0
@@ -129,7 +145,7 @@ module _ {C : Type 0} where
               (all-one (IsConnection seen g w.seen u.number) s (subst (λ (n : ℕ). IsConnection seen g w.seen n s) k.moves.number c));
           follow = follow-one-more (length u.seen) (length v.seen) (length w.seen) k.connections s k.follow from to;
           own_are = subst (λ (h : List Update). k.own ++ moves.1 ≡ own_in h u.number (k.connections ++ s ∷ [])) (sym seen_more)
-              (ap (λ (x : List Update). k.own ++ x) (sym (subst (λ (n : ℕ). updates_of n moves.0 ≡ moves.1) k.moves.number moves.2.named))
+              (ap (λ (x : List Update). k.own ++ x) (sym (subst (λ (n : ℕ). updates_by n moves.0 ≡ moves.1) k.moves.number moves.2.named))
               ∙ own-one-more v.seen moves.0 u.number k.connections s k.own (λ i x lt. (k.each i x lt).served.places.within) k.own_are from (to ∙ ap (λ (h : List Update). length h) seen_more));
           counted = ap (λ (n : ℕ). n + 1) counted ∙ sym (length-append k.connections (s ∷ []));
           still = λ none. absurd (omega (arith, none));
@@ -170,9 +186,6 @@ module _ {C : Type 0} where
     -- the door has no more to give
     pub works_closed : (u v : PassSeen) (d d' after : DoorSeen (ServedSeen C)) (count : ℕ) → WorksAt seen g u v d d' count → after ≡ d' → WorksAt seen g u v d after count
     works_closed u v d d' after count k same = subst (λ (x : DoorSeen (ServedSeen C)). WorksAt seen g u v d x count) (sym same) k
-
-    pub gave_all : (d d' after : DoorSeen (ServedSeen C)) → d'.given ≡ d'.quota → after ≡ d' → HasGiven false d after
-    gave_all d d' after all same = subst (λ (x : DoorSeen (ServedSeen C)). x.given ≡ x.quota) (sym same) all
 
     pub count_fits : (u v : PassSeen) (d d' : DoorSeen (ServedSeen C)) (count : ℕ) → WorksAt seen g u v d d' count → d'.given < d'.quota → d.quota ≤ CONNECTIONS → count < CONNECTIONS
     count_fits u v d d' count k less few =

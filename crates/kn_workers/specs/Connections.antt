@@ -6,7 +6,7 @@ use Rattle.kn_daemon.specs.declared.ended.Ended.{Ended}
 use Rattle.kn_daemon.specs.declared.ended.Ended.TheVariants as E
 use Rattle.kn_daemon.specs.Daemon.{Grounds}
 use Rattle.kn_daemon.specs.Served.{IsServed}
-use Rattle.kn_registry.specs.Passes.{updates_of}
+use Rattle.kn_registry.specs.Passes.{updates_by}
 use Rattle.kn_serve.specs.Serving.{is_over, IsOrderly}
 
 -- A connection: its link, how it ended, the number of the pass that served it, the lengths of what that pass had seen before
@@ -36,7 +36,7 @@ pub record IsNew (l : LinkSeen) : Type 0 where
   pub faults : l.faults ≡ 0
 
 -- The caller's connection was served over this history: all that was taken of its link and written to it, if the link tells
--- that. Where the input is in order and no call of the link failed, all of it was answered if there was memory.
+-- that. Only where it ended by a fault did a call of its link fail. Where the input is in order and no call of the link failed, all of it was answered if there was memory.
 pub record IsConnection {C : Type 0} (seen : C → LinkSeen) (g : Grounds) (history : List Update) (caller : ℕ) (s : ServedSeen C) : Type 0 where
   pub number : s.caller ≡ caller
   pub taken : List ℕ
@@ -45,6 +45,7 @@ pub record IsConnection {C : Type 0} (seen : C → LinkSeen) (g : Grounds) (hist
   pub wrote : IfSome (seen s.link).written (λ bytes. bytes ≡ written)
   pub served : IsServed g taken written s.ended (is_over (seen s.link).left) history s.from s.to caller s.stops
   pub cause : is_fault s.ended ≡ true → 0 < (seen s.link).faults
+  pub calm : is_fault s.ended ≡ false → (seen s.link).faults ≡ 0
   pub complete : IfSome (seen s.link).left (λ left. IsOrderly (taken ++ left) → (seen s.link).faults ≡ 0 → (s.ended ≡ E.Done) ⊎ (s.ended ≡ E.Memory))
 
 module _ {C : Type 0} where
@@ -59,4 +60,4 @@ module _ {C : Type 0} where
 
   -- the caller's own updates that a history has between the lengths of its connections
   abbrev pub own_in : List Update → ℕ → List (ServedSeen C) → List Update
-  own_in history caller connections = flat_map (λ s. updates_of caller (slice_range history s.from s.to)) connections
+  own_in history caller connections = flat_map (λ s. updates_by caller (slice_range history s.from s.to)) connections

@@ -50,6 +50,6 @@ module _ {C : Type 0} where
     pub quota : d'.quota ≡ d.quota
     pub later : d.faults ≤ d'.faults
 
-  -- whether a door gave less than its quota: then a call of it failed
+  -- whether a door gave less than its quota: then a call of it failed, and else none
   abbrev pub HasGiven : Bool → DoorSeen (ServedSeen C) → DoorSeen (ServedSeen C) → Type 0
-  HasGiven failed d d' = MatchBool failed ((d'.given < d'.quota) × Rose d.faults d'.faults) (d'.given ≡ d'.quota)
+  HasGiven failed d d' = MatchBool failed ((d'.given < d'.quota) × Rose d.faults d'.faults) ((d'.given ≡ d'.quota) × (d'.faults ≡ d.faults))

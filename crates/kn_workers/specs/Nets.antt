@@ -21,6 +21,7 @@ pub record IsBound {S : Type 0} (quota : ℕ) (d : DoorSeen S) : Type 0 where
   pub quota_is : d.quota ≡ quota
   pub none_given : d.given ≡ 0
   pub none_finished : d.finished ≡ 0
+  pub none_failed : d.faults ≡ 0
   pub none_done : IfSome d.done (λ done. done ≡ [])
 
 -- from this place on each room is a door that was just bound, with its share

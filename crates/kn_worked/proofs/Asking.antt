@@ -1,0 +1,66 @@
+-- That a worked connection is served as it says.
+use Rattle.std.proofs.Common.{[], ◌∷◌, codes, refl, sym, subst, inr, le_refl, zero-le, arith}
+use Rattle.std.specs.Fmt.{digits}
+use Rattle.kn_meaning.specs.Equations.{Equations, IsPolicyLevel}
+use Rattle.kn_meaning.specs.Proofs.{IsProof}
+use Rattle.kn_wire.specs.Requests.{Open, Auth, Query}
+use Rattle.kn_wire.specs.Replies.{Done, Started, Value}
+use Rattle.kn_daemon.specs.Daemon.{State, first_state, changed}
+use Rattle.kn_worked.specs.Connections.{policy_history, AliceIsAnswered}
+use Rattle.kn_worked.proofs.Levels.{two_values, policy_row, alice_level, alice_proof, alice_session, alice_question, policy_valid}
+
+after_open : State
+after_open = changed policy_history first_state Open
+
+after_auth : State
+after_auth = changed policy_history after_open (Auth 1 (codes "alice"))
+
+pub alice_is_answered : AliceIsAnswered
+unfolding digits after_open after_auth
+alice_is_answered g caller = record {
+  exchanges = record { request = Open; reply = Started 1 1; place = 1 } ∷ record { request = Auth 1 (codes "alice"); reply = Done; place = 1 }
+      ∷ record { request = Query 1 (codes "no,yes"); reply = Value 1 (codes "yes") 1 (policy_row ∷ []); place = 1 } ∷ [];
+  rest = [];
+  last = after_auth;
+  requests = (codes "AUTH 1 alice\nQUERY 1 no,yes\n", refl, (codes "QUERY 1 no,yes\n", refl, ([], refl, refl)));
+  replies = (
+    after_open,
+    record { accepted = refl; answered = refl; next = refl },
+    (
+      after_auth,
+      record { accepted = refl; answered = refl; next = refl },
+      (
+        after_auth,
+        record {
+          accepted = refl;
+          answered = record {
+            session = alice_session;
+            values = two_values;
+            found = refl;
+            named = refl;
+            answer = record {
+              level = 1;
+              rows = policy_row ∷ [];
+              told = refl;
+              proved = subst (λ (e : Equations). IsProof e (policy_row ∷ []) 1) (sym alice_question) alice_proof;
+              least = subst (λ (e : Equations). IsPolicyLevel e 1) (sym alice_question) alice_level;
+            };
+          };
+          next = refl;
+        },
+        refl,
+      ),
+    ),
+  );
+  places = record {
+    valid = rw policy_valid refl;
+    within = le_refl 1;
+    in_order = (le_refl 1, (le_refl 1, (le_refl 1, le_refl 1)));
+    own = refl;
+    stopped = (1 ∷ [], [], refl, ([], [], zero-le, ([], [], zero-le, refl, refl), refl), refl);
+  };
+  bytes = refl;
+  one_bye = refl;
+  count = omega arith;
+  why = inr (record { no_more = refl; goes_on = record { no_bye = refl; no_block = refl }; fewer = omega arith }, refl, refl);
+}

@@ -1,0 +1,4 @@
+pub mod Readings
+pub mod Levels
+pub mod Asking
+pub mod Adding

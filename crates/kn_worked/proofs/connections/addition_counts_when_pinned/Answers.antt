@@ -1,0 +1,5 @@
+use Rattle.kn_worked.proofs.Adding.{bob_is_answered}
+use Rattle.kn_worked.proofs.connections.addition_counts_when_pinned.Goals as goal
+
+pub returns : goal.returns
+returns c = bob_is_answered

@@ -1,0 +1,13 @@
+//! Worked examples of connections. The functions have no body: their clauses are what they say.
+
+ghost use Rattle.kn_worked.specs.Connections.{AliceIsAnswered, BobIsAnswered};
+
+/// A session that asks whether a principal may is answered with the value and the row that proves it.
+pub fn question_is_answered()
+    ensures { AliceIsAnswered }
+{}
+
+/// An administrator adds a credential. A session's answer changes with it only where the session pins the new version.
+pub fn addition_counts_when_pinned()
+    ensures { BobIsAnswered }
+{}
