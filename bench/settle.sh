@@ -16,7 +16,7 @@ room=$(mktemp -d) || exit 1
 trap 'rm -rf "$room"' EXIT
 
 # what isn't built yet is built here, where nobody looks at the clock
-"$top/keynoted" </dev/null >/dev/null
+"$top/keynoted" ask "$top/crates/keynoted/data/p.kn" </dev/null >/dev/null
 [[ $? == 125 ]] && exit 1
 
 python3 - "$top/crates/keynoted/out/keynoted" "$room" "$runs" <<'PYTHON'

@@ -16,7 +16,8 @@
 #
 # KEYNOTED names another program than the one that is built here.
 #
-# Each VALUE reply of a case is given to `check` too, which has to prove it (tests/prove). With no names given, tests/pipe runs too.
+# Each VALUE reply of a case is given to `check` too, which has to prove it (tests/prove). With no names given, tests/pipe,
+# tests/docs and clients/python/tests.py run too, where there is python3.
 set -u
 
 top=$(cd "$(dirname "${BASH_SOURCE[0]}")/.." && pwd -P) || exit 1
@@ -56,7 +57,7 @@ run_case() {
 
 # What isn't built yet is built here, before the cases. The program itself never ends with 125.
 if [[ -z ${KEYNOTED-} ]]; then
-    "$top/keynoted" </dev/null >/dev/null
+    "$top/keynoted" ask "$top/crates/keynoted/data/p.kn" </dev/null >/dev/null
     if [[ $? == 125 ]]; then
         echo "the program can't be built"
         exit 1
@@ -77,12 +78,18 @@ if (($# == 0)); then
             printf 'FAILED example %s\n' "$example"
         fi
     done
-    if "$top/tests/pipe" "$program"; then
-        ((passed += 1))
-    else
-        ((failed += 1))
-        echo 'FAILED tests/pipe'
-    fi
+    for part in tests/pipe tests/docs clients/python/tests.py; do
+        if ! command -v python3 >/dev/null; then
+            echo "$part is left out: there is no python3"
+        elif "$top/$part" "$program" >"$room/output" 2>&1; then
+            ((passed += 1))
+            grep 'left out' "$room/output"
+        else
+            ((failed += 1))
+            printf 'FAILED %s\n' "$part"
+            cat "$room/output"
+        fi
+    done
     set -- "$top"/tests/cases/*
 fi
 for case in "$@"; do
