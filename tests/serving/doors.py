@@ -4,12 +4,15 @@ import contextlib
 import os
 import socket
 import subprocess
+import sys
 import threading
 import time
 
 from serving import conduct
 from serving.daemon import Fault
-from serving.talk import LIMIT, Daemon, free_port
+from serving.talk import HOST, LIMIT, Daemon, free_port
+
+EXAMPLES = os.path.join(os.path.dirname(os.path.abspath(__file__)), "..", "..", "examples")
 
 POLICY = b'Authorizer: "POLICY"\nLicensees: "alice"\n'
 # requests of a connection
@@ -129,6 +132,7 @@ class Doors:
         yield "a connection has its worker to itself, and four workers are there unless said", self.try_waiting
         yield "the address is free again at once", self.try_again
         yield "without a key file nobody is an administrator", self.try_without_keys
+        yield "credentials are added by examples/service/add.py", self.try_adding
         yield "localhost by its name", lambda: self.serve(1, 1, host="localhost").expect_end(1)
         if socket.has_ipv6 and os.path.exists("/proc/net/if_inet6"):
             yield "the loopback of IPv6", lambda: self.serve(1, 1, host="::1").expect_end(1)
@@ -181,6 +185,20 @@ class Doors:
                 raise Fault(f"they are answered {replies}")
             one.bye()
             run.expect_end(1)
+
+    def try_adding(self):
+        """The credentials of examples/keys, one of which is admitted by its code and one by its digest."""
+        keys, add = os.path.join(EXAMPLES, "keys"), os.path.join(EXAMPLES, "service", "add.py")
+        names = [os.path.join(keys, name) for name in ("signed.kn", "credential.kn", "policy.kn")]
+        run = Daemon(self.program, os.path.join(keys, "policy.kn"), os.path.join(keys, "keys.txt"), 1, 2)
+        with contextlib.closing(run):
+            words = [sys.executable, add, HOST, str(run.address[1]), os.path.join(keys, "keys.txt"), *names]
+            run.left -= 1
+            added = subprocess.run(words, stdin=subprocess.DEVNULL, capture_output=True, text=True, timeout=LIMIT)
+            replies = [line.rpartition(": ")[2] for line in added.stdout.splitlines()]
+            if (replies, added.returncode) != (["OK a2 2", "OK a3 3", "NO 7 auth 1"], 1):
+                raise Fault(f"{replies} with status {added.returncode} and {added.stderr!r}")
+            run.expect_end(3)
 
     def try_ends(self):
         """The replies, and what ends the connection: the daemon by itself, or the end of the input."""

@@ -94,10 +94,10 @@ def updates_told(transcripts):
     for transcript in transcripts:
         for exchange in filter(is_update, transcript.exchanges):
             version = told_version(exchange)
-            if version in told and version is not None:
+            if version in told:
                 raise Fault(f"version {version} is told of two updates, of {told[version].client} and {transcript.client}")
-            told[version] = Update(transcript.client, exchange)
-    told.pop(None, None)
+            if version is not None:
+                told[version] = Update(transcript.client, exchange)
     return told
 
 
