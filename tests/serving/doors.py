@@ -76,7 +76,7 @@ def faulty_files(port):
 
 
 def faulty_addresses():
-    for address in ("", "nowhere", "127.0.0.1", "127.0.0.1:", "127.0.0.1:65536", "127.0.0.1:x", ":1", "127.0.0.1:1:1"):
+    for address in ("", "nowhere", "127.0.0.1", "127.0.0.1:", "127.0.0.1:65536", "127.0.0.1:x", "[::1]"):
         yield f"the address {address!r}", [address, *words_of(0)[1:]], *LISTENER
 
 
@@ -146,7 +146,7 @@ class Doors:
             run.expect_end(1)
 
     def try_waiting(self):
-        run = self.serve(None, 6)
+        run = self.serve(None, 12)
         with contextlib.closing(run):
             held = [run.connect("held") for _ in range(4)]
             for one in held:
@@ -161,6 +161,7 @@ class Doors:
                 raise Fault("the fifth connection isn't served when one has ended")
             for one in [*held[1:], late]:
                 one.bye()
+            run.use_up()
             run.expect_end(1)
 
     def try_again(self):
