@@ -190,7 +190,8 @@ class Doors:
     def try_adding(self):
         """The credentials of examples/keys, one of which is admitted by its code and one by its digest."""
         keys, add = os.path.join(EXAMPLES, "keys"), os.path.join(EXAMPLES, "service", "add.py")
-        names = [os.path.join(keys, name) for name in ("signed.kn", "credential.kn", "policy.kn")]
+        self.room.write("listed.kn", b'Authorizer: "alice"\nLicensees: "bob"\n')
+        names = [os.path.join(keys, "signed.kn"), self.room.path("listed.kn"), os.path.join(keys, "policy.kn")]
         run = Daemon(self.program, os.path.join(keys, "policy.kn"), os.path.join(keys, "keys.txt"), 1, 2)
         with contextlib.closing(run):
             words = [sys.executable, add, HOST, str(run.address[1]), os.path.join(keys, "keys.txt"), *names]

@@ -112,24 +112,34 @@ def built_program():
 def read_words():
     parser = argparse.ArgumentParser(prog="tests/serve", description="Tries keynoted serve over TCP on the loopback.")
     parser.add_argument("--seconds", type=float, default=20, help="of the long run; the shorter ones take a tenth (20)")
-    parser.add_argument("--self", action="store_true", help="the self-test of the checker alone, without the program")
+    parser.add_argument("--only", choices=["checker", "doors", "clients"], help="the self-test of the checker, which wants no program; what is at fault and how connections end; the long run")
     return parser.parse_args()
+
+
+def try_doors(tally, program, room):
+    doors = Doors(program, room)
+    for name, work in [*doors.faults(), *doors.ends()]:
+        tally.attempt(name, work)
+
+
+def try_clients(tally, program, room, seconds):
+    long, short = Long(tally, program, room, seconds), Long(tally, program, room, seconds / 10)
+    tally.attempt("16 workers", lambda: long.try_run("16 workers", 16, 1600))
+    tally.attempt("2 workers", lambda: short.try_run("2 workers", 2, 400, others=False))
 
 
 def main():
     words, tally, start = read_words(), Tally(), time.monotonic()
-    for name, why in planted.try_checker():
-        tally.note(f"checker: {name}", why)
-    if not words.self:
+    if words.only in (None, "checker"):
+        for name, why in planted.try_checker():
+            tally.note(f"checker: {name}", why)
+    if words.only != "checker":
         program = built_program()
-        with tempfile.TemporaryDirectory() as room:
-            os.mkdir(os.path.join(room, "doors"))
-            doors = Doors(program, os.path.join(room, "doors"))
-            for name, work in [*doors.faults(), *doors.ends()]:
-                tally.attempt(name, work)
-            long, short = Long(tally, program, room, words.seconds), Long(tally, program, room, words.seconds / 10)
-            tally.attempt("16 workers", lambda: long.try_run("16 workers", 16, 1600))
-            tally.attempt("2 workers", lambda: short.try_run("2 workers", 2, 400, others=False))
+        with tempfile.TemporaryDirectory() as doors, tempfile.TemporaryDirectory() as room:
+            if words.only != "clients":
+                try_doors(tally, program, doors)
+            if words.only != "doors":
+                try_clients(tally, program, room, words.seconds)
     print(f"in {time.monotonic() - start:.0f} seconds")
     print(f"{tally.passed} passed, {tally.failed} failed")
     return 0 if tally.passed and not tally.failed else 1
