@@ -1,10 +1,11 @@
 /* The load of bench/serve: connections that send one request again and again and read its replies, to any peer on the loopback
  * whose replies end with a fixed text; and the emptiest peer there is, to see what the load itself costs.
  *
- *   serve_load ask PORT CONNECTIONS IN_FLIGHT SECONDS MOST FIRST REQUEST ENDING
- *     Each connection sends FIRST once. Then it sends REQUEST so many times in one write and reads all replies to it, until the
- *     time is over or MOST requests were answered. Prints a line of numbers: requests, seconds, the median and the 99th
- *     percentile of the nanoseconds of one such turn, seconds of the processor; and in the next line the first reply.
+ *   serve_load ask PORT CONNECTIONS IN_FLIGHT SECONDS MOST FIRST LINES REQUEST ENDING
+ *     Each connection sends FIRST once, whose replies are LINES lines. Then it sends REQUEST so many times in one write and
+ *     reads all replies to it, until the time is over or MOST requests were answered. Prints a line of numbers: requests,
+ *     seconds, the median and the 99th percentile of the nanoseconds of one such turn, and seconds of the processor; behind
+ *     that line stands the first reply.
  *   serve_load empty PORT ENDING REPLY
  *     Answers each request, which ends with ENDING, by REPLY, until it is killed.
  *
@@ -42,7 +43,7 @@ struct talk {
 static struct text first, request, ending, answer;
 static int port, in_flight;
 static double limit;
-static long most;
+static long most, first_lines;
 static char first_reply[512];
 static pthread_barrier_t ready;
 
@@ -92,12 +93,15 @@ static long count_endings(char *held, size_t *len) {
     return count;
 }
 
-/* The bytes that come until nothing came for a fifth of a second. */
-static size_t read_until_quiet(int from, char *to) {
-    struct timeval quiet = {0, 200000};
+/* The bytes that come, until so many lines are there and this ending. */
+static size_t read_reply(int from, char *to, long lines, const struct text *end) {
     size_t len = 0;
-    setsockopt(from, SOL_SOCKET, SO_RCVTIMEO, &quiet, sizeof quiet);
-    for (ssize_t got; len < ROOM && (got = recv(from, to + len, ROOM - len, 0)) > 0;) len += (size_t)got;
+    while (lines > 0 || len < end->len || memcmp(to + len - end->len, end->bytes, end->len)) {
+        ssize_t got = recv(from, to + len, ROOM - len, 0);
+        if (got <= 0) fail("a first reply");
+        for (ssize_t i = 0; i < got; i++) lines -= to[len + (size_t)i] == '\n';
+        len += (size_t)got;
+    }
     return len;
 }
 
@@ -111,17 +115,14 @@ static int open_talk(void) {
 
 /* Sends what comes first, and one request to see its reply. */
 static void begin(struct talk *talk, char *room) {
-    struct timeval patience = {10, 0};
+    static const struct text nothing;
+    struct timeval patience = {20, 0};
     talk->socket = open_talk();
-    if (first.len) {
-        send_all(talk->socket, first.bytes, first.len);
-        if (!read_until_quiet(talk->socket, room)) fail("no reply to what comes first");
-    }
-    send_all(talk->socket, request.bytes, request.len);
-    size_t len = read_until_quiet(talk->socket, room);
-    if (len < ending.len || memcmp(room + len - ending.len, ending.bytes, ending.len)) fail("no reply with this ending");
-    snprintf(first_reply, sizeof first_reply, "%.*s", (int)len, room);
     setsockopt(talk->socket, SOL_SOCKET, SO_RCVTIMEO, &patience, sizeof patience);
+    send_all(talk->socket, first.bytes, first.len);
+    read_reply(talk->socket, room, first_lines, &nothing);
+    send_all(talk->socket, request.bytes, request.len);
+    snprintf(first_reply, sizeof first_reply, "%.*s", (int)read_reply(talk->socket, room, 1, &ending), room);
 }
 
 /* One turn: the replies to all requests in flight. */
@@ -215,15 +216,16 @@ static void answer_all(void) {
 }
 
 int main(int count, char **words) {
-    if (count == 10 && !strcmp(words[1], "ask")) {
+    if (count == 11 && !strcmp(words[1], "ask")) {
         int connections = atoi(words[3]);
         port = atoi(words[2]);
         in_flight = atoi(words[4]);
         limit = atof(words[5]);
         most = atol(words[6]);
         read_text(&first, words[7]);
-        read_text(&request, words[8]);
-        read_text(&ending, words[9]);
+        first_lines = atol(words[8]);
+        read_text(&request, words[9]);
+        read_text(&ending, words[10]);
         if (connections < 1 || connections > CONNECTIONS || in_flight < 1 || !ending.len) return 2;
         ask(connections);
         return 0;
