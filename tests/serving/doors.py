@@ -2,12 +2,14 @@
 
 import contextlib
 import os
+import random
 import socket
 import subprocess
 import sys
 import threading
 import time
 
+import streams
 from serving import conduct
 from serving.daemon import Fault
 from serving.talk import HOST, LIMIT, Daemon, free_port
@@ -17,6 +19,8 @@ EXAMPLES = os.path.join(os.path.dirname(os.path.abspath(__file__)), "..", "..", 
 POLICY = b'Authorizer: "POLICY"\nLicensees: "alice"\n'
 # requests of a connection
 BUDGET = 1_000_000
+# random streams
+STREAMS = 40
 WORDS = (b"error words\n", 1)
 LISTENER = (b"error listener\n", 7)
 
@@ -137,6 +141,7 @@ class Doors:
         if socket.has_ipv6 and os.path.exists("/proc/net/if_inet6"):
             yield "the loopback of IPv6", lambda: self.serve(1, 1, host="::1").expect_end(1)
         yield "each way in which a connection ends", self.try_ends
+        yield "random streams are answered as ask answers them", self.try_streams
         yield "a million requests end a connection", self.try_budget
 
     def try_numbers(self, workers, connections):
@@ -215,12 +220,31 @@ class Doors:
                 (one.expect_end if by_itself else one.end_input)()
             run.expect_end(1)
 
+    def try_streams(self):
+        """Random streams in random pieces, each to a daemon of its own."""
+        self.room.write("streamed", streams.KEYS.encode())
+        policy, keys = self.room.path("p.kn"), self.room.path("streamed")
+        for seed in range(STREAMS):
+            rng = random.Random(seed)
+            text = streams.stream(rng)
+            asked = subprocess.run([self.program, "ask", policy, keys], input=text, capture_output=True, timeout=LIMIT).stdout
+            # behind the replies ask tells how the connection ended
+            due = b"".join(line for line in asked.splitlines(True) if not line.startswith(b"error link "))
+            run = Daemon(self.program, policy, keys, 1, 2)
+            with contextlib.closing(run):
+                heard = run.connect("one").hear_all(streams.pieces(rng, text, rng.randrange(streams.CUTS)))
+                if heard != due:
+                    raise Fault(f"stream {seed}, {text!r:.100}, is answered {heard[-100:]!r}, and not {due[-100:]!r}")
+                ended = run.end()
+                if ended[0] != 0:
+                    raise Fault(f"behind stream {seed} the run ends with {ended}")
+
     def try_budget(self):
         """Empty lines, each of which is refused, up to the last one that is answered."""
         run, reply = self.serve(1, 2), b"NO 2 command\n"
         with contextlib.closing(run):
             one = run.connect("one")
-            sender = threading.Thread(target=send_all, args=(one, b"\n" * BUDGET), daemon=True)
+            sender = threading.Thread(target=one.send_pieces, args=([b"\n" * BUDGET],), daemon=True)
             sender.start()
             missing = BUDGET * len(reply)
             while missing > 0 and (piece := one.socket.recv(1 << 20)):
@@ -232,13 +256,6 @@ class Doors:
                 raise Fault(f"the connection ends {missing} bytes before its last reply")
             one.expect_end()
             run.expect_end(1)
-
-
-def send_all(one, text):
-    try:
-        one.send(text)
-    except OSError:
-        pass
 
 
 ASK = b"OPEN\nAUTH 1 alice\nQUERY 1 no,yes\n"

@@ -1,5 +1,6 @@
 """The daemon as a program on a free port of the loopback, and connections to it that keep what was said and when."""
 
+import contextlib
 import os
 import select
 import socket
@@ -106,6 +107,30 @@ class Talk:
         if piece:
             raise Fault(f"{self.transcript.client}: {piece!r:.60} stands behind the last reply")
         self.socket.close()
+
+    def send_pieces(self, pieces):
+        """Sends these pieces one by one, until the daemon ends the connection."""
+        try:
+            for piece in pieces:
+                self.send(piece)
+        except OSError:
+            pass
+
+    def hear_all(self, pieces):
+        """Sends these pieces and ends the input: all that comes until the daemon ends the connection."""
+        def send():
+            self.send_pieces(pieces)
+            with contextlib.suppress(OSError):
+                self.socket.shutdown(socket.SHUT_WR)
+
+        sender, heard = threading.Thread(target=send, daemon=True), b""
+        sender.start()
+        # a connection that ends with bytes unread is reset
+        with contextlib.suppress(ConnectionResetError):
+            while piece := self.socket.recv(65536):
+                heard += piece
+        sender.join(LIMIT)
+        return heard
 
     def bye(self):
         self.ask([b"BYE\n"])
