@@ -67,6 +67,7 @@ fi
 passed=0 failed=0
 if (($# == 0)); then
     for example in "$top"/examples/*/; do
+        [[ -e $example/requests.txt ]] || continue
         keys=()
         [[ -e $example/keys.txt ]] && keys=("$example/keys.txt")
         if "$program" ask "$example/policy.kn" "${keys[@]}" <"$example/requests.txt" >"$room/output" &&
