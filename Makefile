@@ -15,7 +15,7 @@ install: all
 	cp man/*.5 $(MAN)/man5
 	cp man/*.7 $(MAN)/man7
 	cp man/*.8 $(MAN)/man8
-	cp -R examples/. service $(EXAMPLES)
+	cp -R examples/. $(EXAMPLES)
 	cp clients/python/keynoted.py $(TO)/share/keynoted/python/keynoted.py
 	ln -sf ../share/keynoted/python/keynoted.py $(TO)/bin/keynoted-client
 	mkdir -p $(TO)/share/doc/keynoted
