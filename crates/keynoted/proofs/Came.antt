@@ -31,12 +31,14 @@ use Rattle.kn_commands.specs.Loaded.{IsLimitAt}
 use Rattle.kn_commands.specs.Stopping.{policy_fault_line, limit_line}
 use Rattle.kn_commands.specs.Asking.{status_of_ended}
 use Rattle.kn_commands.specs.Checking.{HasQuery, Reached, name_of, IsFaultyText, IsUnprovedText}
-use Rattle.keynoted.specs.Commands.{AskFor, CheckFor, IsNoCommand}
+use Rattle.kn_commands.specs.declared.generating.GenNumbers.{GenNumbers}
+use Rattle.keynoted.specs.Commands.{AskFor, CheckFor, GenFor, IsNoCommand}
 use Rattle.keynoted.specs.Running.{AsksServed, ChecksText, IsPolicyOfAsk, IsKeysOfAsk, IsNextOfCheck, IsNext, IsDone, IsPolicyFault, IsReplyFault, IsDue, IsPrinted, IsEnded}
 use Rattle.keynoted.specs.Running as D
 use Rattle.keynoted.specs.Calling.{TooLarge, Failed, Passed, KeysLead, AskLeads, IsProofText, ReplyLeads, CheckLeads, CallsFor, CallsToServe, IsCalm, EndsWith}
 use Rattle.keynoted.proofs.Known.{Tells, ask_is_no_check, same_ask, same_names, policy_of_check, told_by, held, held_too_much}
 use Rattle.keynoted.proofs.Leading.{ask_once, check_once}
+use Rattle.keynoted.proofs.Gen.{gen_is_no_ask, gen_is_no_check}
 
 -- an input that is in order is served to its end, if no call of the link fails and there is memory
 abbrev pub IsServedSo : LinkSeen → LinkSeen → ℕ → Type 0
@@ -47,6 +49,7 @@ IsServedSo o o' status = (ended : Ended) × (status ≡ status_of_ended ended)
 pub data Came (given : List (List ℕ)) (f : FilesSeen) (o o' : LinkSeen) (due : ℕ) : Type 0 where
   ByAsk : (names : AskNames) → AskFor given names → AskLeads f names (IsServedSo o o') due → Came given f o o' due
   ByCheck : (names : CheckNames) → CheckFor given names → CheckLeads f names due → Came given f o o' due
+  ByGen : (numbers : GenNumbers) → GenFor given numbers → Came given f o o' due
   ByNone : IsNoCommand given → Came given f o o' due
   ByMemory : due ≡ 5 → Came given f o o' due
 
@@ -128,7 +131,8 @@ module _ (given : List (List ℕ)) (f f' : FilesSeen) (o o' : LinkSeen) (told : 
 
   by_done : (line : List ℕ) (due : ℕ) → due ≡ 0 → IsDone given f f' o o' line → Came given f o o' due
   by_done line due at (inl ask) = by_served E.Done due at ask.0
-  by_done line due at (inr (session, values, text, checks, value, name, proved, told_line, same)) =
+  by_done line due at (inr (inr gen)) = ByGen gen.numbers gen.words
+  by_done line due at (inr (inl (session, values, text, checks, value, name, proved, told_line, same))) =
       let proof : IsProofText session values text proved.reply = record { read = proved.read; to_query = proved.proved.to_query; proof = proved.proved.proof } in
       ByCheck checks.names checks.words
       (query_passed checks.names session values due checks.tried.query (Passed text (held f checks.names.reply text told checks.tried.content) (proved.reply, proof, at)))
@@ -187,6 +191,7 @@ module _ (law : OneQueryOfScript) (given : List (List ℕ)) (f f' : FilesSeen) (
           ask_once f names (λ served. ⊥) (IsServedSo o o') due ended.due (λ none so. absurd none) leads
           (subst (λ (n : AskNames). AskLeads f n (IsServedSo o o') ended.due) (same_ask given others names asks words) came_to)
       by (ByCheck others checks came_to) = absurd (ask_is_no_check given names others words checks)
+      by (ByGen numbers gen) = absurd (gen_is_no_ask given numbers names gen words)
       by (ByNone none) = absurd (none.ask names words)
       by (ByMemory five) = inr five
   ends_called due (inr (names, words, leads)) = ends due (by (came (told_by f names.policy _ _ _ due leads)))
@@ -195,6 +200,7 @@ module _ (law : OneQueryOfScript) (given : List (List ℕ)) (f f' : FilesSeen) (
       by (ByAsk others asks came_to) = absurd (ask_is_no_check given others names asks words)
       by (ByCheck others checks came_to) =
           check_once law f names due ended.due leads (subst (λ (n : CheckNames). CheckLeads f n ended.due) (same_names given others names checks words) came_to)
+      by (ByGen numbers gen) = absurd (gen_is_no_check given numbers names gen words)
       by (ByNone none) = absurd (none.check names words)
       by (ByMemory five) = inr five
 
@@ -213,5 +219,6 @@ module _ (law : OneQueryOfScript) (given : List (List ℕ)) (f f' : FilesSeen) (
           ask_once f calls.names (λ served. served ≡ 0) (IsServedSo o o') 0 ended.due (λ zero so. so_ends ended.due so) calls.files
           (subst (λ (n : AskNames). AskLeads f n (IsServedSo o o') ended.due) (same_ask given others calls.names asks calls.words) came_to)
       by (ByCheck others checks came_to) = absurd (ask_is_no_check given calls.names others calls.words checks)
+      by (ByGen numbers gen) = absurd (gen_is_no_ask given numbers calls.names gen calls.words)
       by (ByNone none) = absurd (none.ask calls.names calls.words)
       by (ByMemory five) = inr five

@@ -87,7 +87,7 @@ module _ (given : List (List ℕ)) (names : AskNames) (f f' : FilesSeen) (o o' :
 
   served_due : (ended : Ended) → IsLinkAnswered f f' o o' names ended → IsDue given f f' o o' (status_of_ended ended) (line_of_ended ended)
   served_due E.Done answered = D.Done refl (inl (served E.Done answered, refl))
-  served_due E.Memory answered = D.Memory refl (refl, answered.served.cause, inr (served E.Memory answered))
+  served_due E.Memory answered = D.Memory refl (refl, answered.served.cause, inr (inl (served E.Memory answered)))
   served_due E.ReadFault answered = link_due E.ReadFault refl answered
   served_due E.WriteFault answered = link_due E.WriteFault refl answered
   served_due (E.Cut held) answered = link_due (E.Cut held) refl answered
@@ -156,7 +156,7 @@ module _ (given : List (List ℕ)) (names : CheckNames) (f f' : FilesSeen) (o o'
   check_due (Rejected reject) cause =
       D.Reply refl (cause.session, cause.values, cause.text, record { names = names; words = words; tried = cause.tried }, inr (reject, cause.shows, refl), untouched)
   check_due (Proved value name) cause =
-      D.Done refl (inr (cause.session, cause.values, cause.text, record { names = names; words = words; tried = cause.tried }, value, name, cause.shows, refl, untouched))
+      D.Done refl (inr (inl (cause.session, cause.values, cause.text, record { names = names; words = words; tried = cause.tried }, value, name, cause.shows, refl, untouched)))
 
   pub check_ended : (ending : Ending) (s s' : LinkSeen) (status : ℕ) → CheckCause f f' names ending → IsPrinted (line_of_ending names ending) (status_of_ending ending) s s' status →
       IsEnded given f f' o o' s s' status

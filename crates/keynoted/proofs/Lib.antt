@@ -4,3 +4,4 @@ pub mod Statuses
 pub mod Known
 pub mod Leading
 pub mod Came
+pub mod Gen

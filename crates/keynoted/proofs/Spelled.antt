@@ -7,7 +7,7 @@ use Rattle.std.proofs.lemmas.Slice.Eq.{bytes_eq-Decides}
 use Rattle.kn_commands.specs.Names.{AskNames, ask_order, CheckNames, in_order}
 
 -- a word that doesn't differ from a text is that text
-same_word : (first given text literal : List ℕ) (differs : Bool) → given ≡ first → text ≡ literal → differs ≡ not (bytes_eq given text) → differs ≡ false → first ≡ literal
+pub same_word : (first given text literal : List ℕ) (differs : Bool) → given ≡ first → text ≡ literal → differs ≡ not (bytes_eq given text) → differs ≡ false → first ≡ literal
 same_word first given text literal differs same is tested none =
     let equal : bytes_eq given text ≡ true =
     ⊎_elim (λ (e : bytes_eq given text ≡ true). e)

@@ -3,7 +3,8 @@ use Rattle.std.proofs.Common.{◌≡◌, ℕ, ◌⊎◌, inl, inr, List, [], ◌
 use Rattle.kn_outside.specs.Seen.{FilesSeen, LinkSeen}
 use Rattle.kn_outside.specs.Faults.{Rose}
 use Rattle.kn_outside.specs.Printing.{Writes}
-use Rattle.keynoted.specs.Commands.{IsNoCommand}
+use Rattle.kn_commands.specs.declared.generating.GenNumbers.{GenNumbers}
+use Rattle.keynoted.specs.Commands.{GenFor, IsNoCommand}
 use Rattle.kn_outside.specs.Asked.{HasAsked}
 use Rattle.kn_daemon.specs.declared.ended.Ended.TheVariants as E
 use Rattle.keynoted.specs.Running.{AsksServed, IsNext, IsDone, HasNoCommand, IsFileFault, IsPolicyFault, IsLinkFault, LacksMemory, IsReplyFault, IsKeyFault, MeansNoQuery, IsDue, IsPrinted, IsEnded, Tells, TellsPart}
@@ -189,14 +190,17 @@ module _ (given : List (List ℕ)) (f f' : FilesSeen) (o o' s s' : LinkSeen) (st
 
       done : (line : List ℕ) → IsDone given f f' o o' line → ⊥
       done line (inl ask) = none.ask ask.0.names ask.0.words
-      done line (inr check) = none.check check.3.names check.3.words
+      done line (inr (inl check)) = none.check check.3.names check.3.words
+      done line (inr (inr gen)) = none.gen gen.numbers gen.words
 
       lacks : (line : List ℕ) → LacksMemory given f f' o o' line → ⊥
       lacks line cause = way cause.2
         where
-          way : ((front : List (List ℕ)) × (name : List ℕ) × IsNext given f front name × (HasAsked front f f' ⊎ HasAsked (front ++ name ∷ []) f f')) ⊎ AsksServed given f f' o o' E.Memory → ⊥
+          way : ((front : List (List ℕ)) × (name : List ℕ) × IsNext given f front name × (HasAsked front f f' ⊎ HasAsked (front ++ name ∷ []) f f'))
+              ⊎ (AsksServed given f f' o o' E.Memory ⊎ ((numbers : GenNumbers) × GenFor given numbers × (f' ≡ f))) → ⊥
           way (inl early) = next early.0 early.1 early.2
-          way (inr late) = none.ask late.names late.words
+          way (inr (inl late)) = none.ask late.names late.words
+          way (inr (inr gen)) = none.gen gen.0 gen.1
 
       by : (due : ℕ) (line : List ℕ) → IsDue given f f' o o' due line → IsPrinted line due s s' status → (status ≡ 1) ⊎ ((status ≡ 9) × Rose s.faults s'.faults)
       by due line (D.Words at cause) told =

@@ -1,3 +1,4 @@
 pub mod Commands
 pub mod Running
 pub mod Calling
+pub mod Generating

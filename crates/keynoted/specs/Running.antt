@@ -20,7 +20,9 @@ use Rattle.kn_commands.specs.Loaded.{IsLimitAt}
 use Rattle.kn_commands.specs.Stopping.{policy_fault_line, limit_line, keys_line}
 use Rattle.kn_commands.specs.Asking.{IsLinkAnswered, status_of_ended, line_of_ended}
 use Rattle.kn_commands.specs.Checking.{IsTried, IsFaultyText, IsUnprovedText, IsProvedText, HasNoQuery, Reached, name_of, count_before, text_line, reject_line, proved_line}
-use Rattle.keynoted.specs.Commands.{AskFor, CheckFor, IsNoCommand}
+use Rattle.kn_commands.specs.Generating.{IsGenLine}
+use Rattle.kn_commands.specs.declared.generating.GenNumbers.{GenNumbers}
+use Rattle.keynoted.specs.Commands.{AskFor, CheckFor, GenFor, IsNoCommand}
 
 -- The words are `ask` and files that were read: a policy and, where one is named, a key file. Over them the link was served by
 -- a daemon of one thread, and its connection ended so.
@@ -35,6 +37,14 @@ pub record ChecksText (given : List (List ℕ)) (f f' : FilesSeen) (session : Se
   pub names : CheckNames
   pub words : CheckFor given names
   pub tried : IsTried f f' names session values text
+
+-- the words are `gen` and these numbers, and the line is theirs; no file was asked for, and the link is untouched
+pub record IsGenerated (given : List (List ℕ)) (f f' : FilesSeen) (o o' : LinkSeen) (line : List ℕ) : Type 0 where
+  pub numbers : GenNumbers
+  pub words : GenFor given numbers
+  pub told : IsGenLine numbers line
+  pub files : f' ≡ f
+  pub link : o' ≡ o
 
 -- the words are `ask` and a policy file, which is the next
 pub record IsPolicyOfAsk (given front : List (List ℕ)) (name : List ℕ) : Type 0 where
@@ -67,12 +77,14 @@ IsNext given f front name = IsPolicyOfAsk given front name ⊎ (IsKeysOfAsk give
 
 -- Why a line is due. There is one relation for each status.
 
--- 0: `ask` served the link until it was done, and no line is due; or `check` found that the reply proves this value
+-- 0: `ask` served the link until it was done, and no line is due; or `check` found that the reply proves this value; or `gen`
+-- settled its query
 abbrev pub IsDone : List (List ℕ) → FilesSeen → FilesSeen → LinkSeen → LinkSeen → List ℕ → Type 0
 IsDone given f f' o o' line =
     (AsksServed given f f' o o' E.Done × (line ≡ []))
-    ⊎ ((session : Session) × (values : List (List ℕ)) × (text : List ℕ) × ChecksText given f f' session values text
+    ⊎ (((session : Session) × (values : List (List ℕ)) × (text : List ℕ) × ChecksText given f f' session values text
     × (value : ℕ) × (name : List ℕ) × IsProvedText session values text value name × (line ≡ proved_line value name) × (o' ≡ o))
+    ⊎ IsGenerated given f f' o o' line)
 
 -- 1: the words are those of no command
 pub record HasNoCommand (given : List (List ℕ)) (f f' : FilesSeen) (o o' : LinkSeen) (line : List ℕ) : Type 0 where
@@ -108,12 +120,13 @@ pub record IsLinkFault (given : List (List ℕ)) (f f' : FilesSeen) (o o' : Link
   pub served : AsksServed given f f' o o' ended
   pub told : line ≡ line_of_ended ended
 
--- 5: memory lacked, before or behind the read of the next file, or before the link was read; nothing was read from it or written
--- to it
+-- 5: memory lacked, before or behind the read of the next file, or before the link was read, or for `gen`; nothing was read from
+-- the link or written to it
 abbrev pub LacksMemory : List (List ℕ) → FilesSeen → FilesSeen → LinkSeen → LinkSeen → List ℕ → Type 0
 LacksMemory given f f' o o' line = (line ≡ codes "error memory\n") × (o' ≡ o)
     × (((front : List (List ℕ)) × (name : List ℕ) × IsNext given f front name × (HasAsked front f f' ⊎ HasAsked (front ++ name ∷ []) f f'))
-    ⊎ AsksServed given f f' o o' E.Memory)
+    ⊎ (AsksServed given f f' o o' E.Memory
+    ⊎ ((numbers : GenNumbers) × GenFor given numbers × (f' ≡ f))))
 
 -- 6: the text of the reply has a fault or is the reply to another query, or its rows don't prove its value
 abbrev pub IsReplyFault : List (List ℕ) → FilesSeen → FilesSeen → LinkSeen → LinkSeen → List ℕ → Type 0

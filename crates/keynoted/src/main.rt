@@ -1,6 +1,7 @@
 //! keynoted: may these principals do this?
 #![tactic(auto)]
 
+mod generating;
 mod run;
 #[cfg(test)]
 mod run_tests;

@@ -5,10 +5,12 @@ ghost use Rattle.kn_commands.specs.Stopping.{stop_line, status_of};
 ghost use Rattle.kn_commands.specs.Asking.{line_of_ask, status_of_ask};
 ghost use Rattle.kn_commands.specs.Checking.{line_of_ending, status_of_ending};
 ghost use Rattle.kn_serve.specs.Serving.{IsOrderly};
-ghost use Rattle.keynoted.specs.Commands.{AskFor, CheckFor, IsNoAsk, IsNoCheck, IsNoCommand};
+ghost use Rattle.kn_commands.specs.declared.generating.GenNumbers.{GenNumbers};
+ghost use Rattle.keynoted.specs.Commands.{AskFor, CheckFor, GenFor, IsNoAsk, IsNoCheck, IsNoCommand};
 ghost use Rattle.keynoted.specs.Running.{IsDone, HasNoCommand, IsFileFault, IsPolicyFault, IsLinkFault, LacksMemory, IsReplyFault, IsKeyFault, MeansNoQuery, IsDue, IsPrinted, IsEnded, Tells, TellsPart};
 ghost use Rattle.keynoted.specs.Calling.{CallsFor, CallsToServe, IsCalm, EndsWith};
 
+use crate::generating::{gen_numbers, run_gen};
 use kn_base::Octets;
 use kn_commands::{
     AskEnding, AskFiles, CheckFiles, Ending, Stop, ask, check, print_ask, print_ending, print_line,
@@ -103,6 +105,9 @@ fn carry_out<R: Wait, F: Files, L: Link, O: Sink, G: Gate>(
         let ending = ask(rt, alloc, &names, files, own, gate);
         return end_ask(out, ending, &names);
     }
+    if let Some(numbers) = gen_numbers(words) {
+        return run_gen(rt, alloc, numbers, out);
+    }
     match check_files(words) {
         Some(names) => {
             let ending = check(rt, alloc, &names, files);
@@ -116,13 +121,16 @@ fn carry_out<R: Wait, F: Files, L: Link, O: Sink, G: Gate>(
 ///
 /// `ask POLICY [KEYS]` loads the policy file and, where one is named, the key file, and serves `own` as the one connection of a
 /// daemon. `check POLICY SCRIPT REPLY` tells whether the reply proves the value of the query that the requests of the script
-/// mean over the policy. The files are read in the order of the words, each once those before it hold what they have to. What a
-/// run has to tell is a line on `out`. The words, the statuses and the lines are keynoted's own.
+/// mean over the policy. The files are read in the order of the words, each once those before it hold what they have to.
+/// `gen START N` makes N credentials by the draws from START, adds them to a new registry, and settles one query over them; both
+/// are decimal numbers, START of at most nine digits and N from 1 to 2,048. What a run has to tell is a line on `out`. The words,
+/// the statuses and the lines are keynoted's own.
 ///
 /// | status | line | cause |
 /// |---|---|---|
 /// | 0 | none | `ask`: BYE was answered, or the input ended behind a whole request |
 /// | 0 | `PROVED INDEX NAME` | `check`: the rows prove that the query has this value, of this name |
+/// | 0 | `GEN INDEX NAME N ROWS PRINCIPALS NODES USES LEVELS` | `gen`: the query has this value, of this name, and N is the version; ROWS principals are granted more than the lowest value and are no requesters; the system has so many principals, nodes and uses of principals in its formulas, and levels |
 /// | 1 | `error words` | the words are those of no command |
 /// | 2 | `error file NAME read`, `error file NAME large` | this file couldn't be read, or has more than 16,777,216 bytes |
 /// | 3 | `error policy NAME ASSERTION FAULT PLACE` | the assertion of this number, counted from 1, is the first that has a fault or that a limit refuses; it has this fault, at this place |
@@ -163,6 +171,7 @@ pub fn run<R: Wait, F: Files, L: Link, O: Sink, G: Gate>(
 
     // Which status comes where the words, the files or the input are known.
     ensures no_words { IsNoCommand words.now → (result ≡ 1) ⊎ ((result ≡ 9) × Rose (O.seen out.old).faults (O.seen out.new).faults) }
+    ensures generates { (numbers : GenNumbers) → GenFor words.now numbers → EndsWith 0 result ⊎ ((result ≡ 9) × Rose (O.seen out.old).faults (O.seen out.new).faults) }
     ensures calls { (status : ℕ) → CallsFor words.now (F.seen files.old) status →
         IsCalm (F.seen files.old) (F.seen files.new) (O.seen out.old) (O.seen out.new) → EndsWith status result }
     ensures complete { (input : List ℕ) → CallsToServe words.now (F.seen files.old) (L.seen own.old) (L.seen own.new) input → IsOrderly input →

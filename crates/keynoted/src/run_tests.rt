@@ -255,6 +255,38 @@ fn an_unfinished_input_is_told(rt: HostRuntime) -> Result<(), Fail> {
     Ok(())
 }
 
+#[test]
+fn generated_credentials_are_told(rt: HostRuntime) -> Result<(), Fail> {
+    let alloc = rt.alloc();
+    let line = b"GEN 1 v1 3 3 4 13 9 4\n";
+    let table: [(&[&[u8]], (u32, u32, u32), u8, &[u8]); 9] = [
+        (
+            &[b"gen", b"1", b"1"],
+            (0, 0, 0),
+            0,
+            b"GEN 3 v3 1 1 2 1 1 4\n",
+        ),
+        (
+            &[b"gen", b"1", b"2"],
+            (0, 0, 0),
+            0,
+            b"GEN 3 v3 2 2 3 7 5 4\n",
+        ),
+        (&[b"gen", b"1", b"3"], (0, 0, 0), 0, line),
+        // no file is read, and no call of the link is made
+        (&[b"gen", b"1", b"3"], (1, 1, 0), 0, line),
+        (&[b"gen", b"1", b"3"], (0, 0, 1), 9, b""),
+        (&[b"gen", b"1", b"0"], (0, 0, 0), 1, b"error words\n"),
+        (&[b"gen", b"1", b"2049"], (0, 0, 0), 1, b"error words\n"),
+        (&[b"gen", b"x", b"1"], (0, 0, 0), 1, b"error words\n"),
+        (&[b"gen", b"1"], (0, 0, 0), 1, b"error words\n"),
+    ];
+    for (words, failing, status, told) in table {
+        ends(&rt, alloc, words, failing, (status, 0, b"", told))?;
+    }
+    Ok(())
+}
+
 // A line is written at once, where it isn't long.
 #[test]
 fn a_front_of_a_line_may_be_written(rt: HostRuntime) -> Result<(), Fail> {

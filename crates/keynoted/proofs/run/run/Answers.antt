@@ -1,5 +1,6 @@
 use Rattle.keynoted.proofs.Statuses.{says_done, says_words, says_file, says_policy, says_link, says_memory, says_reply, says_keys, says_query, says_cut, says_refused}
 use Rattle.keynoted.proofs.Came.{ends_called, ends_served}
+use Rattle.keynoted.proofs.Gen.{says_generated}
 use Rattle.keynoted.proofs.run.run.Goals as goal
 
 pub returns-clause-done : goal.returns-clause-done
@@ -40,3 +41,6 @@ returns-clause-calls g c = λ status calls calm. ends_called c.one_query_is_mean
 
 pub returns-clause-complete : goal.returns-clause-complete
 returns-clause-complete g c = λ input calls orderly calm. ends_served c.one_query_is_meant.ensures _ _ _ _ _ _ _ _ c.carry_out.ensures calm input calls orderly
+
+pub returns-clause-generates : goal.returns-clause-generates
+returns-clause-generates g c = says_generated _ _ _ _ _ _ _ _ c.carry_out.ensures
