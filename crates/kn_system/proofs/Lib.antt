@@ -11,3 +11,5 @@ pub mod Granted
 pub mod Exists
 pub mod Counted
 pub mod Nodes
+pub mod Flattened
+pub mod Linked

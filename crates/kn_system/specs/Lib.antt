@@ -4,6 +4,7 @@ pub mod Equations
 pub mod Form
 pub mod Forms
 pub mod Least
+pub mod Nodes
 pub mod Order
 pub mod Lawful
 pub mod Proofs
