@@ -13,3 +13,4 @@ pub mod Counted
 pub mod Nodes
 pub mod Flattened
 pub mod Linked
+pub mod KeptRows

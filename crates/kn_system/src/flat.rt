@@ -55,10 +55,13 @@ impl Flat {
         self.pieces.len()
     }
 
-    pub(crate) fn pieces(&self) -> &[Piece]
-        ensures { result.now ≡ self.now.pieces }
+    /// So many pieces from a place on.
+    pub(crate) fn pieces(&self, start: u32, size: u32) -> &[Piece]
+        requires { start + size ≤ length self.now.pieces }
+        ensures { result.now ≡ take size (drop start self.now.pieces) }
     {
-        self.pieces.as_slice()
+        let (_, behind) = self.pieces.as_slice().split_at(start as usize);
+        behind.split_at(size as usize).0
     }
 
     // The node that is the principal's k-th use.
