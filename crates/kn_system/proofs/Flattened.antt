@@ -33,6 +33,7 @@ uses_of-who p q ps = uses_of-append p ps (Who q ∷ []) ∙ by_test (eqb q p)
     append_none : (xs : List ℕ) → xs ++ [] ≡ xs
     append_none [] = refl
     append_none (x ∷ xs) = ap (λ ys. x ∷ ys) (append_none xs)
+
     by_test : (b : Bool) → uses_of p ps ++ cond b (length ps ∷ []) [] ≡ cond b (uses_of p ps ++ length ps ∷ []) (uses_of p ps)
     by_test true = refl
     by_test false = append_none (uses_of p ps)

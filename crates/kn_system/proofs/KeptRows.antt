@@ -131,9 +131,9 @@ kept_more levels p rows flat new row formula fit kept starts sized added linked 
     let last : SystemRow = record { authorizer = row.authorizer; ceiling = row.ceiling; formula = formula } in
     let size : length new.pieces ≡ length flat.pieces + length formula = ap length added ∙ length-append flat.pieces formula in
     let pushed : kept_rows new.pieces (rows ++ row ∷ []) ≡ old ++ last ∷ [] =
-        ap (λ ps. kept_rows ps (rows ++ row ∷ [])) added ∙ map_push (kept_row (flat.pieces ++ formula)) rows row
-        ∙ ap (λ rs. rs ++ kept_row (flat.pieces ++ formula) row ∷ []) (kept-all flat.pieces formula rows kept.inside)
-        ∙ ap (λ (r : SystemRow). old ++ r ∷ []) (kept-new flat.pieces formula row starts sized) in
+    ap (λ ps. kept_rows ps (rows ++ row ∷ [])) added ∙ map_push (kept_row (flat.pieces ++ formula)) rows row
+    ∙ ap (λ rs. rs ++ kept_row (flat.pieces ++ formula) row ∷ []) (kept-all flat.pieces formula rows kept.inside)
+    ∙ ap (λ (r : SystemRow). old ++ r ∷ []) (kept-new flat.pieces formula row starts sized) in
     let count : length old ≡ length rows = simp length-map in
     record {
       pushed = pushed;

@@ -51,11 +51,11 @@ added_next formula base start before ups above k x up node next_ups next_above h
     let sizes : length us + parts_of x ≡ length next_above = omega (arith, ap length after, length-append us (replicate (parts_of x) (Node node)), length-replicate (parts_of x) (Node node)) in
     let turned : reverse above ≡ up ∷ reverse us = ap reverse is ∙ reverse-append us (up ∷ []) in
     let after_turned : replicate (parts_of x) (Node (base + k)) ++ reverse us ≡ reverse next_above =
-        sym (ap reverse after ∙ reverse-append us (replicate (parts_of x) (Node node)) ∙ ap (λ ys. ys ++ reverse us) (reverse_replicate (parts_of x) (Node node)) ∙ ap (λ n. replicate (parts_of x) (Node n) ++ reverse us) here) in
+    sym (ap reverse after ∙ reverse-append us (replicate (parts_of x) (Node node)) ∙ ap (λ ys. ys ++ reverse us) (reverse_replicate (parts_of x) (Node node)) ∙ ap (λ n. replicate (parts_of x) (Node n) ++ reverse us) here) in
     let place : suc (base + k) ≡ base + (k + 1) = omega arith in
     let step : ups_of (base + k) (reverse above) (drop k formula) ≡ up ∷ ups_of (base + (k + 1)) (reverse next_above) rest =
-        ap (λ xs. ups_of (base + k) xs (drop k formula)) turned ∙ ap (ups_of (base + k) (up ∷ reverse us)) d ∙ ups_next (base + k) up (reverse us) x rest
-        ∙ ap (λ xs. up ∷ ups_of (suc (base + k)) xs rest) after_turned ∙ ap (λ n. up ∷ ups_of n (reverse next_above) rest) place in
+    ap (λ xs. ups_of (base + k) xs (drop k formula)) turned ∙ ap (ups_of (base + k) (up ∷ reverse us)) d ∙ ups_next (base + k) up (reverse us) x rest
+    ∙ ap (λ xs. up ∷ ups_of (suc (base + k)) xs rest) after_turned ∙ ap (λ n. up ∷ ups_of n (reverse next_above) rest) place in
     record {
       forms = (h.forms.0, subst (λ n. AreForms h.forms.0 n rest) sizes left);
       ups_so_far = h.ups_so_far ∙ ap (λ ys. ups ++ ys) step ∙ sym (append_snoc ups up (ups_of (base + (k + 1)) (reverse next_above) rest)) ∙ ap (λ ys. ys ++ ups_of (base + (k + 1)) (reverse next_above) rest) (sym pushed);

@@ -1,4 +1,4 @@
-use Rattle.std.proofs.Common.{◌≡◌, ◌+◌, ◌-◌, ◌≤◌, ℕ, [], length, slice_index_or}
+use Rattle.std.proofs.Common.{◌≡◌, ◌+◌, ◌-◌, ℕ, [], length, slice_index_or}
 use Rattle.kn_system.proofs.flat.push_use.Given as goal
 
 abbrev pub invariant-loop-alloc : goal.invariant-loop-alloc

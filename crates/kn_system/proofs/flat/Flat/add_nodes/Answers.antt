@@ -1,4 +1,4 @@
-use Rattle.std.proofs.Common.{◌≡◌, ◌<◌, ◌≤◌, ◌+◌, ◌++◌, ◌∷◌, ℕ, [], List, drop, take, length, length-append, get_or, ap, ◌∙◌, sym, arith, rules}
+use Rattle.std.proofs.Common.{◌≡◌, ◌<◌, ◌+◌, ◌++◌, ◌∷◌, ℕ, [], List, take, length, length-append, get_or, ap, ◌∙◌, sym, arith, rules}
 use Rattle.std.proofs.lemmas.List.{drop_more, take_more, append_assoc, length-take, take-append-le, length_push}
 use Rattle.kn_system.specs.declared.links.Up.{Up}
 use Rattle.kn_system.specs.declared.rows.Piece.{Piece}

@@ -1,4 +1,4 @@
-use Rattle.std.proofs.Common.{◌≡◌, ◌++◌, ◌+◌, ◌∷◌, [], ◌≤◌, ℕ, length, take, drop}
+use Rattle.std.proofs.Common.{◌≡◌, ◌++◌, ◌∷◌, [], ◌≤◌, length, take}
 use Rattle.kn_system.specs.declared.links.Up.TheVariants.{Row}
 use Rattle.kn_system.proofs.Linked.{AreAdded}
 use Rattle.kn_system.proofs.flat.Flat.add_nodes.Given as goal

@@ -1,4 +1,4 @@
-use Rattle.std.proofs.Common.{◌≡◌, ◌+◌, ◌-◌, ◌≤◌, length, take}
+use Rattle.std.proofs.Common.{◌≡◌, ◌+◌, length, take}
 use Rattle.kn_system.proofs.flat.Flat.shorten.Given as goal
 
 abbrev pub invariant-loop-place : goal.invariant-loop-place

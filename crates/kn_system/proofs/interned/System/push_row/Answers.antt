@@ -1,4 +1,4 @@
-use Rattle.std.proofs.Common.{◌≡◌, ◌+◌, ◌<◌, ◌^◌, [], ◌∷◌, ◌++◌, false, length, ap, sym, ◌∙◌, subst, List, arith, rules}
+use Rattle.std.proofs.Common.{◌≡◌, ◌+◌, ◌<◌, ◌^◌, [], ◌∷◌, ◌++◌, false, length, ap, sym, ◌∙◌, subst, List, arith}
 use Rattle.kn_system.specs.declared.links.Up.TheVariants.{Row}
 use Rattle.kn_system.specs.declared.rows.Piece.{Piece}
 use Rattle.kn_system.specs.declared.rows.StoredRow.{StoredRow}
@@ -6,8 +6,8 @@ use Rattle.kn_system.specs.Rows.{SystemRow}
 use Rattle.kn_system.specs.Equations.{SystemEquations, IsSystemRow, node_total, leaf_total}
 use Rattle.kn_system.specs.Form.{leaf_count}
 use Rattle.kn_system.specs.Kept.{kept_rows}
-use Rattle.kn_system.specs.Nodes.{FlatNodes, ups_of}
-use Rattle.kn_system.proofs.Grown.{IsSystem-more_rows, node_total-push, leaf_total-push, leaf_total-le}
+use Rattle.kn_system.specs.Nodes.{ups_of}
+use Rattle.kn_system.proofs.Grown.{IsSystem-more_rows, leaf_total-push, leaf_total-le}
 use Rattle.kn_system.proofs.KeptRows.{IsKeptMore, length-pieces_of, kept_more}
 use Rattle.kn_system.proofs.interned.System.push_row.Goals as goal
 
@@ -31,10 +31,10 @@ invariant_of-self-in-Ok g c =
     let stored : StoredRow = record { authorizer = c.args.authorizer; ceiling = c.args.ceiling; start = c.len-start.result; size = c.len.result } in
     let pieces : c.add.new.self.pieces ≡ s.flat.pieces ++ c.args.formula.now = c.in_ok-add.ensures.pieces ∙ ap (λ (ps : List Piece). s.flat.pieces ++ ps) c.as_slice-2.ensures in
     let ups : c.add.new.self.ups ≡ s.flat.ups ++ ups_of (length s.flat.pieces) (Row (length s.rows) ∷ []) c.args.formula.now =
-        c.in_ok-add.ensures.ups ∙ ap (λ (ps : List Piece). s.flat.ups ++ ups_of (length s.flat.pieces) (Row c.len-number.result ∷ []) ps) c.as_slice-2.ensures
-        ∙ ap (λ n. s.flat.ups ++ ups_of (length s.flat.pieces) (Row n ∷ []) c.args.formula.now) c.len-number.ensures in
+    c.in_ok-add.ensures.ups ∙ ap (λ (ps : List Piece). s.flat.ups ++ ups_of (length s.flat.pieces) (Row c.len-number.result ∷ []) ps) c.as_slice-2.ensures
+    ∙ ap (λ n. s.flat.ups ++ ups_of (length s.flat.pieces) (Row n ∷ []) c.args.formula.now) c.len-number.ensures in
     let more : IsKeptMore s.rows s.flat c.add.new.self stored c.args.formula.now =
-        kept_more s.levels (length (false ∷ s.others)) s.rows s.flat c.add.new.self stored c.args.formula.now c.self.invariant.0.rows_fit c.self.invariant.1 c.len-start.ensures.nodes c.len.ensures pieces ups in
+    kept_more s.levels (length (false ∷ s.others)) s.rows s.flat c.add.new.self stored c.args.formula.now c.self.invariant.0.rows_fit c.self.invariant.1 c.len-start.ensures.nodes c.len.ensures pieces ups in
     let asked : IsSystemRow c.args.self.now.levels (length c.args.self.now.requesters) row = record { authorizer = c.requires.authorizer_in_range; ceiling = c.requires.ceiling_in_range; formula = c.requires.one_formula } in
     let here = subst (λ (e : SystemEquations). IsSystemRow e.levels (length e.requesters) row) (sym c.self.view_is) asked in
     let seen = ap (λ (e : SystemEquations). node_total e.rows) c.self.view_is in
@@ -51,9 +51,9 @@ returns-in-Ok-clause-ok g c =
     let stored : StoredRow = record { authorizer = c.args.authorizer; ceiling = c.args.ceiling; start = c.len-start.result; size = c.len.result } in
     let pieces : c.add.new.self.pieces ≡ s.flat.pieces ++ c.args.formula.now = c.in_ok-add.ensures.pieces ∙ ap (λ (ps : List Piece). s.flat.pieces ++ ps) c.as_slice-2.ensures in
     let ups : c.add.new.self.ups ≡ s.flat.ups ++ ups_of (length s.flat.pieces) (Row (length s.rows) ∷ []) c.args.formula.now =
-        c.in_ok-add.ensures.ups ∙ ap (λ (ps : List Piece). s.flat.ups ++ ups_of (length s.flat.pieces) (Row c.len-number.result ∷ []) ps) c.as_slice-2.ensures
-        ∙ ap (λ n. s.flat.ups ++ ups_of (length s.flat.pieces) (Row n ∷ []) c.args.formula.now) c.len-number.ensures in
+    c.in_ok-add.ensures.ups ∙ ap (λ (ps : List Piece). s.flat.ups ++ ups_of (length s.flat.pieces) (Row c.len-number.result ∷ []) ps) c.as_slice-2.ensures
+    ∙ ap (λ n. s.flat.ups ++ ups_of (length s.flat.pieces) (Row n ∷ []) c.args.formula.now) c.len-number.ensures in
     let more : IsKeptMore s.rows s.flat c.add.new.self stored c.args.formula.now =
-        kept_more s.levels (length (false ∷ s.others)) s.rows s.flat c.add.new.self stored c.args.formula.now c.self.invariant.0.rows_fit c.self.invariant.1 c.len-start.ensures.nodes c.len.ensures pieces ups in
+    kept_more s.levels (length (false ∷ s.others)) s.rows s.flat c.add.new.self stored c.args.formula.now c.self.invariant.0.rows_fit c.self.invariant.1 c.len-start.ensures.nodes c.len.ensures pieces ups in
     let seen_so : kept_rows c.add.new.self.pieces c.push.new.self ≡ kept_rows s.flat.pieces s.rows ++ row ∷ [] = ap (kept_rows c.add.new.self.pieces) c.in-Ok.ensures.ok ∙ more.pushed in
     ap (λ (rs : List SystemRow). record { levels = s.levels; requesters = false ∷ s.others; rows = rs }) seen_so ∙ ap (λ (e : SystemEquations). record e { rows = e.rows ++ row ∷ [] }) c.self.view_is
