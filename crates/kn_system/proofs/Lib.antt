@@ -11,3 +11,6 @@ pub mod Granted
 pub mod Exists
 pub mod Counted
 pub mod Nodes
+pub mod Flattened
+pub mod Linked
+pub mod KeptRows

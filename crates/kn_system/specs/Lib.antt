@@ -3,7 +3,9 @@ pub mod Counts
 pub mod Equations
 pub mod Form
 pub mod Forms
+pub mod Kept
 pub mod Least
+pub mod Nodes
 pub mod Order
 pub mod Lawful
 pub mod Proofs

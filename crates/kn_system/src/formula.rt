@@ -1,24 +1,10 @@
-ghost use Rattle.std.specs.Prelude.{◌≡◌, ◌+◌, ◌-◌, ◌^◌, ◌<◌, ◌≤◌, ◌∷◌, [], ℕ, All, IfOk, length, drop, min, List as ListOf};
+ghost use Rattle.std.specs.Prelude.{◌≡◌, ◌+◌, ◌-◌, ◌^◌, ◌<◌, ◌≤◌, ◌∷◌, [], ℕ, All, length, drop, min, List as ListOf};
 ghost use Rattle.kn_base.specs.Threshold.{threshold};
 ghost use Rattle.kn_system.specs.Form.{form_levels, leaf_count as leaf_count_of};
 ghost use Rattle.kn_system.specs.Forms.{AreSpelt, AreTallied};
 
 use crate::rows::Piece;
-use kn_base::{List, NoMemory, Steps};
-use std::alloc::Global;
-
-pub fn copied(alloc: Global, pieces: &[Piece]) -> Result<List<Piece>, NoMemory>
-    ensures { IfOk result (λ copy. copy ≡ pieces.now) }
-{
-    let mut copy = List::new(alloc);
-    for piece in pieces {
-        match copy.push(*piece) {
-            Ok(()) => {}
-            Err(_) => return Err(NoMemory),
-        }
-    }
-    Ok(copy)
-}
+use kn_base::Steps;
 
 pub fn leaf_count(pieces: &[Piece]) -> u32
     requires { length pieces.now < 2 ^ 32 }

@@ -1,7 +1,9 @@
-ghost use Rattle.std.specs.Prelude.{◌≡◌, ◌+◌, ◌-◌, ◌^◌, ◌<◌, ◌≤◌, [], ◌∷◌, ◌++◌, All, IfOk, OnErr, false, length, min, slice_index_or};
+ghost use Rattle.std.specs.Prelude.{◌≡◌, ◌+◌, ◌-◌, ◌^◌, ◌<◌, ◌≤◌, [], ◌∷◌, ◌++◌, All, IfOk, OnErr, false, length, min, slice_get, slice_index_or};
 ghost use Rattle.kn_base.specs.declared.limits.TheConstants.{FEWEST_COMPLIANCE_VALUES, MOST_COMPLIANCE_VALUES};
 
-use crate::formula::{copied, leaf_count, level_at};
+use crate::flat::Flat;
+use crate::formula::{leaf_count, level_at};
+use crate::links::Node;
 use crate::rows::{Piece, StoredRow};
 use kn_base::{List, NoMemory, Steps};
 use std::alloc::Global;
@@ -14,26 +16,26 @@ use std::marker::Model;
 #[derive(Debug, Drop)]
 pub struct System<L> {
     mark: L,
-    alloc: Global,
     levels: u8,
     // Which of the principals from 1 on are requesters.
     others: List<bool>,
     rows: List<StoredRow>,
-    nodes: u32,
+    flat: Flat,
     leaves: u32,
 }
 
 impl<L> Model for System<L> {
     ghost use Rattle.std.specs.Prelude.{◌≡◌, ◌∷◌, false};
-    ghost use Rattle.kn_system.specs.Equations.{SystemEquations, IsSystem, node_total, leaf_total};
+    ghost use Rattle.kn_system.specs.Equations.{SystemEquations, IsSystem, leaf_total};
+    ghost use Rattle.kn_system.specs.Kept.{AreKept, kept_rows};
 
     ghost Value = { SystemEquations };
 
-    ghost view = { λ s. record { levels = s.levels; requesters = false ∷ s.others; rows = s.rows } };
+    ghost view = { λ s. record { levels = s.levels; requesters = false ∷ s.others; rows = kept_rows s.flat.pieces s.rows } };
 
     ghost invariant = { λ s.
-        IsSystem (record { levels = s.levels; requesters = false ∷ s.others; rows = s.rows })
-        × (s.nodes ≡ node_total s.rows) × (s.leaves ≡ leaf_total s.rows) };
+        IsSystem (record { levels = s.levels; requesters = false ∷ s.others; rows = kept_rows s.flat.pieces s.rows })
+        × AreKept s.rows s.flat × (s.leaves ≡ leaf_total (kept_rows s.flat.pieces s.rows)) };
 }
 
 impl<L> System<L> {
@@ -42,6 +44,9 @@ impl<L> System<L> {
     ghost use Rattle.kn_system.specs.Forms.{IsFormula};
     ghost use Rattle.kn_system.specs.Lawful.{AreLevels};
     ghost use Rattle.kn_system.specs.Least.{at_first};
+    ghost use Rattle.kn_system.specs.Nodes.{pieces_of, sort_of, ups_of_rows, uses_of};
+    ghost use Rattle.kn_system.specs.declared.links.Up.TheVariants.{Row};
+    ghost use Rattle.kn_system.specs.declared.rows.Piece.TheVariants.{Who};
 
     /// The system of `POLICY` alone, without rows.
     pub fn start(alloc: Global, mark: L, levels: u8) -> System<L>
@@ -51,11 +56,10 @@ impl<L> System<L> {
     {
         System {
             mark,
-            alloc,
             levels,
             others: List::new(alloc),
             rows: List::new(alloc),
-            nodes: 0,
+            flat: Flat::new(alloc),
             leaves: 0,
         }
     }
@@ -96,20 +100,24 @@ impl<L> System<L> {
         ensures err { OnErr result (self.new ≡ self.old) }
     {
         let number = self.rows.len();
-        let nodes = formula.len();
+        let start = self.flat.len();
         let leaves = leaf_count(formula.as_slice());
+        self.flat.add(formula.as_slice(), number)?;
         let row = StoredRow {
             authorizer,
             ceiling,
-            formula: copied(self.alloc, formula.as_slice())?,
+            start,
+            size: formula.len(),
         };
         match self.rows.push(row) {
             Ok(()) => {
-                self.nodes += nodes;
                 self.leaves += leaves;
                 Ok(number)
             }
-            Err(_) => Err(NoMemory),
+            Err(_) => {
+                self.flat.shorten(start);
+                Err(NoMemory)
+            }
         }
     }
 
@@ -131,7 +139,7 @@ impl<L> System<L> {
     pub fn nodes(&self) -> u32
         ensures { result ≡ node_total self.now.rows }
     {
-        self.nodes
+        self.flat.len()
     }
 
     /// The number of principals' places in the formulas together.
@@ -179,8 +187,7 @@ impl<L> System<L> {
         ensures exact { result ≡ (row_at self.now.rows row).authorizer }
         ensures in_range { result < length self.now.requesters }
     {
-        let row = &self.rows.as_slice()[row as usize];
-        row.authorizer
+        self.stored(row).authorizer
     }
 
     /// The highest level that the row gives.
@@ -189,8 +196,7 @@ impl<L> System<L> {
         ensures exact { result ≡ (row_at self.now.rows row).ceiling }
         ensures in_range { result < self.now.levels }
     {
-        let row = &self.rows.as_slice()[row as usize];
-        row.ceiling
+        self.stored(row).ceiling
     }
 
     /// The level of the row's formula where each principal has the level that `values` gives it. One tick
@@ -204,8 +210,45 @@ impl<L> System<L> {
         ensures in_range { result < self.now.levels }
         ensures ticks { steps.new ≡ min (steps.old + length (row_at self.now.rows row).formula) (2 ^ 64 - 1) }
     {
-        let row = &self.rows.as_slice()[row as usize];
-        let formula = row.formula.as_slice();
-        level_at(formula, 0, self.levels - 1, values, steps).0
+        level_at(self.formula(row), 0, self.levels - 1, values, steps).0
+    }
+
+    fn stored(&self, row: u32) -> &StoredRow
+        requires { row < length self.now.rows }
+        ensures authorizer { result.now.authorizer ≡ (row_at self.now.rows row).authorizer }
+        ensures ceiling { result.now.ceiling ≡ (row_at self.now.rows row).ceiling }
+        ensures fits { IsSystemRow self.now.levels (length self.now.requesters) (row_at self.now.rows row) }
+    {
+        &self.rows.as_slice()[row as usize]
+    }
+
+    fn formula(&self, row: u32) -> &[Piece]
+        requires in_range { row < length self.now.rows }
+        ensures exact { result.now ≡ (row_at self.now.rows row).formula }
+        ensures well_formed { IsSystem self.now }
+    {
+        let stored = self.rows.as_slice()[row as usize];
+        self.flat.pieces(stored.start, stored.size)
+    }
+
+    /// The node that is the principal's `k`-th use, counted from 0, or None where it has no more than `k`. One tick.
+    pub fn uses(&self, principal: u32, k: u32, steps: &mut Steps<L>) -> Option<u32>
+        requires { principal < length self.now.requesters }
+        ensures exact { result ≡ slice_get (uses_of principal (pieces_of self.now.rows)) k }
+        ensures ticks { steps.new ≡ min (steps.old + 1) (2 ^ 64 - 1) }
+    {
+        steps.tick();
+        self.flat.use_at(principal, k)
+    }
+
+    /// What a node is and what it is a part of. One tick.
+    pub fn node(&self, i: u32, steps: &mut Steps<L>) -> Node
+        requires { i < node_total self.now.rows }
+        ensures sort { result.sort ≡ sort_of (slice_index_or (pieces_of self.now.rows) i (Who 0)) }
+        ensures up { result.up ≡ slice_index_or (ups_of_rows self.now.rows) i (Row 0) }
+        ensures ticks { steps.new ≡ min (steps.old + 1) (2 ^ 64 - 1) }
+    {
+        steps.tick();
+        self.flat.node(i)
     }
 }

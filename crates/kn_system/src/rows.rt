@@ -1,6 +1,3 @@
-use kn_base::List;
-use std::marker::Model;
-
 /// A piece of a formula. A formula is a list of pieces, in which each gate stands before its parts.
 #[derive(Debug, Clone, Copy, PartialEq, Eq, Drop)]
 pub enum Piece {
@@ -10,18 +7,11 @@ pub enum Piece {
     Gate { need: u32, count: u32 },
 }
 
-/// A row as a system keeps it, seen as what it says.
-#[derive(Debug, Drop)]
+/// A row as a system keeps it: its formula is so many nodes from a place on.
+#[derive(Debug, Clone, Copy, PartialEq, Eq, Drop)]
 pub(crate) struct StoredRow {
     pub authorizer: u32,
     pub ceiling: u8,
-    pub formula: List<Piece>,
-}
-
-impl Model for StoredRow {
-    ghost use Rattle.kn_system.specs.Rows.{SystemRow};
-
-    ghost Value = { SystemRow };
-
-    ghost view = { λ r. record { authorizer = r.authorizer; ceiling = r.ceiling; formula = r.formula } };
+    pub start: u32,
+    pub size: u32,
 }

@@ -1,8 +1,7 @@
 ghost use Rattle.std.specs.Prelude.{◌≡◌, ◌∷◌, [], IfOk};
 ghost use Rattle.kn_system.specs.declared.rows.Piece.TheVariants.{Who, Gate};
 
-use crate::formula::copied;
-use crate::{Piece, System};
+use crate::{Node, NodeSort, Piece, System, Up};
 use kn_base::{List, NoMemory, Steps};
 use std::alloc::Global;
 use std::process::Abort;
@@ -10,6 +9,19 @@ use std::test::Fail;
 
 #[derive(Debug, Drop)]
 struct Mark;
+
+fn copied(alloc: Global, pieces: &[Piece]) -> Result<List<Piece>, NoMemory>
+    ensures { IfOk result (λ copy. copy ≡ pieces.now) }
+{
+    let mut copy = List::new(alloc);
+    for piece in pieces {
+        match copy.push(*piece) {
+            Ok(()) => {}
+            Err(_) => return Err(NoMemory),
+        }
+    }
+    Ok(copy)
+}
 
 fn who(alloc: Global, principal: u32) -> Result<List<Piece>, NoMemory>
     ensures { IfOk result (λ pieces. pieces ≡ Who principal ∷ []) }
@@ -116,5 +128,26 @@ fn two_of_three_parts(rt: HostRuntime) -> Result<(), Fail> {
     assert_eq!(rt; system.form_value(0, &[0, 3, 2, 1], &mut steps), 2);
     assert_eq!(rt; system.form_value(0, &[3, 0, 0, 3], &mut steps), 0);
     assert_eq!(rt; steps.count(), 12);
+    Ok(())
+}
+
+#[test]
+fn nodes_know_their_gates_and_principals_their_nodes(rt: HostRuntime) -> Result<(), Fail> {
+    let alloc = rt.alloc();
+    let mut system = System::start(alloc, Mark, 4);
+    let first = system.push_principal(false)?;
+    let second = system.push_principal(true)?;
+    system.push_row(0, 3, &who(alloc, first)?)?;
+    system.push_row(second, 3, &either(alloc, second, first)?)?;
+    let mut steps = Steps::start(Mark);
+    let last = Node {
+        sort: NodeSort::Leaf(first),
+        up: Up::Node(1),
+    };
+    assert_eq!(rt; system.node(1, &mut steps).up, Up::Row(1));
+    assert_eq!(rt; system.node(3, &mut steps), last);
+    assert_eq!(rt; system.uses(first, 1, &mut steps), Some(3));
+    assert_eq!(rt; system.uses(first, 2, &mut steps), None);
+    assert_eq!(rt; steps.count(), 4);
     Ok(())
 }

@@ -1,0 +1,12 @@
+use Rattle.std.proofs.Common.{◌≡◌, ◌++◌, ◌∷◌, [], ◌≤◌, length, take}
+use Rattle.kn_system.specs.declared.links.Up.TheVariants.{Row}
+use Rattle.kn_system.proofs.Linked.{AreAdded}
+use Rattle.kn_system.proofs.flat.Flat.add_nodes.Given as goal
+
+abbrev pub invariant-loop-piece : goal.invariant-loop-piece
+invariant-loop-piece l = record {
+  pieces : l.self.pieces ≡ l.initial.self.pieces ++ take l.piece-index l.formula;
+  added : AreAdded l.formula (length l.initial.self.pieces) (Row l.row ∷ []) l.initial.self.ups l.self.ups l.above l.piece-index;
+  kept_ups : take (length l.initial.self.ups) l.self.ups ≡ l.initial.self.ups;
+  longer : length l.initial.self.ups ≤ length l.self.ups;
+}
