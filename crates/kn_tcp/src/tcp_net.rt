@@ -93,11 +93,7 @@ impl Net for TcpNet {
 }
 
 /// A listener at an address. A text that isn't UTF-8 is no address.
-fn listen(
-    rt: &HostRuntime,
-    alloc: Global,
-    address: &[u8],
-) -> Result<Arc<TcpListener>, BindFault> {
+fn listen(rt: &HostRuntime, alloc: Global, address: &[u8]) -> Result<Arc<TcpListener>, BindFault> {
     let text = match str::from_utf8(address) {
         Ok(text) => text,
         Err(_) => return Err(BindFault::Failed),

@@ -14,9 +14,8 @@ loop-i-preserved c =
       none_given = ap (λ (d : CountedDoor). d.given) c.new.ensures;
       none_finished = ap (λ (d : CountedDoor). d.finished) c.new.ensures;
       none_done = tt;
-    } in
-    (
+    } in (
       omega (arith, i.0, c.put.ensures.spare),
       count,
-      subst (AreBound counted_seen c.args.quota c.args.doors 0) (sym c.put.ensures.items) (bound_one_more counted_seen c.args.quota c.args.doors 0 c.loop-i.made.items c.new.result i.2 new)
+      subst (AreBound counted_seen c.args.quota c.args.doors 0) (sym c.put.ensures.items) (bound_one_more counted_seen c.args.quota c.args.doors 0 c.loop-i.made.items c.new.result i.2 new),
     )
