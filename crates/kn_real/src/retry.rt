@@ -1,4 +1,5 @@
 //! Calls to the system that a signal may interrupt.
+ghost use Rattle.std.specs.Prelude.{◌≡◌, ◌≤◌, ◌<◌, drop, length, IfOk, OnErr};
 ghost use Rattle.std.specs.Io.{ReadsAtMost, WritesAtMost};
 ghost use Rattle.std.specs.Io.KnownBytes.{ReadConsumes, WriteAppends};
 
@@ -23,6 +24,27 @@ pub(crate) fn read_some<R: Read>(reader: &mut R, buf: &mut [u8]) -> io::Result<u
         }
     }
     reader.read(buf)
+}
+
+/// The bytes that are read at once at most.
+const PIECE: usize = 16_384;
+
+/// Reads once into a buffer, and again where a signal interrupts that. A failed read leaves the buffer as it was.
+pub(crate) fn read_into<R: Read>(reader: &mut R, buf: &mut [u8]) -> io::Result<usize>
+    requires { 0 < length buf.old }
+    ensures count { IfOk result (λ n. n ≤ length buf.new) }
+    ensures bytes { ReadConsumes (R.remaining reader.old) (R.remaining reader.new) result buf.new }
+    ensures behind { IfOk result (λ n. drop n buf.new ≡ drop n buf.old) }
+    ensures buffer { OnErr result (buf.new ≡ buf.old) }
+{
+    // What a failed read leaves in its buffer isn't known, so the bytes come by a buffer of their own.
+    let mut piece = [0; PIECE];
+    let room = PIECE.min(buf.len());
+    let bytes = read_some(reader, piece.split_at_mut(room).0)?;
+    buf.split_at_mut(bytes)
+        .0
+        .copy_from_slice(piece.split_at(bytes).0);
+    Ok(bytes)
 }
 
 /// Writes once, and again where a signal interrupts that.

@@ -3,13 +3,10 @@ ghost use Rattle.std.specs.Prelude.{◌≡◌, ◌≤◌, ◌<◌, drop, length,
 ghost use Rattle.std.specs.Io.KnownBytes.{ReadConsumes, WriteAppends};
 ghost use Rattle.kn_outside.specs.Faults.{raised};
 
-use crate::retry::read_some;
+use crate::retry::read_into;
 use crate::std_out::StdOut;
 use kn_outside::{Failed, Link, Sink};
 use std::io::{Read, Write};
-
-/// The bytes that are read at once at most.
-const PIECE: usize = 16_384;
 
 /// A reader and a writer of the system as one link, as standard input and output.
 #[derive(Drop)]
@@ -61,16 +58,8 @@ impl<I: Read, O: Write> Link for StdLink<I, O> {
         ensures output { self.new.out.output ≡ self.old.out.output }
         ensures later { self.old.out.faults ≤ self.new.out.faults }
     {
-        // What a failed read leaves in its buffer isn't known, so the bytes come by a buffer of their own.
-        let mut piece = [0; PIECE];
-        let room = PIECE.min(buf.len());
-        match read_some(&mut self.input, piece.split_at_mut(room).0) {
-            Ok(bytes) => {
-                buf.split_at_mut(bytes)
-                    .0
-                    .copy_from_slice(piece.split_at(bytes).0);
-                Ok(bytes)
-            }
+        match read_into(&mut self.input, buf) {
+            Ok(bytes) => Ok(bytes),
             Err(_) => {
                 self.out.faults = self.out.faults.saturating_add(1);
                 Err(Failed)

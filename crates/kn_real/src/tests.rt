@@ -1,6 +1,7 @@
 //! The adapters on the system that runs the tests.
-use crate::RealFiles;
-use kn_outside::{FileFault, Files};
+use crate::{RealFiles, TcpLink};
+use kn_outside::{FileFault, Files, Link, Sink};
+use std::net::{TcpListener, TcpStream};
 use std::test::Fail;
 
 #[test]
@@ -12,5 +13,20 @@ fn files_of_the_system(rt: HostRuntime) -> Result<(), Fail> {
     assert!(rt; matches!(files.read(b"/dev/null/none"), Err(FileFault::Failed)));
     assert!(rt; matches!(files.read(b"/"), Err(FileFault::Failed)));
     assert!(rt; matches!(files.read(b"\xff"), Err(FileFault::Failed)));
+    Ok(())
+}
+
+#[test]
+fn a_connection_of_the_system(rt: HostRuntime) -> Result<(), Fail> {
+    let listener = TcpListener::bind(&rt, "127.0.0.1:0")?;
+    let mut near = TcpLink::new(TcpStream::connect(&rt, listener.local_addr()?)?);
+    let (stream, _) = listener.accept()?;
+    let mut far = TcpLink::new(stream);
+    assert!(rt; matches!(near.write(b"OPEN\n"), Ok(5)));
+    let mut buf = [0; 16];
+    assert!(rt; matches!(far.read(&mut buf), Ok(5)));
+    assert_eq!(rt; buf.split_at(5).0, b"OPEN\n".as_slice());
+    drop(near);
+    assert!(rt; matches!(far.read(&mut buf), Ok(0)));
     Ok(())
 }

@@ -10,8 +10,6 @@ mod mem_net;
 mod net;
 mod post;
 mod served;
-#[cfg(test)]
-mod tests;
 mod worker;
 mod workers;
 

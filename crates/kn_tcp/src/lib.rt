@@ -1,0 +1,10 @@
+//! The net of the system: the doors of a TCP listener.
+#![tactic(auto)]
+
+mod tcp_door;
+mod tcp_net;
+#[cfg(test)]
+mod tests;
+
+pub use tcp_door::TcpDoor;
+pub use tcp_net::TcpNet;

@@ -1,0 +1,104 @@
+//! A door of a TCP listener.
+ghost use Rattle.std.specs.Prelude.{◌≡◌, ◌+◌, ◌<◌};
+
+use kn_real::TcpLink;
+use kn_workers::{Accepted, Door, Served};
+use std::io::{self, ErrorKind};
+use std::marker::Model;
+use std::net::{TcpListener, TcpStream};
+use std::sync::{Arc, Wait};
+
+/// How often a listener is asked until a call isn't interrupted and no peer has gone before it was accepted.
+const TRIES: u32 = 64;
+
+/// A door of the listener that all doors of an address share, with a quota.
+#[derive(Drop)]
+pub struct TcpDoor {
+    listener: Arc<TcpListener>,
+    quota: u32,
+    given: u32,
+    finished: u32,
+    faults: u64,
+}
+
+impl Model for TcpDoor {
+    ghost use Rattle.kn_tcp.specs.Tcp.{CountedDoor, IsCounted};
+
+    ghost Value = { CountedDoor };
+
+    ghost view = { λ d. record { quota = d.quota; given = d.given; finished = d.finished; faults = d.faults } };
+
+    ghost invariant = { λ d. IsCounted d.quota d.given d.finished };
+}
+
+impl TcpDoor {
+    /// A door that has given nothing.
+    pub(crate) fn new(listener: Arc<TcpListener>, quota: u32) -> TcpDoor
+        ensures { result ≡ record { quota = quota; given = 0; finished = 0; faults = 0 } }
+    {
+        TcpDoor {
+            listener,
+            quota,
+            given: 0,
+            finished: 0,
+            faults: 0,
+        }
+    }
+
+    /// How many calls failed.
+    pub(crate) fn faults(&self) -> u64
+        ensures { result ≡ self.now.faults }
+    {
+        self.faults
+    }
+}
+
+impl Door for TcpDoor {
+    type Conn = TcpLink;
+
+    ghost use Rattle.kn_tcp.specs.Tcp.{counted_seen};
+
+    ghost seen = { counted_seen };
+
+    fn accept<R: Wait>(&mut self, _rt: &R) -> Accepted<TcpLink> {
+        if self.given >= self.quota {
+            return Accepted::Closed;
+        }
+        match accept_some(&self.listener) {
+            Ok(stream) => {
+                self.given += 1;
+                Accepted::Conn(TcpLink::new(stream))
+            }
+            Err(_) => {
+                self.faults = self.faults.saturating_add(1);
+                Accepted::Failed
+            }
+        }
+    }
+
+    fn finish(&mut self, served: Served<TcpLink>)
+        requires { self.old.finished < self.old.given }
+        ensures { self.new ≡ record self.old { finished = self.old.finished + 1 } }
+    {
+        // A connection is closed when it is dropped.
+        drop(served);
+        self.finished += 1;
+    }
+}
+
+/// Accepts once, and again where that was interrupted or the peer has gone.
+fn accept_some(listener: &TcpListener) -> io::Result<TcpStream> {
+    for _ in 1..TRIES {
+        match listener.accept() {
+            Ok((stream, _)) => return Ok(stream),
+            Err(error) => {
+                let kind = error.kind();
+                if kind != ErrorKind::Interrupted && kind != ErrorKind::ConnectionAborted {
+                    return Err(error);
+                }
+            }
+        }
+    }
+    let (stream, _) = listener.accept()?;
+    Ok(stream)
+}

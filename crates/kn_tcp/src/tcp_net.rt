@@ -1,0 +1,164 @@
+//! The net of the system.
+ghost use Rattle.std.specs.Prelude.{◌≡◌, ◌≤◌, ◌<◌, None, [], length, IfOk, IfErr, IsSomeAnd};
+ghost use Rattle.kn_workers.specs.declared.binding.BindFault.TheVariants as B;
+ghost use Rattle.kn_tcp.specs.Tcp.{counted_seen};
+ghost use Rattle.kn_workers.specs.Nets.{AreBound, share, with_faults};
+
+use crate::tcp_door::TcpDoor;
+use kn_base::{List, NoMemory, Octets, Reserved};
+use kn_workers::{BindFault, Binding, Net};
+use std::alloc::Global;
+use std::io::{self, ErrorKind};
+use std::marker::Model;
+use std::net::TcpListener;
+use std::str;
+use std::sync::{Arc, Wait};
+
+/// The net of the system. An address is a text as std has it: an IP address or a host's name, and a port.
+#[derive(Drop)]
+pub struct TcpNet {
+    rt: HostRuntime,
+    bound: Option<Binding>,
+    rooms: List<TcpDoor>,
+    faults: u64,
+}
+
+impl Model for TcpNet {
+    ghost use Rattle.kn_tcp.specs.Tcp.{TcpNetSeen};
+
+    ghost Value = { TcpNetSeen };
+
+    ghost view = { λ n. record { bound = n.bound; rooms = n.rooms; faults = n.faults } };
+}
+
+impl TcpNet {
+    /// A net that has bound nothing and of which no call failed.
+    pub fn new(rt: HostRuntime) -> TcpNet
+        ensures { result ≡ record { bound = None; rooms = []; faults = 0 } }
+    {
+        let rooms = List::new(rt.alloc());
+        TcpNet {
+            rt,
+            bound: None,
+            rooms,
+            faults: 0,
+        }
+    }
+}
+
+impl Net for TcpNet {
+    type Room = TcpDoor;
+
+    ghost use Rattle.kn_tcp.specs.Tcp.{tcp_seen};
+
+    ghost seen = { tcp_seen };
+
+    fn bind<R: Wait>(
+        &mut self,
+        _rt: &R,
+        alloc: Global,
+        address: &[u8],
+        doors: u32,
+        quota: u32,
+    ) -> Result<List<TcpDoor>, BindFault> {
+        let text = match Octets::from_slice(alloc, address) {
+            Ok(text) => text,
+            Err(NoMemory) => return Err(BindFault::NoMemory),
+        };
+        let made = match listen(&self.rt, alloc, address) {
+            Ok(listener) => make_doors(alloc, &listener, doors, quota),
+            Err(fault) => Err(fault),
+        };
+        match made {
+            Err(BindFault::NoMemory) => return Err(BindFault::NoMemory),
+            Err(BindFault::Failed) => self.faults = self.faults.saturating_add(1),
+            Ok(_) => {}
+        }
+        self.bound = Some(Binding {
+            address: text,
+            doors,
+            quota,
+        });
+        made
+    }
+
+    fn unbind(&mut self, rooms: List<TcpDoor>)
+        requires bound { IsSomeAnd self.old.bound (λ binding. length rooms ≡ binding.doors) }
+        requires none { self.old.rooms ≡ [] }
+        ensures { self.new ≡ record self.old { rooms = rooms; faults = with_faults counted_seen self.old.faults rooms } }
+    {
+        self.faults = count_faults(self.faults, rooms.as_slice());
+        self.rooms = rooms;
+    }
+}
+
+/// A listener at an address. A text that isn't UTF-8 is no address.
+fn listen(rt: &HostRuntime, alloc: Global, address: &[u8]) -> Result<Arc<TcpListener>, BindFault> {
+    let text = match str::from_utf8(address) {
+        Ok(text) => text,
+        Err(_) => return Err(BindFault::Failed),
+    };
+    let listener = match TcpListener::bind(rt, text) {
+        Ok(listener) => listener,
+        Err(error) => return Err(fault_of(&error)),
+    };
+    match Arc::new(alloc, listener) {
+        Ok(shared) => Ok(shared),
+        Err(_) => Err(BindFault::NoMemory),
+    }
+}
+
+fn fault_of(error: &io::Error) -> BindFault {
+    if error.kind() == ErrorKind::OutOfMemory {
+        BindFault::NoMemory
+    } else {
+        BindFault::Failed
+    }
+}
+
+/// So many doors of a listener, which share the quota.
+fn make_doors(
+    alloc: Global,
+    listener: &Arc<TcpListener>,
+    doors: u32,
+    quota: u32,
+) -> Result<List<TcpDoor>, BindFault>
+    requires { 0 < doors }
+    ensures count { IfOk result (λ made. length made ≡ doors) }
+    ensures bound { IfOk result (λ made. AreBound counted_seen quota doors 0 made) }
+    ensures err { IfErr result (λ fault. fault ≡ B.NoMemory) }
+{
+    let mut made = Reserved::new(alloc);
+    if made.reserve(doors).is_err() {
+        return Err(BindFault::NoMemory);
+    }
+    for i in 0..doors {
+        match listener.clone() {
+            Ok(shared) => made.put(TcpDoor::new(shared, share_of(quota, doors, i))),
+            Err(_) => return Err(BindFault::NoMemory),
+        }
+    }
+    Ok(made.finish())
+}
+
+/// How many connections the door of this place gives.
+fn share_of(quota: u32, doors: u32, i: u32) -> u32
+    requires { 0 < doors }
+    ensures { result ≡ share quota doors i }
+{
+    if i < quota % doors {
+        return quota / doors + 1;
+    }
+    quota / doors
+}
+
+/// A count of faults and those of doors together.
+fn count_faults(faults: u64, doors: &[TcpDoor]) -> u64
+    ensures { result ≡ with_faults counted_seen faults doors.now }
+{
+    let mut faults = faults;
+    for door in doors {
+        faults = faults.saturating_add(door.faults());
+    }
+    faults
+}
