@@ -12,6 +12,7 @@ loop-i-preserved c =
     let new : IsBound (share c.args.quota c.args.doors (0 + length c.loop-i.made.items)) (counted_seen c.new.result) = record {
       quota_is = ap (λ (d : CountedDoor). d.quota) c.new.ensures ∙ c.share_of.ensures ∙ ap (λ (k : ℕ). share c.args.quota c.args.doors k) place;
       none_given = ap (λ (d : CountedDoor). d.given) c.new.ensures;
+      none_failed = ap (λ (d : CountedDoor). d.faults) c.new.ensures;
       none_finished = ap (λ (d : CountedDoor). d.finished) c.new.ensures;
       none_done = tt;
     } in (
