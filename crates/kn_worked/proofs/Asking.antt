@@ -9,14 +9,14 @@ use Rattle.kn_daemon.specs.Daemon.{State, first_state, changed}
 use Rattle.kn_worked.specs.Connections.{policy_history, AliceIsAnswered}
 use Rattle.kn_worked.proofs.Levels.{two_values, policy_row, alice_level, alice_proof, alice_session, alice_question, policy_valid}
 
-after_open : State
+abbrev pub after_open : State
 after_open = changed policy_history first_state Open
 
-after_auth : State
+abbrev pub after_auth : State
 after_auth = changed policy_history after_open (Auth 1 (codes "alice"))
 
 pub alice_is_answered : AliceIsAnswered
-unfolding digits after_open after_auth
+unfolding digits
 alice_is_answered g caller = record {
   exchanges = record { request = Open; reply = Started 1 1; place = 1 } ∷ record { request = Auth 1 (codes "alice"); reply = Done; place = 1 }
       ∷ record { request = Query 1 (codes "no,yes"); reply = Value 1 (codes "yes") 1 (policy_row ∷ []); place = 1 } ∷ [];

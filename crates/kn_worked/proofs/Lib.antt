@@ -2,3 +2,4 @@ pub mod Readings
 pub mod Levels
 pub mod Asking
 pub mod Adding
+pub mod Only

@@ -1,7 +1,9 @@
 -- Whole connections: the bytes that come in, and those that are written (keynoted's own line protocol).
-use Rattle.std.specs.Prelude.{ℕ, ◌≡◌, true, List, [], ◌∷◌, ◌++◌, codes}
+use Rattle.std.specs.Prelude.{ℕ, ◌≡◌, ◌≤◌, Bool, true, false, List, [], ◌∷◌, ◌++◌, codes}
+use Rattle.std.specs.List.{list_any}
 use Rattle.kn_store.specs.declared.update.Update.{Update}
 use Rattle.kn_store.specs.History.{loaded_history, addition_by}
+use Rattle.kn_wire.specs.Replies.{Reply, Done, Started, Number, PrivateAdded, Added, Value, No, NoMemory}
 use Rattle.kn_daemon.specs.declared.ended.Ended.TheVariants as E
 use Rattle.kn_daemon.specs.Daemon.{Grounds}
 use Rattle.kn_daemon.specs.Served.{IsServed}
@@ -21,6 +23,22 @@ alice_may = codes "OK 1 1\nOK\nVALUE 1 yes 1 1\nROW 1 a1 \"POLICY\"\nEND\n"
 -- alice may, by the policy's assertion
 abbrev pub AliceIsAnswered : Type 0
 AliceIsAnswered = (g : Grounds) (caller : ℕ) → IsServed g alice_asks alice_may E.Done true policy_history 1 1 caller (1 ∷ [])
+
+abbrev pub is_no_memory : Reply → Bool
+is_no_memory Done = false
+is_no_memory (Started s version) = false
+is_no_memory (Number version) = false
+is_no_memory (PrivateAdded k) = false
+is_no_memory (Added k version) = false
+is_no_memory (Value index name version rows) = false
+is_no_memory (No refusal) = false
+is_no_memory NoMemory = true
+
+-- Nothing else is written for these bytes, where the caller had seen the policy file's history, which is all that there is, and
+-- no reply is want of memory.
+abbrev pub AliceIsAnsweredSo : Type 0
+AliceIsAnsweredSo = (g : Grounds) (written : List ℕ) (start end caller : ℕ) (stops : List ℕ) (s : IsServed g alice_asks written E.Done true policy_history start end caller stops)
+    → 1 ≤ start → list_any (λ e. is_no_memory e.reply) s.exchanges ≡ false → written ≡ alice_may
 
 -- the history with a credential that this caller added
 abbrev pub longer_history : ℕ → List Update
