@@ -54,7 +54,7 @@ pub data Came (given : List (List ℕ)) (f : FilesSeen) (o o' : LinkSeen) (due :
   ByMemory : due ≡ 5 → Came given f o o' due
 
 -- texts of which one is faulty or refused make no history
-not_loadable : (bytes : List ℕ) (name line : List ℕ) → ((n : ℕ) × (fault : ReadFault) × IsFaultyAt (pieces_of bytes) n fault × (line ≡ policy_fault_line name n fault))
+pub not_loadable : (bytes : List ℕ) (name line : List ℕ) → ((n : ℕ) × (fault : ReadFault) × IsFaultyAt (pieces_of bytes) n fault × (line ≡ policy_fault_line name n fault))
     ⊎ ((n : ℕ) × (word : LimitWord) × (count : ℕ) × IsLimitAt (pieces_of bytes) n word count × (line ≡ limit_line name n word count)) → IsLoadable (pieces_of bytes) → ⊥
 not_loadable bytes name line (inl bad) loadable = (ends_once (pieces_of bytes)).faulty bad.0 bad.1 loadable bad.2
 not_loadable bytes name line (inr bad) loadable = (ends_once (pieces_of bytes)).full bad.0 bad.3.refusal loadable bad.3.full

@@ -1,5 +1,5 @@
 -- The words of `gen`, and how it ends.
-use Rattle.std.proofs.Common.{◌≡◌, ◌<◌, ◌≤◌, ℕ, ◌⊎◌, inl, inr, Bool, true, false, List, [], ◌∷◌, ◌++◌, length, get_or, refl, sym, ap, ◌∙◌, ⊎_elim, arith, Option, Some, None, subst}
+use Rattle.std.proofs.Common.{◌≡◌, ◌<◌, ℕ, ◌⊎◌, inl, inr, Bool, true, false, List, [], ◌∷◌, length, get_or, refl, sym, ap, ◌∙◌, ⊎_elim, arith, Option, Some, None, subst}
 use Rattle.std.specs.Prelude.{not, codes, slice_get, IfSome, IfNone}
 use Rattle.kn_base.specs.declared.limits.TheConstants.{LIVE_CREDENTIALS}
 use Rattle.kn_base.specs.Decimal.{decimal_of}
@@ -10,11 +10,9 @@ use Rattle.kn_generate.specs.Generated.{generated_query, generated_values}
 use Rattle.kn_generate.specs.Measured.{IsMeasured}
 use Rattle.kn_commands.specs.Generating.{gen_line}
 use Rattle.kn_outside.specs.Seen.{FilesSeen, LinkSeen}
-use Rattle.kn_outside.specs.Asked.{HasAsked}
 use Rattle.kn_outside.specs.Faults.{Rose}
 use Rattle.kn_outside.specs.Printing.{Writes}
-use Rattle.kn_daemon.specs.declared.ended.Ended.TheVariants as E
-use Rattle.kn_commands.specs.Names.{AskNames, ask_order, CheckNames, in_order}
+use Rattle.kn_commands.specs.Names.{AskNames, CheckNames}
 use Rattle.kn_commands.specs.declared.generating.GenNumbers.{GenNumbers}
 use Rattle.keynoted.specs.Commands.{AskFor, CheckFor, AreGenNumbers, AreNoGenNumbers, GenFor, IsNoGen}
 use Rattle.keynoted.specs.Running.{AsksServed, IsNext, IsDone, LacksMemory, IsDue, IsPrinted, IsEnded}

@@ -5,3 +5,8 @@ pub mod Known
 pub mod Leading
 pub mod Came
 pub mod Gen
+pub mod ServiceStatuses
+pub mod ServiceCalled
+pub mod ServiceDue
+pub mod ClapLaws
+pub mod Texts

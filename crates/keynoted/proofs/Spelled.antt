@@ -1,6 +1,6 @@
 -- The words of a command, one by one.
 use Rattle.std.proofs.Common.{◌≡◌, ℕ, ◌≤◌, Bool, true, false, List, [], ◌∷◌, length, get_or, sym, ◌∙◌, ap, ⊎_elim, arith, Option, Some, None}
-use Rattle.std.specs.Prelude.{not, codes, slice_get, option_to_list}
+use Rattle.std.specs.Prelude.{◌==◌, not, codes, slice_get, option_to_list}
 use Rattle.std.specs.Str.{bytes_eq}
 use Rattle.std.proofs.lemmas.Bool.{cases_Bool}
 use Rattle.std.proofs.lemmas.Slice.Eq.{bytes_eq-Decides}
@@ -14,6 +14,14 @@ same_word first given text literal differs same is tested none =
     (λ (e : bytes_eq given text ≡ false). let wrong : false ≡ not false = sym none ∙ tested ∙ ap not e in absurd (cc))
     (cases_Bool (bytes_eq given text)) in
     sym same ∙ (bytes_eq-Decides given text).0 equal ∙ is
+
+-- a first word that is the same as a text is that text
+pub first_word : (words : List (List ℕ)) (first given text literal : List ℕ) (empty same : Bool) → empty ≡ (length words == 0) → empty ≡ false → first ≡ get_or words 0 first → given ≡ first →
+    text ≡ literal → same ≡ bytes_eq given text → same ≡ true → slice_get words 0 ≡ Some literal
+first_word [] first given text literal empty same counted some at is of tested equal =
+    let wrong : false ≡ true = sym some ∙ counted in absurd (cc)
+first_word (x ∷ xs) first given text literal empty same counted some at is of tested equal =
+    ap (λ (w : List ℕ). Some w) (sym at ∙ sym is ∙ (bytes_eq-Decides given text).0 (sym tested ∙ equal) ∙ of)
 
 -- two or three words are these
 two_or_three : (words : List (List ℕ)) (first second : List ℕ) (third : Option (List ℕ)) → 2 ≤ length words → length words ≤ 3 →

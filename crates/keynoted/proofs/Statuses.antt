@@ -16,7 +16,7 @@ told_whole line due s s' status told other =
     ⊎_elim (λ (t : (status ≡ due) × Writes true line s s'). t) (λ (t : (status ≡ 9) × Writes false line s s'). absurd (other t.0)) told
 
 module _ (given : List (List ℕ)) (f f' : FilesSeen) (o o' : LinkSeen) where
-  not_nine : (due : ℕ) (line : List ℕ) → IsDue given f f' o o' due line → due ≡ 9 → ⊥
+  pub not_nine : (due : ℕ) (line : List ℕ) → IsDue given f f' o o' due line → due ≡ 9 → ⊥
   not_nine due line (D.Done at cause) e = absurd (omega arith)
   not_nine due line (D.Words at cause) e = absurd (omega arith)
   not_nine due line (D.File at cause) e = absurd (omega arith)

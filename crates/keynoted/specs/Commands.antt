@@ -1,9 +1,12 @@
 -- The words of the commands (keynoted's own).
-use Rattle.std.specs.Prelude.{ℕ, ◌≡◌, ◌≤◌, List, [], ◌∷◌, Some, codes}
-use Rattle.kn_base.specs.declared.limits.TheConstants.{LIVE_CREDENTIALS}
+use Rattle.std.specs.Prelude.{ℕ, ◌≡◌, ◌≤◌, List, [], ◌∷◌, All, slice_get, codes, true, Option, Some, option_and_then}
+use Rattle.std.specs.Str.{IsUtf8}
+use Rattle.clap.specs.Words.{App, Rule, Text, new_app, new_rule, with_rule, matches_of, first_of, fault_of}
 use Rattle.kn_base.specs.Decimal.{decimal_of}
+use Rattle.kn_base.specs.declared.limits.TheConstants.{LIVE_CREDENTIALS, WORKERS, CONNECTIONS}
 use Rattle.kn_commands.specs.Names.{AskNames, ask_order, CheckNames, in_order}
 use Rattle.kn_commands.specs.declared.generating.GenNumbers.{GenNumbers}
+use Rattle.kn_commands.specs.Serving.{Order}
 
 -- the words ask for the policy in a file, and name a key file or none
 abbrev pub AskFor : List (List ℕ) → AskNames → Type 0
@@ -43,8 +46,55 @@ AreNoGenNumbers first second = (numbers : GenNumbers) → AreGenNumbers first se
 abbrev pub IsNoGen : List (List ℕ) → Type 0
 IsNoGen words = (numbers : GenNumbers) → GenFor words numbers → ⊥
 
+-- The command that reads the words of `serve`, as `clap` sees it: one address, and options of which each has a value. The first
+-- word stands where a program has its name.
+abbrev pub address_rule : Rule
+address_rule = record (new_rule (codes "ADDR")) { required = true }
+
+abbrev pub policy_rule : Rule
+policy_rule = record (new_rule (codes "policy")) { long = Some (codes "policy"); required = true }
+
+abbrev pub keys_rule : Rule
+keys_rule = record (new_rule (codes "keys")) { long = Some (codes "keys") }
+
+abbrev pub workers_rule : Rule
+workers_rule = record (new_rule (codes "workers")) { long = Some (codes "workers"); defaults = codes "4" ∷ [] }
+
+abbrev pub connections_rule : Rule
+connections_rule = record (new_rule (codes "connections")) { long = Some (codes "connections"); required = true }
+
+abbrev pub serve_app : App
+serve_app = with_rule (with_rule (with_rule (with_rule (with_rule (new_app (codes "serve")) address_rule) policy_rule) keys_rule) workers_rule) connections_rule
+
+-- the value that words give an option, or its default
+abbrev pub option_value : List Text → Text → Option Text
+option_value words id = first_of id (matches_of serve_app words)
+
+-- The values of options are those of a service: its numbers are in their ranges, and have the form of `decimal_of`.
+pub record AreValuesOf (value : Text → Option Text) (order : Order) : Type 0 where
+  pub address : value (codes "ADDR") ≡ Some order.binding.address
+  pub policy : value (codes "policy") ≡ Some order.files.policy
+  pub keys : value (codes "keys") ≡ order.files.keys
+  pub workers : option_and_then decimal_of (value (codes "workers")) ≡ Some order.binding.doors
+  pub connections : option_and_then decimal_of (value (codes "connections")) ≡ Some order.binding.quota
+  pub some_workers : (1 ≤ order.binding.doors) × (order.binding.doors ≤ WORKERS)
+  pub some_connections : (1 ≤ order.binding.quota) × (order.binding.quota ≤ CONNECTIONS)
+
+-- The words ask for a service: the first is `serve`, all are UTF-8, `clap` finds no fault in them, and their values are those of
+-- the service.
+pub record ServeFor (words : List (List ℕ)) (order : Order) : Type 0 where
+  pub serve : slice_get words 0 ≡ Some (codes "serve")
+  pub texts : All IsUtf8 words
+  pub taken : fault_of serve_app words ≡ []
+  pub values : AreValuesOf (option_value words) order
+
+-- the words don't ask for a service
+abbrev pub IsNoServe : List (List ℕ) → Type 0
+IsNoServe words = (order : Order) → ServeFor words order → ⊥
+
 -- the words are those of no command
 pub record IsNoCommand (words : List (List ℕ)) : Type 0 where
   pub ask : IsNoAsk words
   pub check : IsNoCheck words
   pub gen : IsNoGen words
+  pub serve : IsNoServe words

@@ -1,4 +1,5 @@
 pub mod Commands
 pub mod Running
+pub mod Serving
 pub mod Calling
 pub mod Generating

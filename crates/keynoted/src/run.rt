@@ -1,24 +1,29 @@
 //! The program over whatever files, link and output it is given.
-ghost use Rattle.std.specs.Prelude.{◌≡◌, ℕ, [], List, ◌⊎◌, IfSome, IfNone, option_map, slice_get};
+ghost use Rattle.std.specs.Prelude.{◌≡◌, ℕ, [], List, ◌⊎◌, IfSome, IfNone, None, option_map, slice_get};
 ghost use Rattle.kn_outside.specs.Faults.{Rose};
 ghost use Rattle.kn_commands.specs.Stopping.{stop_line, status_of};
 ghost use Rattle.kn_commands.specs.Asking.{line_of_ask, status_of_ask};
 ghost use Rattle.kn_commands.specs.Checking.{line_of_ending, status_of_ending};
 ghost use Rattle.kn_serve.specs.Serving.{IsOrderly};
 ghost use Rattle.kn_commands.specs.declared.generating.GenNumbers.{GenNumbers};
-ghost use Rattle.keynoted.specs.Commands.{AskFor, CheckFor, GenFor, IsNoAsk, IsNoCheck, IsNoCommand};
+ghost use Rattle.kn_commands.specs.Serving.{Order};
+ghost use Rattle.keynoted.specs.Commands.{AskFor, CheckFor, GenFor, ServeFor, IsNoAsk, IsNoCheck, IsNoServe, IsNoCommand};
 ghost use Rattle.keynoted.specs.Running.{IsDone, HasNoCommand, IsFileFault, IsPolicyFault, IsLinkFault, LacksMemory, IsReplyFault, IsKeyFault, MeansNoQuery, IsDue, IsPrinted, IsEnded, Tells, TellsPart};
-ghost use Rattle.keynoted.specs.Calling.{CallsFor, CallsToServe, IsCalm, EndsWith};
+ghost use Rattle.keynoted.specs.Serving.{OrServes, EndsRefused, LacksMemoryFor, IsListenerFault, IsEndDue, IsRun};
+ghost use Rattle.keynoted.specs.Calling.{AskLeads, CallsFor, CallsToServe, IsCalm, EndsWith};
 
 use crate::generating::{gen_numbers, run_gen};
+use crate::run_service::{asks_to_serve, run_service};
 use kn_base::Octets;
 use kn_commands::{
     AskEnding, AskFiles, CheckFiles, Ending, Stop, ask, check, print_ask, print_ending, print_line,
 };
 use kn_outside::{Failed, Files, Gate, Link, Sink};
 use kn_play::laws::one_query_is_meant;
+use kn_workers::{Door, Net};
 use std::alloc::Global;
 use std::sync::Wait;
+use std::thread::Threads;
 
 /// The third word, if there is one.
 fn third_word(words: &[Octets]) -> Option<&[u8]>
@@ -89,8 +94,8 @@ fn end_check<O: Sink>(out: &mut O, ending: Ending, names: &CheckFiles<'_>) -> u8
     }
 }
 
-/// Does what the words ask and tells how it ended.
-fn carry_out<R: Wait, F: Files, L: Link, O: Sink, G: Gate>(
+/// Does what the words ask, where they don't ask for a service, and tells how it ended.
+fn carry_out_apart<R: Wait, F: Files, L: Link, O: Sink, G: Gate>(
     rt: &R,
     alloc: Global,
     words: &[Octets],
@@ -99,6 +104,7 @@ fn carry_out<R: Wait, F: Files, L: Link, O: Sink, G: Gate>(
     out: &mut O,
     gate: &G,
 ) -> u8
+    requires serve { IsNoServe words.now }
     ensures { IsEnded words.now (F.seen files.old) (F.seen files.new) (L.seen own.old) (L.seen own.new) (O.seen out.old) (O.seen out.new) result }
 {
     if let Some(names) = ask_files(words) {
@@ -117,20 +123,45 @@ fn carry_out<R: Wait, F: Files, L: Link, O: Sink, G: Gate>(
     }
 }
 
+/// Does what the words ask and tells how it ended.
+fn carry_out<R: Threads + Wait + Sync, F: Files, N: Net, L: Link, O: Sink, G: Gate>(
+    rt: &R,
+    alloc: Global,
+    words: &[Octets],
+    files: &mut F,
+    net: &mut N,
+    own: &mut L,
+    out: &mut O,
+    gate: &G,
+) -> u8
+where
+    <N::Room as Door>::Conn: Send,
+    requires unbound { (N.seen net.old).bound ≡ None }
+    requires none { (N.seen net.old).rooms ≡ [] }
+    ensures { IsRun N.Room.seen N.Room.Conn.seen words.now (F.seen files.old) (F.seen files.new) (N.seen net.old) (N.seen net.new) (L.seen own.old) (L.seen own.new) (O.seen out.old) (O.seen out.new) result }
+{
+    if asks_to_serve(words) {
+        return run_service(rt, alloc, words, files, net, out, gate);
+    }
+    carry_out_apart(rt, alloc, words, files, own, out, gate)
+}
+
 /// The whole program, over the words after its name: it answers the exit status.
 ///
 /// `ask POLICY [KEYS]` loads the policy file and, where one is named, the key file, and serves `own` as the one connection of a
 /// daemon. `check POLICY SCRIPT REPLY` tells whether the reply proves the value of the query that the requests of the script
-/// mean over the policy. The files are read in the order of the words, each once those before it hold what they have to.
-/// `gen START N` makes N credentials by the draws from START, adds them to a new registry, and settles one query over them; both
-/// are decimal numbers, START of at most nine digits and N from 1 to 2,048. What a run has to tell is a line on `out`. The words,
-/// the statuses and the lines are keynoted's own.
+/// mean over the policy. `serve ADDR --policy FILE --connections N` with `--keys FILE` and `--workers N`, 4 where it isn't said,
+/// loads its files, binds the address and serves so many connections by so many workers side by side. The files are read in the
+/// order of the words, each once those before it hold what they have to. `gen START N` makes N credentials by the draws from
+/// START, adds them to a new registry, and settles one query over them; both are decimal numbers, START of at most nine digits
+/// and N from 1 to 2,048. What a run has to tell is a line on `out`. The words, the statuses and the lines are keynoted's own.
 ///
 /// | status | line | cause |
 /// |---|---|---|
 /// | 0 | none | `ask`: BYE was answered, or the input ended behind a whole request |
 /// | 0 | `PROVED INDEX NAME` | `check`: the rows prove that the query has this value, of this name |
 /// | 0 | `GEN INDEX NAME N ROWS PRINCIPALS NODES USES LEVELS` | `gen`: the query has this value, of this name, and N is the version; ROWS principals are granted more than the lowest value and are no requesters; the system has so many principals, nodes and uses of principals in its formulas, and levels |
+/// | 0 | `served F version V` | `serve`: all F connections were served, and V is the last version |
 /// | 1 | `error words` | the words are those of no command |
 /// | 2 | `error file NAME read`, `error file NAME large` | this file couldn't be read, or has more than 16,777,216 bytes |
 /// | 3 | `error policy NAME ASSERTION FAULT PLACE` | the assertion of this number, counted from 1, is the first that has a fault or that a limit refuses; it has this fault, at this place |
@@ -139,44 +170,54 @@ fn carry_out<R: Wait, F: Files, L: Link, O: Sink, G: Gate>(
 /// | 4 | `error link cut HELD` | `ask`: the input ended while so many bytes of an unfinished request were held |
 /// | 4 | `error link block N` | `ask`: a block of this length was refused |
 /// | 4 | `error link budget` | `ask`: 1,000,000 requests were answered, as many as a connection has |
-/// | 5 | `error memory` | want of memory; nothing was read from `own` or written to it |
+/// | 5 | `error memory` | want of memory; nothing was read from `own` or written to it, and no connection was accepted |
 /// | 6 | `error proof text FAULT LINE` | `check`: the text of the reply has this fault first, or it is the reply to another query |
 /// | 6 | `error proof reject REASON ROW FOUND` | `check`: the rows prove no such value, and this is the first item that fails |
-/// | 8 | `error keys LINE` | `ask`: this line of the key file, counted from 1, is the first malformed one |
+/// | 7 | `error listener` | `serve`: the address couldn't be bound, or a door gave fewer connections than its quota |
+/// | 8 | `error keys LINE` | `ask`, `serve`: this line of the key file, counted from 1, is the first malformed one |
 /// | 9 | a proper front of the line | the line couldn't be written |
 /// | 10 | `error query` | `check`: the script means no query |
-pub fn run<R: Wait, F: Files, L: Link, O: Sink, G: Gate>(
+pub fn run<R: Threads + Wait + Sync, F: Files, N: Net, L: Link, O: Sink, G: Gate>(
     rt: &R,
     alloc: Global,
     words: &[Octets],
     files: &mut F,
+    net: &mut N,
     own: &mut L,
     out: &mut O,
     gate: &G,
 ) -> u8
+where
+    <N::Room as Door>::Conn: Send,
+    requires unbound { (N.seen net.old).bound ≡ None }
+    requires none { (N.seen net.old).rooms ≡ [] }
+
     // A line was due with its status, for its cause; it was written whole, or a front of it stands and the status is 9.
-    ensures ends { IsEnded words.now (F.seen files.old) (F.seen files.new) (L.seen own.old) (L.seen own.new) (O.seen out.old) (O.seen out.new) result }
+    ensures ends { IsRun N.Room.seen N.Room.Conn.seen words.now (F.seen files.old) (F.seen files.new) (N.seen net.old) (N.seen net.new) (L.seen own.old) (L.seen own.new) (O.seen out.old) (O.seen out.new) result }
 
     // What each status says.
-    ensures done { result ≡ 0 → Tells (IsDone words.now (F.seen files.old) (F.seen files.new) (L.seen own.old) (L.seen own.new)) (O.seen out.old) (O.seen out.new) }
-    ensures words { result ≡ 1 → Tells (HasNoCommand words.now (F.seen files.old) (F.seen files.new) (L.seen own.old) (L.seen own.new)) (O.seen out.old) (O.seen out.new) }
-    ensures file { result ≡ 2 → Tells (IsFileFault words.now (F.seen files.old) (F.seen files.new) (L.seen own.old) (L.seen own.new)) (O.seen out.old) (O.seen out.new) }
-    ensures policy { result ≡ 3 → Tells (IsPolicyFault words.now (F.seen files.old) (F.seen files.new) (L.seen own.old) (L.seen own.new)) (O.seen out.old) (O.seen out.new) }
-    ensures link { result ≡ 4 → Tells (IsLinkFault words.now (F.seen files.old) (F.seen files.new) (L.seen own.old) (L.seen own.new)) (O.seen out.old) (O.seen out.new) }
-    ensures memory { result ≡ 5 → Tells (LacksMemory words.now (F.seen files.old) (F.seen files.new) (L.seen own.old) (L.seen own.new)) (O.seen out.old) (O.seen out.new) }
-    ensures reply { result ≡ 6 → Tells (IsReplyFault words.now (F.seen files.old) (F.seen files.new) (L.seen own.old) (L.seen own.new)) (O.seen out.old) (O.seen out.new) }
-    ensures keys { result ≡ 8 → Tells (IsKeyFault words.now (F.seen files.old) (F.seen files.new) (L.seen own.old) (L.seen own.new)) (O.seen out.old) (O.seen out.new) }
-    ensures query { result ≡ 10 → Tells (MeansNoQuery words.now (F.seen files.old) (F.seen files.new) (L.seen own.old) (L.seen own.new)) (O.seen out.old) (O.seen out.new) }
-    ensures cut { result ≡ 9 → TellsPart (IsDue words.now (F.seen files.old) (F.seen files.new) (L.seen own.old) (L.seen own.new)) (O.seen out.old) (O.seen out.new) }
+    ensures done { result ≡ 0 → Tells (OrServes N.Room.seen N.Room.Conn.seen words.now (F.seen files.old) (F.seen files.new) (N.seen net.old) (N.seen net.new) (L.seen own.old) (L.seen own.new) (IsDone words.now (F.seen files.old) (F.seen files.new) (L.seen own.old) (L.seen own.new)) 0) (O.seen out.old) (O.seen out.new) }
+    ensures words { result ≡ 1 → Tells (HasNoCommand words.now (F.seen files.old) (F.seen files.new) (L.seen own.old) (L.seen own.new)) (O.seen out.old) (O.seen out.new) × (N.seen net.new ≡ N.seen net.old) }
+    ensures file { result ≡ 2 → Tells (OrServes N.Room.seen N.Room.Conn.seen words.now (F.seen files.old) (F.seen files.new) (N.seen net.old) (N.seen net.new) (L.seen own.old) (L.seen own.new) (IsFileFault words.now (F.seen files.old) (F.seen files.new) (L.seen own.old) (L.seen own.new)) 2) (O.seen out.old) (O.seen out.new) }
+    ensures policy { result ≡ 3 → Tells (OrServes N.Room.seen N.Room.Conn.seen words.now (F.seen files.old) (F.seen files.new) (N.seen net.old) (N.seen net.new) (L.seen own.old) (L.seen own.new) (IsPolicyFault words.now (F.seen files.old) (F.seen files.new) (L.seen own.old) (L.seen own.new)) 3) (O.seen out.old) (O.seen out.new) }
+    ensures link { result ≡ 4 → Tells (IsLinkFault words.now (F.seen files.old) (F.seen files.new) (L.seen own.old) (L.seen own.new)) (O.seen out.old) (O.seen out.new) × (N.seen net.new ≡ N.seen net.old) }
+    ensures memory { result ≡ 5 → Tells (LacksMemoryFor N.Room.seen N.Room.Conn.seen words.now (F.seen files.old) (F.seen files.new) (N.seen net.old) (N.seen net.new) (L.seen own.old) (L.seen own.new)) (O.seen out.old) (O.seen out.new) }
+    ensures reply { result ≡ 6 → Tells (IsReplyFault words.now (F.seen files.old) (F.seen files.new) (L.seen own.old) (L.seen own.new)) (O.seen out.old) (O.seen out.new) × (N.seen net.new ≡ N.seen net.old) }
+    ensures listener { result ≡ 7 → Tells (IsListenerFault N.Room.seen N.Room.Conn.seen words.now (F.seen files.old) (F.seen files.new) (N.seen net.old) (N.seen net.new) (L.seen own.old) (L.seen own.new)) (O.seen out.old) (O.seen out.new) }
+    ensures keys { result ≡ 8 → Tells (OrServes N.Room.seen N.Room.Conn.seen words.now (F.seen files.old) (F.seen files.new) (N.seen net.old) (N.seen net.new) (L.seen own.old) (L.seen own.new) (IsKeyFault words.now (F.seen files.old) (F.seen files.new) (L.seen own.old) (L.seen own.new)) 8) (O.seen out.old) (O.seen out.new) }
+    ensures cut { result ≡ 9 → TellsPart (IsEndDue N.Room.seen N.Room.Conn.seen words.now (F.seen files.old) (F.seen files.new) (N.seen net.old) (N.seen net.new) (L.seen own.old) (L.seen own.new)) (O.seen out.old) (O.seen out.new) }
+    ensures query { result ≡ 10 → Tells (MeansNoQuery words.now (F.seen files.old) (F.seen files.new) (L.seen own.old) (L.seen own.new)) (O.seen out.old) (O.seen out.new) × (N.seen net.new ≡ N.seen net.old) }
 
     // Which status comes where the words, the files or the input are known.
-    ensures no_words { IsNoCommand words.now → (result ≡ 1) ⊎ ((result ≡ 9) × Rose (O.seen out.old).faults (O.seen out.new).faults) }
+    ensures no_words { IsNoCommand words.now → EndsRefused words.now (O.seen out.old) (O.seen out.new) result }
     ensures generates { (numbers : GenNumbers) → GenFor words.now numbers → EndsWith 0 result ⊎ ((result ≡ 9) × Rose (O.seen out.old).faults (O.seen out.new).faults) }
     ensures calls { (status : ℕ) → CallsFor words.now (F.seen files.old) status →
         IsCalm (F.seen files.old) (F.seen files.new) (O.seen out.old) (O.seen out.new) → EndsWith status result }
     ensures complete { (input : List ℕ) → CallsToServe words.now (F.seen files.old) (L.seen own.old) (L.seen own.new) input → IsOrderly input →
         IsCalm (F.seen files.old) (F.seen files.new) (O.seen out.old) (O.seen out.new) → EndsWith 0 result }
+    ensures serves { (order : Order) → ServeFor words.now order → (status : ℕ) → AskLeads (F.seen files.old) order.files (λ served. served ≡ 0) status →
+        IsCalm (F.seen files.old) (F.seen files.new) (O.seen out.old) (O.seen out.new) → ¬ Rose (N.seen net.old).faults (N.seen net.new).faults → EndsWith status result }
 {
     one_query_is_meant();
-    carry_out(rt, alloc, words, files, own, out, gate)
+    carry_out(rt, alloc, words, files, net, own, out, gate)
 }

@@ -83,7 +83,7 @@ keys_stopped f mid f' names bytes stop policy before stops = by names.keys refl 
         record { name = name; named = is; bytes = bytes; policy = policy; stops = keys_behind (names.policy ∷ []) f mid f' name stop before some }
 
 -- keys that were known behind files are known before them
-keys_there : (front : List (List ℕ)) (f mid : FilesSeen) (name : Option (List ℕ)) (keys : KeyFile) → HasAsked front f mid → AreKeys mid name keys → AreKeys f name keys
+pub keys_there : (front : List (List ℕ)) (f mid : FilesSeen) (name : Option (List ℕ)) (keys : KeyFile) → HasAsked front f mid → AreKeys mid name keys → AreKeys f name keys
 keys_there front f mid None keys before known = known
 keys_there front f mid (Some name) keys before known = (known.0, content_there f mid name known.0 (keeps_content front f mid before) known.1, known.2)
 

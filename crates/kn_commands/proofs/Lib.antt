@@ -8,3 +8,4 @@ pub mod GenLines
 pub mod GenLoads
 pub mod Reached
 pub mod Asked
+pub mod ServingLaws

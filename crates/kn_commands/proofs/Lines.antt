@@ -1,9 +1,10 @@
--- The lines of `check`, printed in parts.
+-- Lines that are printed in parts.
 use Rattle.std.proofs.Common.{◌≡◌, ℕ, List, [], ◌++◌, append_assoc}
 use Rattle.std.specs.Prelude.{codes, decimal}
 use Rattle.kn_check.specs.declared.reject.Reject.{Reject}
 use Rattle.kn_check.specs.Rejects.{reason_number, reason_row, reason_found}
 use Rattle.kn_commands.specs.Checking.{text_line, reject_line, proved_line}
+use Rattle.kn_commands.specs.Serving.{served_line}
 
 pub text_parts : (a b : List ℕ) (fault line : ℕ) → a ≡ decimal fault → b ≡ decimal line →
     codes "error proof text " ++ (a ++ (codes " " ++ (b ++ (codes "\n" ++ [])))) ≡ text_line fault line
@@ -19,3 +20,8 @@ pub proved_parts : (a name : List ℕ) (value : ℕ) → a ≡ decimal value →
     codes "PROVED " ++ (a ++ (codes " " ++ (name ++ (codes "\n" ++ [])))) ≡ proved_line value name
 unfolding proved_line
 proved_parts a name value first = rw first (simp append_assoc)
+
+pub served_parts : (a b : List ℕ) (finished version : ℕ) → a ≡ decimal finished → b ≡ decimal version →
+    codes "served " ++ (a ++ (codes " version " ++ (b ++ (codes "\n" ++ [])))) ≡ served_line finished version
+unfolding served_line
+served_parts a b finished version first second = rw (first, second) (simp append_assoc)

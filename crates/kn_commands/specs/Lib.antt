@@ -5,3 +5,4 @@ pub mod Stopping
 pub mod Asking
 pub mod Checking
 pub mod Generating
+pub mod Serving

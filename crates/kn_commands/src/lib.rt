@@ -1,6 +1,6 @@
-//! What the commands do, over whatever files, link and output they are given: `ask` serves a link over a policy,
-//! `check` tells whether a reply proves the value of the query that a script means, and `gen` settles a query over
-//! generated credentials.
+//! What the commands do, over whatever files, net, link and output they are given: `ask` serves a link over a policy, `serve`
+//! serves the connections of an address, `check` tells whether a reply proves the value of the query that a script means, and
+//! `gen` settles a query over generated credentials.
 #![tactic(auto)]
 
 mod ask_ending;
@@ -14,6 +14,10 @@ mod gen_line;
 mod generating;
 mod line;
 mod load;
+mod serve_ending;
+mod serve_line;
+mod service;
+mod serving;
 mod stop;
 
 pub use ask_ending::AskEnding;
@@ -25,4 +29,8 @@ pub use ending_line::print_ending;
 pub use gen_line::print_gen;
 pub use generating::{GenNumbers, generate};
 pub use line::print_line;
+pub use serve_ending::ServeEnding;
+pub use serve_line::print_serve;
+pub use service::Service;
+pub use serving::serve;
 pub use stop::Stop;

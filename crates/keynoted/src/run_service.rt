@@ -1,0 +1,66 @@
+//! The program where its first word is `serve`.
+ghost use Rattle.std.specs.Prelude.{◌≡◌, ◌≢◌, [], None, Some, true, false, codes, slice_get};
+ghost use Rattle.kn_outside.specs.Seen.{LinkSeen};
+ghost use Rattle.kn_commands.specs.Serving.{status_of_serve, line_of_serve};
+ghost use Rattle.keynoted.specs.Running.{IsPrinted};
+ghost use Rattle.keynoted.specs.Serving.{IsRun};
+
+use crate::run::end;
+use crate::service_words::{service_of, texts_of};
+use kn_base::{NoMemory, Octets};
+use kn_commands::{ServeEnding, Service, Stop, print_serve, serve};
+use kn_outside::{Failed, Files, Gate, Sink};
+use kn_workers::{Door, Net};
+use std::alloc::Global;
+use std::sync::Wait;
+use std::thread::Threads;
+
+/// Whether the first word is `serve`.
+pub(crate) fn asks_to_serve(words: &[Octets]) -> bool
+    ensures yes { result ≡ true → slice_get words.now 0 ≡ Some (codes "serve") }
+    ensures no { result ≡ false → slice_get words.now 0 ≢ Some (codes "serve") }
+{
+    !words.is_empty() && words[0].as_slice() == b"serve".as_slice()
+}
+
+/// Serves an address where the words ask for that, and tells how it ended.
+pub(crate) fn run_service<R: Threads + Wait + Sync, F: Files, N: Net, O: Sink, G: Gate>(
+    rt: &R,
+    alloc: Global,
+    words: &[Octets],
+    files: &mut F,
+    net: &mut N,
+    out: &mut O,
+    gate: &G,
+) -> u8
+where
+    <N::Room as Door>::Conn: Send,
+    requires serve { slice_get words.now 0 ≡ Some (codes "serve") }
+    requires unbound { (N.seen net.old).bound ≡ None }
+    requires none { (N.seen net.old).rooms ≡ [] }
+    ensures { (o : LinkSeen) → IsRun N.Room.seen N.Room.Conn.seen words.now (F.seen files.old) (F.seen files.new) (N.seen net.old) (N.seen net.new) o o (O.seen out.old) (O.seen out.new) result }
+{
+    let texts = match texts_of(alloc, words) {
+        Ok(Some(texts)) => texts,
+        Ok(None) => return end(out, Stop::Words),
+        Err(NoMemory) => return end(out, Stop::Memory),
+    };
+    match service_of(alloc, texts.as_slice()) {
+        Ok(Some(service)) => {
+            let ending = serve(rt, alloc, &service, files, net, gate);
+            end_serve(out, ending, &service)
+        }
+        Ok(None) => end(out, Stop::Words),
+        Err(NoMemory) => end(out, Stop::Memory),
+    }
+}
+
+/// Ends with the status and the line of a service, or with 9 where the line can't be written.
+fn end_serve<O: Sink>(out: &mut O, ending: ServeEnding, service: &Service<'_>) -> u8
+    ensures { IsPrinted (line_of_serve service.now ending) (status_of_serve ending) (O.seen out.old) (O.seen out.new) result }
+{
+    match print_serve(out, ending, service) {
+        Ok(()) => ending.status(),
+        Err(Failed) => 9,
+    }
+}

@@ -1,0 +1,205 @@
+//! The program serves an address whose doors are in memory.
+
+use crate::meeting::Meeting;
+use crate::run_tests::{Outside, numbers, octets, outside_of, status_of};
+use kn_base::{List, NoMemory, Octets};
+use kn_outside::MemLink;
+use kn_workers::{MemNet, MemRoom};
+use std::alloc::Global;
+use std::sync::Wait;
+use std::test::Fail;
+use std::thread::Threads;
+
+const SERVE: &[&[u8]] = &[
+    b"serve",
+    b"memory",
+    b"--policy",
+    b"one.kn",
+    b"--keys",
+    b"d.txt",
+    b"--workers=2",
+    b"--connections",
+    b"3",
+];
+
+const ASKS: &[u8] = b"OPEN\nAUTH 1 alice\nQUERY 1 no,yes\n";
+
+const ANSWERS: &[u8] = b"OK 1 1\nOK\nVALUE 1 yes 1 1\nROW 1 a1 \"POLICY\"\nEND\n";
+
+const OPENS_AND_ADDS: &[u8] = b"OPEN
+ADMIN 733363726574
+ADD 37
+Authorizer: \"alice\"
+Licensees: \"bob\"
+
+BYE
+";
+
+const ADDS: &[u8] = b"ADMIN 733363726574
+ADD 37
+Authorizer: \"alice\"
+Licensees: \"bob\"
+
+BYE
+";
+
+const ADDED: &[u8] = b"OK 1 1\nOK\nOK a2 2\nOK\n";
+
+/// A room with a link for each input, of which this call of its door fails; 0 for none.
+fn room(alloc: Global, inputs: &[&[u8]], failing: u32) -> Result<MemRoom, NoMemory> {
+    let mut links = List::new(alloc);
+    for input in inputs {
+        let input = Octets::from_slice(alloc, input)?;
+        let link = MemLink::of(alloc, input, List::new(alloc), List::new(alloc));
+        match links.push(link) {
+            Ok(()) => {}
+            Err(_) => return Err(NoMemory),
+        }
+    }
+    let failing = numbers(alloc, failing)?;
+    Ok(MemRoom { links, failing })
+}
+
+fn two_rooms(alloc: Global, first: MemRoom, second: MemRoom) -> Result<List<MemRoom>, NoMemory> {
+    let mut rooms = List::new(alloc);
+    match rooms.push(first) {
+        Ok(()) => {}
+        Err(_) => return Err(NoMemory),
+    }
+    match rooms.push(second) {
+        Ok(()) => {}
+        Err(_) => return Err(NoMemory),
+    }
+    Ok(rooms)
+}
+
+/// Serves three connections over these rooms, where this call of the net fails; 0 for none.
+fn serve_rooms<R: Threads + Wait + Sync>(
+    rt: &R,
+    alloc: Global,
+    rooms: List<MemRoom>,
+    failing: u32,
+    gate: &Meeting,
+) -> Result<(u8, Outside), Fail> {
+    let net = MemNet::of(alloc, rooms, numbers(alloc, failing)?);
+    let mut left = outside_of(alloc, b"", (0, 0, 0), net)?;
+    let words = octets(alloc, SERVE)?;
+    let status = status_of(rt, alloc, words.as_slice(), &mut left, gate);
+    Ok((status, left))
+}
+
+/// What was written to the link of this place, of those that a door finished.
+fn written(net: &MemNet, door: u32, i: usize) -> &[u8] {
+    match net.rooms().get(door) {
+        Some(room) => match room.done().get(i) {
+            Some(served) => served.link().written(),
+            None => b"none",
+        },
+        None => b"none",
+    }
+}
+
+#[test]
+fn connections_are_served_side_by_side(rt: HostRuntime) -> Result<(), Fail> {
+    let alloc = rt.alloc();
+    let first = room(alloc, &[ASKS, b"OPEN\n"], 0)?;
+    let second = room(alloc, &[OPENS_AND_ADDS], 0)?;
+    let meeting = Meeting::new(true);
+    let rooms = two_rooms(alloc, first, second)?;
+    let (status, left) = serve_rooms(&rt, alloc, rooms, 0, &meeting)?;
+    assert!(rt; !meeting.was_missed());
+    assert_eq!(rt; status, 0);
+    assert_eq!(rt; left.out.written(), b"served 3 version 2\n".as_slice());
+    assert_eq!(rt; written(&left.net, 0, 0), ANSWERS);
+    assert_eq!(rt; written(&left.net, 0, 1), b"OK 1 2\n".as_slice());
+    assert_eq!(rt; written(&left.net, 1, 0), ADDED);
+    Ok(())
+}
+
+#[test]
+fn door_that_fails_ends_its_worker_alone(rt: HostRuntime) -> Result<(), Fail> {
+    let alloc = rt.alloc();
+    let first = room(alloc, &[ASKS, b"OPEN\n"], 0)?;
+    let second = room(alloc, &[], 1)?;
+    let rooms = two_rooms(alloc, first, second)?;
+    let (status, left) = serve_rooms(&rt, alloc, rooms, 0, &Meeting::new(false))?;
+    assert_eq!(rt; status, 7);
+    assert_eq!(rt; left.out.written(), b"error listener\n".as_slice());
+    assert_eq!(rt; written(&left.net, 0, 0), ANSWERS);
+    assert_eq!(rt; written(&left.net, 0, 1), b"OK 1 1\n".as_slice());
+    assert_eq!(rt; left.net.faults(), 1);
+    Ok(())
+}
+
+#[test]
+fn door_fails_at_its_second_call(rt: HostRuntime) -> Result<(), Fail> {
+    let alloc = rt.alloc();
+    let first = room(alloc, &[ASKS, b"OPEN\n"], 2)?;
+    let second = room(alloc, &[OPENS_AND_ADDS], 0)?;
+    let rooms = two_rooms(alloc, first, second)?;
+    let (status, left) = serve_rooms(&rt, alloc, rooms, 0, &Meeting::new(false))?;
+    assert_eq!(rt; status, 7);
+    assert_eq!(rt; written(&left.net, 0, 1), b"none".as_slice());
+    assert_eq!(rt; written(&left.net, 1, 0), ADDED);
+    assert_eq!(rt; left.net.faults(), 1);
+    Ok(())
+}
+
+// Door 0 has one link fewer than its quota, and door 1 has no room.
+#[test]
+fn doors_without_links_fail(rt: HostRuntime) -> Result<(), Fail> {
+    let alloc = rt.alloc();
+    let mut rooms = List::new(alloc);
+    match rooms.push(room(alloc, &[b"OPEN\n"], 0)?) {
+        Ok(()) => {}
+        Err(_) => return Err(Fail::from("memory")),
+    }
+    let (status, left) = serve_rooms(&rt, alloc, rooms, 0, &Meeting::new(false))?;
+    assert_eq!(rt; status, 7);
+    assert_eq!(rt; written(&left.net, 0, 0), b"OK 1 1\n".as_slice());
+    assert_eq!(rt; written(&left.net, 1, 0), b"none".as_slice());
+    assert_eq!(rt; left.net.faults(), 2);
+    Ok(())
+}
+
+// Of the first link the third call fails, which writes the reply to the addition.
+#[test]
+fn update_stands_though_its_reply_is_lost(rt: HostRuntime) -> Result<(), Fail> {
+    let alloc = rt.alloc();
+    let input = Octets::from_slice(alloc, ADDS)?;
+    let failing = numbers(alloc, 3)?;
+    let mut first = room(alloc, &[], 0)?;
+    for link in [
+        MemLink::of(alloc, input, List::new(alloc), failing),
+        MemLink::of(
+            alloc,
+            Octets::from_slice(alloc, b"OPEN\n")?,
+            List::new(alloc),
+            List::new(alloc),
+        ),
+    ] {
+        match first.links.push(link) {
+            Ok(()) => {}
+            Err(_) => return Err(Fail::from("memory")),
+        }
+    }
+    let rooms = two_rooms(alloc, first, room(alloc, &[b""], 0)?)?;
+    let (status, left) = serve_rooms(&rt, alloc, rooms, 0, &Meeting::new(false))?;
+    assert_eq!(rt; status, 0);
+    assert_eq!(rt; left.out.written(), b"served 3 version 2\n".as_slice());
+    assert_eq!(rt; written(&left.net, 0, 0), b"OK\n".as_slice());
+    assert_eq!(rt; written(&left.net, 0, 1), b"OK 1 2\n".as_slice());
+    Ok(())
+}
+
+#[test]
+fn address_that_cannot_be_bound_is_told(rt: HostRuntime) -> Result<(), Fail> {
+    let alloc = rt.alloc();
+    let rooms = List::new(alloc);
+    let (status, left) = serve_rooms(&rt, alloc, rooms, 1, &Meeting::new(false))?;
+    assert_eq!(rt; status, 7);
+    assert_eq!(rt; left.out.written(), b"error listener\n".as_slice());
+    assert_eq!(rt; left.files.asked().len(), 2);
+    assert_eq!(rt; left.net.faults(), 1);
+    Ok(())
+}

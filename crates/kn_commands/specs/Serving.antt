@@ -1,0 +1,106 @@
+-- How serving the connections of an address ends: its status, the line that tells it, and what it leaves (keynoted's own).
+use Rattle.std.specs.Prelude.{ℕ, ◌≡◌, Bool, true, false, List, ◌++◌, codes, decimal, length, Some}
+use Rattle.kn_outside.specs.Seen.{FilesSeen, LinkSeen}
+use Rattle.kn_outside.specs.Asked.{HasAsked}
+use Rattle.kn_outside.specs.Faults.{Rose}
+use Rattle.kn_files.specs.Pieces.{pieces_of}
+use Rattle.kn_auth.specs.declared.key_file.KeyFile.{KeyFile}
+use Rattle.kn_store.specs.declared.update.Update.{Update}
+use Rattle.kn_store.specs.History.{loaded_history}
+use Rattle.kn_daemon.specs.Daemon.{Grounds}
+use Rattle.kn_registry.specs.Passes.{PassSeen}
+use Rattle.kn_workers.specs.declared.binding.Binding.{Binding}
+use Rattle.kn_workers.specs.declared.worker.ServeEnd.{ServeEnd}
+use Rattle.kn_workers.specs.Connections.{ServedSeen}
+use Rattle.kn_workers.specs.Doors.{DoorSeen}
+use Rattle.kn_workers.specs.Nets.{NetSeen, AreBound, with_faults}
+use Rattle.kn_workers.specs.Workers.{AllServed}
+use Rattle.kn_commands.specs.Names.{AskNames, ask_order}
+use Rattle.kn_commands.specs.Held.{IsPolicy, AreKeys}
+use Rattle.kn_commands.specs.Stopping.{status_of, stop_line}
+use Rattle.kn_commands.specs.Asking.{grounds_of, StopsAtPolicy, AreKeysStopped, keys_name}
+use Rattle.kn_commands.specs.declared.stop.Stop.{Stop}
+use Rattle.kn_commands.specs.declared.serve_ending.ServeEnding.{ServeEnding}
+use Rattle.kn_commands.specs.declared.serve_ending.ServeEnding.TheVariants.{PolicyStopped, KeysStopped, BindMemory, Unbound, WorkMemory, DoorFailed, Served}
+
+-- what a service is asked to do: the files that it is given by, and the address with its workers and its connections
+pub record Order : Type 0 where
+  pub files : AskNames
+  pub binding : Binding
+
+module _ {C R : Type 0} (door : R → DoorSeen (ServedSeen C)) (link : C → LinkSeen) where
+  -- The address was bound, which gave these doors, and as many came back. The net's count is then its own and theirs.
+  pub record AreBack (n n' : NetSeen R) (binding : Binding) (doors : List R) : Type 0 where
+    pub bound : AreBound door binding.quota binding.doors 0 doors
+    pub count : length doors ≡ binding.doors
+    pub net : n' ≡ record n { bound = Some binding; rooms = n'.rooms; faults = with_faults door n.faults n'.rooms }
+
+  -- The address was bound, and each door had a worker, who served each connection that it gave. The root, from which no pass was
+  -- split before, had seen this history before, and what it has seen afterwards is the history of all connections. All doors came
+  -- back.
+  pub record AreServed (g : Grounds) (past : List Update) (n n' : NetSeen R) (binding : Binding) (end : ServeEnd) (history : List Update) : Type 0 where
+    pub doors : List R
+    pub back : AreBack n n' binding doors
+    pub before : PassSeen
+    pub after : PassSeen
+    pub past_seen : before.seen ≡ past
+    pub root : before.number ≡ 0
+    pub unsplit : before.splits ≡ 0
+    pub history_seen : after.seen ≡ history
+    pub served : AllServed door link g before after doors n'.rooms end
+
+  -- Why serving an address over this history ends so, and what it leaves of the net. A door that failed, or an address that
+  -- couldn't be bound, raised the net's count.
+  abbrev pub ServesOver : Grounds → List Update → NetSeen R → NetSeen R → Binding → ServeEnding → Type 0
+  ServesOver g past n n' binding (PolicyStopped stop) = ⊥
+  ServesOver g past n n' binding (KeysStopped stop) = ⊥
+  ServesOver g past n n' binding BindMemory = n' ≡ n
+  ServesOver g past n n' binding Unbound = Rose n.faults n'.faults × (n' ≡ record n { bound = Some binding; faults = n'.faults })
+  ServesOver g past n n' binding WorkMemory = AreBack n n' binding n'.rooms
+  ServesOver g past n n' binding DoorFailed =
+      (finished : ℕ) × (history : List Update) × AreServed g past n n' binding (record { finished = finished; failed = true }) history × Rose n.faults n'.faults
+  ServesOver g past n n' binding (Served finished version) =
+      (history : List Update) × AreServed g past n n' binding (record { finished = finished; failed = false }) history
+      × (finished ≡ binding.quota) × (version ≡ length history)
+
+  -- The files were read: a policy and, where one is named, a key file. Over them the address was served.
+  pub record IsServiceRun (f f' : FilesSeen) (n n' : NetSeen R) (order : Order) (ending : ServeEnding) : Type 0 where
+    pub asked : HasAsked (ask_order order.files) f f'
+    pub bytes : List ℕ
+    pub policy : IsPolicy f order.files.policy bytes
+    pub keys : KeyFile
+    pub known : AreKeys f order.files.keys keys
+    pub serves : ServesOver (grounds_of keys) (loaded_history (pieces_of bytes)) n n' order.binding ending
+
+  -- Why `serve` ends so, and what it leaves of the files and of the net. Before both files are tried the net is untouched.
+  abbrev pub ServeCause : FilesSeen → FilesSeen → NetSeen R → NetSeen R → Order → ServeEnding → Type 0
+  ServeCause f f' n n' order (PolicyStopped stop) = StopsAtPolicy f f' order.files.policy stop × (n' ≡ n)
+  ServeCause f f' n n' order (KeysStopped stop) = AreKeysStopped f f' order.files stop × (n' ≡ n)
+  ServeCause f f' n n' order BindMemory = IsServiceRun f f' n n' order BindMemory
+  ServeCause f f' n n' order Unbound = IsServiceRun f f' n n' order Unbound
+  ServeCause f f' n n' order WorkMemory = IsServiceRun f f' n n' order WorkMemory
+  ServeCause f f' n n' order DoorFailed = IsServiceRun f f' n n' order DoorFailed
+  ServeCause f f' n n' order (Served finished version) = IsServiceRun f f' n n' order (Served finished version)
+
+abbrev pub status_of_serve : ServeEnding → ℕ
+status_of_serve (PolicyStopped stop) = status_of stop
+status_of_serve (KeysStopped stop) = status_of stop
+status_of_serve BindMemory = 5
+status_of_serve Unbound = 7
+status_of_serve WorkMemory = 5
+status_of_serve DoorFailed = 7
+status_of_serve (Served finished version) = 0
+
+-- the line that tells how many connections were served, and the last version
+unfoldable pub served_line : ℕ → ℕ → List ℕ
+served_line finished version = codes "served " ++ decimal finished ++ codes " version " ++ decimal version ++ codes "\n"
+
+-- the line that is due
+abbrev pub line_of_serve : Order → ServeEnding → List ℕ
+line_of_serve order (PolicyStopped stop) = stop_line order.files.policy stop
+line_of_serve order (KeysStopped stop) = stop_line (keys_name order.files) stop
+line_of_serve order BindMemory = codes "error memory\n"
+line_of_serve order Unbound = codes "error listener\n"
+line_of_serve order WorkMemory = codes "error memory\n"
+line_of_serve order DoorFailed = codes "error listener\n"
+line_of_serve order (Served finished version) = served_line finished version
