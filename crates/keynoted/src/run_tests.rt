@@ -344,7 +344,8 @@ fn generated_credentials_are_told(rt: HostRuntime) -> Result<(), Fail> {
 fn a_front_of_a_line_may_be_written(rt: HostRuntime) -> Result<(), Fail> {
     let long: &[&[u8]] = &[b"ask", &[b'n'; 600]];
     let faulty: &[&[u8]] = &[b"ask", b"f.kn"];
-    let table: [(&[&[u8]], (u32, u32, u32), (u8, u32, &[u8], &[u8])); 5] = [
+    let table: [(&[&[u8]], (u32, u32, u32), (u8, u32, &[u8], &[u8])); 6] = [
+        (&[b"ask"], (0, 0, 1), (9, 0, b"", b"")),
         (faulty, (0, 0, 1), (9, 1, b"", b"")),
         (
             faulty,

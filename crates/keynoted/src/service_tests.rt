@@ -162,33 +162,49 @@ fn doors_without_links_fail(rt: HostRuntime) -> Result<(), Fail> {
     Ok(())
 }
 
-// Of the first link the third call fails, which writes the reply to the addition.
-#[test]
-fn update_stands_though_its_reply_is_lost(rt: HostRuntime) -> Result<(), Fail> {
-    let alloc = rt.alloc();
-    let input = Octets::from_slice(alloc, ADDS)?;
-    let failing = numbers(alloc, 3)?;
+/// A link with this input, of which this call fails; 0 for none.
+fn link(alloc: Global, input: &[u8], failing: u32) -> Result<MemLink, NoMemory> {
+    let input = Octets::from_slice(alloc, input)?;
+    let failing = numbers(alloc, failing)?;
+    Ok(MemLink::of(alloc, input, List::new(alloc), failing))
+}
+
+/// What is written to a link on which a credential is added, whose call of this number fails, and to the next one of its door.
+fn add_over<R: Threads + Wait + Sync>(
+    rt: &R,
+    alloc: Global,
+    failing: u32,
+) -> Result<(Octets, Octets), Fail> {
     let mut first = room(alloc, &[], 0)?;
-    for link in [
-        MemLink::of(alloc, input, List::new(alloc), failing),
-        MemLink::of(
-            alloc,
-            Octets::from_slice(alloc, b"OPEN\n")?,
-            List::new(alloc),
-            List::new(alloc),
-        ),
-    ] {
+    for link in [link(alloc, ADDS, failing)?, link(alloc, b"OPEN\n", 0)?] {
         match first.links.push(link) {
             Ok(()) => {}
             Err(_) => return Err(Fail::from("memory")),
         }
     }
     let rooms = two_rooms(alloc, first, room(alloc, &[b""], 0)?)?;
-    let (status, left) = serve_rooms(&rt, alloc, rooms, 0, &Meeting::new(false))?;
-    assert_eq!(rt; status, 0);
-    assert_eq!(rt; left.out.written(), b"served 3 version 2\n".as_slice());
-    assert_eq!(rt; written(&left.net, 0, 0), b"OK\n".as_slice());
-    assert_eq!(rt; written(&left.net, 0, 1), b"OK 1 2\n".as_slice());
+    let (_, left) = serve_rooms(rt, alloc, rooms, 0, &Meeting::new(false))?;
+    Ok((
+        Octets::from_slice(alloc, written(&left.net, 0, 0))?,
+        Octets::from_slice(alloc, written(&left.net, 0, 1))?,
+    ))
+}
+
+// The first call reads the whole input, and each other one writes a reply.
+#[test]
+fn update_stands_though_its_reply_is_lost(rt: HostRuntime) -> Result<(), Fail> {
+    let replies: &[u8] = b"OK\nOK a2 2\nOK\n";
+    for failing in 2..6 {
+        let (own, next) = add_over(&rt, rt.alloc(), failing)?;
+        assert!(rt; replies.starts_with(own.as_slice()));
+        assert_eq!(rt; own.len() == replies.len(), failing == 5);
+        let version: &[u8] = if own.len() < 3 {
+            b"OK 1 1\n"
+        } else {
+            b"OK 1 2\n"
+        };
+        assert_eq!(rt; next.as_slice(), version);
+    }
     Ok(())
 }
 
