@@ -1,4 +1,6 @@
 //! The program serves an address whose doors are in memory.
+ghost use Rattle.std.specs.Prelude.{All, IfOk};
+ghost use Rattle.kn_workers.specs.InMemory.{IsNewLink};
 
 use crate::meeting::Meeting;
 use crate::run_tests::{Outside, numbers, octets, outside_of, status_of};
@@ -45,19 +47,61 @@ BYE
 
 const ADDED: &[u8] = b"OK 1 1\nOK\nOK a2 2\nOK\n";
 
-/// A room with a link for each input, of which this call of its door fails; 0 for none.
-fn room(alloc: Global, inputs: &[&[u8]], failing: u32) -> Result<MemRoom, NoMemory> {
-    let mut links = List::new(alloc);
-    for input in inputs {
-        let input = Octets::from_slice(alloc, input)?;
-        let link = MemLink::of(alloc, input, List::new(alloc), List::new(alloc));
-        match links.push(link) {
-            Ok(()) => {}
-            Err(_) => return Err(NoMemory),
-        }
-    }
+/// A link with this input, of which this call fails; 0 for none.
+fn link(alloc: Global, input: &[u8], failing: u32) -> Result<MemLink, NoMemory>
+    ensures { IfOk result (λ link. IsNewLink link) }
+{
+    let input = Octets::from_slice(alloc, input)?;
     let failing = numbers(alloc, failing)?;
-    Ok(MemRoom { links, failing })
+    Ok(MemLink::of(alloc, input, List::new(alloc), failing))
+}
+
+/// A link more.
+fn with_link(links: List<MemLink>, link: MemLink) -> Result<List<MemLink>, NoMemory>
+    requires links { All IsNewLink links }
+    requires link { IsNewLink link }
+    ensures { IfOk result (λ more. All IsNewLink more) }
+{
+    let mut links = links;
+    match links.push(link) {
+        Ok(()) => Ok(links),
+        Err(_) => Err(NoMemory),
+    }
+}
+
+/// A room with no link, whose door fails at this call; 0 for none.
+fn no_links(alloc: Global, failing: u32) -> Result<MemRoom, NoMemory> {
+    Ok(MemRoom {
+        links: List::new(alloc),
+        failing: numbers(alloc, failing)?,
+    })
+}
+
+/// A room with one link.
+fn one_link(alloc: Global, link: MemLink) -> Result<MemRoom, NoMemory>
+    requires { IsNewLink link }
+{
+    Ok(MemRoom {
+        links: with_link(List::new(alloc), link)?,
+        failing: List::new(alloc),
+    })
+}
+
+/// A room with two links, whose door fails at this call; 0 for none.
+fn two_links(
+    alloc: Global,
+    first: MemLink,
+    second: MemLink,
+    failing: u32,
+) -> Result<MemRoom, NoMemory>
+    requires first { IsNewLink first }
+    requires second { IsNewLink second }
+{
+    let links = with_link(List::new(alloc), first)?;
+    Ok(MemRoom {
+        links: with_link(links, second)?,
+        failing: numbers(alloc, failing)?,
+    })
 }
 
 fn two_rooms(alloc: Global, first: MemRoom, second: MemRoom) -> Result<List<MemRoom>, NoMemory> {
@@ -102,8 +146,8 @@ fn written(net: &MemNet, door: u32, i: usize) -> &[u8] {
 #[test]
 fn connections_are_served_side_by_side(rt: HostRuntime) -> Result<(), Fail> {
     let alloc = rt.alloc();
-    let first = room(alloc, &[ASKS, b"OPEN\n"], 0)?;
-    let second = room(alloc, &[OPENS_AND_ADDS], 0)?;
+    let first = two_links(alloc, link(alloc, ASKS, 0)?, link(alloc, b"OPEN\n", 0)?, 0)?;
+    let second = one_link(alloc, link(alloc, OPENS_AND_ADDS, 0)?)?;
     let meeting = Meeting::new(true);
     let rooms = two_rooms(alloc, first, second)?;
     let (status, left) = serve_rooms(&rt, alloc, rooms, 0, &meeting)?;
@@ -119,8 +163,8 @@ fn connections_are_served_side_by_side(rt: HostRuntime) -> Result<(), Fail> {
 #[test]
 fn door_that_fails_ends_its_worker_alone(rt: HostRuntime) -> Result<(), Fail> {
     let alloc = rt.alloc();
-    let first = room(alloc, &[ASKS, b"OPEN\n"], 0)?;
-    let second = room(alloc, &[], 1)?;
+    let first = two_links(alloc, link(alloc, ASKS, 0)?, link(alloc, b"OPEN\n", 0)?, 0)?;
+    let second = no_links(alloc, 1)?;
     let rooms = two_rooms(alloc, first, second)?;
     let (status, left) = serve_rooms(&rt, alloc, rooms, 0, &Meeting::new(false))?;
     assert_eq!(rt; status, 7);
@@ -134,8 +178,8 @@ fn door_that_fails_ends_its_worker_alone(rt: HostRuntime) -> Result<(), Fail> {
 #[test]
 fn door_fails_at_its_second_call(rt: HostRuntime) -> Result<(), Fail> {
     let alloc = rt.alloc();
-    let first = room(alloc, &[ASKS, b"OPEN\n"], 2)?;
-    let second = room(alloc, &[OPENS_AND_ADDS], 0)?;
+    let first = two_links(alloc, link(alloc, ASKS, 0)?, link(alloc, b"OPEN\n", 0)?, 2)?;
+    let second = one_link(alloc, link(alloc, OPENS_AND_ADDS, 0)?)?;
     let rooms = two_rooms(alloc, first, second)?;
     let (status, left) = serve_rooms(&rt, alloc, rooms, 0, &Meeting::new(false))?;
     assert_eq!(rt; status, 7);
@@ -150,7 +194,7 @@ fn door_fails_at_its_second_call(rt: HostRuntime) -> Result<(), Fail> {
 fn doors_without_links_fail(rt: HostRuntime) -> Result<(), Fail> {
     let alloc = rt.alloc();
     let mut rooms = List::new(alloc);
-    match rooms.push(room(alloc, &[b"OPEN\n"], 0)?) {
+    match rooms.push(one_link(alloc, link(alloc, b"OPEN\n", 0)?)?) {
         Ok(()) => {}
         Err(_) => return Err(Fail::from("memory")),
     }
@@ -162,27 +206,20 @@ fn doors_without_links_fail(rt: HostRuntime) -> Result<(), Fail> {
     Ok(())
 }
 
-/// A link with this input, of which this call fails; 0 for none.
-fn link(alloc: Global, input: &[u8], failing: u32) -> Result<MemLink, NoMemory> {
-    let input = Octets::from_slice(alloc, input)?;
-    let failing = numbers(alloc, failing)?;
-    Ok(MemLink::of(alloc, input, List::new(alloc), failing))
-}
-
 /// What is written to a link on which a credential is added, whose call of this number fails, and to the next one of its door.
 fn add_over<R: Threads + Wait + Sync>(
     rt: &R,
     alloc: Global,
     failing: u32,
 ) -> Result<(Octets, Octets), Fail> {
-    let mut first = room(alloc, &[], 0)?;
-    for link in [link(alloc, ADDS, failing)?, link(alloc, b"OPEN\n", 0)?] {
-        match first.links.push(link) {
-            Ok(()) => {}
-            Err(_) => return Err(Fail::from("memory")),
-        }
-    }
-    let rooms = two_rooms(alloc, first, room(alloc, &[b""], 0)?)?;
+    let first = two_links(
+        alloc,
+        link(alloc, ADDS, failing)?,
+        link(alloc, b"OPEN\n", 0)?,
+        0,
+    )?;
+    let second = one_link(alloc, link(alloc, b"", 0)?)?;
+    let rooms = two_rooms(alloc, first, second)?;
     let (_, left) = serve_rooms(rt, alloc, rooms, 0, &Meeting::new(false))?;
     Ok((
         Octets::from_slice(alloc, written(&left.net, 0, 0))?,
