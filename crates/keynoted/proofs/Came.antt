@@ -12,7 +12,7 @@ use Rattle.kn_files.specs.Pieces.{pieces_of}
 use Rattle.kn_check.specs.declared.reject.Reject.{Reject}
 use Rattle.kn_proof.specs.declared.reply.ReadReply.{ReadReply}
 use Rattle.kn_proof.proofs.Only.{one_reply, reply_without_fault}
-use Rattle.kn_wire.specs.declared.refusal.LimitWord.{LimitWord}
+use Rattle.kn_reply.specs.declared.refusal.LimitWord.{LimitWord}
 use Rattle.kn_session.specs.Sessions.{Session}
 use Rattle.kn_store.specs.Loading.{IsLoadable, IsFaultyAt}
 use Rattle.kn_store.proofs.Loading.{ends_once}

@@ -8,7 +8,7 @@ use Rattle.kn_assert.specs.declared.fault.ReadFault.{ReadFault}
 use Rattle.kn_auth.specs.KeyFiles.{IsFirstMalformed}
 use Rattle.kn_files.specs.Pieces.{pieces_of}
 use Rattle.kn_check.specs.declared.reject.Reject.{Reject}
-use Rattle.kn_wire.specs.declared.refusal.LimitWord.{LimitWord}
+use Rattle.kn_reply.specs.declared.refusal.LimitWord.{LimitWord}
 use Rattle.kn_daemon.specs.declared.ended.Ended.{Ended}
 use Rattle.kn_daemon.specs.declared.ended.Ended.TheVariants as E
 use Rattle.kn_session.specs.Sessions.{Session}

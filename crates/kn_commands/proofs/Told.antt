@@ -6,8 +6,8 @@ use Rattle.kn_outside.specs.Seen.{LinkSeen}
 use Rattle.kn_outside.specs.Printing.{Prints}
 use Rattle.kn_assert.specs.declared.fault.ReadFault.{ReadFault}
 use Rattle.kn_assert.specs.Faults.{fault_number, fault_place}
-use Rattle.kn_wire.specs.declared.refusal.LimitWord.{LimitWord}
-use Rattle.kn_wire.specs.Replies.{word_text}
+use Rattle.kn_reply.specs.declared.refusal.LimitWord.{LimitWord}
+use Rattle.kn_reply.specs.Replies.{word_text}
 use Rattle.kn_commands.specs.Stopping.{policy_fault_line, limit_line, keys_line}
 use Rattle.kn_commands.specs.Asking.{cut_line, block_line}
 

@@ -1,9 +1,9 @@
 -- What loading has made of texts, and what stops it.
 use Rattle.std.specs.Prelude.{ℕ, ◌≡◌, List, Some}
 use Rattle.atomic_table.specs.Seated.{TableId}
-use Rattle.kn_wire.specs.declared.refusal.LimitWord.{LimitWord}
-use Rattle.kn_wire.specs.declared.refusal.LimitWord.TheVariants as W
-use Rattle.kn_wire.specs.declared.refusal.Refusal.TheVariants.{Limit as TheLimit}
+use Rattle.kn_reply.specs.declared.refusal.LimitWord.{LimitWord}
+use Rattle.kn_reply.specs.declared.refusal.LimitWord.TheVariants as W
+use Rattle.kn_reply.specs.declared.refusal.Refusal.TheVariants.{Limit as TheLimit}
 use Rattle.kn_store.specs.declared.fault.StoreFault.{StoreFault}
 use Rattle.kn_store.specs.declared.fault.StoreFault.TheVariants as F
 use Rattle.kn_store.specs.History.{loaded_history}

@@ -5,8 +5,8 @@ use Rattle.kn_outside.specs.Seen.{FilesSeen}
 use Rattle.kn_outside.specs.Asked.{HasAsked, HasFailed}
 use Rattle.kn_assert.specs.declared.fault.ReadFault.{ReadFault}
 use Rattle.kn_assert.specs.Faults.{fault_number, fault_place}
-use Rattle.kn_wire.specs.declared.refusal.LimitWord.{LimitWord}
-use Rattle.kn_wire.specs.Replies.{word_text}
+use Rattle.kn_reply.specs.declared.refusal.LimitWord.{LimitWord}
+use Rattle.kn_reply.specs.Replies.{word_text}
 use Rattle.kn_commands.specs.Held.{IsTooLarge}
 use Rattle.kn_commands.specs.declared.stop.Stop.{Stop}
 use Rattle.kn_commands.specs.declared.stop.Stop.TheVariants.{Words, FileFailed, FileTooLarge, Policy, Limit, KeyLine, Memory}

@@ -8,7 +8,7 @@ use arrayvec::ArrayVec;
 use itoa::Buffer;
 use kn_assert::ReadFault;
 use kn_outside::{Failed, Sink, write_all};
-use kn_wire::LimitWord;
+use kn_reply::LimitWord;
 
 /// The bytes of a line that is written at once.
 const GATHERED_BYTES: usize = 512;

@@ -13,7 +13,7 @@ use kn_base::{List, NoMemory, Span};
 use kn_files::split_file;
 use kn_registry::{Pass, Registry};
 use kn_store::{Ready, StoreFault};
-use kn_wire::LimitWord;
+use kn_reply::LimitWord;
 use std::alloc::Global;
 use std::sync::Wait;
 

@@ -2,7 +2,7 @@
 ghost use Rattle.std.specs.Prelude.{◌≡◌};
 
 use kn_assert::ReadFault;
-use kn_wire::LimitWord;
+use kn_reply::LimitWord;
 
 /// What stops a command before its work is done.
 #[derive(Debug, Clone, Copy, PartialEq, Eq)]

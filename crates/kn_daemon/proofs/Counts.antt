@@ -3,9 +3,9 @@ use Rattle.std.proofs.Common.{◌≡◌, ℕ, ◌+◌, ◌≤◌, Option, None, 
 use Rattle.std.specs.List.{AllByRecursion}
 use Rattle.kn_principal.specs.Principals.{normal_form}
 use Rattle.kn_store.specs.declared.update.Update.{Update}
-use Rattle.kn_wire.specs.declared.refusal.Refusal.{Refusal}
+use Rattle.kn_reply.specs.declared.refusal.Refusal.{Refusal}
 use Rattle.kn_wire.specs.Requests.{Request, Open, Close, Pin, Assert, Retract, Set, SetHex, Unset, Auth, Unauth, Clear, Query, Admin, Add, Drop, Bye, Faulty}
-use Rattle.kn_wire.specs.Replies.{Reply, Done, Started, Number, PrivateAdded, Added, Value, No, NoMemory}
+use Rattle.kn_reply.specs.Replies.{Reply, Done, Started, Number, PrivateAdded, Added, Value, No, NoMemory}
 use Rattle.kn_daemon.specs.Daemon.{Grounds, State, first_state, with_session, own_refusal, changed, Does, Permits}
 use Rattle.kn_daemon.specs.Played.{unless_refused, after_request, played}
 use Rattle.kn_session.specs.Sessions.{Session, started_session, add_requester, is_named}

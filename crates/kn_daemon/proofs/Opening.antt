@@ -2,7 +2,7 @@
 use Rattle.std.proofs.Common.{ℕ, false, [], ◌∷◌, codes, refl, inl, le_refl, zero-le, arith}
 use Rattle.std.specs.Fmt.{digits}
 use Rattle.kn_wire.specs.Requests.{Open, Bye}
-use Rattle.kn_wire.specs.Replies.{Done, Started}
+use Rattle.kn_reply.specs.Replies.{Done, Started}
 use Rattle.kn_daemon.specs.declared.ended.Ended.TheVariants as E
 use Rattle.kn_daemon.specs.Daemon.{Grounds, first_state, changed}
 use Rattle.kn_daemon.specs.Served.{IsServed}

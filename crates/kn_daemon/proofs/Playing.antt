@@ -1,9 +1,9 @@
 -- What the daemon permits changes the state as playing does.
 use Rattle.std.proofs.Common.{◌≡◌, ◌≢◌, ℕ, suc, Option, List, [], ◌∷◌, length, take, All, Some, None, refl, sym, ap, ◌∙◌, subst, arith, take_all, le_refl}
-use Rattle.kn_wire.specs.declared.refusal.Refusal.{Refusal}
+use Rattle.kn_reply.specs.declared.refusal.Refusal.{Refusal}
 use Rattle.kn_store.specs.declared.update.Update.{Update}
 use Rattle.kn_wire.specs.Requests.{Request, Open, Close, Pin, Assert, Retract, Set, SetHex, Unset, Auth, Unauth, Clear, Query, Admin, Add, Drop, Bye, Faulty}
-use Rattle.kn_wire.specs.Replies.{Reply, Done, Started, Number, PrivateAdded, Added, Value, No, NoMemory}
+use Rattle.kn_reply.specs.Replies.{Reply, Done, Started, Number, PrivateAdded, Added, Value, No, NoMemory}
 use Rattle.kn_daemon.specs.Daemon.{Grounds, State, own_refusal, placed_refusal, or_else, first_refusal, changed, Does, Permits}
 use Rattle.kn_daemon.specs.Linearized.{Exchange, Along, requests_in}
 use Rattle.kn_daemon.specs.Played.{unless_refused, after_request, played}

@@ -4,8 +4,8 @@ use Rattle.kn_trees.specs.declared.assertion.Assertion.{Assertion}
 use Rattle.kn_assert.specs.Reading.{reading_of, assertion_in, fault_in, assertion_of, fault_of}
 use Rattle.kn_assert.specs.Faults.{fault_number, fault_place}
 use Rattle.kn_assert.specs.declared.fault.ReadFault.{ReadFault}
-use Rattle.kn_wire.specs.declared.refusal.Refusal.{Refusal}
-use Rattle.kn_wire.specs.declared.refusal.Refusal.TheVariants as R
+use Rattle.kn_reply.specs.declared.refusal.Refusal.{Refusal}
+use Rattle.kn_reply.specs.declared.refusal.Refusal.TheVariants as R
 use Rattle.kn_daemon.specs.Daemon.{refusal_of_reading}
 
 by_fault : (r : Result Assertion ReadFault) (fault : ReadFault) → fault_in r ≡ Some fault → r ≡ Err fault

@@ -6,7 +6,7 @@ use Rattle.std.proofs.lemmas.List.Elements.{filter-append, filter_map-append}
 use Rattle.kn_wire.specs.declared.fault.WireFault.TheVariants as F
 use Rattle.kn_store.specs.declared.update.Update.{Update}
 use Rattle.kn_wire.specs.Requests.{Request, Open, Close, Pin, Assert, Retract, Set, SetHex, Unset, Auth, Unauth, Clear, Query, Admin, Add, Drop, Bye, Faulty, Takes, first_of, is_newline}
-use Rattle.kn_wire.specs.Replies.{Reply, reply_text}
+use Rattle.kn_reply.specs.Replies.{Reply, reply_text}
 use Rattle.kn_store.specs.History.{is_valid_history}
 use Rattle.kn_daemon.specs.declared.ended.Ended.{Ended}
 use Rattle.kn_daemon.specs.declared.ended.Ended.TheVariants as E

@@ -24,12 +24,12 @@ use Rattle.kn_session.specs.declared.fault.SessionFault.TheVariants as S
 use Rattle.kn_session.specs.Sessions.{Session, session_in, with_changed, without_session, with_started, start_fault, fault_in, private_fault, retract_fault, set_fault, unset_fault, auth_fault, unauth_fault, pin_at, add_private, take_private, set_attribute, unset_attribute, add_requester, take_requester, cleared}
 use Rattle.kn_wire.specs.declared.fault.WireFault.{WireFault}
 use Rattle.kn_wire.specs.declared.fault.WireFault.TheVariants as F
-use Rattle.kn_wire.specs.declared.refusal.Refusal.{Refusal}
-use Rattle.kn_wire.specs.declared.refusal.Refusal.TheVariants as R
-use Rattle.kn_wire.specs.declared.refusal.LimitWord.TheVariants as W
+use Rattle.kn_reply.specs.declared.refusal.Refusal.{Refusal}
+use Rattle.kn_reply.specs.declared.refusal.Refusal.TheVariants as R
+use Rattle.kn_reply.specs.declared.refusal.LimitWord.TheVariants as W
 use Rattle.kn_wire.specs.Digits.{bytes_of_digits}
 use Rattle.kn_wire.specs.Requests.{Request, Open, Close, Pin, Assert, Retract, Set, SetHex, Unset, Auth, Unauth, Clear, Query, Admin, Add, Drop, Bye, Faulty}
-use Rattle.kn_wire.specs.Replies.{Reply, Done, Started, Number, PrivateAdded, Added, Value, No, NoMemory}
+use Rattle.kn_reply.specs.Replies.{Reply, Done, Started, Number, PrivateAdded, Added, Value, No, NoMemory}
 
 -- what the daemon is started with: the administrators' secret, and the authenticator's number for a text, 0 where it is admitted
 pub record Grounds : Type 0 where

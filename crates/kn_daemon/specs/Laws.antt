@@ -6,12 +6,12 @@ use Rattle.kn_assert.specs.Reading.{reading_of, assertion_of, fault_of}
 use Rattle.kn_assert.specs.Faults.{fault_number, fault_place}
 use Rattle.kn_assert.specs.declared.fault.ReadFault.{ReadFault}
 use Rattle.kn_wire.specs.declared.fault.WireFault.TheVariants as F
-use Rattle.kn_wire.specs.declared.refusal.Refusal.{Refusal}
-use Rattle.kn_wire.specs.declared.refusal.Refusal.TheVariants as R
+use Rattle.kn_reply.specs.declared.refusal.Refusal.{Refusal}
+use Rattle.kn_reply.specs.declared.refusal.Refusal.TheVariants as R
 use Rattle.kn_store.specs.declared.update.Change.TheVariants as C
 use Rattle.kn_store.specs.declared.update.Update.{Update}
 use Rattle.kn_wire.specs.Requests.{Request, Bye, Faulty, Takes, AreRequests}
-use Rattle.kn_wire.specs.Replies.{Reply, NoMemory, reply_text}
+use Rattle.kn_reply.specs.Replies.{Reply, NoMemory, reply_text}
 use Rattle.kn_store.specs.declared.update.Numbered.{Numbered}
 use Rattle.kn_store.specs.History.{live, is_valid_history, may_follow, all_changes}
 use Rattle.kn_daemon.specs.declared.ended.Ended.{Ended}

@@ -2,7 +2,7 @@
 -- want of memory.
 use Rattle.std.specs.Prelude.{ℕ, ◌≡◌, List, [], ◌∷◌, ◌++◌, Bool, ◌||◌, Option, Some, None, if◌then◌else◌}
 use Rattle.kn_env.specs.Values.{values_of}
-use Rattle.kn_wire.specs.declared.refusal.Refusal.{Refusal}
+use Rattle.kn_reply.specs.declared.refusal.Refusal.{Refusal}
 use Rattle.kn_store.specs.declared.update.Update.{Update}
 use Rattle.kn_wire.specs.Requests.{Request, Open, Close, Pin, Assert, Retract, Set, SetHex, Unset, Auth, Unauth, Clear, Query, Admin, Add, Drop, Bye, Faulty}
 use Rattle.kn_daemon.specs.Daemon.{Grounds, State, first_state, session_of, own_refusal, changed}

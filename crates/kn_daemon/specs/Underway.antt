@@ -2,7 +2,7 @@
 use Rattle.std.specs.Prelude.{ℕ, ◌≡◌, false, List, ◌++◌, length, drop, flat_map, filter_map, option_to_list, ◌≤◌, Some}
 use Rattle.kn_store.specs.declared.update.Update.{Update}
 use Rattle.kn_wire.specs.Requests.{Request, Takes}
-use Rattle.kn_wire.specs.Replies.{Reply}
+use Rattle.kn_reply.specs.Replies.{Reply}
 use Rattle.kn_daemon.specs.Daemon.{Grounds, State, first_state, session_of, Permits}
 use Rattle.kn_session.specs.Sessions.{Session}
 use Rattle.kn_daemon.specs.Linearized.{Exchange, Along, InOrder, StopsAt, StandsFor, is_placed, own_updates, update_of, update_by, requests_in, texts_in}

@@ -14,11 +14,11 @@ use Rattle.kn_session.specs.declared.fault.SessionFault.{SessionFault}
 use Rattle.kn_session.specs.declared.fault.SessionFault.TheVariants as S
 use Rattle.kn_session.specs.Sessions.{Session, OpenSessions, session_in, fault_in, private_fault, add_private}
 use Rattle.kn_session.specs.Connection.{fault_at, with_open_session}
-use Rattle.kn_wire.specs.declared.refusal.Refusal.{Refusal}
-use Rattle.kn_wire.specs.declared.refusal.Refusal.TheVariants as R
+use Rattle.kn_reply.specs.declared.refusal.Refusal.{Refusal}
+use Rattle.kn_reply.specs.declared.refusal.Refusal.TheVariants as R
 use Rattle.kn_wire.specs.Digits.{bytes_of_digits}
 use Rattle.kn_wire.specs.Requests.{Assert, Admin}
-use Rattle.kn_wire.specs.Replies.{Done, PrivateAdded, No, reply_text}
+use Rattle.kn_reply.specs.Replies.{Done, PrivateAdded, No, reply_text}
 use Rattle.kn_daemon.specs.Daemon.{Grounds, State, session_of, in_session, own_refusal, refuse_if, refusal_by, refusal_of_private, refusal_of_session, is_secret, IsPrivateAdded}
 use Rattle.kn_daemon.specs.Laws.{FaultRefuses, ReadingGoesOn}
 use Rattle.kn_serve.specs.Handling.{HasRoom, IsTold, refused_reply, refusal_of_read}

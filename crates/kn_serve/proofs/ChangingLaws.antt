@@ -17,11 +17,11 @@ use Rattle.kn_outside.specs.Printing.{Prints}
 use Rattle.kn_store.specs.declared.fault.StoreFault.{StoreFault}
 use Rattle.kn_store.specs.declared.fault.StoreFault.TheVariants as S
 use Rattle.kn_store.specs.History.{all_changes, refusal_of_text, refusal_of_id, addition_by, removal_by}
-use Rattle.kn_wire.specs.declared.refusal.Refusal.{Refusal}
-use Rattle.kn_wire.specs.declared.refusal.Refusal.TheVariants as R
-use Rattle.kn_wire.specs.declared.refusal.LimitWord.TheVariants as W
+use Rattle.kn_reply.specs.declared.refusal.Refusal.{Refusal}
+use Rattle.kn_reply.specs.declared.refusal.Refusal.TheVariants as R
+use Rattle.kn_reply.specs.declared.refusal.LimitWord.TheVariants as W
 use Rattle.kn_wire.specs.Requests.{Request, Add, Drop}
-use Rattle.kn_wire.specs.Replies.{Number, Added, No, NoMemory, reply_text}
+use Rattle.kn_reply.specs.Replies.{Number, Added, No, NoMemory, reply_text}
 use Rattle.kn_daemon.specs.Daemon.{Grounds, State, own_refusal, placed_refusal, or_else, refusal_of_store}
 use Rattle.kn_registry.specs.Passes.{PassSeen, Looks, Adds, Removes, IsRefused, RefusesText, RefusesId}
 use Rattle.kn_serve.specs.Handling.{Handled, IsTold, refusal_of_read, refused_reply}

@@ -5,9 +5,9 @@ use Rattle.kn_outside.specs.Seen.{LinkSeen}
 use Rattle.kn_outside.specs.Printing.{Prints}
 use Rattle.kn_store.specs.declared.update.Update.{Update}
 use Rattle.kn_wire.specs.declared.fault.WireFault.{WireFault}
-use Rattle.kn_wire.specs.declared.refusal.Refusal.{Refusal}
+use Rattle.kn_reply.specs.declared.refusal.Refusal.{Refusal}
 use Rattle.kn_wire.specs.Requests.{Request, Open, Close, Pin, Assert, Retract, Set, SetHex, Unset, Auth, Unauth, Clear, Query, Admin, Add, Drop, Bye, Faulty}
-use Rattle.kn_wire.specs.Replies.{Reply, Done, Started, Number, PrivateAdded, Added, Value, No, NoMemory, reply_text}
+use Rattle.kn_reply.specs.Replies.{Reply, Done, Started, Number, PrivateAdded, Added, Value, No, NoMemory, reply_text}
 use Rattle.kn_daemon.specs.Daemon.{Grounds, State, Permits, Answers, own_refusal, placed_refusal, or_else, changed, may_lack_memory, refusal_of_fault}
 use Rattle.kn_daemon.specs.Linearized.{update_by, is_placed, StandsFor}
 use Rattle.kn_registry.specs.Passes.{PassSeen, Moves, Looks, Stays}

@@ -9,10 +9,10 @@ use Rattle.kn_outside.specs.Printing.{Prints}
 use Rattle.kn_session.specs.declared.fault.SessionFault.{SessionFault}
 use Rattle.kn_session.specs.Sessions.{OpenSessions, session_in, start_fault, fault_in, with_started, pin_at}
 use Rattle.kn_session.specs.Connection.{with_open_session}
-use Rattle.kn_wire.specs.declared.refusal.Refusal.TheVariants as R
-use Rattle.kn_wire.specs.declared.refusal.LimitWord.TheVariants as W
+use Rattle.kn_reply.specs.declared.refusal.Refusal.TheVariants as R
+use Rattle.kn_reply.specs.declared.refusal.LimitWord.TheVariants as W
 use Rattle.kn_wire.specs.Requests.{Open, Pin}
-use Rattle.kn_wire.specs.Replies.{Started, Number, No, NoMemory, reply_text}
+use Rattle.kn_reply.specs.Replies.{Started, Number, No, NoMemory, reply_text}
 use Rattle.kn_daemon.specs.Daemon.{Grounds, State, session_of, refusal_by}
 use Rattle.kn_registry.specs.Passes.{PassSeen, Looks, Stays}
 use Rattle.kn_serve.specs.Handling.{Handled, IsTold}

@@ -11,12 +11,12 @@ use Rattle.kn_outside.specs.Seen.{LinkSeen}
 use Rattle.kn_outside.specs.Printing.{Prints}
 use Rattle.kn_session.specs.declared.fault.SessionFault.{SessionFault}
 use Rattle.kn_session.specs.Sessions.{Session, fault_in}
-use Rattle.kn_wire.specs.declared.refusal.Refusal.{Refusal}
-use Rattle.kn_wire.specs.declared.refusal.Refusal.TheVariants as R
+use Rattle.kn_reply.specs.declared.refusal.Refusal.{Refusal}
+use Rattle.kn_reply.specs.declared.refusal.Refusal.TheVariants as R
 use Rattle.kn_meaning.specs.Equations.{IsPolicyLevel}
 use Rattle.kn_meaning.specs.Proofs.{IsProof}
 use Rattle.kn_wire.specs.Requests.{Query}
-use Rattle.kn_wire.specs.Replies.{Value, No, reply_text}
+use Rattle.kn_reply.specs.Replies.{Value, No, reply_text}
 use Rattle.kn_daemon.specs.Daemon.{Grounds, State, session_of, equations_of}
 use Rattle.kn_serve.specs.Handling.{IsTold, refusal_of_values, refused_reply}
 use Rattle.kn_serve.proofs.HandlingLaws.{told_refused, told_memory, told_done}

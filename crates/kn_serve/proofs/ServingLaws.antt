@@ -8,7 +8,7 @@ use Rattle.kn_store.specs.declared.update.Update.{Update}
 use Rattle.kn_store.specs.History.{is_valid_history}
 use Rattle.kn_wire.specs.declared.fault.WireFault.TheVariants as F
 use Rattle.kn_wire.specs.Requests.{Request, Bye, Faulty}
-use Rattle.kn_wire.specs.Replies.{reply_text}
+use Rattle.kn_reply.specs.Replies.{reply_text}
 use Rattle.kn_wire.specs.Feeding.{Held, Bytes, held_bytes, pushed, next_of}
 use Rattle.kn_daemon.specs.declared.ended.Ended.{Ended}
 use Rattle.kn_daemon.specs.declared.ended.Ended.TheVariants as E

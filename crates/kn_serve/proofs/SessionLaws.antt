@@ -9,11 +9,11 @@ use Rattle.kn_session.specs.declared.fault.SessionFault.TheVariants as S
 use Rattle.kn_session.specs.Sessions.{Session, OpenSessions, session_in, fault_in, fault_if, has_private, retract_fault, set_fault, unset_fault, auth_fault, unauth_fault, is_named, take_private, set_attribute, unset_attribute, add_requester, take_requester, cleared}
 use Rattle.kn_session.specs.Connection.{fault_at, with_open_session, with_closed}
 use Rattle.kn_env.specs.Attributes.{has_attribute}
-use Rattle.kn_wire.specs.declared.refusal.Refusal.{Refusal}
-use Rattle.kn_wire.specs.declared.refusal.Refusal.TheVariants as R
+use Rattle.kn_reply.specs.declared.refusal.Refusal.{Refusal}
+use Rattle.kn_reply.specs.declared.refusal.Refusal.TheVariants as R
 use Rattle.kn_wire.specs.Digits.{bytes_of_digits}
 use Rattle.kn_wire.specs.Requests.{Request, Close, Retract, Set, SetHex, Unset, Auth, Unauth, Clear}
-use Rattle.kn_wire.specs.Replies.{Reply, Done, No, reply_text}
+use Rattle.kn_reply.specs.Replies.{Reply, Done, No, reply_text}
 use Rattle.kn_daemon.specs.Daemon.{Grounds, State, Answers, own_refusal, changed, may_lack_memory, refusal_by, refusal_of_session}
 use Rattle.kn_daemon.specs.Linearized.{update_by, is_placed}
 use Rattle.kn_serve.specs.Handling.{IsTold, refused_reply, reply_of_call}

@@ -9,10 +9,10 @@ use Rattle.kn_outside.specs.Printing.{Prints}
 use Rattle.kn_store.specs.declared.update.Update.{Update}
 use Rattle.kn_session.specs.declared.fault.SessionFault.{SessionFault}
 use Rattle.kn_wire.specs.declared.fault.WireFault.TheVariants as F
-use Rattle.kn_wire.specs.declared.refusal.Refusal.{Refusal}
-use Rattle.kn_wire.specs.declared.refusal.Refusal.TheVariants as R
+use Rattle.kn_reply.specs.declared.refusal.Refusal.{Refusal}
+use Rattle.kn_reply.specs.declared.refusal.Refusal.TheVariants as R
 use Rattle.kn_wire.specs.Requests.{Request, Bye, Faulty}
-use Rattle.kn_wire.specs.Replies.{Reply, Done, No, NoMemory, reply_text}
+use Rattle.kn_reply.specs.Replies.{Reply, Done, No, NoMemory, reply_text}
 use Rattle.kn_wire.specs.Feeding.{Held, next_of}
 use Rattle.kn_daemon.specs.Daemon.{Grounds, State, Permits, refusal_of_session}
 use Rattle.kn_daemon.specs.Linearized.{update_by, is_placed}

@@ -7,7 +7,8 @@ ghost use Rattle.kn_serve.specs.Handling.{state_of, IsTold};
 
 use crate::connection::Connection;
 use kn_outside::{Failed, Link};
-use kn_wire::{Refusal, Reply, are_digits_of, print};
+use kn_reply::{Refusal, Reply, print};
+use kn_wire::are_digits_of;
 
 /// Answers ADMIN. A wrong secret doesn't take back an earlier right one.
 pub(crate) fn show_secret<L: Link>(

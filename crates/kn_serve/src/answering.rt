@@ -18,7 +18,8 @@ use crate::setting::{auth_requester, clear, set, set_digits, unauth_requester, u
 use kn_auth::Authenticator;
 use kn_outside::{Failed, Link};
 use kn_registry::{Pass, Registry};
-use kn_wire::{Reply, Request, WireFault, print};
+use kn_reply::{Reply, print};
+use kn_wire::{Request, WireFault};
 use std::alloc::Global;
 use std::sync::Wait;
 

@@ -11,7 +11,7 @@ use crate::refusals::{print_call, print_refusal, refusal_of_read, refusal_of_ses
 use kn_assert::read;
 use kn_daemon::laws;
 use kn_outside::{Failed, Link};
-use kn_wire::{Refusal, Reply, print};
+use kn_reply::{Refusal, Reply, print};
 use std::alloc::Global;
 
 /// Answers ASSERT.

@@ -15,7 +15,7 @@ use kn_base::NoMemory;
 use kn_outside::{Failed, Link};
 use kn_registry::{Pass, Registry};
 use kn_store::Ready;
-use kn_wire::{Refusal, Reply, print};
+use kn_reply::{Refusal, Reply, print};
 use std::alloc::Global;
 use std::sync::Wait;
 

@@ -11,7 +11,7 @@ use kn_base::NoMemory;
 use kn_base::limits::SESSIONS;
 use kn_outside::{Failed, Link};
 use kn_registry::{Pass, Registry};
-use kn_wire::{LimitWord, Refusal, Reply, print};
+use kn_reply::{LimitWord, Refusal, Reply, print};
 use std::sync::Wait;
 
 /// Answers OPEN.

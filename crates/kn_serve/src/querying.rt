@@ -10,7 +10,7 @@ use kn_base::NoMemory;
 use kn_env::Values;
 use kn_outside::{Failed, Link};
 use kn_query::answer_query;
-use kn_wire::{Refusal, Reply, print};
+use kn_reply::{Refusal, Reply, print};
 use std::alloc::Global;
 
 /// Answers QUERY.

@@ -2,7 +2,7 @@
 ghost use Rattle.std.specs.Prelude.{◌≡◌, ◌<◌, ◌^◌};
 ghost use Rattle.kn_assert.specs.Faults.{fault_place};
 ghost use Rattle.kn_outside.specs.Printing.{Prints, is_whole};
-ghost use Rattle.kn_wire.specs.Replies.{reply_text};
+ghost use Rattle.kn_reply.specs.Replies.{reply_text};
 ghost use Rattle.kn_daemon.specs.Daemon.{refusal_of_fault, refusal_of_session, refusal_of_store};
 ghost use Rattle.kn_serve.specs.Handling.{refusal_of_read, refusal_of_values, refused_reply, reply_of_call};
 
@@ -11,7 +11,8 @@ use kn_env::ValuesFault;
 use kn_outside::{Failed, Link};
 use kn_session::SessionFault;
 use kn_store::StoreFault;
-use kn_wire::{LimitWord, Refusal, Reply, WireFault, print};
+use kn_reply::{LimitWord, Refusal, Reply, print};
+use kn_wire::WireFault;
 
 /// The refusal of a line that is no request, or of a block.
 pub(crate) fn refusal_of_fault(fault: WireFault) -> Refusal

@@ -10,7 +10,8 @@ use crate::connection::Connection;
 use crate::refusals::print_call;
 use kn_base::NoMemory;
 use kn_outside::{Failed, Link};
-use kn_wire::{Refusal, Reply, decode_digits, print};
+use kn_reply::{Refusal, Reply, print};
+use kn_wire::decode_digits;
 use std::alloc::Global;
 
 /// Answers SET.

@@ -3,7 +3,7 @@ use Rattle.std.specs.Prelude.{ℕ, ◌≡◌, ◌<◌, List, length}
 use Rattle.kn_proof.specs.declared.reply.ReadReply.{ReadReply}
 use Rattle.kn_session.specs.Sessions.{Session}
 use Rattle.kn_meaning.specs.Equations.{Equations}
-use Rattle.kn_wire.specs.Replies.{Reply, Value}
+use Rattle.kn_reply.specs.Replies.{Reply, Value}
 use Rattle.kn_daemon.specs.Daemon.{equations_of, IsAnswer}
 use Rattle.kn_verify.specs.Verdicts.{IsProved, IsRefusal}
 use Rattle.kn_verify.specs.declared.verdict.Refused.{Refused}

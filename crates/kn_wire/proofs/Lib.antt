@@ -9,4 +9,3 @@ pub mod Pieces
 pub mod Splits
 pub mod Firsts
 pub mod Feeds
-pub mod Gathering

@@ -1,5 +1,4 @@
 pub mod Requests
-pub mod Replies
 pub mod Digits
 pub mod Feeding
 pub mod Pieces
@@ -9,4 +8,3 @@ pub mod Lines
 pub mod Parts
 pub mod Firsts
 pub mod Feeds
-pub mod Gathering

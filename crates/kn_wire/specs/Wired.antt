@@ -1,10 +1,7 @@
--- What requests and replies in code stand for.
+-- What requests in code stand for.
 use Rattle.kn_wire.specs.declared.request.Request.{Request}
 use Rattle.kn_wire.specs.declared.request.Request.TheVariants as Q
-use Rattle.kn_wire.specs.declared.reply.Reply.{Reply}
-use Rattle.kn_wire.specs.declared.reply.Reply.TheVariants as P
 use Rattle.kn_wire.specs.Requests as D
-use Rattle.kn_wire.specs.Replies as A
 
 -- what a request asks
 abbrev pub request_of : Request → D.Request
@@ -24,14 +21,3 @@ request_of (Q.Admin digits) = D.Admin digits.now
 request_of (Q.Add block) = D.Add block.now
 request_of (Q.Remove k) = D.Drop k
 request_of Q.Bye = D.Bye
-
--- what a reply tells
-abbrev pub reply_of : Reply → A.Reply
-reply_of P.Ok = A.Done
-reply_of (P.Started s version) = A.Started s version
-reply_of (P.Number version) = A.Number version
-reply_of (P.Private k) = A.PrivateAdded k
-reply_of (P.Added k version) = A.Added k version
-reply_of (P.Value index name version rows) = A.Value index name.now version rows.now
-reply_of (P.No refusal) = A.No refusal
-reply_of P.NoMemory = A.NoMemory

@@ -1,9 +1,9 @@
-//! Requests of byte streams, however they are cut. Expected lines are written by hand from the protocol's rules.
+//! Requests of byte streams, however they are cut, and digits. Expected lines are written by hand from the protocol's rules.
 ghost use Rattle.std.specs.Prelude.{◌≡◌, ◌≤◌, ◌<◌, true, None, IfOk};
 ghost use Rattle.kn_wire.specs.Feeding.{next_of};
 ghost use Rattle.kn_wire.specs.Feeds.{held};
 
-use crate::{Feed, PIECE_BYTES, Request, WireFault};
+use crate::{Feed, PIECE_BYTES, Request, WireFault, are_digits_of, decode_digits};
 use itoa::Buffer;
 use std::alloc::{AllocError, AllocGlobal, Global};
 use std::process::Abort;
@@ -301,5 +301,18 @@ fn line_without_end(rt: HostRuntime) -> Result<(), Fail> {
         b"no 14\n",
         0,
     );
+    Ok(())
+}
+
+#[test]
+fn digits_of_bytes(rt: HostRuntime) -> Result<(), Fail> {
+    assert!(rt; are_digits_of(b"733363726574", b"s3cret"));
+    assert!(rt; are_digits_of(b"00fFAb", b"\x00\xff\xab"));
+    assert!(rt; are_digits_of(b"", b""));
+    assert!(rt; !are_digits_of(b"733363726574", b"s3cres"));
+    assert!(rt; !are_digits_of(b"7333637265", b"s3cret"));
+    assert!(rt; !are_digits_of(b"733363726574", b"s3cre"));
+    let bytes = decode_digits(rt.alloc(), b"312E32")?;
+    assert_eq!(rt; bytes.as_slice(), b"1.2".as_slice());
     Ok(())
 }

@@ -1,13 +1,10 @@
-//! Worked examples of requests and replies, each shown by computing it. The functions have no body: their clauses are what they say.
+//! Worked examples of requests, each shown by computing it. The functions have no body: their clauses are what they say.
 
 ghost use Rattle.std.specs.Prelude.{ℕ, List, ◌≡◌, ◌<◌, ◌≤◌, ◌++◌, ◌∷◌, [], false, length, codes, Some, None};
 ghost use Rattle.std.specs.List.{list_any};
 ghost use Rattle.kn_wire.specs.Requests as Q;
 ghost use Rattle.kn_wire.specs.Requests.{first_of, Takes, is_newline, first_of_line, line_of, without_return};
-ghost use Rattle.kn_wire.specs.Replies.{reply_text, Done, Started, Value, No, NoMemory};
 ghost use Rattle.kn_wire.specs.declared.fault.WireFault.TheVariants as F;
-ghost use Rattle.kn_wire.specs.declared.refusal.Refusal.TheVariants as R;
-ghost use Rattle.kn_wire.specs.declared.refusal.LimitWord.TheVariants as W;
 
 /// The first request of a text, and what is left of it.
 pub fn first_requests()
@@ -44,19 +41,6 @@ pub fn whole_texts()
         (Q.Auth 1 (codes " a b ") ∷ Q.Auth 1 [] ∷ Q.Query 1 [] ∷ []) [] }
     ensures attributes { Takes (codes "SET 1 v a b\r\nSET 1 v \nSET 1 v\n")
         (Q.Set 1 (codes "v") (codes "a b") ∷ Q.Set 1 (codes "v") [] ∷ Q.Set 1 (codes "v") [] ∷ []) [] }
-{}
-
-/// The texts of replies.
-pub fn reply_texts()
-    ensures done { reply_text Done ≡ codes "OK\n" }
-    ensures started { reply_text (Started 1 1) ≡ codes "OK 1 1\n" }
-    ensures granted { reply_text (Value 1 (codes "yes") 1 []) ≡ codes "VALUE 1 yes 1 0\nEND\n" }
-    ensures denied { reply_text (Value 0 (codes "no") 0 []) ≡ codes "VALUE 0 no 0 0\nEND\n" }
-    ensures syntax { reply_text (No R.Syntax) ≡ codes "NO 1 syntax\n" }
-    ensures session { reply_text (No R.Session) ≡ codes "NO 3 session\n" }
-    ensures limit { reply_text (No (R.Limit W.Sessions 16)) ≡ codes "NO 13 limit sessions 16\n" }
-    ensures read { reply_text (No (R.Read 12 0)) ≡ codes "NO 5 read 12 0\n" }
-    ensures no_memory { reply_text NoMemory ≡ codes "NOMEM\n" }
 {}
 
 /// A line of more than 8,192 bytes is refused as too long; a line up to that length is read.

@@ -9,7 +9,7 @@ use Rattle.kn_assert.specs.declared.fault.ReadFault.{ReadFault}
 use Rattle.kn_meaning.specs.Equations.{Equations, IsPolicyLevel}
 use Rattle.kn_meaning.specs.Proofs.{IsProof}
 use Rattle.kn_wire.specs.Requests.{Open, Admin, Auth, Add, Query, Pin}
-use Rattle.kn_wire.specs.Replies.{Done, Started, Added, Value, Number}
+use Rattle.kn_reply.specs.Replies.{Done, Started, Added, Value, Number}
 use Rattle.kn_daemon.specs.Daemon.{Grounds, State, first_state, changed, refusal_of_reading, refusal_of_verdict}
 use Rattle.kn_worked.specs.Texts.{credential_text, credential_assertion}
 use Rattle.kn_worked.specs.Connections.{policy_history, longer_history, BobIsAnswered}

@@ -4,7 +4,7 @@ use Rattle.std.specs.Fmt.{digits}
 use Rattle.kn_meaning.specs.Equations.{Equations, IsPolicyLevel}
 use Rattle.kn_meaning.specs.Proofs.{IsProof}
 use Rattle.kn_wire.specs.Requests.{Open, Auth, Query}
-use Rattle.kn_wire.specs.Replies.{Done, Started, Value}
+use Rattle.kn_reply.specs.Replies.{Done, Started, Value}
 use Rattle.kn_daemon.specs.Daemon.{State, first_state, changed}
 use Rattle.kn_worked.specs.Connections.{policy_history, AliceIsAnswered}
 use Rattle.kn_worked.proofs.Levels.{two_values, policy_row, alice_level, alice_proof, alice_session, alice_question, policy_valid}

@@ -13,7 +13,7 @@ use Rattle.kn_meaning.specs.Proofs.{IsRow, AreRows, IsProof}
 use Rattle.kn_meaning.proofs.Walks.{formula_level_who}
 use Rattle.kn_session.specs.Sessions.{Session}
 use Rattle.kn_wire.specs.Requests.{Request, Open, Auth, Query, Bye, Takes, first_of}
-use Rattle.kn_wire.specs.Replies.{Reply, Done, Started, Number, PrivateAdded, Added, Value, No, NoMemory, reply_text}
+use Rattle.kn_reply.specs.Replies.{Reply, Done, Started, Number, PrivateAdded, Added, Value, No, NoMemory, reply_text}
 use Rattle.kn_daemon.specs.declared.ended.Ended.TheVariants as E
 use Rattle.kn_daemon.specs.Daemon as D
 use Rattle.kn_daemon.specs.Daemon.{Grounds, State, first_state, Permits}

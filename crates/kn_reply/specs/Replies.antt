@@ -1,0 +1,70 @@
+-- Replies and their texts (keynoted's own line protocol).
+use Rattle.std.specs.Prelude.{ℕ, List, [], ◌∷◌, ◌++◌, codes, decimal}
+use Rattle.kn_proof.specs.declared.named.NamedRow.{NamedRow}
+use Rattle.kn_proof.specs.Texts.{value_text}
+use Rattle.kn_reply.specs.declared.reply.Reply.{Reply as Printed}
+use Rattle.kn_reply.specs.declared.reply.Reply.TheVariants as P
+use Rattle.kn_reply.specs.declared.refusal.Refusal.{Refusal}
+use Rattle.kn_reply.specs.declared.refusal.Refusal.TheVariants as R
+use Rattle.kn_reply.specs.declared.refusal.LimitWord.{LimitWord}
+use Rattle.kn_reply.specs.declared.refusal.LimitWord.TheVariants as W
+
+pub data Reply : Type 0 where
+  Done : Reply
+  Started : ℕ → ℕ → Reply
+  Number : ℕ → Reply
+  PrivateAdded : ℕ → Reply
+  Added : ℕ → ℕ → Reply
+  Value : ℕ → List ℕ → ℕ → List NamedRow → Reply
+  No : Refusal → Reply
+  NoMemory : Reply
+
+abbrev pub word_text : LimitWord → List ℕ
+word_text W.Sessions = codes "sessions"
+word_text W.Private = codes "private"
+word_text W.PrivateBytes = codes "private-bytes"
+word_text W.Requesters = codes "requesters"
+word_text W.Attributes = codes "attributes"
+word_text W.Live = codes "live"
+word_text W.LiveBytes = codes "live-bytes"
+word_text W.Updates = codes "updates"
+word_text W.LogBytes = codes "log-bytes"
+
+abbrev pub refusal_text : Refusal → List ℕ
+refusal_text R.Syntax = codes "1 syntax"
+refusal_text R.Command = codes "2 command"
+refusal_text R.Session = codes "3 session"
+refusal_text R.Admin = codes "4 admin"
+refusal_text (R.Read fault place) = codes "5 read " ++ decimal fault ++ 32 ∷ decimal place
+refusal_text R.Policy = codes "6 policy"
+refusal_text (R.Auth fault) = codes "7 auth " ++ decimal fault
+refusal_text R.Name = codes "8 name"
+refusal_text R.Value = codes "9 value"
+refusal_text R.Values = codes "10 values"
+refusal_text R.Principal = codes "11 principal"
+refusal_text R.Unknown = codes "12 unknown"
+refusal_text (R.Limit word count) = codes "13 limit " ++ word_text word ++ 32 ∷ decimal count
+refusal_text R.Long = codes "14 long"
+refusal_text R.Block = codes "15 block"
+
+-- the text of a reply
+abbrev pub reply_text : Reply → List ℕ
+reply_text Done = codes "OK\n"
+reply_text (Started s version) = codes "OK " ++ decimal s ++ 32 ∷ decimal version ++ 10 ∷ []
+reply_text (Number version) = codes "OK " ++ decimal version ++ 10 ∷ []
+reply_text (PrivateAdded k) = codes "OK p" ++ decimal k ++ 10 ∷ []
+reply_text (Added k version) = codes "OK a" ++ decimal k ++ 32 ∷ decimal version ++ 10 ∷ []
+reply_text (Value index name version rows) = value_text index name version rows
+reply_text (No refusal) = codes "NO " ++ refusal_text refusal ++ 10 ∷ []
+reply_text NoMemory = codes "NOMEM\n"
+
+-- what a reply in code tells
+abbrev pub reply_of : Printed → Reply
+reply_of P.Ok = Done
+reply_of (P.Started s version) = Started s version
+reply_of (P.Number version) = Number version
+reply_of (P.Private k) = PrivateAdded k
+reply_of (P.Added k version) = Added k version
+reply_of (P.Value index name version rows) = Value index name.now version rows.now
+reply_of (P.No refusal) = No refusal
+reply_of P.NoMemory = NoMemory

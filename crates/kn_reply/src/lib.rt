@@ -1,0 +1,17 @@
+//! The line protocol's replies as text (keynoted's own).
+//!
+//! `print` writes exactly a reply's text, without memory, in few writes. The definitions stand in `specs/`, with worked
+//! examples. Requests are kn_wire's.
+#![tactic(auto)]
+
+#[cfg(test)]
+mod print_tests;
+mod printer;
+mod printing;
+mod refusal;
+mod reply;
+pub mod worked;
+
+pub use printing::print;
+pub use refusal::{LimitWord, Refusal};
+pub use reply::Reply;
