@@ -1,3 +1,4 @@
+//! The names of principals, each with its number.
 ghost use Rattle.std.specs.Prelude.{◌≡◌, ◌^◌, ◌<◌, ◌≤◌, [], ◌∷◌, ◌++◌, length, IfSome, IfNone, OnOk, OnErr};
 ghost use Rattle.kn_answer.specs.Numbering.{IsNumber, IsAbsent};
 

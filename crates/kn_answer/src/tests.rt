@@ -1,3 +1,4 @@
+//! Answers to small queries, each proof of which is checked.
 use crate::{Part, Tally, answer, build};
 use kn_base::{List, NoMemory, Steps};
 use kn_check::check;

@@ -1,3 +1,4 @@
+//! What is asked and what is answered.
 use kn_assert::Assertion;
 use kn_base::List;
 use kn_proof::{Id, NamedRow};

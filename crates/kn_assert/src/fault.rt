@@ -1,3 +1,4 @@
+//! The faults of a text that is no assertion.
 ghost use Rattle.std.specs.Prelude.{◌≡◌};
 ghost use Rattle.kn_assert.specs.Faults.{fault_number, fault_place};
 

@@ -1,3 +1,4 @@
+//! The first fault of what the fields state, in the order of the fields in the text.
 ghost use Rattle.std.specs.Prelude.{◌≡◌, ◌<◌, length, drop};
 ghost use Rattle.kn_fields.specs.Fields.{fields_of};
 ghost use Rattle.kn_assert.specs.Reading.{fault_of_part, fault_by, first_of};

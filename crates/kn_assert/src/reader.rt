@@ -1,3 +1,4 @@
+//! Reading an assertion from a text.
 ghost use Rattle.std.specs.Prelude.{◌≡◌, ◌≤◌, ◌⊎◌, ℕ, List, length, Some, Ok, IfOk, IfErr, IfSome};
 ghost use Rattle.kn_base.specs.declared.limits.TheConstants.{ASSERTION_BYTES};
 ghost use Rattle.kn_trees.specs.Levels.{program_depth};

@@ -1,3 +1,4 @@
+//! Texts with their assertions, and texts with their faults and places.
 use super::*;
 use kn_base::Octets;
 use std::alloc::Global;

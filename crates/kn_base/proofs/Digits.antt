@@ -1,3 +1,4 @@
+-- Decimal digits.
 use Rattle.std.proofs.Common.{◌≡◌, ℕ, true, Bool, ◌+◌, ◌-◌, ◌*◌, ◌^◌, ◌<◌, ◌≤◌, List, ◌∷◌, length, drop, get_or, arith, add-one, lit<}
 use Rattle.std.proofs.Math.Nat.{pow-suc, pow-le-pow_right}
 use Rattle.std.proofs.lemmas.List.{drop_more}

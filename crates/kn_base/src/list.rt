@@ -1,3 +1,4 @@
+//! Lists.
 ghost use Rattle.std.specs.Prelude.{◌≡◌, ◌<◌, ◌+◌, ◌≤◌, [], ◌∷◌, ◌++◌, length, vec_len, ◌^◌, slice_get, slice_set, remove, ◌↔◌, IsTrue, IfOk, IfErr, OnOk, OnErr, MatchOption};
 ghost use Rattle.std.specs.Option.{option_copied};
 

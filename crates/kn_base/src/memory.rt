@@ -1,3 +1,4 @@
+//! Want of memory.
 /// There was no memory for what a call had to keep.
 ///
 /// A list also answers it where its length would not fit a `u32`.

@@ -1,3 +1,4 @@
+//! Numbers in decimal digits.
 ghost use Rattle.std.specs.Prelude.{◌≡◌, ◌≤◌, ◌-◌, true, false, length, IfSome, IfNone, if◌then◌else◌};
 ghost use Rattle.std.specs.List.{list_all};
 ghost use Rattle.kn_base.specs.Decimal.{decimal_of, digits_value, has_decimal_form, is_digit};

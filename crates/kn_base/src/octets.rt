@@ -1,3 +1,4 @@
+//! Bytes on the heap.
 ghost use Rattle.std.specs.Prelude.{◌≡◌, [], ◌∷◌, ◌++◌, length, ◌↔◌, IsTrue, IfOk, OnOk, OnErr};
 
 use crate::memory::NoMemory;

@@ -1,3 +1,4 @@
+//! Lists with room.
 ghost use Rattle.std.specs.Prelude.{◌≡◌, ◌<◌, ◌+◌, ◌-◌, ◌≤◌, [], ◌∷◌, ◌++◌, length, vec_len, ◌^◌, slice_get, slice_set, remove, IsOk, IfErr, OnOk, OnErr, MatchOption};
 ghost use Rattle.std.specs.Option.{option_copied};
 

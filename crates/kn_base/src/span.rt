@@ -1,3 +1,4 @@
+//! Places in a text.
 /// The bytes of a text from `start` up to, and without, `end`, both counted from 0.
 #[derive(Debug, Clone, Copy, PartialEq, Eq)]
 pub struct Span {

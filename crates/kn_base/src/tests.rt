@@ -1,3 +1,4 @@
+//! Lists, bytes, numbers, counts and limits.
 use crate::{Boxed, List, Octets, Reserved, Steps, decimal, limits};
 use std::test::Fail;
 

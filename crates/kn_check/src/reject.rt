@@ -1,3 +1,4 @@
+//! Why rows are no proof.
 ghost use Rattle.std.specs.Prelude.{◌≡◌};
 
 /// Why rows are no proof of a level: the first item that fails. The rows of the proof are tried first, in order and each

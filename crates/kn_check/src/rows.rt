@@ -1,3 +1,4 @@
+//! Checking the rows of a proof.
 ghost use Rattle.std.specs.Prelude.{◌≡◌, ◌<◌, ◌+◌, ◌-◌, ◌^◌, ℕ, length, min, slice_index, IfErr, IsOk, OnOk};
 ghost use Rattle.kn_check.specs.Reads.{nodes_read, support_nodes};
 ghost use Rattle.kn_check.specs.Rejects.{IsOwn, IsReject, IsRowReject, IsRowFault, IsUnclosed, worth_at};

@@ -1,3 +1,4 @@
+//! Proofs that hold, and proofs that fail at each item.
 ghost use Rattle.std.specs.Prelude.{◌≡◌, ◌∷◌, [], IfOk};
 ghost use Rattle.kn_system.specs.declared.rows.Piece.TheVariants.{Who};
 

@@ -1,3 +1,4 @@
+//! What an expression gives.
 use crate::texts::Text;
 
 /// What an expression gives.

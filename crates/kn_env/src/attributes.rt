@@ -1,3 +1,4 @@
+//! The attributes of an action.
 ghost use Rattle.std.specs.Prelude.{◌≡◌, ◌≤◌, ◌↔◌, ◌⊎◌, true, false, [], length, Some, None, IsTrue, OnOk, OnErr, IfErr};
 ghost use Rattle.std.specs.List.{list_all, IsDistinct};
 ghost use Rattle.std.specs.Option.{option_map};

@@ -1,3 +1,4 @@
+//! Local constants.
 use kn_base::Octets;
 
 /// A local constant of an assertion (RFC 2704, section 4, the Local-Constants field).

@@ -1,3 +1,4 @@
+//! What is asked, beside the assertions.
 ghost use Rattle.std.specs.Prelude.{◌≡◌, ◌≤◌, length, find, ◌∷◌, IfOk};
 ghost use Rattle.std.specs.List.{join_with_byte};
 ghost use Rattle.std.specs.Option.{option_map, option_copied};

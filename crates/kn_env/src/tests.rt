@@ -1,3 +1,4 @@
+//! Names and values at fault, limits, and what an attribute gives.
 ghost use Rattle.std.specs.Prelude.{◌≡◌, ◌++◌, ◌∷◌, [], IfOk, OnOk};
 ghost use Rattle.kn_env.specs.Environment.{AreRequesters};
 

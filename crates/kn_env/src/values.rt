@@ -1,3 +1,4 @@
+//! Compliance values.
 ghost use Rattle.std.specs.Prelude.{◌≡◌, ◌⊎◌, ◌<◌, ◌≤◌, ◌+◌, ◌-◌, ℕ, [], true, Some, None, length, slice_get, slice_index_or, take, IfOk, IfErr, IfSome, ◌&&◌, ◌==◌, nat_le, count_by};
 ghost use Rattle.std.specs.List.{list_all, list_any, join_with_byte, AllByRecursion, IsDistinct};
 ghost use Rattle.std.specs.Str.{bytes_eq};

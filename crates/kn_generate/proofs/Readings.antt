@@ -51,7 +51,8 @@ use Rattle.kn_generate.proofs.Scans.{bytes_of, tokens_at, AreCuts, text_tokens}
 use Rattle.kn_generate.proofs.Literals.{quoted, IsNaming}
 use Rattle.kn_generate.proofs.CutLemmas.{IsDigit, credential_cuts, policy_cuts, Cuts}
 
-no_faults : Faults
+-- none of the fields is at fault
+pub no_faults : Faults
 no_faults = record { authorizer = None; conditions = None; licensees = None; signature = None }
 
 still_none : (b : Bool) (o : Option ReadFault) → o ≡ None → (if b then None else o) ≡ None
@@ -63,7 +64,8 @@ unfolding no_faults
 none_by None = refl
 none_by (Some n) = still_none (n == 1) _ (still_none (n == 3) _ (still_none (n == 5) _ (still_none (n == 7) _ refl)))
 
-none_first : (fields : List Field) → first_of no_faults fields ≡ None
+-- then none of any fields is the first with a fault
+pub none_first : (fields : List Field) → first_of no_faults fields ≡ None
 unfolding first_of
 none_first [] = refl
 none_first (field ∷ fields) = rw (none_by (field_of field.label)) (none_first fields)
@@ -85,7 +87,8 @@ unfolding reading_with
 fields_read text tokens constants a l c s =
     put_together (fields_of tokens) constants (signed_to text tokens) (authorizer_in constants (field_with 1 tokens)) (licensees_in constants (field_with 5 tokens)) (conditions_in (field_with 3 tokens)) (signature_in (field_with 7 tokens)) a l c s
 
-fields_told : (text : List ℕ) (tokens : List Seen) → nat_lt 16384 (length text) ≡ false → tokens_or_fault text ≡ Ok tokens → fault_in tokens ≡ None → fields_or_fault text ≡ Ok tokens
+-- the fields of a short text whose tokens show no fault
+pub fields_told : (text : List ℕ) (tokens : List Seen) → nat_lt 16384 (length text) ≡ false → tokens_or_fault text ≡ Ok tokens → fault_in tokens ≡ None → fields_or_fault text ≡ Ok tokens
 unfolding fields_or_fault
 fields_told text tokens short cut none = rw (short, cut, none) refl
 
@@ -134,7 +137,8 @@ formula_ok : (va vb vc vd : List ℕ) → is_bad va ≡ false → is_bad vb ≡ 
 formula_ok va vb vc vd ea eb ec ed =
     formula_judged _ (written va vb vc vd) (words_spell va vb vc vd) (good_thresholds va vb vc vd) (good_names va vb vc vd ea eb ec ed)
 
-one_spells : (v : List ℕ) → read_words (L.literal v ∷ []) ≡ Some (Who (Literal v))
+-- one literal is a formula
+pub one_spells : (v : List ℕ) → read_words (L.literal v ∷ []) ≡ Some (Who (Literal v))
 unfolding read_words ors_at ands_at one_at forms_at parts_after behind joined
 one_spells v = refl
 

@@ -1,3 +1,4 @@
+//! The plain program for proofs, on small systems.
 use crate::plain::is_proof;
 use kn_base::{List, NoMemory, Octets};
 use kn_meaning::plain::Stated;

@@ -1,3 +1,4 @@
+//! The plain program for levels, on small systems.
 use crate::plain::{Level, Stated, formula_level, least_levels, level_of};
 use kn_base::{List, NoMemory, Octets};
 use kn_proof::Id;

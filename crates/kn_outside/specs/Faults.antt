@@ -1,3 +1,4 @@
+-- Counts of faults.
 use Rattle.std.specs.Prelude.{ℕ, ◌+◌, ◌-◌, ◌^◌, ◌≤◌, min}
 
 -- a count that goes up by one, as far as u64 goes

@@ -1,3 +1,4 @@
+-- What is told of an input.
 use Rattle.std.specs.Prelude.{ℕ, List, ◌++◌, Option, Some, None}
 
 -- what is told, with these bytes behind it

@@ -1,3 +1,4 @@
+//! Files in memory.
 use kn_base::Octets;
 
 /// A file in memory.

@@ -1,3 +1,4 @@
+//! Files that are read whole.
 ghost use Rattle.std.specs.Prelude.{◌≡◌, ◌<◌, ◌≤◌, length, IfOk, IfSome, IsSomeAnd};
 ghost use Rattle.kn_outside.specs.Asked.{Leaves};
 

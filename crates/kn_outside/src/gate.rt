@@ -1,3 +1,4 @@
+//! A gate before each reply, for tests.
 use std::sync::Wait;
 
 /// What is passed before each reply, as a test wants it. Nothing is claimed of it.

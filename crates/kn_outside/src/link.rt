@@ -1,3 +1,4 @@
+//! Connections.
 ghost use Rattle.std.specs.Prelude.{◌≡◌, ◌<◌, ◌≤◌, [], take, drop, length, IfOk, IfSome, OnErr};
 ghost use Rattle.kn_outside.specs.Faults.{Rose};
 ghost use Rattle.kn_outside.specs.Reading.{Reads};

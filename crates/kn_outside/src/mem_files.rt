@@ -1,3 +1,4 @@
+//! A folder of files in memory.
 ghost use Rattle.std.specs.Prelude.{◌≡◌, ◌+◌, ◌-◌, ◌^◌, ◌<◌, ◌≤◌, [], ◌++◌, true, false, min, length, IfOk, IfSome, IsSomeAnd, OnOk, OnErr};
 ghost use Rattle.std.specs.Option.{option_copied};
 ghost use Rattle.kn_outside.specs.InMemory.{IsAnswer, answer_of, asked_for, content_of, files_after, next_answer};

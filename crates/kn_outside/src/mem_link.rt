@@ -1,3 +1,4 @@
+//! A connection in memory.
 ghost use Rattle.std.specs.Prelude.{◌≡◌, ◌+◌, ◌-◌, ◌^◌, ◌<◌, ◌≤◌, [], ◌++◌, true, false, min, length, take, drop, IfOk, OnOk, OnErr, IsErr, IsTrue, ◌↔◌};
 ghost use Rattle.kn_outside.specs.Faults.{raised};
 ghost use Rattle.kn_outside.specs.InMemory.{is_failing, cut_of};

@@ -1,3 +1,4 @@
+//! A sink in memory.
 ghost use Rattle.std.specs.Prelude.{◌≡◌, ◌+◌, ◌-◌, ◌^◌, ◌<◌, ◌≤◌, [], ◌++◌, true, false, min, length, IfOk, OnOk, OnErr, IsErr, IsTrue, ◌↔◌};
 ghost use Rattle.kn_outside.specs.InMemory.{is_failing};
 ghost use Rattle.kn_outside.specs.Faults.{raised, Rose};

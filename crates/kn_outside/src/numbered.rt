@@ -1,3 +1,4 @@
+//! Calls that are chosen to fail, by their numbers.
 ghost use Rattle.std.specs.Prelude.{◌≡◌};
 ghost use Rattle.kn_outside.specs.InMemory.{is_failing};
 

@@ -1,3 +1,4 @@
+//! What is written to.
 ghost use Rattle.std.specs.Prelude.{◌≡◌, ℕ, ◌<◌, ◌≤◌, take, length, IfOk, OnErr};
 ghost use Rattle.kn_outside.specs.Told.{more};
 ghost use Rattle.kn_outside.specs.Faults.{Rose};

@@ -1,3 +1,4 @@
+//! The fakes in memory, with calls that fail.
 ghost use Rattle.std.specs.Prelude.{◌≡◌, ◌≤◌, ◌<◌, true, IfOk, IfSome, OnErr};
 ghost use Rattle.kn_outside.specs.Told.{more};
 ghost use Rattle.kn_outside.specs.Faults.{Rose};

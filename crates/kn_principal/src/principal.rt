@@ -1,3 +1,4 @@
+//! Principals and their normal form (RFC 2704, section 4).
 ghost use Rattle.std.specs.Prelude.{◌≡◌, ◌↔◌, ◌<◌, ◌≤◌, ℕ, [], ◌++◌, length, map, take, drop, codes, nat_eq, bytes_eq, IfOk, IsOk};
 ghost use Rattle.std.specs.List.{ends_with, position};
 ghost use Rattle.std.specs.Result.{IsErrOf};

@@ -1,3 +1,4 @@
+//! Principals with their normal forms.
 use crate::{PrincipalFault, normal, same};
 use std::alloc::Global;
 use std::process::Abort;

@@ -1,3 +1,4 @@
+//! The faults of a text that is no reply with a value.
 ghost use Rattle.std.specs.Prelude.{◌≡◌};
 ghost use Rattle.kn_proof.specs.Reading.{fault_number, fault_line};
 

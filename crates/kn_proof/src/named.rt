@@ -1,3 +1,4 @@
+//! Rows of a proof by the names of principals.
 use kn_base::Octets;
 
 /// Which assertion: a shared credential or a private one, by its number, counted from 1.

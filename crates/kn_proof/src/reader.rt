@@ -1,3 +1,4 @@
+//! Reading a reply with a value.
 ghost use Rattle.std.specs.Prelude.{◌≡◌, ◌≢◌, ◌⊎◌, ◌+◌, ◌<◌, ◌^◌, ◌++◌, ◌∷◌, [], ℕ, length, IfOk, IfErr, OnOk, MatchResult};
 ghost use Rattle.kn_proof.specs.declared.reply.ReadReply.{ReadReply};
 ghost use Rattle.kn_proof.specs.Reading.{IsReplyText, IsFirstFault};

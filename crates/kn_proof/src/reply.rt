@@ -1,3 +1,4 @@
+//! The parts of a reply with a value.
 use crate::named::NamedRow;
 use kn_base::{List, Octets};
 

@@ -1,3 +1,4 @@
+//! Rows of a proof by the numbers of principals.
 use kn_base::List;
 
 /// A row of a proof: by the row `by` of the system the principal has this level at least.

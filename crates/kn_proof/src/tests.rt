@@ -1,3 +1,4 @@
+//! Replies with their parts, and texts with their faults.
 use super::*;
 use crate::named::Id;
 use crate::reply::ReadReply;

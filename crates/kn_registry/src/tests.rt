@@ -1,4 +1,4 @@
-// Two passes over one book.
+//! Two passes over one book.
 use super::*;
 use kn_assert::read;
 use kn_store::{Ready, StoreFault};

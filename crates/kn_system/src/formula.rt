@@ -1,3 +1,4 @@
+//! Formulas as lists of pieces.
 ghost use Rattle.std.specs.Prelude.{◌≡◌, ◌+◌, ◌-◌, ◌^◌, ◌<◌, ◌≤◌, ◌∷◌, [], ℕ, All, length, drop, min, List as ListOf};
 ghost use Rattle.kn_base.specs.Threshold.{threshold};
 ghost use Rattle.kn_system.specs.Form.{form_levels, leaf_count as leaf_count_of};

@@ -1,3 +1,4 @@
+//! Rows of a system, and the pieces of their formulas.
 /// A piece of a formula. A formula is a list of pieces, in which each gate stands before its parts.
 #[derive(Debug, Clone, Copy, PartialEq, Eq, Drop)]
 pub enum Piece {

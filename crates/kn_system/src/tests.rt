@@ -1,3 +1,4 @@
+//! Systems and their rows.
 ghost use Rattle.std.specs.Prelude.{◌≡◌, ◌∷◌, [], IfOk};
 ghost use Rattle.kn_system.specs.declared.rows.Piece.TheVariants.{Who, Gate};
 

@@ -1,3 +1,4 @@
+//! Assertions as trees.
 use crate::formula::Formula;
 use crate::program::Program;
 use kn_base::{List, Octets};

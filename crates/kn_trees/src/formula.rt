@@ -1,3 +1,4 @@
+//! Formulas of licensees as trees.
 use kn_base::{List, Octets};
 
 /// Which principals must support a request for an assertion to do so (RFC 2704, section 4, the

@@ -1,3 +1,4 @@
+//! The kinds of expressions.
 /// What an expression gives, by its form alone.
 #[derive(Debug, Clone, Copy, PartialEq, Eq)]
 pub enum Kind {

@@ -1,3 +1,4 @@
+//! Conditions programs as trees.
 use kn_base::{Boxed, List, Octets};
 
 /// A conditions program (RFC 2704, section 4, the Conditions field): its clauses but for the empty ones.

@@ -1,3 +1,4 @@
+//! Which kind an expression has.
 ghost use Rattle.std.specs.Prelude.{Option, ◌≡◌, map};
 ghost use Rattle.std.specs.List.{list_all};
 ghost use Rattle.kn_trees.specs.Kinds.{is_truth, is_whole, is_text, are_compared, gives, operation_kind, chain_kind, kind_of, kinds_of, is_well_kinded, is_clause_well_kinded, is_then_well_kinded};

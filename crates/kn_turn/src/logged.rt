@@ -1,4 +1,4 @@
-// What lies under a turn: a list of entries, each made by one caller.
+//! What lies under a turn: a list of entries, each made by one caller.
 ghost use Rattle.std.specs.Prelude.{◌≡◌, ℕ, List, length};
 
 /// A value that is seen as the list of its entries, the first numbered 0.

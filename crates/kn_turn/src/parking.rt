@@ -1,4 +1,4 @@
-// Where those who wait for their turn sleep.
+//! Where those who wait for their turn sleep.
 use std::array;
 use std::sync::Wait;
 use std::sync::atomic::AtomicU64;

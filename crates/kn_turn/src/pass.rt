@@ -1,4 +1,4 @@
-// A caller's token.
+//! A caller's token.
 ghost use Rattle.std.specs.Prelude.{◌≡◌, length};
 ghost use Rattle.kn_turn.specs.Passes.{IsSoundPass};
 

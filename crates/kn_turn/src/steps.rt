@@ -1,4 +1,4 @@
-// The turn's invariant, and what each kind of step tells. These types are for proofs alone.
+//! The turn's invariant, and what each kind of step tells. These types are for proofs alone.
 ghost use Rattle.std.specs.Prelude.{List};
 
 use crate::logged::Logged;

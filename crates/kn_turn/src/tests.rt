@@ -1,4 +1,4 @@
-// A list of callers under a turn.
+//! A list of callers under a turn.
 ghost use Rattle.std.specs.Prelude.{◌≡◌, ◌≢◌, ◌+◌, ◌<◌, ◌++◌, ◌∷◌, [], length, true, All, IfOk, OnErr, OnOk};
 ghost use Rattle.kn_turn.specs.Passes.{PassView};
 

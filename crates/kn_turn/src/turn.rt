@@ -1,4 +1,4 @@
-// The turn: a value in the one slot of a table, and tickets for it.
+//! The turn: a value in the one slot of a table, and tickets for it.
 ghost use Rattle.std.specs.Prelude.{◌≡◌, ◌≢◌, ◌+◌, ◌<◌, ◌%◌, ◌^◌, ◌++◌, ◌∷◌, [], length, true, false, None, IfOk, OnErr, MatchBool};
 ghost use mathlib.Core.List.{IsPrefix};
 ghost use Rattle.kn_turn.specs.declared.view.Stage.TheVariants.{Idle, Waits, Served};

@@ -1,4 +1,4 @@
-// What a seat of the turn's table knows. No value of these types is made: they are for proofs alone.
+//! What a seat of the turn's table knows. No value of these types is made: they are for proofs alone.
 use std::collections::LinkedList;
 
 /// How far a pass is with its turn.

@@ -1,4 +1,4 @@
-// What a call of the registry answered, and prints of what a snapshot shows.
+//! What a call of the registry answered, and prints of what a snapshot shows.
 use kn_store::Version;
 
 #[derive(Clone, Copy)]

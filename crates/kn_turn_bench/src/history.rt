@@ -1,4 +1,4 @@
-// Passes that are split, work side by side, and are joined.
+//! Passes that are split, work side by side, and are joined.
 ghost use Rattle.std.specs.Prelude.{◌≡◌, ◌≢◌, ◌+◌, ◌<◌, ◌≤◌, All, IfOk, OnOk};
 ghost use Rattle.kn_registry.specs.Passes.{IsReady};
 

@@ -1,4 +1,4 @@
-// Times of workers side by side.
+//! Times of workers side by side.
 ghost use Rattle.std.specs.Prelude.{◌≡◌, ◌≢◌, ◌+◌, ◌<◌, ◌≤◌, All, IfOk, OnOk};
 ghost use Rattle.kn_registry.specs.Passes.{IsReady};
 

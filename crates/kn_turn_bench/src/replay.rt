@@ -1,4 +1,4 @@
-// Whether what the calls answered is one history.
+//! Whether what the calls answered is one history.
 ghost use Rattle.std.specs.Prelude.{◌≤◌, vec_len, length};
 
 use crate::event::{EMPTY, Event, mix};

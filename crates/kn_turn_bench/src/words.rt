@@ -1,4 +1,4 @@
-// The words of a command.
+//! The words of a command.
 use std::env::{self, Args};
 use std::io;
 

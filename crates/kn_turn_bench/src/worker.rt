@@ -1,4 +1,4 @@
-// A pass at work.
+//! A pass at work.
 ghost use Rattle.std.specs.Prelude.{◌≡◌, ◌≢◌, ◌+◌, ◌<◌, All, IfOk, OnOk, OnErr};
 ghost use Rattle.kn_registry.specs.Passes.{IsReady};
 

@@ -1,3 +1,4 @@
+-- Parts of a text.
 use Rattle.std.specs.Prelude.{ℕ, List, take, drop}
 use Rattle.kn_wire.specs.declared.part.Part.{Part}
 
