@@ -7,6 +7,7 @@
 #   output    what standard output must be; nothing may be written to standard error
 #   status    the exit status
 #   memory    the KiB of address space that the program has (no file: as the shell has)
+#   seconds   the seconds of processor time that the program has (no file: as the shell has)
 #   make      a script that writes the large ones of these files into the copy
 #   start     a script that starts the program, whose path is its first word, with an input or an output of another kind; what
 #             it writes and its status count as the program's
@@ -29,11 +30,13 @@ trap 'rm -rf "$room"' EXIT
 run_program() {
     if [[ -e start ]]; then
         ./start "$program"
-    elif [[ -e memory ]]; then
-        (ulimit -v "$(<memory)" && exec "$program" "$@")
-    else
-        "$program" "$@"
+        return
     fi
+    (
+        if [[ -e memory ]]; then ulimit -v "$(<memory)"; fi
+        if [[ -e seconds ]]; then ulimit -t "$(<seconds)"; fi
+        exec "$program" "$@"
+    )
 }
 
 # Runs the case in the current folder, and says why it fails.

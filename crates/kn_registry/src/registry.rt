@@ -180,6 +180,7 @@ impl Registry {
         ensures refused { OnErr result (root.new ≡ root.old) }
         ensures ready { IsReady self.now root.new }
         ensures new_ready { IfOk result (λ pass. IsReady self.now pass) }
+        ensures sound { IfOk result (λ pass. IsSoundPass pass) }
     {
         self.turn.split(root)
     }
