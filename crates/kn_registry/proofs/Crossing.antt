@@ -2,7 +2,7 @@
 use denote.Param.Send.{IsSend, IsSync, sendable}
 use Rattle.kn_registry.proofs.StoreCrossing.{book_send}
 use Rattle.kn_turn.proofs.turn.Turn.TheSendSync as turn
-use Rattle.kn_registry.specs.contracts.registry.Shared as shared
+use Rattle.kn_registry.specs.contracts.registry.SharedBook as shared
 use Rattle.kn_registry.specs.contracts.registry.Registry as registry
 
 pub shared_send : IsSend (shared.the_field).row

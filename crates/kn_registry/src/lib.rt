@@ -7,4 +7,4 @@ mod registry;
 #[cfg(test)]
 mod tests;
 
-pub use registry::{Pass, Registry, Shared};
+pub use registry::{Pass, Registry, SharedBook};

@@ -16,11 +16,11 @@ use std::sync::Wait;
 
 /// The book under the turn.
 #[derive(Drop)]
-pub struct Shared {
+pub struct SharedBook {
     book: Book,
 }
 
-impl Model for Shared {
+impl Model for SharedBook {
     ghost use Rattle.std.specs.Prelude.{List};
     ghost use Rattle.kn_store.specs.declared.update.Update.{Update};
 
@@ -29,7 +29,7 @@ impl Model for Shared {
     ghost view = { λ s. s.book };
 }
 
-impl Logged for Shared {
+impl Logged for SharedBook {
     type Entry = Update;
 
     ghost use Rattle.kn_registry.specs.Callers.{caller_of};
@@ -44,12 +44,12 @@ impl Logged for Shared {
 }
 
 /// A caller's token at the registry.
-pub type Pass = kn_turn::Pass<Shared>;
+pub type Pass = kn_turn::Pass<SharedBook>;
 
 /// One book, which its passes take in turn. Contracts see which turn it is.
 #[derive(Drop)]
 pub struct Registry {
-    turn: Turn<Shared>,
+    turn: Turn<SharedBook>,
 }
 
 impl Model for Registry {
@@ -69,7 +69,7 @@ impl Registry {
         ensures ready { IfOk result (λ made. IsReady made.0 made.1) }
     {
         let book = Book::empty(alloc)?;
-        let (turn, root) = Turn::start(alloc, Shared { book })?;
+        let (turn, root) = Turn::start(alloc, SharedBook { book })?;
         Ok((Registry { turn }, root))
     }
 
@@ -141,7 +141,7 @@ impl Registry {
     }
 
     /// Sees all updates of the book, and gives it back.
-    fn look(&self, pass: &mut Pass, shared: Shared)
+    fn look(&self, pass: &mut Pass, shared: SharedBook)
         requires turn { pass.old.turn ≡ self.now }
         requires taken { pass.old.is_idle ≡ false }
         requires value { shared ≡ pass.old.taken }
@@ -156,7 +156,7 @@ impl Registry {
     }
 
     /// Makes the book's last update, which names this pass, the last one of all, and gives the book back.
-    fn append(&self, pass: &mut Pass, shared: Shared)
+    fn append(&self, pass: &mut Pass, shared: SharedBook)
         requires turn { pass.old.turn ≡ self.now }
         requires taken { pass.old.is_idle ≡ false }
         requires more { (update : Update) × (update.caller ≡ pass.old.number) × (shared ≡ pass.old.taken ++ update ∷ []) }

@@ -21,7 +21,7 @@ use Rattle.kn_wire.specs.Requests.{Assert, Admin}
 use Rattle.kn_reply.specs.Replies.{Done, PrivateAdded, No, reply_text}
 use Rattle.kn_daemon.specs.Daemon.{Grounds, State, session_of, in_session, own_refusal, refuse_if, refusal_by, refusal_of_private, refusal_of_session, is_secret, IsPrivateAdded}
 use Rattle.kn_daemon.specs.Laws.{FaultRefuses, ReadingGoesOn}
-use Rattle.kn_serve.specs.Handling.{HasRoom, IsTold, refused_reply, refusal_of_read}
+use Rattle.kn_serve.specs.Handling.{HasRoom, Tells, refused_reply, refusal_of_read}
 use Rattle.kn_serve.proofs.HandlingLaws.{told_refused, told_done}
 use Rattle.kn_serve.proofs.SessionLaws.{state_with, told_fault, refusal_why}
 
@@ -39,13 +39,13 @@ private_few state s room x e = below x.made room.0 (2 ^ 31) (room.2.made s x e) 
 
 module _ (g : Grounds) (a b : OpenSessions) (is_admin : Bool) (s : ℕ) (text : List ℕ) (whole : Bool) (l l' : LinkSeen) where
   pub assert_unknown : (fault : SessionFault) → fault_at a s (λ x. None) ≡ Some fault → Prints whole (reply_text (No R.Session)) l l' →
-      IsTold g (state_with a is_admin) (state_with a is_admin) (Assert s text) whole l l'
+      Tells g (state_with a is_admin) (state_with a is_admin) (Assert s text) whole l l'
   assert_unknown fault e prints =
       told_refused g (state_with a is_admin) (Assert s text) R.Session whole l l'
       (ap (λ (x : Option Session). in_session x (refusal_of_private text)) (none_found s (session_in a.sessions s) fault e)) refl prints
 
   pub assert_unread : (session : Session) (fault : ReadFault) (told : Option Refusal) → FaultRefuses → session_in a.sessions s ≡ Some session → (fault ≡ A.NoMemory) ⊎ (fault_of text ≡ Some fault) →
-      told ≡ refusal_of_read fault → Prints whole (reply_text (refused_reply told)) l l' → IsTold g (state_with a is_admin) (state_with a is_admin) (Assert s text) whole l l'
+      told ≡ refusal_of_read fault → Prints whole (reply_text (refused_reply told)) l l' → Tells g (state_with a is_admin) (state_with a is_admin) (Assert s text) whole l l'
   assert_unread session fault told refuses found why same prints =
       told_fault g (state_with a is_admin) (Assert s text) (refusal_of_private text session) told whole l l'
       (ap (λ (x : Option Session). in_session x (refusal_of_private text)) found) (λ reply. refl) (by why) (λ none. refl) prints
@@ -62,9 +62,9 @@ module _ (g : Grounds) (a b : OpenSessions) (is_admin : Bool) (s : ℕ) (text : 
 
   pub assert_refused : (assertion : Assertion) (fault : SessionFault) (told : Option Refusal) → ReadingGoesOn → assertion_of text ≡ Some assertion → b ≡ a →
       (fault ≡ S.NoMemory) ⊎ (fault_at a s (private_fault text assertion) ≡ Some fault) → told ≡ refusal_of_session fault → Prints whole (reply_text (refused_reply told)) l l' →
-      IsTold g (state_with a is_admin) (state_with b is_admin) (Assert s text) whole l l'
+      Tells g (state_with a is_admin) (state_with b is_admin) (Assert s text) whole l l'
   assert_refused assertion fault told goes_on reading err why same prints =
-      subst (λ (x : OpenSessions). IsTold g (state_with a is_admin) (state_with x is_admin) (Assert s text) whole l l') (sym err)
+      subst (λ (x : OpenSessions). Tells g (state_with a is_admin) (state_with x is_admin) (Assert s text) whole l l') (sym err)
       (told_fault g (state_with a is_admin) (Assert s text) (refusal_by (fault_at a s (private_fault text assertion))) (refusal_of_session fault) whole l l'
       (private_own assertion goes_on reading (session_in a.sessions s)) (λ reply. refl) (refusal_why fault (fault_at a s (private_fault text assertion)) why) (λ none. refl)
       (subst (λ (x : Option Refusal). Prints whole (reply_text (refused_reply x)) l l') same prints))
@@ -75,9 +75,9 @@ module _ (g : Grounds) (a b : OpenSessions) (is_admin : Bool) (s : ℕ) (text : 
 
   pub assert_done : (assertion : Assertion) (k : ℕ) → ReadingGoesOn → assertion_of text ≡ Some assertion → IsSomeAnd (session_in a.sessions s) (λ x. k ≡ x.made + 1) →
       fault_at a s (private_fault text assertion) ≡ None → b ≡ with_open_session a s (add_private text) → Prints whole (reply_text (PrivateAdded k)) l l' →
-      IsTold g (state_with a is_admin) (state_with b is_admin) (Assert s text) whole l l'
+      Tells g (state_with a is_admin) (state_with b is_admin) (Assert s text) whole l l'
   assert_done assertion k goes_on reading id accepted ok prints =
-      subst (λ (x : OpenSessions). IsTold g (state_with a is_admin) (state_with x is_admin) (Assert s text) whole l l') (sym ok)
+      subst (λ (x : OpenSessions). Tells g (state_with a is_admin) (state_with x is_admin) (Assert s text) whole l l') (sym ok)
       (told_done g (state_with a is_admin) (state_with (with_open_session a s (add_private text)) is_admin) (Assert s text) (PrivateAdded k) whole l l' refl
       (private_own assertion goes_on reading (session_in a.sessions s) ∙ ap (λ (x : Option SessionFault). refusal_by x) accepted)
       (λ caller past. private_added k (session_in a.sessions s) refl id) (λ past. refl) (λ caller. refl) refl prints)
@@ -94,10 +94,10 @@ module _ (g : Grounds) (old : State) (secret digits : List ℕ) (whole : Bool) (
   own : (b : Bool) → is_secret secret (bytes_of_digits digits) ≡ b → own_refusal g old (Admin digits) ≡ refuse_if (not b) R.Admin None
   own b e = ap (λ (x : List ℕ). refuse_if (not (is_secret x (bytes_of_digits digits))) R.Admin None) same ∙ ap (λ (x : Bool). refuse_if (not x) R.Admin None) e
 
-  pub admin_refused : is_secret secret (bytes_of_digits digits) ≡ false → Prints whole (reply_text (No R.Admin)) l l' → IsTold g old old (Admin digits) whole l l'
+  pub admin_refused : is_secret secret (bytes_of_digits digits) ≡ false → Prints whole (reply_text (No R.Admin)) l l' → Tells g old old (Admin digits) whole l l'
   admin_refused wrong prints = told_refused g old (Admin digits) R.Admin whole l l' (own false wrong) refl prints
 
-  pub admin_done : is_secret secret (bytes_of_digits digits) ≡ true → Prints whole (reply_text Done) l l' → IsTold g old (record old { is_admin = true }) (Admin digits) whole l l'
+  pub admin_done : is_secret secret (bytes_of_digits digits) ≡ true → Prints whole (reply_text Done) l l' → Tells g old (record old { is_admin = true }) (Admin digits) whole l l'
   admin_done right prints =
       told_done g old (record old { is_admin = true }) (Admin digits) Done whole l l' refl (own true right) (λ caller past. refl) (λ past. refl) (λ caller. refl) refl prints
 

@@ -12,12 +12,12 @@ use Rattle.kn_daemon.specs.Daemon.{Grounds, State, Permits, Answers, own_refusal
 use Rattle.kn_daemon.specs.Linearized.{update_by, is_placed, StandsFor}
 use Rattle.kn_registry.specs.Passes.{PassSeen, Moves, Looks, Stays}
 use Rattle.kn_registry.proofs.PassMoves.{moves-nothing}
-use Rattle.kn_serve.specs.Handling.{Handled, IsTold}
+use Rattle.kn_serve.specs.Handling.{Handles, Tells}
 
 -- a pass that moved so, and a reply that is permitted at what it has then seen
 pub handled_by : (g : Grounds) (v w : PassSeen) (old new : State) (request : Request) (reply : Reply) (whole : Bool) (l l' : LinkSeen) (more own : List Update) (entries : List ℕ) →
     Moves v w more own entries → own ≡ option_to_list (update_by v.number request reply) → Permits g v.number w.seen old request reply new →
-    StandsFor (is_placed request reply) (length w.seen) entries → Prints whole (reply_text reply) l l' → Handled g v w old new request whole l l'
+    StandsFor (is_placed request reply) (length w.seen) entries → Prints whole (reply_text reply) l l' → Handles g v w old new request whole l l'
 handled_by g v w old new request reply whole l l' more own entries m same permitted stood prints =
     let moves : Moves v w more (option_to_list (update_by v.number request reply)) entries = subst (λ (x : List Update). Moves v w more x entries) same m in
     record {
@@ -47,14 +47,14 @@ stands-here true n = refl
 stands-here false n = omega arith
 
 -- the pass had nothing to do with it
-pub told_handled : (g : Grounds) (v : PassSeen) (old new : State) (request : Request) (whole : Bool) (l l' : LinkSeen) → IsTold g old new request whole l l' → Handled g v v old new request whole l l'
+pub told_handled : (g : Grounds) (v : PassSeen) (old new : State) (request : Request) (whole : Bool) (l l' : LinkSeen) → Tells g old new request whole l l' → Handles g v v old new request whole l l'
 told_handled g v old new request whole l l' t =
     handled_by g v v old new request t.reply whole l l' [] [] [] (moves-nothing v) (no-own (update_by v.number request t.reply) (t.no_update v.number)) (t.permitted v.number v.seen)
     (stands-anywhere (is_placed request t.reply) (length v.seen) [] t.unplaced (omega arith)) t.prints
 
 -- the turn was had, and nothing was added
 pub looked_handled : (g : Grounds) (v w : PassSeen) (old new : State) (request : Request) (reply : Reply) (whole : Bool) (l l' : LinkSeen) →
-    Looks v w → update_by v.number request reply ≡ None → Permits g v.number w.seen old request reply new → Prints whole (reply_text reply) l l' → Handled g v w old new request whole l l'
+    Looks v w → update_by v.number request reply ≡ None → Permits g v.number w.seen old request reply new → Prints whole (reply_text reply) l l' → Handles g v w old new request whole l l'
 looked_handled g v w old new request reply whole l l' k none permitted prints =
     handled_by g v w old new request reply whole l l' k.more [] (length w.seen ∷ []) k.moves (no-own (update_by v.number request reply) none) permitted
     (stands-here (is_placed request reply) (length w.seen)) prints
@@ -62,7 +62,7 @@ looked_handled g v w old new request reply whole l l' k none permitted prints =
 -- the turn was had once at most, and nothing was added
 pub stayed_handled : (g : Grounds) (v w : PassSeen) (old new : State) (request : Request) (reply : Reply) (whole : Bool) (l l' : LinkSeen) →
     Stays v w → update_by v.number request reply ≡ None → is_placed request reply ≡ false → Permits g v.number w.seen old request reply new → Prints whole (reply_text reply) l l' →
-    Handled g v w old new request whole l l'
+    Handles g v w old new request whole l l'
 stayed_handled g v w old new request reply whole l l' k none unplaced permitted prints =
     handled_by g v w old new request reply whole l l' k.more [] k.entries k.moves (no-own (update_by v.number request reply) none) permitted
     (stands-anywhere (is_placed request reply) (length w.seen) k.entries unplaced k.few) prints
@@ -129,7 +129,7 @@ memory_unplaced (Faulty fault) = refl
 
 -- the state refuses the request
 pub told_refused : (g : Grounds) (old : State) (request : Request) (refusal : Refusal) (whole : Bool) (l l' : LinkSeen) →
-    own_refusal g old request ≡ Some refusal → is_placed request (No refusal) ≡ false → Prints whole (reply_text (No refusal)) l l' → IsTold g old old request whole l l'
+    own_refusal g old request ≡ Some refusal → is_placed request (No refusal) ≡ false → Prints whole (reply_text (No refusal)) l l' → Tells g old old request whole l l'
 told_refused g old request refusal whole l l' refused unplaced prints = record {
   reply = No refusal;
   permitted = λ caller past. (ap (λ (o : Option Refusal). or_else o (placed_refusal past request)) refused, refl);
@@ -140,7 +140,7 @@ told_refused g old request refusal whole l l' refused unplaced prints = record {
 
 -- there was no memory
 pub told_memory : (g : Grounds) (old : State) (request : Request) (whole : Bool) (l l' : LinkSeen) →
-    may_lack_memory request ≡ true → Prints whole (reply_text NoMemory) l l' → IsTold g old old request whole l l'
+    may_lack_memory request ≡ true → Prints whole (reply_text NoMemory) l l' → Tells g old old request whole l l'
 told_memory g old request whole l l' may prints = record {
   reply = NoMemory;
   permitted = λ caller past. (may, refl);
@@ -175,7 +175,7 @@ does_permitted g caller past old new request NoMemory is accepted answered next 
 -- the request is accepted, and its reply and what it makes of the state are the same wherever it stands
 pub told_done : (g : Grounds) (old new : State) (request : Request) (reply : Reply) (whole : Bool) (l l' : LinkSeen) → is_acceptance reply ≡ true →
     own_refusal g old request ≡ None → ((caller : ℕ) (past : List Update) → Answers caller past old request reply) → ((past : List Update) → new ≡ changed past old request) →
-    ((caller : ℕ) → update_by caller request reply ≡ None) → is_placed request reply ≡ false → Prints whole (reply_text reply) l l' → IsTold g old new request whole l l'
+    ((caller : ℕ) → update_by caller request reply ≡ None) → is_placed request reply ≡ false → Prints whole (reply_text reply) l l' → Tells g old new request whole l l'
 told_done g old new request reply whole l l' is accepted answered next no_update unplaced prints = record {
   reply = reply;
   permitted = λ caller past. does_permitted g caller past old new request reply is accepted (answered caller past) (next past);
@@ -185,10 +185,10 @@ told_done g old new request reply whole l l' is accepted answered next no_update
 }
 
 -- BYE is answered
-pub bye_told : (g : Grounds) (now : State) (whole : Bool) (l l' : LinkSeen) → Prints whole (reply_text Done) l l' → IsTold g now now Bye whole l l'
+pub bye_told : (g : Grounds) (now : State) (whole : Bool) (l l' : LinkSeen) → Prints whole (reply_text Done) l l' → Tells g now now Bye whole l l'
 bye_told g now whole l l' prints = told_done g now now Bye Done whole l l' refl refl (λ caller past. refl) (λ past. refl) (λ caller. refl) refl prints
 
 -- a fault is answered by its refusal
 pub faulty_told : (g : Grounds) (now : State) (fault : WireFault) (refusal : Refusal) (whole : Bool) (l l' : LinkSeen) → refusal ≡ refusal_of_fault fault → Prints whole (reply_text (No refusal)) l l' →
-    IsTold g now now (Faulty fault) whole l l'
+    Tells g now now (Faulty fault) whole l l'
 faulty_told g now fault refusal whole l l' same prints = told_refused g now (Faulty fault) refusal whole l l' (ap (λ (r : Refusal). Some r) (sym same)) refl prints

@@ -15,61 +15,61 @@ use Rattle.kn_wire.specs.Requests.{Open, Pin}
 use Rattle.kn_reply.specs.Replies.{Started, Number, No, NoMemory, reply_text}
 use Rattle.kn_daemon.specs.Daemon.{Grounds, State, session_of, refusal_by}
 use Rattle.kn_registry.specs.Passes.{PassSeen, Looks, Stays}
-use Rattle.kn_serve.specs.Handling.{Handled, IsTold}
+use Rattle.kn_serve.specs.Handling.{Handles, Tells}
 use Rattle.kn_serve.proofs.HandlingLaws.{told_refused, looked_handled, stayed_handled}
 use Rattle.kn_serve.proofs.SessionLaws.{state_with}
 use Rattle.kn_serve.proofs.AssertingLaws.{none_found}
 
 -- there are as many sessions as there may be
 pub open_full : (g : Grounds) (old : State) (count : ℕ) (whole : Bool) (l l' : LinkSeen) → count ≡ length old.sessions → SESSIONS ≤ count →
-    Prints whole (reply_text (No (R.Limit W.Sessions count))) l l' → IsTold g old old Open whole l l'
+    Prints whole (reply_text (No (R.Limit W.Sessions count))) l l' → Tells g old old Open whole l l'
 open_full g old count whole l l' same full prints =
     let test : nat_le SESSIONS (length old.sessions) ≡ true = grind (arith, nat_tests, same, full) in
     told_refused g old Open (R.Limit W.Sessions (length old.sessions)) whole l l' (rw test refl) refl
     (subst (λ (n : ℕ). Prints whole (reply_text (No (R.Limit W.Sessions n))) l l') same prints)
 
 -- there was no memory for the version
-pub open_unpinned : (g : Grounds) (v w : PassSeen) (old : State) (whole : Bool) (l l' : LinkSeen) → Stays v w → Prints whole (reply_text NoMemory) l l' → Handled g v w old old Open whole l l'
+pub open_unpinned : (g : Grounds) (v w : PassSeen) (old : State) (whole : Bool) (l l' : LinkSeen) → Stays v w → Prints whole (reply_text NoMemory) l l' → Handles g v w old old Open whole l l'
 open_unpinned g v w old whole l l' stays prints = stayed_handled g v w old old Open NoMemory whole l l' stays refl refl (refl, refl) prints
 
 -- there was no memory for the session
 pub open_unstarted : (g : Grounds) (v w : PassSeen) (a b : OpenSessions) (is_admin : Bool) (whole : Bool) (l l' : LinkSeen) → Looks v w → b ≡ a → Prints whole (reply_text NoMemory) l l' →
-    Handled g v w (state_with a is_admin) (state_with b is_admin) Open whole l l'
+    Handles g v w (state_with a is_admin) (state_with b is_admin) Open whole l l'
 open_unstarted g v w a b is_admin whole l l' looks same prints =
-    subst (λ (x : OpenSessions). Handled g v w (state_with a is_admin) (state_with x is_admin) Open whole l l') (sym same)
+    subst (λ (x : OpenSessions). Handles g v w (state_with a is_admin) (state_with x is_admin) Open whole l l') (sym same)
     (looked_handled g v w (state_with a is_admin) (state_with a is_admin) Open NoMemory whole l l' looks refl (refl, refl) prints)
 
 -- the session was started
 pub open_started : (g : Grounds) (v w : PassSeen) (a b : OpenSessions) (is_admin : Bool) (s version : ℕ) (made : List Update) (whole : Bool) (l l' : LinkSeen) →
     Looks v w → made ≡ w.seen → version ≡ length made → start_fault a.sessions ≡ None → s ≡ a.started + 1 →
     b ≡ record { started = a.started + 1; sessions = with_started a.started a.sessions made } → Prints whole (reply_text (Started s version)) l l' →
-    Handled g v w (state_with a is_admin) (state_with b is_admin) Open whole l l'
+    Handles g v w (state_with a is_admin) (state_with b is_admin) Open whole l l'
 open_started g v w a b is_admin s version made whole l l' looks seen at accepted number after prints =
     let after' : b ≡ record { started = a.started + 1; sessions = with_started a.started a.sessions w.seen } =
     subst (λ (m : List Update). b ≡ record { started = a.started + 1; sessions = with_started a.started a.sessions m }) seen after in
     let told : Started s version ≡ Started (a.started + 1) (length w.seen) = rw (number, at, seen) refl in
-    subst (λ (x : OpenSessions). Handled g v w (state_with a is_admin) (state_with x is_admin) Open whole l l') (sym after')
+    subst (λ (x : OpenSessions). Handles g v w (state_with a is_admin) (state_with x is_admin) Open whole l l') (sym after')
     (looked_handled g v w (state_with a is_admin) (state_with (record { started = a.started + 1; sessions = with_started a.started a.sessions w.seen }) is_admin) Open (Started s version) whole l l' looks refl
     (record { accepted = ap refusal_by accepted; answered = told; next = refl }) prints)
 
 -- the session isn't open
 pub pin_unknown : (g : Grounds) (old : State) (s : ℕ) (fault : SessionFault) (whole : Bool) (l l' : LinkSeen) → fault_in s (session_of old s) (λ x. None) ≡ Some fault →
-    Prints whole (reply_text (No R.Session)) l l' → IsTold g old old (Pin s) whole l l'
+    Prints whole (reply_text (No R.Session)) l l' → Tells g old old (Pin s) whole l l'
 pin_unknown g old s fault whole l l' why prints =
     let none : session_of old s ≡ None = none_found s (session_of old s) fault why in
     told_refused g old (Pin s) R.Session whole l l' (rw none refl) refl prints
 
 -- there was no memory for the version
-pub pin_memory : (g : Grounds) (v w : PassSeen) (old : State) (s : ℕ) (whole : Bool) (l l' : LinkSeen) → Stays v w → Prints whole (reply_text NoMemory) l l' → Handled g v w old old (Pin s) whole l l'
+pub pin_memory : (g : Grounds) (v w : PassSeen) (old : State) (s : ℕ) (whole : Bool) (l l' : LinkSeen) → Stays v w → Prints whole (reply_text NoMemory) l l' → Handles g v w old old (Pin s) whole l l'
 pin_memory g v w old s whole l l' stays prints = stayed_handled g v w old old (Pin s) NoMemory whole l l' stays refl refl (refl, refl) prints
 
 -- the session was pinned
 pub pin_done : (g : Grounds) (v w : PassSeen) (a b : OpenSessions) (is_admin : Bool) (s version : ℕ) (made : List Update) (whole : Bool) (l l' : LinkSeen) →
     Looks v w → made ≡ w.seen → version ≡ length made → fault_in s (session_in a.sessions s) (λ x. None) ≡ None → b ≡ with_open_session a s (pin_at made) → Prints whole (reply_text (Number version)) l l' →
-    Handled g v w (state_with a is_admin) (state_with b is_admin) (Pin s) whole l l'
+    Handles g v w (state_with a is_admin) (state_with b is_admin) (Pin s) whole l l'
 pin_done g v w a b is_admin s version made whole l l' looks seen at accepted after prints =
     let after' : b ≡ with_open_session a s (pin_at w.seen) = subst (λ (m : List Update). b ≡ with_open_session a s (pin_at m)) seen after in
     let told : Number version ≡ Number (length w.seen) = rw (at, seen) refl in
-    subst (λ (x : OpenSessions). Handled g v w (state_with a is_admin) (state_with x is_admin) (Pin s) whole l l') (sym after')
+    subst (λ (x : OpenSessions). Handles g v w (state_with a is_admin) (state_with x is_admin) (Pin s) whole l l') (sym after')
     (looked_handled g v w (state_with a is_admin) (state_with (with_open_session a s (pin_at w.seen)) is_admin) (Pin s) (Number version) whole l l' looks refl
     (record { accepted = ap refusal_by accepted; answered = told; next = refl }) prints)

@@ -17,7 +17,7 @@ use Rattle.kn_daemon.specs.Served.{IsServed, is_bye, is_block}
 use Rattle.kn_daemon.specs.Underway.{IsUnderway, IsReplied}
 use Rattle.kn_daemon.specs.Laws.{Begins, TakesPiece, AnswersOne, EndsByBye, EndsByBlock, EndsByWrite, EndsDry, EndsByBudget, EndsByMemory, UnderwayIsSmall, IsDry}
 use Rattle.kn_registry.specs.Passes.{PassSeen}
-use Rattle.kn_serve.specs.Handling.{Handled, HasRoom, Took}
+use Rattle.kn_serve.specs.Handling.{Handles, HasRoom, TakesNext}
 use Rattle.kn_serve.specs.Serving.{Serving, Serves, IsInputEnd, is_over}
 use Rattle.kn_serve.proofs.GainsLaws.{printed_calm, read_calm, passed_whole, passed_part, passed_read, passed_failed, gains_nothing, gains_answer, gains_read, gains_quiet}
 
@@ -36,13 +36,13 @@ serving_room law g u v l l' now h answered s few = (answered, omega arith, law g
 
 -- what was replied is told by the number that the pass had at first
 replied-at-first : (g : Grounds) (u v w : PassSeen) (l l' l'' : LinkSeen) (old new : State) (h : Held) (answered : ℕ) (request : Request) (whole : Bool) →
-    Serving g u v l l' old h answered → (d : Handled g v w old new request whole l' l'') → IsReplied g u.number v.seen d.more d.entries old request d.reply new
+    Serving g u v l l' old h answered → (d : Handles g v w old new request whole l' l'') → IsReplied g u.number v.seen d.more d.entries old request d.reply new
 replied-at-first g u v w l l' l'' old new h answered request whole s d =
     subst (λ (k : ℕ). IsReplied g k v.seen d.more d.entries old request d.reply new) s.gains.moves.number d.replied
 
 -- one more request that doesn't end the connection
 pub serving_answers : AnswersOne → (g : Grounds) (u v w : PassSeen) (l l' l'' : LinkSeen) (old new : State) (h h' : Held) (answered : ℕ) (request : Request) →
-    Serving g u v l l' old h answered → Took g v w old new h h' request true l' l'' → is_bye request ≡ false → is_block request ≡ false →
+    Serving g u v l l' old h answered → TakesNext g v w old new h h' request true l' l'' → is_bye request ≡ false → is_block request ≡ false →
     Serving g u w l l'' new h' (answered + 1)
 serving_answers law g u v w l l' l'' old new h h' answered request s t no_bye no_block =
     let d = t.handled in
@@ -73,7 +73,7 @@ serving_reads law g u v l l' l'' now h h' answered piece s held reads = record {
 
 -- BYE was answered
 pub serves_bye : EndsByBye → (g : Grounds) (u v w : PassSeen) (l l' l'' : LinkSeen) (old new : State) (h h' : Held) (answered : ℕ) →
-    Serving g u v l l' old h answered → answered < REQUESTS → Took g v w old new h h' Bye true l' l'' → is_valid_history w.seen ≡ true → Serves g u w l l'' E.Done
+    Serving g u v l l' old h answered → answered < REQUESTS → TakesNext g v w old new h h' Bye true l' l'' → is_valid_history w.seen ≡ true → Serves g u w l l'' E.Done
 serves_bye law g u v w l l' l'' old new h h' answered s few t valid =
     let d = t.handled in
     record {
@@ -90,7 +90,7 @@ serves_bye law g u v w l l' l'' old new h h' answered s few t valid =
 
 -- a block was refused
 pub serves_block : EndsByBlock → (g : Grounds) (u v w : PassSeen) (l l' l'' : LinkSeen) (old new : State) (h h' : Held) (answered n : ℕ) →
-    Serving g u v l l' old h answered → answered < REQUESTS → Took g v w old new h h' (Faulty (F.Block n)) true l' l'' → is_valid_history w.seen ≡ true → Serves g u w l l'' (E.Block n)
+    Serving g u v l l' old h answered → answered < REQUESTS → TakesNext g v w old new h h' (Faulty (F.Block n)) true l' l'' → is_valid_history w.seen ≡ true → Serves g u w l l'' (E.Block n)
 serves_block law g u v w l l' l'' old new h h' answered n s few t valid =
     let d = t.handled in
     record {
@@ -107,7 +107,7 @@ serves_block law g u v w l l' l'' old new h h' answered n s few t valid =
 
 -- a write failed
 pub serves_write : EndsByWrite → (g : Grounds) (u v w : PassSeen) (l l' l'' : LinkSeen) (old new : State) (h h' : Held) (answered : ℕ) (request : Request) →
-    Serving g u v l l' old h answered → answered < REQUESTS → Took g v w old new h h' request false l' l'' → is_valid_history w.seen ≡ true → Serves g u w l l'' E.WriteFault
+    Serving g u v l l' old h answered → answered < REQUESTS → TakesNext g v w old new h h' request false l' l'' → is_valid_history w.seen ≡ true → Serves g u w l l'' E.WriteFault
 serves_write law g u v w l l' l'' old new h h' answered request s few t valid =
     let d = t.handled in
     let cut = d.prints.writes in

@@ -16,7 +16,7 @@ use Rattle.kn_wire.specs.Requests.{Request, Close, Retract, Set, SetHex, Unset, 
 use Rattle.kn_reply.specs.Replies.{Reply, Done, No, reply_text}
 use Rattle.kn_daemon.specs.Daemon.{Grounds, State, Answers, own_refusal, changed, may_lack_memory, refusal_by, refusal_of_session}
 use Rattle.kn_daemon.specs.Linearized.{update_by, is_placed}
-use Rattle.kn_serve.specs.Handling.{IsTold, refused_reply, reply_of_call}
+use Rattle.kn_serve.specs.Handling.{Tells, refused_reply, reply_of_call}
 use Rattle.kn_serve.proofs.HandlingLaws.{told_refused, told_memory, told_done}
 
 -- a connection with these sessions
@@ -35,7 +35,7 @@ pub record IsCall (g : Grounds) (old : State) (request : Request) (fault : Optio
 -- what refuses a request is told by its reply, or there was no memory
 pub told_fault : (g : Grounds) (old : State) (request : Request) (due told : Option Refusal) (whole : Bool) (l l' : LinkSeen) →
     own_refusal g old request ≡ due → ((reply : Reply) → is_placed request reply ≡ false) → (told ≡ None) ⊎ (due ≡ told) → (told ≡ None → may_lack_memory request ≡ true) →
-    Prints whole (reply_text (refused_reply told)) l l' → IsTold g old old request whole l l'
+    Prints whole (reply_text (refused_reply told)) l l' → Tells g old old request whole l l'
 told_fault g old request due None whole l l' own unplaced why lacks prints = told_memory g old request whole l l' (lacks refl) prints
 told_fault g old request due (Some refusal) whole l l' own unplaced (inr e) lacks prints = told_refused g old request refusal whole l l' (own ∙ e) (unplaced (No refusal)) prints
 told_fault g old request due (Some refusal) whole l l' own unplaced (inl e) lacks prints = absurd (cc)
@@ -51,29 +51,29 @@ IsRefusal fault = refusal_by fault ≡ None → fault ≡ None
 
 module _ (g : Grounds) (a b : OpenSessions) (is_admin : Bool) (request : Request) (fault : Option SessionFault) (next : OpenSessions) (whole : Bool) (l l' : LinkSeen)
     (call : IsCall g (state_with a is_admin) request fault (state_with next is_admin)) where
-  accepted_told : fault ≡ None → b ≡ next → Prints whole (reply_text Done) l l' → IsTold g (state_with a is_admin) (state_with b is_admin) request whole l l'
+  accepted_told : fault ≡ None → b ≡ next → Prints whole (reply_text Done) l l' → Tells g (state_with a is_admin) (state_with b is_admin) request whole l l'
   accepted_told accepted ok prints =
-      subst (λ (x : OpenSessions). IsTold g (state_with a is_admin) (state_with x is_admin) request whole l l') (sym ok)
+      subst (λ (x : OpenSessions). Tells g (state_with a is_admin) (state_with x is_admin) request whole l l') (sym ok)
       (told_done g (state_with a is_admin) (state_with next is_admin) request Done whole l l' refl (call.own ∙ ap (λ (x : Option SessionFault). refusal_by x) accepted)
       call.answered call.makes call.no_update (call.unplaced Done) prints)
 
   refused_told : (x : SessionFault) → (x ≡ S.NoMemory) ⊎ (fault ≡ Some x) → (refusal_of_session x ≡ None → may_lack_memory request ≡ true) → b ≡ a
-      → Prints whole (reply_text (refused_reply (refusal_of_session x))) l l' → IsTold g (state_with a is_admin) (state_with b is_admin) request whole l l'
+      → Prints whole (reply_text (refused_reply (refusal_of_session x))) l l' → Tells g (state_with a is_admin) (state_with b is_admin) request whole l l'
   refused_told x why lacks err prints =
-      subst (λ (x : OpenSessions). IsTold g (state_with a is_admin) (state_with x is_admin) request whole l l') (sym err)
+      subst (λ (x : OpenSessions). Tells g (state_with a is_admin) (state_with x is_admin) request whole l l') (sym err)
       (told_fault g (state_with a is_admin) request (refusal_by fault) (refusal_of_session x) whole l l' call.own call.unplaced (refusal_why x fault why) lacks prints)
 
   -- the call may lack memory
   pub call_told : (called : Result ⊤ SessionFault) → may_lack_memory request ≡ true
       → OnOk called (fault ≡ None) → OnOk called (b ≡ next) → OnErr called (b ≡ a) → IfErr called (λ x. (x ≡ S.NoMemory) ⊎ (fault ≡ Some x))
-      → Prints whole (reply_text (reply_of_call called)) l l' → IsTold g (state_with a is_admin) (state_with b is_admin) request whole l l'
+      → Prints whole (reply_text (reply_of_call called)) l l' → Tells g (state_with a is_admin) (state_with b is_admin) request whole l l'
   call_told (Ok done) lacks accepted ok err why prints = accepted_told accepted ok prints
   call_told (Err x) lacks accepted ok err why prints = refused_told x why (λ none. lacks) err prints
 
   -- the call takes no memory
   pub free_told : (called : Result ⊤ SessionFault) → IsRefusal fault
       → OnOk called (fault ≡ None) → OnOk called (b ≡ next) → OnErr called (b ≡ a) → IfErr called (λ x. fault ≡ Some x)
-      → Prints whole (reply_text (reply_of_call called)) l l' → IsTold g (state_with a is_admin) (state_with b is_admin) request whole l l'
+      → Prints whole (reply_text (reply_of_call called)) l l' → Tells g (state_with a is_admin) (state_with b is_admin) request whole l l'
   free_told (Ok done) told accepted ok err why prints = accepted_told accepted ok prints
   free_told (Err x) told accepted ok err why prints = refused_told x (inr why) (λ none. absurd (never x why none told)) err prints
     where

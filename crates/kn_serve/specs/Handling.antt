@@ -32,7 +32,7 @@ abbrev pub HasRoom : State → Type 0
 HasRoom state = (n : ℕ) × (n < 2 ^ 31) × IsSmall n state
 
 -- The request was answered: what the pass saw meanwhile, and a reply that is permitted then, which was printed whole or in part.
-pub record Handled (g : Grounds) (v w : PassSeen) (old new : State) (request : Request) (whole : Bool) (l l' : LinkSeen) : Type 0 where
+pub record Handles (g : Grounds) (v w : PassSeen) (old new : State) (request : Request) (whole : Bool) (l l' : LinkSeen) : Type 0 where
   pub reply : Reply
   pub more : List Update
   pub entries : List ℕ
@@ -41,7 +41,7 @@ pub record Handled (g : Grounds) (v w : PassSeen) (old new : State) (request : R
   pub prints : Prints whole (reply_text reply) l l'
 
 -- The request was answered by the state alone: a reply that is permitted wherever it stands, which was printed whole or in part.
-pub record IsTold (g : Grounds) (old new : State) (request : Request) (whole : Bool) (l l' : LinkSeen) : Type 0 where
+pub record Tells (g : Grounds) (old new : State) (request : Request) (whole : Bool) (l l' : LinkSeen) : Type 0 where
   pub reply : Reply
   pub permitted : (caller : ℕ) (past : List Update) → Permits g caller past old request reply new
   pub no_update : (caller : ℕ) → update_by caller request reply ≡ None
@@ -49,17 +49,17 @@ pub record IsTold (g : Grounds) (old new : State) (request : Request) (whole : B
   pub prints : Prints whole (reply_text reply) l l'
 
 -- the next request was spent and answered
-pub record Took (g : Grounds) (v w : PassSeen) (old new : State) (h h' : Held) (request : Request) (whole : Bool) (l l' : LinkSeen) : Type 0 where
+pub record TakesNext (g : Grounds) (v w : PassSeen) (old new : State) (h h' : Held) (request : Request) (whole : Bool) (l l' : LinkSeen) : Type 0 where
   pub next : next_of h ≡ Some (request, h')
-  pub handled : Handled g v w old new request whole l l'
+  pub handled : Handles g v w old new request whole l l'
 
 -- the next request, if there is one, was spent and answered
-abbrev pub Stepped : Grounds → PassSeen → PassSeen → State → State → Held → Held → LinkSeen → LinkSeen → Step → Type 0
-Stepped g v w old new h h' l l' Dry = (next_of h ≡ None) × (h' ≡ h) × (w ≡ v) × (new ≡ old) × (l' ≡ l)
-Stepped g v w old new h h' l l' Answered = (request : Request) × Took g v w old new h h' request true l l' × (is_bye request ≡ false) × (is_block request ≡ false)
-Stepped g v w old new h h' l l' SaidBye = Took g v w old new h h' Bye true l l'
-Stepped g v w old new h h' l l' (Blocked n) = Took g v w old new h h' (Faulty (F.Block n)) true l l'
-Stepped g v w old new h h' l l' WriteFailed = (request : Request) × Took g v w old new h h' request false l l'
+abbrev pub MakesStep : Grounds → PassSeen → PassSeen → State → State → Held → Held → LinkSeen → LinkSeen → Step → Type 0
+MakesStep g v w old new h h' l l' Dry = (next_of h ≡ None) × (h' ≡ h) × (w ≡ v) × (new ≡ old) × (l' ≡ l)
+MakesStep g v w old new h h' l l' Answered = (request : Request) × TakesNext g v w old new h h' request true l l' × (is_bye request ≡ false) × (is_block request ≡ false)
+MakesStep g v w old new h h' l l' SaidBye = TakesNext g v w old new h h' Bye true l l'
+MakesStep g v w old new h h' l l' (Blocked n) = TakesNext g v w old new h h' (Faulty (F.Block n)) true l l'
+MakesStep g v w old new h h' l l' WriteFailed = (request : Request) × TakesNext g v w old new h h' request false l l'
 
 -- the refusal that a fault of a text is told by; want of memory is none
 abbrev pub refusal_of_read : ReadFault → Option Refusal

@@ -24,10 +24,10 @@ is_over None = true
 is_over (Some left) = length left == 0
 
 -- more bytes were read and are held, or a read failed, or the input has ended
-abbrev pub Filled : Held → Held → LinkSeen → LinkSeen → Fill → Type 0
-Filled h h' l l' More = (piece : List ℕ) × (h' ≡ pushed h piece) × Reads piece l l'
-Filled h h' l l' Failed = (h' ≡ h) × Fails l l' × (l.faults ≤ l'.faults)
-Filled h h' l l' End = (h' ≡ h) × Reads [] l l' × (is_over l'.left ≡ true)
+abbrev pub Fills : Held → Held → LinkSeen → LinkSeen → Fill → Type 0
+Fills h h' l l' More = (piece : List ℕ) × (h' ≡ pushed h piece) × Reads piece l l'
+Fills h h' l l' Failed = (h' ≡ h) × Fails l l' × (l.faults ≤ l'.faults)
+Fills h h' l l' End = (h' ≡ h) × Reads [] l l' × (is_over l'.left ≡ true)
 
 -- What a call has taken, written and seen so far. What it took was the next of the input.
 pub record Gains (v w : PassSeen) (l l' : LinkSeen) (taken written : List ℕ) (stops : List ℕ) : Type 0 where

@@ -5,7 +5,7 @@ ghost use Rattle.kn_wire.specs.Requests as Q;
 ghost use Rattle.kn_wire.specs.Wired.{request_of};
 ghost use Rattle.kn_registry.specs.Passes.{IsReady};
 ghost use Rattle.kn_daemon.specs.Daemon.{Grounds, State};
-ghost use Rattle.kn_serve.specs.Handling.{state_of, HasRoom, Handled, IsTold};
+ghost use Rattle.kn_serve.specs.Handling.{state_of, HasRoom, Handles, Tells};
 
 use crate::admitting::show_secret;
 use crate::asserting::{assert_private, retract};
@@ -39,7 +39,7 @@ pub(crate) fn answer<R: Wait, A: Authenticator, L: Link>(
     requires room { HasRoom (state_of connection.old) }
     requires form { IsWellFormed (request_of request) }
     ensures ready { IsReady reg.now pass.new }
-    ensures handled { Handled (record { secret = secret.now; verdict = A.verdict auth.now }) pass.old pass.new (state_of connection.old) (state_of connection.new) (request_of request.entry) (is_whole result) (L.seen link.old) (L.seen link.new) }
+    ensures handled { Handles (record { secret = secret.now; verdict = A.verdict auth.now }) pass.old pass.new (state_of connection.old) (state_of connection.new) (request_of request.entry) (is_whole result) (L.seen link.old) (L.seen link.new) }
 {
     match request {
         Request::Start => open(rt, reg, pass, connection, link),
@@ -63,14 +63,14 @@ pub(crate) fn answer<R: Wait, A: Authenticator, L: Link>(
 
 /// Answers BYE.
 fn say_bye<L: Link>(link: &mut L) -> Result<(), Failed>
-    ensures told { (g : Grounds) (now : State) → IsTold g now now Q.Bye (is_whole result) (L.seen link.old) (L.seen link.new) }
+    ensures told { (g : Grounds) (now : State) → Tells g now now Q.Bye (is_whole result) (L.seen link.old) (L.seen link.new) }
 {
     print(&Reply::Ok, link)
 }
 
 /// Answers a line that is no request, or a block that is refused.
 pub(crate) fn refuse<L: Link>(fault: WireFault, link: &mut L) -> Result<(), Failed>
-    ensures told { (g : Grounds) (now : State) → IsTold g now now (Q.Faulty fault) (is_whole result) (L.seen link.old) (L.seen link.new) }
+    ensures told { (g : Grounds) (now : State) → Tells g now now (Q.Faulty fault) (is_whole result) (L.seen link.old) (L.seen link.new) }
 {
     print(&Reply::No(refusal_of_fault(fault)), link)
 }

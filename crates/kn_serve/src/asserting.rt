@@ -4,7 +4,7 @@ ghost use Rattle.kn_base.specs.declared.limits.TheConstants.{ASSERTION_BYTES};
 ghost use Rattle.kn_outside.specs.Printing.{is_whole};
 ghost use Rattle.kn_wire.specs.Requests as Q;
 ghost use Rattle.kn_daemon.specs.Daemon.{Grounds};
-ghost use Rattle.kn_serve.specs.Handling.{state_of, HasRoom, IsTold};
+ghost use Rattle.kn_serve.specs.Handling.{state_of, HasRoom, Tells};
 
 use crate::connection::Connection;
 use crate::refusals::{print_call, print_refusal, refusal_of_read, refusal_of_session};
@@ -24,7 +24,7 @@ pub(crate) fn assert_private<L: Link>(
 ) -> Result<(), Failed>
     requires room { HasRoom (state_of connection.old) }
     requires short { length block.now ≤ ASSERTION_BYTES }
-    ensures told { (g : Grounds) → IsTold g (state_of connection.old) (state_of connection.new) (Q.Assert s block.now) (is_whole result) (L.seen link.old) (L.seen link.new) }
+    ensures told { (g : Grounds) → Tells g (state_of connection.old) (state_of connection.new) (Q.Assert s block.now) (is_whole result) (L.seen link.old) (L.seen link.new) }
 {
     laws::readings_decide();
     match connection.sessions.view(s) {
@@ -48,7 +48,7 @@ pub(crate) fn retract<L: Link>(
     k: u32,
     link: &mut L,
 ) -> Result<(), Failed>
-    ensures told { (g : Grounds) → IsTold g (state_of connection.old) (state_of connection.new) (Q.Retract s k) (is_whole result) (L.seen link.old) (L.seen link.new) }
+    ensures told { (g : Grounds) → Tells g (state_of connection.old) (state_of connection.new) (Q.Retract s k) (is_whole result) (L.seen link.old) (L.seen link.new) }
 {
     let called = connection.sessions.retract(s, k);
     print_call(called, link)

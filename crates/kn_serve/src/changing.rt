@@ -5,7 +5,7 @@ ghost use Rattle.kn_outside.specs.Printing.{is_whole};
 ghost use Rattle.kn_wire.specs.Requests as Q;
 ghost use Rattle.kn_registry.specs.Passes.{IsReady};
 ghost use Rattle.kn_daemon.specs.Daemon.{Grounds, State, own_refusal};
-ghost use Rattle.kn_serve.specs.Handling.{state_of, Handled};
+ghost use Rattle.kn_serve.specs.Handling.{state_of, Handles};
 
 use crate::connection::Connection;
 use crate::refusals::{print_refusal, refusal_of_read, refusal_of_store};
@@ -33,7 +33,7 @@ pub(crate) fn add<R: Wait, A: Authenticator, L: Link>(
     requires ready { IsReady reg.now pass.old }
     requires short { length block.now ≤ ASSERTION_BYTES }
     ensures ready { IsReady reg.now pass.new }
-    ensures handled { (g : Grounds) → g.verdict ≡ A.verdict auth.now → Handled g pass.old pass.new (state_of connection.now) (state_of connection.now) (Q.Add block.now) (is_whole result) (L.seen link.old) (L.seen link.new) }
+    ensures handled { (g : Grounds) → g.verdict ≡ A.verdict auth.now → Handles g pass.old pass.new (state_of connection.now) (state_of connection.now) (Q.Add block.now) (is_whole result) (L.seen link.old) (L.seen link.new) }
 {
     if !connection.is_admin {
         return print(&Reply::No(Refusal::Admin), link);
@@ -65,7 +65,7 @@ fn add_ready<R: Wait, L: Link>(
 ) -> Result<(), Failed>
     requires ready { IsReady reg.now pass.old }
     ensures ready { IsReady reg.now pass.new }
-    ensures handled { (g : Grounds) (old : State) → own_refusal g old (Q.Add ready) ≡ None → Handled g pass.old pass.new old old (Q.Add ready) (is_whole result) (L.seen link.old) (L.seen link.new) }
+    ensures handled { (g : Grounds) (old : State) → own_refusal g old (Q.Add ready) ≡ None → Handles g pass.old pass.new old old (Q.Add ready) (is_whole result) (L.seen link.old) (L.seen link.new) }
 {
     match reg.add(rt, pass, ready) {
         Ok((k, version)) => print(&Reply::Added { k, version }, link),
@@ -84,7 +84,7 @@ pub(crate) fn remove<R: Wait, L: Link>(
 ) -> Result<(), Failed>
     requires ready { IsReady reg.now pass.old }
     ensures ready { IsReady reg.now pass.new }
-    ensures handled { (g : Grounds) → Handled g pass.old pass.new (state_of connection.now) (state_of connection.now) (Q.Drop k) (is_whole result) (L.seen link.old) (L.seen link.new) }
+    ensures handled { (g : Grounds) → Handles g pass.old pass.new (state_of connection.now) (state_of connection.now) (Q.Drop k) (is_whole result) (L.seen link.old) (L.seen link.new) }
 {
     if !connection.is_admin {
         return print(&Reply::No(Refusal::Admin), link);

@@ -2,7 +2,7 @@
 ghost use Rattle.std.specs.Prelude.{◌≡◌, None};
 ghost use Rattle.kn_wire.specs.Feeding.{held_bytes, next_of};
 ghost use Rattle.kn_wire.specs.Feeds.{held};
-ghost use Rattle.kn_serve.specs.Serving.{Filled, IsInputEnd};
+ghost use Rattle.kn_serve.specs.Serving.{Fills, IsInputEnd};
 
 use kn_daemon::ended::Ended;
 use kn_outside::{Failed, Link};
@@ -19,7 +19,7 @@ pub(crate) enum Fill {
 /// Reads a piece of the input into the feed.
 pub(crate) fn read_more<L: Link>(feed: &mut Feed, link: &mut L) -> Fill
     requires { next_of (held feed.old) ≡ None }
-    ensures { Filled (held feed.old) (held feed.new) (L.seen link.old) (L.seen link.new) result }
+    ensures { Fills (held feed.old) (held feed.new) (L.seen link.old) (L.seen link.new) result }
 {
     let mut buffer = [0u8; PIECE_BYTES];
     match link.read(&mut buffer) {

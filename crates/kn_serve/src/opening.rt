@@ -3,7 +3,7 @@ ghost use Rattle.kn_outside.specs.Printing.{is_whole};
 ghost use Rattle.kn_wire.specs.Requests as Q;
 ghost use Rattle.kn_registry.specs.Passes.{IsReady};
 ghost use Rattle.kn_daemon.specs.Daemon.{Grounds};
-ghost use Rattle.kn_serve.specs.Handling.{state_of, HasRoom, Handled, IsTold};
+ghost use Rattle.kn_serve.specs.Handling.{state_of, HasRoom, Handles, Tells};
 
 use crate::connection::Connection;
 use crate::refusals::print_call;
@@ -25,7 +25,7 @@ pub(crate) fn open<R: Wait, L: Link>(
     requires ready { IsReady reg.now pass.old }
     requires room { HasRoom (state_of connection.old) }
     ensures ready { IsReady reg.now pass.new }
-    ensures handled { (g : Grounds) → Handled g pass.old pass.new (state_of connection.old) (state_of connection.new) Q.Open (is_whole result) (L.seen link.old) (L.seen link.new) }
+    ensures handled { (g : Grounds) → Handles g pass.old pass.new (state_of connection.old) (state_of connection.new) Q.Open (is_whole result) (L.seen link.old) (L.seen link.new) }
 {
     let count = connection.sessions.len();
     if count >= SESSIONS {
@@ -54,7 +54,7 @@ pub(crate) fn pin<R: Wait, L: Link>(
 ) -> Result<(), Failed>
     requires ready { IsReady reg.now pass.old }
     ensures ready { IsReady reg.now pass.new }
-    ensures handled { (g : Grounds) → Handled g pass.old pass.new (state_of connection.old) (state_of connection.new) (Q.Pin s) (is_whole result) (L.seen link.old) (L.seen link.new) }
+    ensures handled { (g : Grounds) → Handles g pass.old pass.new (state_of connection.old) (state_of connection.new) (Q.Pin s) (is_whole result) (L.seen link.old) (L.seen link.new) }
 {
     match connection.sessions.view(s) {
         Ok(_) => {}
@@ -77,7 +77,7 @@ pub(crate) fn close<L: Link>(
     s: u32,
     link: &mut L,
 ) -> Result<(), Failed>
-    ensures told { (g : Grounds) → IsTold g (state_of connection.old) (state_of connection.new) (Q.Close s) (is_whole result) (L.seen link.old) (L.seen link.new) }
+    ensures told { (g : Grounds) → Tells g (state_of connection.old) (state_of connection.new) (Q.Close s) (is_whole result) (L.seen link.old) (L.seen link.new) }
 {
     let called = connection.sessions.close(s);
     print_call(called, link)

@@ -4,7 +4,7 @@ ghost use Rattle.kn_outside.specs.Printing.{is_whole};
 ghost use Rattle.kn_wire.specs.Requests.{are_digits};
 ghost use Rattle.kn_wire.specs.Requests as Q;
 ghost use Rattle.kn_daemon.specs.Daemon.{Grounds};
-ghost use Rattle.kn_serve.specs.Handling.{state_of, IsTold};
+ghost use Rattle.kn_serve.specs.Handling.{state_of, Tells};
 
 use crate::connection::Connection;
 use crate::refusals::print_call;
@@ -22,7 +22,7 @@ pub(crate) fn set<L: Link>(
     value: &[u8],
     link: &mut L,
 ) -> Result<(), Failed>
-    ensures told { (g : Grounds) → IsTold g (state_of connection.old) (state_of connection.new) (Q.Set s name.now value.now) (is_whole result) (L.seen link.old) (L.seen link.new) }
+    ensures told { (g : Grounds) → Tells g (state_of connection.old) (state_of connection.new) (Q.Set s name.now value.now) (is_whole result) (L.seen link.old) (L.seen link.new) }
 {
     let called = connection.sessions.set(s, name, value);
     print_call(called, link)
@@ -38,7 +38,7 @@ pub(crate) fn set_digits<L: Link>(
     link: &mut L,
 ) -> Result<(), Failed>
     requires digits { are_digits digits.now ≡ true }
-    ensures told { (g : Grounds) → IsTold g (state_of connection.old) (state_of connection.new) (Q.SetHex s name.now digits.now) (is_whole result) (L.seen link.old) (L.seen link.new) }
+    ensures told { (g : Grounds) → Tells g (state_of connection.old) (state_of connection.new) (Q.SetHex s name.now digits.now) (is_whole result) (L.seen link.old) (L.seen link.new) }
 {
     match decode_digits(alloc, digits) {
         Ok(value) => {
@@ -56,7 +56,7 @@ pub(crate) fn unset<L: Link>(
     name: &[u8],
     link: &mut L,
 ) -> Result<(), Failed>
-    ensures told { (g : Grounds) → IsTold g (state_of connection.old) (state_of connection.new) (Q.Unset s name.now) (is_whole result) (L.seen link.old) (L.seen link.new) }
+    ensures told { (g : Grounds) → Tells g (state_of connection.old) (state_of connection.new) (Q.Unset s name.now) (is_whole result) (L.seen link.old) (L.seen link.new) }
 {
     let called = connection.sessions.unset(s, name);
     print_call(called, link)
@@ -69,7 +69,7 @@ pub(crate) fn auth_requester<L: Link>(
     principal: &[u8],
     link: &mut L,
 ) -> Result<(), Failed>
-    ensures told { (g : Grounds) → IsTold g (state_of connection.old) (state_of connection.new) (Q.Auth s principal.now) (is_whole result) (L.seen link.old) (L.seen link.new) }
+    ensures told { (g : Grounds) → Tells g (state_of connection.old) (state_of connection.new) (Q.Auth s principal.now) (is_whole result) (L.seen link.old) (L.seen link.new) }
 {
     let called = connection.sessions.auth(s, principal);
     print_call(called, link)
@@ -82,7 +82,7 @@ pub(crate) fn unauth_requester<L: Link>(
     principal: &[u8],
     link: &mut L,
 ) -> Result<(), Failed>
-    ensures told { (g : Grounds) → IsTold g (state_of connection.old) (state_of connection.new) (Q.Unauth s principal.now) (is_whole result) (L.seen link.old) (L.seen link.new) }
+    ensures told { (g : Grounds) → Tells g (state_of connection.old) (state_of connection.new) (Q.Unauth s principal.now) (is_whole result) (L.seen link.old) (L.seen link.new) }
 {
     let called = connection.sessions.unauth(s, principal);
     print_call(called, link)
@@ -94,7 +94,7 @@ pub(crate) fn clear<L: Link>(
     s: u32,
     link: &mut L,
 ) -> Result<(), Failed>
-    ensures told { (g : Grounds) → IsTold g (state_of connection.old) (state_of connection.new) (Q.Clear s) (is_whole result) (L.seen link.old) (L.seen link.new) }
+    ensures told { (g : Grounds) → Tells g (state_of connection.old) (state_of connection.new) (Q.Clear s) (is_whole result) (L.seen link.old) (L.seen link.new) }
 {
     let called = connection.sessions.clear(s);
     print_call(called, link)

@@ -5,7 +5,7 @@ ghost use Rattle.kn_wire.specs.Wired.{request_of};
 ghost use Rattle.kn_daemon.specs.Served.{is_bye, is_block};
 ghost use Rattle.kn_wire.specs.Feeds.{held};
 ghost use Rattle.kn_registry.specs.Passes.{IsReady};
-ghost use Rattle.kn_serve.specs.Handling.{state_of, HasRoom, Stepped};
+ghost use Rattle.kn_serve.specs.Handling.{state_of, HasRoom, MakesStep};
 
 use crate::answering::{answer, refuse};
 use crate::connection::Connection;
@@ -44,7 +44,7 @@ pub(crate) fn answer_next<R: Wait, A: Authenticator, L: Link, G: Gate>(
     requires ready { IsReady reg.now pass.old }
     requires room { HasRoom (state_of connection.old) }
     ensures ready { IsReady reg.now pass.new }
-    ensures stepped { Stepped (record { secret = secret.now; verdict = A.verdict auth.now }) pass.old pass.new (state_of connection.old) (state_of connection.new) (held feed.old) (held feed.new) (L.seen link.old) (L.seen link.new) result }
+    ensures stepped { MakesStep (record { secret = secret.now; verdict = A.verdict auth.now }) pass.old pass.new (state_of connection.old) (state_of connection.new) (held feed.old) (held feed.new) (L.seen link.old) (L.seen link.new) result }
 {
     match feed.next() {
         Ok(None) => Step::Dry,

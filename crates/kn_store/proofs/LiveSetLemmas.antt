@@ -9,7 +9,7 @@ use Rattle.std.proofs.lemmas.List.Sums.{sum_by-append, sum_by-cons, sum_by_push}
 use Rattle.kn_base.specs.declared.limits.TheConstants.{LIVE_CREDENTIALS, LIVE_BYTES, UPDATES, LOGGED_BYTES}
 use Rattle.kn_store.specs.declared.fault.StoreFault.{StoreFault}
 use Rattle.kn_store.specs.declared.fault.StoreFault.TheVariants.{Unknown, HistoryFull}
-use Rattle.kn_store.specs.declared.live_set.TheConstants.{PAGE}
+use Rattle.kn_store.specs.declared.live_set.TheConstants.{CREDENTIALS_PAGE}
 use Rattle.kn_store.specs.declared.live_set.LiveSet.TheInside.{Inside}
 use Rattle.kn_store.specs.History.{NumberedText, text_bytes}
 use Rattle.kn_store.specs.LiveView.{LiveView, refusal_of_size, refusal_of_removal, with_addition, with_removal, IdsAscend}
@@ -44,9 +44,9 @@ accepted v size h =
 -- One more.
 
 module _ (s : Inside) (pages : List (List NumberedText)) (c : NumberedText) (size : ℕ)
-    (is : pages ≡ with_item PAGE s.pages c) (long : size ≡ length c.text) (next : c.id ≡ s.added + 1) where
+    (is : pages ≡ with_item CREDENTIALS_PAGE s.pages c) (long : size ≡ length c.text) (next : c.id ≡ s.added + 1) where
   longer : joined pages ≡ joined s.pages ++ c ∷ []
-  longer = ap joined is ∙ joined-with_item PAGE s.pages c
+  longer = ap joined is ∙ joined-with_item CREDENTIALS_PAGE s.pages c
 
   pub added_set : IsLiveSet s → refusal_of_size (view_of_set s) size ≡ None
       → IsLiveSet (record { pages = pages; count = s.count + 1; bytes = s.bytes + size; changes = s.changes + 1; logged = s.logged + size; added = s.added + 1 })
@@ -63,7 +63,7 @@ module _ (s : Inside) (pages : List (List NumberedText)) (c : NumberedText) (siz
       let changes_room = within.changes in
       let fewer = kept.fewer in
       record {
-        pages = rw is (sized-with_item PAGE s.pages c (omega arith) kept.pages);
+        pages = rw is (sized-with_item CREDENTIALS_PAGE s.pages c (omega arith) kept.pages);
         ids = rw longer (ascend-push 0 (joined s.pages) c kept.ids below (omega arith));
         newest = rw longer (All-push (λ x. x.id ≤ s.added + 1) (joined s.pages) c higher (omega arith));
         count = rw longer (omega arith);
@@ -131,7 +131,7 @@ module _ (s : Inside) (pages : List (List NumberedText)) (id page place size : �
       let bytes_limit = kept.bytes_limit in
       let fewer = kept.fewer in
       record {
-        pages = rw is (sized-without_item PAGE s.pages page place kept.pages);
+        pages = rw is (sized-without_item CREDENTIALS_PAGE s.pages page place kept.pages);
         ids = rw shorter (ascend-without 0 cut.front cut.credential cut.back (subst (IdsAscend 0) cut.whole kept.ids));
         newest = rw shorter (all_others (λ x. x.id ≤ s.added) (subst (All (λ x. x.id ≤ s.added)) cut.whole kept.newest));
         count = rw shorter (omega arith);

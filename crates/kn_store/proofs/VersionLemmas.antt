@@ -1,7 +1,7 @@
 -- A version after one more update.
 use Rattle.std.proofs.Common.{◌≡◌, ◌+◌, true, List, [], ◌∷◌, ◌++◌, length, sym, ap, ◌∙◌, subst, arith, length-append}
 use Rattle.kn_store.specs.declared.update.Update.{Update}
-use Rattle.kn_store.specs.declared.version.TheConstants.{PAGE}
+use Rattle.kn_store.specs.declared.version.TheConstants.{UPDATES_PAGE}
 use Rattle.kn_store.specs.declared.version.Version.TheInside.{Inside}
 use Rattle.kn_store.specs.History.{all_changes, is_valid_history, update_may_follow}
 use Rattle.kn_store.specs.LiveView.{LiveView, live_view}
@@ -11,9 +11,9 @@ use Rattle.kn_store.proofs.Histories.{valid-grows}
 use Rattle.kn_store.proofs.PageLemmas.{joined-with_item, filled-with_item}
 use Rattle.kn_store.proofs.ViewLemmas.{changes-push, has_changes}
 
-module _ (v : Inside) (updates : List (List Update)) (update : Update) (live : LiveView) (is : updates ≡ with_item PAGE v.updates update) where
+module _ (v : Inside) (updates : List (List Update)) (update : Update) (live : LiveView) (is : updates ≡ with_item UPDATES_PAGE v.updates update) where
   pub longer_log : joined updates ≡ updates_of v ++ update ∷ []
-  longer_log = ap joined is ∙ joined-with_item PAGE v.updates update
+  longer_log = ap joined is ∙ joined-with_item UPDATES_PAGE v.updates update
 
   pub next_version : IsVersion v → live ≡ live_view (all_changes (updates_of v) ++ update.changes) → update_may_follow (all_changes (updates_of v)) update ≡ true
       → IsVersion (record { live = live; updates = updates; number = v.number + 1 })
@@ -31,7 +31,7 @@ module _ (v : Inside) (updates : List (List Update)) (update : Update) (live : L
       record {
         valid = subst (λ l. is_valid_history l ≡ true) (sym longer_log) grown;
         live = same ∙ ap live_view (sym (changes-push log update)) ∙ ap (λ l. live_view (all_changes l)) (sym longer_log);
-        pages = rw is (filled-with_item PAGE v.updates update (omega arith) kept.pages);
+        pages = rw is (filled-with_item UPDATES_PAGE v.updates update (omega arith) kept.pages);
         number = rw longer_log (omega arith);
         fewer = omega arith;
       }

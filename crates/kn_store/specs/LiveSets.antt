@@ -2,7 +2,7 @@
 use Rattle.std.specs.Prelude.{◌≡◌, ◌≤◌, length}
 use Rattle.std.specs.List.{All}
 use Rattle.kn_base.specs.declared.limits.TheConstants.{LIVE_CREDENTIALS, LIVE_BYTES, UPDATES, LOGGED_BYTES}
-use Rattle.kn_store.specs.declared.live_set.TheConstants.{PAGE}
+use Rattle.kn_store.specs.declared.live_set.TheConstants.{CREDENTIALS_PAGE}
 use Rattle.kn_store.specs.declared.live_set.LiveSet.TheInside.{Inside}
 use Rattle.kn_store.specs.History.{text_bytes}
 use Rattle.kn_store.specs.Pages.{joined, AreSized}
@@ -12,7 +12,7 @@ abbrev pub view_of_set : Inside → LiveView
 view_of_set s = record { credentials = joined s.pages; changes = s.changes; logged = s.logged; added = s.added }
 
 pub record IsLiveSet (s : Inside) : Type 0 where
-  pub pages : AreSized PAGE s.pages
+  pub pages : AreSized CREDENTIALS_PAGE s.pages
   pub ids : IdsAscend 0 (joined s.pages)
   pub newest : All (λ c. c.id ≤ s.added) (joined s.pages)
   pub count : s.count ≡ length (joined s.pages)

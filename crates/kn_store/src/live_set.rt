@@ -21,7 +21,7 @@ use std::marker::Model;
 use std::sync::Arc;
 
 /// The most credentials of a page.
-pub(crate) const PAGE: u32 = 64;
+pub(crate) const CREDENTIALS_PAGE: u32 = 64;
 
 /// The live credentials in order of id, with the numbers that limits ask for.
 #[derive(Drop)]
@@ -128,7 +128,7 @@ impl LiveSet {
     {
         let size = ready.text().len() as u32;
         let added = self.added + 1;
-        let pages = self.pages.with_item(alloc, PAGE, ready.numbered(added))?;
+        let pages = self.pages.with_item(alloc, CREDENTIALS_PAGE, ready.numbered(added))?;
         Ok(LiveSet {
             pages,
             count: self.count + 1,

@@ -19,7 +19,7 @@ use std::marker::Model;
 use std::sync::Arc;
 
 /// The updates of a page of the log, of which the last page may have fewer.
-pub(crate) const PAGE: u32 = 256;
+pub(crate) const UPDATES_PAGE: u32 = 256;
 
 /// What the first updates of a book made: the credentials that are live after them. It is seen as these updates.
 ///
@@ -147,7 +147,7 @@ impl Version {
     {
         Ok(Version {
             live,
-            updates: self.updates.with_item(alloc, PAGE, update)?,
+            updates: self.updates.with_item(alloc, UPDATES_PAGE, update)?,
             number: self.number() + 1,
         })
     }

@@ -9,7 +9,7 @@ use Rattle.kn_turn.specs.Entries.{longer, longer_if}
 use Rattle.kn_turn.specs.Passes.{split_of, after_split, after_join}
 use Rattle.kn_registry.specs.Passes.{PassSeen, IsReady}
 use Rattle.kn_workers.specs.declared.post.Post.{Post}
-use Rattle.kn_workers.specs.Workers.{splits_from, joined, IsRejoined}
+use Rattle.kn_workers.specs.Workers.{splits_from, after_joins, IsRejoined}
 use Rattle.kn_workers.specs.Posts.{IsSplit, posts_of, passes_of, doors_of, all_finished, some_failed, AllSeenIn}
 
 with_splits : PassSeen → ℕ → PassSeen
@@ -39,11 +39,11 @@ longer_if-same false a = refl
 longer-same : (a b : List Update) → a ≡ b → longer a b ≡ b
 longer-same a b e = subst (λ (x : List Update). longer x b ≡ b) (sym e) (longer_if-same (nat_lt (length b) (length b)) b)
 
-joined_seen : (r v : PassSeen) (n : ℕ) → r.seen ≡ v.seen → (joined r (splits_from v n)).seen ≡ v.seen
+joined_seen : (r v : PassSeen) (n : ℕ) → r.seen ≡ v.seen → (after_joins r (splits_from v n)).seen ≡ v.seen
 joined_seen r v zero e = e
 joined_seen r v (suc n) e = joined_seen (after_join r (split_of v)) (after_split v) n (longer-same r.seen v.seen e)
 
-pub rejoined : (v w : PassSeen) (n : ℕ) → w ≡ joined (record v { splits = v.splits + n }) (splits_from v n) → IsRejoined v w
+pub rejoined : (v w : PassSeen) (n : ℕ) → w ≡ after_joins (record v { splits = v.splits + n }) (splits_from v n) → IsRejoined v w
 rejoined v w n e = record {
   count = n;
   is = e;
@@ -63,8 +63,8 @@ module _ {X : Type 0} where
   some_first (x ∷ xs) not_empty = omega arith
 
 -- one pass more is joined
-pub joins_one_more : (root : PassSeen) (passes : List PassSeen) (pass : PassSeen) → slice_get passes 0 ≡ Some pass → joined root passes ≡ joined (after_join root pass) (remove passes 0)
-joins_one_more root passes pass e = ap (joined root) (first_taken passes pass e)
+pub joins_one_more : (root : PassSeen) (passes : List PassSeen) (pass : PassSeen) → slice_get passes 0 ≡ Some pass → after_joins root passes ≡ after_joins (after_join root pass) (remove passes 0)
+joins_one_more root passes pass e = ap (after_joins root) (first_taken passes pass e)
 
 pub rest_holds : {X : Type 0} (P : X → Type 0) (xs : List X) (x : X) → slice_get xs 0 ≡ Some x → AllByRecursion P xs → P x × AllByRecursion P (remove xs 0)
 rest_holds P xs x e all = subst (AllByRecursion P) (first_taken xs x e) all
@@ -127,7 +127,7 @@ module _ {D : Type 0} (registry : TableId) (first : PassSeen) (all : List (Post 
   abbrev pub Gathering : PassSeen → List (Post D) → ℕ → List D → ℕ → ℕ → Bool → Type 0
   Gathering root posts left doors spare finished failed =
       IsReady registry root
-      × (joined root (passes_of posts) ≡ joined first (passes_of all))
+      × (after_joins root (passes_of posts) ≡ after_joins first (passes_of all))
       × AllByRecursion (IsSplit registry) (passes_of posts)
       × (doors ++ doors_of posts ≡ doors_of all)
       × (left ≤ spare)
@@ -142,7 +142,7 @@ module _ {D : Type 0} (registry : TableId) (first : PassSeen) (all : List (Post 
       let count = i.5 in
       let enough = i.4 in (
         ready,
-        ap (λ (w : PassSeen). joined w (passes_of posts)) joined_is ∙ i.1,
+        ap (λ (w : PassSeen). after_joins w (passes_of posts)) joined_is ∙ i.1,
         i.2.1,
         ap (λ (l : List D). l ++ doors_of posts) doors_are ∙ append_assoc doors (p.door ∷ []) (doors_of posts) ∙ i.3,
         omega (arith, enough, room, fewer),

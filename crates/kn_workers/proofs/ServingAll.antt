@@ -19,7 +19,7 @@ use Rattle.kn_workers.specs.Connections.{ServedSeen, IsConnection, own_in}
 use Rattle.kn_workers.specs.Doors.{DoorSeen, WorksAt, HasGiven}
 use Rattle.kn_workers.specs.declared.post.Post.{Post}
 use Rattle.kn_workers.specs.declared.worker.ServeEnd.{ServeEnd}
-use Rattle.kn_workers.specs.Workers.{splits_from, joined, Work, gave_less, all_quotas, HasWorked, EachWorked, all_served, some_less, AllServed}
+use Rattle.kn_workers.specs.Workers.{splits_from, after_joins, Work, gave_less, all_quotas, HasWorked, EachWorked, all_served, some_less, AllServed}
 use Rattle.kn_workers.specs.Posts.{IsSplit, posts_of, passes_of, doors_of, all_finished, some_failed, AllSeenIn, WorksAtPost}
 use Rattle.kn_workers.proofs.ConnectionLaws.{connection_longer}
 use Rattle.kn_workers.proofs.WorkLaws.{own-grows}
@@ -43,7 +43,7 @@ record IsJoined (root new : PassSeen) (passes : List PassSeen) : Type 0 where
   splits : new.splits ≡ root.splits
   ended : new.ended ≡ root.ended ++ map kept_of passes
 
-is_joined : (root : PassSeen) (passes : List PassSeen) → AllByRecursion (λ p. p.ended ≡ []) passes → IsJoined root (joined root passes) passes
+is_joined : (root : PassSeen) (passes : List PassSeen) → AllByRecursion (λ p. p.ended ≡ []) passes → IsJoined root (after_joins root passes) passes
 is_joined root [] none = record { number = refl; mine = refl; stops = refl; splits = refl; ended = sym (append-nil root.ended) }
 is_joined root (p ∷ passes) none =
     let rest = is_joined (after_join root p) passes none.1 in
@@ -119,7 +119,7 @@ module _ {C D : Type 0} (registry : TableId) (door : D → DoorSeen (ServedSeen 
   -- the root after all posts were gathered
   pub all_worked : (longer : ServedLonger) (root hired new : PassSeen) (doors doors' : List D) (posts posts' : List (Post D)) (end : ServeEnd) →
       posts ≡ posts_of doors (splits_from root (length doors)) → hired ≡ record root { splits = root.splits + length doors } →
-      AllZip (WorksAtPost registry door seen g) posts posts' → new ≡ joined hired (passes_of posts') → IsPrefix hired.seen new.seen × AllSeenIn new.seen (passes_of posts') →
+      AllZip (WorksAtPost registry door seen g) posts posts' → new ≡ after_joins hired (passes_of posts') → IsPrefix hired.seen new.seen × AllSeenIn new.seen (passes_of posts') →
       IsSoundPass new → is_valid_history new.seen ≡ true → end.finished ≡ all_finished posts' → end.failed ≡ some_failed posts' → doors' ≡ doors_of posts' →
       AllServed door seen g root new doors doors' end
   all_worked longer root hired new doors doors' posts posts' end posts_are hired_is zip new_is fronts sound valid finished failed doors_are =

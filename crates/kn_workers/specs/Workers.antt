@@ -17,14 +17,14 @@ splits_from root zero = []
 splits_from root (suc n) = split_of root ∷ splits_from (after_split root) n
 
 -- a root after passes were joined into it
-abbrev pub joined : PassSeen → List PassSeen → PassSeen
-joined root [] = root
-joined root (pass ∷ passes) = joined (after_join root pass) passes
+abbrev pub after_joins : PassSeen → List PassSeen → PassSeen
+after_joins root [] = root
+after_joins root (pass ∷ passes) = after_joins (after_join root pass) passes
 
 -- some passes were split from a root, and joined into it again
 pub record IsRejoined (v w : PassSeen) : Type 0 where
   pub count : ℕ
-  pub is : w ≡ joined (record v { splits = v.splits + count }) (splits_from v count)
+  pub is : w ≡ after_joins (record v { splits = v.splits + count }) (splits_from v count)
   pub seen : w.seen ≡ v.seen
 
 -- what one worker did: its door before and after, its connections, and what is kept of its pass

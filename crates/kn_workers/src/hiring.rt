@@ -3,7 +3,7 @@ ghost use Rattle.std.specs.Prelude.{◌≡◌, ◌≢◌, ◌+◌, ◌≤◌, �
 ghost use Rattle.std.specs.List.{AllByRecursion};
 ghost use mathlib.Core.List.{IsPrefix};
 ghost use Rattle.kn_registry.specs.Passes.{IsReady};
-ghost use Rattle.kn_workers.specs.Workers.{splits_from, joined, IsRejoined};
+ghost use Rattle.kn_workers.specs.Workers.{splits_from, after_joins, IsRejoined};
 ghost use Rattle.kn_workers.specs.Posts.{IsSplit, posts_of, doors_of, passes_of, all_finished, some_failed, AllSeenIn};
 
 use crate::post::Post;
@@ -46,7 +46,7 @@ fn join_all(reg: &Registry, root: &mut Pass, passes: List<Pass>)
     requires ready { IsReady reg.now root.old }
     requires split { AllByRecursion (IsSplit reg.now) passes }
     ensures ready { IsReady reg.now root.new }
-    ensures joined { root.new ≡ joined root.old passes }
+    ensures joined { root.new ≡ after_joins root.old passes }
 {
     let mut passes = passes;
     'joins: while !passes.is_empty() {
@@ -99,7 +99,7 @@ pub(crate) fn gather<D: Drop>(
     requires room { vec_len posts ≤ doors.spare }
     requires few { all_finished posts.items < 2 ^ 32 }
     ensures ready { IsReady reg.now root.new }
-    ensures joined { root.new ≡ joined root.old (passes_of posts.items) }
+    ensures joined { root.new ≡ after_joins root.old (passes_of posts.items) }
     ensures seen { IsPrefix root.old.seen root.new.seen × AllSeenIn root.new.seen (passes_of posts.items) }
     ensures finished { result.0.finished ≡ all_finished posts.items }
     ensures failed { result.0.failed ≡ some_failed posts.items }

@@ -1,7 +1,7 @@
 use Rattle.std.proofs.Common.{List, ap, sym, ◌∙◌, subst}
 use Rattle.std.specs.List.{AllByRecursion}
 use Rattle.kn_registry.specs.Passes.{PassSeen}
-use Rattle.kn_workers.specs.Workers.{joined}
+use Rattle.kn_workers.specs.Workers.{after_joins}
 use Rattle.kn_workers.specs.Posts.{IsSplit}
 use Rattle.kn_workers.proofs.HiringLaws.{joins_one_more, rest_holds}
 use Rattle.kn_workers.proofs.hiring.join_all.Goals as goal
@@ -12,7 +12,7 @@ joins-preserved c =
     let first = c.remove-pass.ensures in
     let rest = rest_holds _ _ _ first.item i.2 in (
       c.join.ensures.ready,
-      ap (λ (x : PassSeen × List PassSeen). joined x.0 x.1) (λ j. (c.join.ensures.joined j, first.rest j)) ∙ sym (joins_one_more _ _ _ first.item) ∙ i.1,
+      ap (λ (x : PassSeen × List PassSeen). after_joins x.0 x.1) (λ j. (c.join.ensures.joined j, first.rest j)) ∙ sym (joins_one_more _ _ _ first.item) ∙ i.1,
       subst (AllByRecursion (IsSplit c.args.reg.now)) (sym first.rest) rest.1,
     )
 

@@ -2,7 +2,7 @@ use Rattle.std.proofs.Common.{◌≡◌, ℕ, suc, ◌+◌, List, [], ◌∷◌,
 use Rattle.std.specs.List.{AllByRecursion}
 use Rattle.kn_turn.specs.Passes.{split_of, after_split}
 use Rattle.kn_registry.specs.Passes.{PassSeen}
-use Rattle.kn_workers.specs.Workers.{splits_from, joined}
+use Rattle.kn_workers.specs.Workers.{splits_from, after_joins}
 use Rattle.kn_workers.specs.Posts.{IsSplit}
 use Rattle.kn_workers.proofs.HiringLaws.{split_one_more, splits_ready, rejoined}
 use Rattle.kn_workers.proofs.hiring.split_all.Goals as goal
@@ -15,7 +15,7 @@ pub returns-in-Err-clause-refused : goal.returns-in-Err-clause-refused
 returns-in-Err-clause-refused c =
     let root = c.in-Err.ensures.refused ∙ c.splits.invariant.1 in
     let passes = c.finish.ensures ∙ c.splits.invariant.2 in
-    rejoined _ _ c.splits.counter (c.join_all.ensures.joined ∙ ap (λ (x : PassSeen × List PassSeen). joined x.0 x.1) (λ i. (root i, passes i)))
+    rejoined _ _ c.splits.counter (c.join_all.ensures.joined ∙ ap (λ (x : PassSeen × List PassSeen). after_joins x.0 x.1) (λ i. (root i, passes i)))
 
 pub splits-preserved : goal.splits-preserved
 splits-preserved c =
