@@ -14,7 +14,7 @@ append_left [] ys zs e = e
 append_left (x ∷ xs) ys zs e = append_left xs ys zs (cc e)
 
 -- what is named in more of a list, where its beginning and the whole are known
-named_more : (n : ℕ) (seen more mine own : List Update) → updates_by n seen ≡ mine → updates_by n (seen ++ more) ≡ mine ++ own → updates_by n more ≡ own
+pub named_more : (n : ℕ) (seen more mine own : List Update) → updates_by n seen ≡ mine → updates_by n (seen ++ more) ≡ mine ++ own → updates_by n more ≡ own
 named_more n seen more mine own first whole =
     append_left mine (updates_by n more) own (sym (filter-append (λ (u : Update). u.caller == n) seen more ∙ ap (λ w. w ++ updates_by n more) first) ∙ whole)
 

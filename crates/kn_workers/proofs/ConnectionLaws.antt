@@ -76,7 +76,9 @@ module _ {C : Type 0} (seen : C → LinkSeen) (g : Grounds) (v w : PassSeen) (li
             (subst (λ (l : List ℕ). IsServed g s.taken s.written ended (is_over (seen link').left) w.seen (length v.seen) (length w.seen) v.number l) (sym same) s.served));
         cause = has-fault ended (seen link) (seen link') new.faults s.cause;
         calm = no-fault ended (seen link) (seen link') new.faults s.cause;
-        complete = faultless-rest (seen link').left s.taken (seen link').faults rest (λ none. faultless (seen link).faults (seen link').faults new.faults none);
+        complete = of-told (seen link').taken (seen link').left s.taken (seen link').faults
+            (subst (λ (t : Option (List ℕ)). IfSome t (λ bytes. bytes ≡ s.taken)) (sym gains.took) (told-new (seen link).taken s.taken new.taken))
+            (faultless-rest (seen link').left s.taken (seen link').faults rest (λ none. faultless (seen link).faults (seen link').faults new.faults none));
       }
     where
       faultless-rest : (told : Option (List ℕ)) (taken : List ℕ) (faults : ℕ) →
@@ -84,6 +86,13 @@ module _ {C : Type 0} (seen : C → LinkSeen) (g : Grounds) (v w : PassSeen) (li
           IfSome told (λ left. IsOrderly (taken ++ left) → faults ≡ 0 → (ended ≡ E.Done) ⊎ (ended ≡ E.Memory))
       faultless-rest None taken faults all none = tt
       faultless-rest (Some left) taken faults all none = λ orderly zero. all orderly (none zero)
+
+      of-told : (told left : Option (List ℕ)) (taken : List ℕ) (faults : ℕ) → IfSome told (λ bytes. bytes ≡ taken) →
+          IfSome left (λ rest. IsOrderly (taken ++ rest) → faults ≡ 0 → (ended ≡ E.Done) ⊎ (ended ≡ E.Memory)) →
+          IfSome told (λ bytes. IfSome left (λ rest. IsOrderly (bytes ++ rest) → faults ≡ 0 → (ended ≡ E.Done) ⊎ (ended ≡ E.Memory)))
+      of-told None left taken faults same all = tt
+      of-told (Some bytes) left taken faults same all =
+          subst (λ (b : List ℕ). IfSome left (λ rest. IsOrderly (b ++ rest) → faults ≡ 0 → (ended ≡ E.Done) ⊎ (ended ≡ E.Memory))) (sym same) all
 
 -- how the call moved the pass, with where the turn was had as a served connection shows it
 pub moves_shown : (g : Grounds) (v w : PassSeen) (l l' : LinkSeen) (ended : Ended) (stops : List ℕ) → Serves g v w l l' ended → stops ≡ drop (length v.stops) w.stops →

@@ -3,7 +3,7 @@ use Rattle.std.proofs.Common.{◌≡◌, ℕ, zero, suc, ◌+◌, ◌<◌, ◌�
 use Rattle.std.specs.Prelude.{take, drop, map, All, slice_index_or, nat_lt, ◌||◌}
 use Rattle.std.specs.List.{AllByRecursion, AllZip}
 use Rattle.std.proofs.lemmas.Bool.{lt-ltb, ltb-true}
-use Rattle.std.proofs.Math.Seq.{take-append_seam}
+use Rattle.std.proofs.Math.Seq.{take-append_seam, drop-append_seam}
 use mathlib.Core.List.{IsPrefix}
 use Rattle.atomic_table.specs.Seated.{TableId}
 use Rattle.kn_base.specs.declared.limits.TheConstants.{CONNECTIONS}
@@ -14,7 +14,8 @@ use Rattle.kn_turn.specs.declared.view.EndedPass.{EndedPass}
 use Rattle.kn_turn.specs.Passes.{split_of, after_split, after_join}
 use Rattle.kn_daemon.specs.Daemon.{Grounds}
 use Rattle.kn_daemon.specs.Laws.{ServedLonger}
-use Rattle.kn_registry.specs.Passes.{PassSeen, IsReady, IsSoundPass}
+use Rattle.kn_registry.specs.Passes.{PassSeen, IsReady, IsSoundPass, updates_by}
+use Rattle.kn_registry.proofs.PassMoves.{named_more}
 use Rattle.kn_workers.specs.Connections.{ServedSeen, IsConnection, own_in}
 use Rattle.kn_workers.specs.Doors.{DoorSeen, WorksAt, HasGiven}
 use Rattle.kn_workers.specs.declared.post.Post.{Post}
@@ -54,6 +55,16 @@ is_joined root (p ∷ passes) none =
       splits = rest.splits;
       ended = rest.ended ∙ ap (λ (l : List (EndedPass Update)). (root.ended ++ (l ++ kept_of p ∷ [])) ++ map kept_of passes) none.0 ∙ append_assoc root.ended (kept_of p ∷ []) (map kept_of passes);
     }
+
+-- a root that made nothing has no update of its own behind what it had seen
+none_own : (root new : PassSeen) → IsSoundPass root → IsSoundPass new → new.number ≡ root.number → new.mine ≡ root.mine → IsPrefix root.seen new.seen →
+    updates_by root.number (drop (length root.seen) new.seen) ≡ []
+none_own root new was is number mine front =
+    let more = front.0 in
+    let behind : drop (length root.seen) new.seen ≡ more = ap (drop (length root.seen)) (sym front.1) ∙ drop-append_seam root.seen more in
+    let all : updates_by root.number new.seen ≡ root.mine = ap (λ (n : ℕ). updates_by n new.seen) (sym number) ∙ is.own ∙ mine in
+    ap (updates_by root.number) behind
+    ∙ named_more root.number root.seen more root.mine [] was.own (ap (updates_by root.number) front.1 ∙ all ∙ sym (append-nil root.mine))
 
 module _ {C D : Type 0} (registry : TableId) (door : D → DoorSeen (ServedSeen C)) (seen : C → LinkSeen) (g : Grounds) where
   less_is : (failed : Bool) (d : DoorSeen (ServedSeen C)) (d' : D) → HasGiven failed d (door d') → failed ≡ gave_less door d'
@@ -120,9 +131,9 @@ module _ {C D : Type 0} (registry : TableId) (door : D → DoorSeen (ServedSeen 
   pub all_worked : (longer : ServedLonger) (root hired new : PassSeen) (doors doors' : List D) (posts posts' : List (Post D)) (end : ServeEnd) →
       posts ≡ posts_of doors (splits_from root (length doors)) → hired ≡ record root { splits = root.splits + length doors } →
       AllZip (WorksAtPost registry door seen g) posts posts' → new ≡ after_joins hired (passes_of posts') → IsPrefix hired.seen new.seen × AllSeenIn new.seen (passes_of posts') →
-      IsSoundPass new → is_valid_history new.seen ≡ true → end.finished ≡ all_finished posts' → end.failed ≡ some_failed posts' → doors' ≡ doors_of posts' →
+      IsSoundPass root → IsSoundPass new → is_valid_history new.seen ≡ true → end.finished ≡ all_finished posts' → end.failed ≡ some_failed posts' → doors' ≡ doors_of posts' →
       AllServed door seen g root new doors doors' end
-  all_worked longer root hired new doors doors' posts posts' end posts_are hired_is zip new_is fronts sound valid finished failed doors_are =
+  all_worked longer root hired new doors doors' posts posts' end posts_are hired_is zip new_is fronts was_sound sound valid finished failed doors_are =
       let b = built longer root new.seen doors posts' valid (subst (λ (l : List (Post D)). AllZip (WorksAtPost registry door seen g) l posts') posts_are zip) fronts.1 in
       let j = subst (λ (w : PassSeen). IsJoined w new (passes_of posts')) hired_is (subst (λ (w : PassSeen). IsJoined hired w (passes_of posts')) (sym new_is) (is_joined hired (passes_of posts') b.ended)) in
       record {
@@ -131,6 +142,7 @@ module _ {C D : Type 0} (registry : TableId) (door : D → DoorSeen (ServedSeen 
         after = b.after ∙ sym doors_are;
         each = b.each;
         seen = subst (λ (w : PassSeen). IsPrefix w.seen new.seen) hired_is fronts.0;
+        own = none_own root new was_sound sound j.number j.mine (subst (λ (w : PassSeen). IsPrefix w.seen new.seen) hired_is fronts.0);
         sound = sound;
         number = j.number;
         mine = j.mine;

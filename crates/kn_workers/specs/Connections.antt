@@ -36,7 +36,8 @@ pub record IsNew (l : LinkSeen) : Type 0 where
   pub faults : l.faults ≡ 0
 
 -- The caller's connection was served over this history: all that was taken of its link and written to it, if the link tells
--- that. Only where it ended by a fault did a call of its link fail. Where the input is in order and no call of the link failed, all of it was answered if there was memory.
+-- that. Only where it ended by a fault did a call of its link fail. Where the link tells an input that is in order, and no call
+-- of it failed, all of it was answered if there was memory.
 pub record IsConnection {C : Type 0} (seen : C → LinkSeen) (g : Grounds) (history : List Update) (caller : ℕ) (s : ServedSeen C) : Type 0 where
   pub number : s.caller ≡ caller
   pub taken : List ℕ
@@ -46,7 +47,8 @@ pub record IsConnection {C : Type 0} (seen : C → LinkSeen) (g : Grounds) (hist
   pub served : IsServed g taken written s.ended (is_over (seen s.link).left) history s.from s.to caller s.stops
   pub cause : is_fault s.ended ≡ true → 0 < (seen s.link).faults
   pub calm : is_fault s.ended ≡ false → (seen s.link).faults ≡ 0
-  pub complete : IfSome (seen s.link).left (λ left. IsOrderly (taken ++ left) → (seen s.link).faults ≡ 0 → (s.ended ≡ E.Done) ⊎ (s.ended ≡ E.Memory))
+  pub complete : IfSome (seen s.link).taken (λ told. IfSome (seen s.link).left (λ left. IsOrderly (told ++ left) → (seen s.link).faults ≡ 0
+      → (s.ended ≡ E.Done) ⊎ (s.ended ≡ E.Memory)))
 
 module _ {C : Type 0} where
   -- what was seen in the connections follows one another, from one length to another

@@ -1,12 +1,12 @@
 -- Workers side by side: each serves a door by a pass of its own, which is joined into the root (keynoted's own).
-use Rattle.std.specs.Prelude.{ℕ, zero, suc, ◌≡◌, ◌+◌, ◌≤◌, Bool, false, ◌||◌, List, [], ◌∷◌, ◌++◌, length, map, All, nat_lt}
+use Rattle.std.specs.Prelude.{ℕ, zero, suc, ◌≡◌, ◌+◌, ◌≤◌, Bool, false, ◌||◌, List, [], ◌∷◌, ◌++◌, length, map, drop, All, nat_lt}
 use mathlib.Core.List.{IsPrefix}
 use Rattle.kn_outside.specs.Seen.{LinkSeen}
 use Rattle.kn_store.specs.declared.update.Update.{Update}
 use Rattle.kn_turn.specs.declared.view.EndedPass.{EndedPass}
 use Rattle.kn_turn.specs.Passes.{split_of, after_split, after_join}
 use Rattle.kn_daemon.specs.Daemon.{Grounds}
-use Rattle.kn_registry.specs.Passes.{PassSeen, IsSoundPass}
+use Rattle.kn_registry.specs.Passes.{PassSeen, IsSoundPass, updates_by}
 use Rattle.kn_workers.specs.Connections.{ServedSeen, IsConnection, FollowEachOther, stops_of, own_in}
 use Rattle.kn_workers.specs.Doors.{DoorSeen, with_more, HasGiven}
 use Rattle.kn_workers.specs.declared.worker.ServeEnd.{ServeEnd}
@@ -76,13 +76,14 @@ module _ {C D : Type 0} (door : D → DoorSeen (ServedSeen C)) where
   some_less (work ∷ works) = gave_less work.after || some_less works
 
   -- Each door had a worker, whose pass was split from the root and joined into it again, in the doors' order. The root made no
-  -- update and didn't have the turn. So each update that the root has seen since is one of a connection.
+  -- update and didn't have the turn: each update that it has seen since is one of a connection.
   pub record AllServed (link : C → LinkSeen) (g : Grounds) (v w : PassSeen) (doors doors' : List D) (end : ServeEnd) : Type 0 where
     pub works : List (Work C D)
     pub before : map (λ work. work.before) works ≡ doors
     pub after : map (λ work. work.after) works ≡ doors'
     pub each : EachWorked link g (length v.seen) w.seen (v.splits + 1) works
     pub seen : IsPrefix v.seen w.seen
+    pub own : updates_by v.number (drop (length v.seen) w.seen) ≡ []
     pub sound : IsSoundPass w
     pub number : w.number ≡ v.number
     pub mine : w.mine ≡ v.mine

@@ -48,15 +48,16 @@ where
     ensures doors { OnErr result (doors.new ≡ doors.old) }
 {
     laws::served_longer();
+    // what the number tells with it is that the root is sound, before and afterwards
+    let before = root.number();
     let mut kept = Reserved::new(alloc);
     kept.reserve(doors.len())?;
     let mut posts = hire(alloc, reg, root, doors)?;
     work_all(rt, alloc, reg, auth, secret, posts.as_mut_slice(), gate);
     let (end, served) = gather(reg, root, posts, kept);
     *doors = served;
-    // what the number tells with it is that the root is sound
-    let number = root.number();
-    let _ = number;
+    let after = root.number();
+    let _ = (before, after);
     Ok(end)
 }
 

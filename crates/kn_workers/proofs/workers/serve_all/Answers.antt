@@ -37,4 +37,4 @@ returns-clause-served g c =
     c.in_ok-posts.posts.ok.0 c.in_ok-posts.ensures.posts c.as_mut_slice.ensures.value c.work_all.ensures in
     let end = c.gather-served.ensures in
     all_worked c.args.reg.now g.D.Door.seen g.D.Conn.Sink.seen grounds c.served_longer.ensures c.args.root.now c.hire.new.root c.gather-served.new.root c.args.doors.now _ _ _ _
-    refl c.in_ok-posts.ensures.root all.2 end.joined end.seen c.number-number.ensures.sound end.ready.valid end.finished end.failed end.doors
+    refl c.in_ok-posts.ensures.root all.2 end.joined end.seen c.number-before.ensures.sound c.number-after.ensures.sound end.ready.valid end.finished end.failed end.doors
