@@ -17,12 +17,7 @@ use Rattle.kn_trees.specs.declared.program.Then.TheFolds.{fold-Program, fold-Cla
 
 abbrev pub is_join : Operation → Bool
 is_join Join = true
-is_join Plus = false
-is_join Less = false
-is_join Times = false
-is_join Divide = false
-is_join Rest = false
-is_join Power = false
+is_join sign = false
 
 abbrev pub itself : Bool → Bool
 itself b = b

@@ -48,47 +48,35 @@ front_number (byte ∷ bytes) =
 
 abbrev pub negated : Meaning → Meaning
 negated (truth b) = truth (not b)
-negated (whole n) = fault
-negated (text bytes) = fault
-negated fault = fault
+negated meaning = fault
 
 abbrev pub minus : Meaning → Meaning
-minus (truth b) = fault
 minus (whole n) = whole_in_range (neg_ℤ n)
-minus (text bytes) = fault
-minus fault = fault
+minus meaning = fault
 
 -- `@`
 abbrev pub number_of : Meaning → Meaning
-number_of (truth b) = fault
-number_of (whole n) = fault
 number_of (text bytes) = whole_in_range (front_number bytes)
-number_of fault = fault
+number_of meaning = fault
 
 -- `$`: the value of the name that a text is, and the empty text where it is no attribute name
 abbrev pub value_named : Environment → Meaning → Meaning
-value_named e (truth b) = fault
-value_named e (whole n) = fault
 value_named e (text bytes) = if is_attribute_name bytes then text_in_range (name_value e bytes) else text []
-value_named e fault = fault
+value_named e meaning = fault
 
 -- `&&` stops at the first part that is false, or a fault
 abbrev pub conjunction : List Meaning → Meaning
 conjunction [] = truth true
 conjunction (truth true ∷ parts) = conjunction parts
 conjunction (truth false ∷ parts) = truth false
-conjunction (whole n ∷ parts) = fault
-conjunction (text bytes ∷ parts) = fault
-conjunction (fault ∷ parts) = fault
+conjunction (part ∷ parts) = fault
 
 -- `||` stops at the first part that is true, or a fault
 abbrev pub disjunction : List Meaning → Meaning
 disjunction [] = truth false
 disjunction (truth true ∷ parts) = truth true
 disjunction (truth false ∷ parts) = disjunction parts
-disjunction (whole n ∷ parts) = fault
-disjunction (text bytes ∷ parts) = fault
-disjunction (fault ∷ parts) = fault
+disjunction (part ∷ parts) = fault
 
 -- a text stands before another one by its bytes, and before those that it begins
 abbrev pub is_before : List ℕ → List ℕ → Bool
@@ -142,12 +130,7 @@ operation_of_numbers Power a b = power a b
 
 abbrev pub operation_of_texts : Operation → List ℕ → List ℕ → Meaning
 operation_of_texts Join a b = text_in_range (a ++ b)
-operation_of_texts Plus a b = fault
-operation_of_texts Less a b = fault
-operation_of_texts Times a b = fault
-operation_of_texts Divide a b = fault
-operation_of_texts Rest a b = fault
-operation_of_texts Power a b = fault
+operation_of_texts sign a b = fault
 
 abbrev pub operation : Operation → Meaning → Meaning → Meaning
 operation sign (whole a) (whole b) = operation_of_numbers sign a b

@@ -18,18 +18,13 @@ top_of e = length e.asked.values - 1
 
 -- the value that a text names, and the lowest where it is none
 abbrev pub value_of : Environment → Meaning → ℕ
-value_of e (truth b) = 0
-value_of e (whole n) = 0
 value_of e (text name) = option_map_or (λ index. index) (index_of name e.asked.values) 0
-value_of e fault = 0
+value_of e meaning = 0
 
 -- a clause counts where its test is true; a fault isn't
 abbrev pub where_true : Meaning → ℕ → ℕ
 where_true (truth true) value = value
-where_true (truth false) value = 0
-where_true (whole n) value = 0
-where_true (text bytes) value = 0
-where_true fault value = 0
+where_true meaning value = 0
 
 abbrev pub then_step : Environment → Then-F ℕ ℕ ℕ → ℕ
 then_step e Top = top_of e

@@ -9,7 +9,7 @@ use Rattle.kn_formula.specs.Grammar.Form.{both, either}
 use Rattle.kn_formula.specs.Grammar.Both.{one, each}
 use Rattle.kn_formula.specs.Grammar.One.{group, literal, name, some_of}
 use Rattle.kn_formula.specs.Grammar.Forms.{last, further}
-use Rattle.kn_formula.specs.Reading.{Parts, join_read, behind_of, close_after, several_read, list_after, group_after, ors_at, ands_at, one_at, forms_at}
+use Rattle.kn_formula.specs.Reading.{Parts, join_read, behind_of, close_after, in_brackets, ors_at, ands_at, one_at, forms_at}
 use Rattle.kn_formula.specs.declared.written.Rule.TheVariants.{All, Any, AtLeast}
 use Rattle.kn_formula.specs.declared.written.Written.{Written}
 use Rattle.kn_formula.specs.declared.written.Written.TheVariants.{Several}
@@ -43,15 +43,15 @@ split_words : (front : List Word) (word : Word) (rest : List Word) → length (f
 split_words front word rest = let e : length (front ++ word ∷ rest) ≡ length front + length (word ∷ rest) = length-append front (word ∷ rest) in omega arith
 
 group_read : (go : List Word → Parts) (words : List Word) (list : List Written) (rest : List Word) → go words ≡ Some (list, sign_word (codes ")") ∷ rest)
-    → group_after (behind (is_sign_word (codes "(")) (sign_word (codes "(") ∷ words)) go ≡ Some (joined Any list, rest)
+    → in_brackets Any (behind (is_sign_word (codes "(")) (sign_word (codes "(") ∷ words)) go ≡ Some (joined Any list, rest)
 unfolding behind
 group_read go words list rest e = ap (λ read. close_after (join_read Any read)) e
 
 list_read : (digits : List ℕ) (go : List Word → Parts) (words : List Word) (list : List Written) (rest : List Word) → go words ≡ Some (list, sign_word (codes ")") ∷ rest)
-    → list_after (need_of digits) (behind_of (sign_word (codes "-") ∷ name_word (codes "of") ∷ sign_word (codes "(") ∷ words)) go
+    → in_brackets (AtLeast (need_of digits)) (behind_of (sign_word (codes "-") ∷ name_word (codes "of") ∷ sign_word (codes "(") ∷ words)) go
     ≡ Some (Several (AtLeast (need_of digits)) list, rest)
 unfolding behind
-list_read digits go words list rest e = ap (λ read. close_after (several_read (need_of digits) read)) e
+list_read digits go words list rest e = ap (λ read. close_after (join_read (AtLeast (need_of digits)) read)) e
 
 -- no list goes on with these words
 pub record Ends (rest : List Word) : Type 0 where

@@ -6,8 +6,9 @@ use Rattle.std.proofs.lemmas.Bool.{cond-true}
 use Rattle.kn_formula.specs.Words.{Word, is_sign_word, is_name_word, behind}
 use Rattle.kn_formula.specs.Words.Word.{literal, name, number, sign, other}
 use Rattle.kn_formula.specs.Trees.{joined}
-use Rattle.kn_formula.specs.Reading.{Parts, Part, with_front, join_read, more_parts, parts_after}
+use Rattle.kn_formula.specs.Reading.{Parts, Part, with_front, finished, is_whole, join_read, more_parts, parts_after}
 use Rattle.kn_formula.specs.declared.written.Rule.{Rule}
+use Rattle.kn_formula.specs.declared.written.Rule.TheVariants.{All, Any, AtLeast}
 use Rattle.kn_formula.specs.declared.written.Written.{Written}
 use Rattle.kn_formula.specs.declared.written.Written.TheVariants.{Several}
 
@@ -124,26 +125,30 @@ after_parts text (Some (part, left)) go parts rest e = by (behind (is_sign_word 
 pub record Joins (rule : Rule) (parts : Parts) (part : Written) (rest : List Word) : Type 0 where
   pub list : List Written
   pub read : parts ≡ Some (list, rest)
-  pub part_is : part ≡ joined rule list
+  pub part_is : part ≡ finished rule list
 
 pub join_parts : (rule : Rule) (parts : Parts) (part : Written) (rest : List Word) → join_read rule parts ≡ Some (part, rest) → Joins rule parts part rest
 join_parts rule None part rest e = absurd (cc)
 join_parts rule (Some (list, left)) part rest e =
-    let same = read_parts (joined rule list) part left rest e in
+    let same = read_parts (finished rule list) part left rest e in
     record { list = list; read = ap (λ (words : List Word). Some (list, words)) same.1; part_is = sym same.0 }
 
--- no list of one part
-pub joined_several : (rule : Rule) (list : List Written) → (length list ≡ 1 → ⊥) → Several rule list ≡ joined rule list
+-- a part behind these is the whole list
+pub whole_alone : (rule : Rule) (list : List Written) (last : Written) → is_whole rule list ≡ true → last ≡ finished rule (list ++ last ∷ [])
 unfolding joined
-joined_several rule [] h = refl
-joined_several rule (part ∷ []) h = absurd (h (omega arith))
-joined_several rule (part ∷ next ∷ list) h = refl
+whole_alone All [] last whole = refl
+whole_alone Any [] last whole = refl
+whole_alone All (part ∷ list) last whole = absurd (cc)
+whole_alone Any (part ∷ list) last whole = absurd (cc)
+whole_alone (AtLeast need) list last whole = absurd (cc)
 
--- a list of one part, which is its last
-pub joined_one : (rule : Rule) (list front : List Written) (part : Written) → length list ≡ 1 → list ≡ front ++ part ∷ [] → part ≡ joined rule list
+-- it isn't
+pub whole_several : (rule : Rule) (list : List Written) (last : Written) → is_whole rule list ≡ false → Several rule (list ++ last ∷ []) ≡ finished rule (list ++ last ∷ [])
 unfolding joined
-joined_one rule list [] part one is = sym (ap (joined rule) is)
-joined_one rule list (first ∷ front) part one is =
-    let size : length list ≡ length (front ++ part ∷ []) + 1 = ap length is ∙ omega arith in
-    let more : length (front ++ part ∷ []) ≡ length front + 1 = length-append front (part ∷ []) ∙ omega arith in
-    absurd (omega arith)
+whole_several All [] last more = absurd (cc)
+whole_several Any [] last more = absurd (cc)
+whole_several All (part ∷ []) last more = refl
+whole_several Any (part ∷ []) last more = refl
+whole_several All (part ∷ next ∷ list) last more = refl
+whole_several Any (part ∷ next ∷ list) last more = refl
+whole_several (AtLeast need) list last more = refl

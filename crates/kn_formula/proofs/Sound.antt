@@ -9,7 +9,7 @@ use Rattle.kn_formula.specs.Grammar.Form.{both, either}
 use Rattle.kn_formula.specs.Grammar.Both.{one, each}
 use Rattle.kn_formula.specs.Grammar.One.{group, literal, name, some_of}
 use Rattle.kn_formula.specs.Grammar.Forms.{last, further}
-use Rattle.kn_formula.specs.Reading.{Parts, Part, join_read, then_behind, behind_of, closed, close_after, several_read, list_after, group_after, ors_at, ands_at, one_at, forms_at}
+use Rattle.kn_formula.specs.Reading.{Parts, Part, join_read, then_behind, behind_of, closed, close_after, in_brackets, ors_at, ands_at, one_at, forms_at}
 use Rattle.kn_formula.specs.declared.written.Principal.TheVariants.{Literal, Name}
 use Rattle.kn_formula.specs.declared.written.Rule.TheVariants.{All, Any, AtLeast}
 use Rattle.kn_formula.specs.declared.written.Written.{Written}
@@ -147,23 +147,12 @@ of_before words left e = by (behind (is_sign_word (codes "-")) words) refl e
             ∙ ap (λ words. sign_word (codes "-") ∷ words) (name_before (codes "of") second third there)
             ∙ ap (λ words. sign_word (codes "-") ∷ name_word (codes "of") ∷ words) (sign_before (codes "(") third left is)
 
-record Lists (need : ℕ) (parts : Parts) (part : Written) (rest : List Word) : Type 0 where
-  list : List Written
-  read : parts ≡ Some (list, rest)
-  part_is : part ≡ Several (AtLeast need) list
-
-lists : (need : ℕ) (parts : Parts) (part : Written) (rest : List Word) → several_read need parts ≡ Some (part, rest) → Lists need parts part rest
-lists need None part rest e = absurd (cc)
-lists need (Some (list, left)) part rest e =
-    let same = read_parts (Several (AtLeast need) list) part left rest e in
-    record { list = list; read = ap (λ (words : List Word). Some (list, words)) same.1; part_is = sym same.0 }
-
 group_sound : (words : List Word) (part : Written) (rest : List Word) (go : List Word → Parts)
     → ((left : List Word) (list : List Written) (rest : List Word) → go left ≡ Some (list, rest) → SpellsForm left list rest)
-    → group_after (behind (is_sign_word (codes "(")) words) go ≡ Some (part, rest) → SpellsOne words part rest
+    → in_brackets Any (behind (is_sign_word (codes "(")) words) go ≡ Some (part, rest) → SpellsOne words part rest
 group_sound words part rest go sound e = by (behind (is_sign_word (codes "(")) words) refl e
   where
-    by : (b : Option (List Word)) → behind (is_sign_word (codes "(")) words ≡ b → group_after b go ≡ Some (part, rest) → SpellsOne words part rest
+    by : (b : Option (List Word)) → behind (is_sign_word (codes "(")) words ≡ b → in_brackets Any b go ≡ Some (part, rest) → SpellsOne words part rest
     by None none is = absurd (cc)
     by (Some left) some is =
         let closed = closes (join_read Any (go left)) part rest is in
@@ -174,14 +163,14 @@ group_sound words part rest go sound e = by (behind (is_sign_word (codes "(")) w
 
 list_sound : (digits : List ℕ) (words : List Word) (part : Written) (rest : List Word) (go : List Word → Parts)
     → ((left : List Word) (list : List Written) (rest : List Word) → go left ≡ Some (list, rest) → SpellsForms left list rest)
-    → list_after (need_of digits) (behind_of words) go ≡ Some (part, rest) → SpellsOne (number_word digits ∷ words) part rest
+    → in_brackets (AtLeast (need_of digits)) (behind_of words) go ≡ Some (part, rest) → SpellsOne (number_word digits ∷ words) part rest
 list_sound digits words part rest go sound e = by (behind_of words) refl e
   where
-    by : (b : Option (List Word)) → behind_of words ≡ b → list_after (need_of digits) b go ≡ Some (part, rest) → SpellsOne (number_word digits ∷ words) part rest
+    by : (b : Option (List Word)) → behind_of words ≡ b → in_brackets (AtLeast (need_of digits)) b go ≡ Some (part, rest) → SpellsOne (number_word digits ∷ words) part rest
     by None none is = absurd (cc)
     by (Some left) some is =
-        let closed = closes (several_read (need_of digits) (go left)) part rest is in
-        let l = lists (need_of digits) (go left) part (sign_word (codes ")") ∷ rest) closed.inner in
+        let closed = closes (join_read (AtLeast (need_of digits)) (go left)) part rest is in
+        let l = join_parts (AtLeast (need_of digits)) (go left) part (sign_word (codes ")") ∷ rest) closed.inner in
         let before = of_before words left some in
         subst (λ (words : List Word). SpellsOne (number_word digits ∷ words) part rest) (sym before)
         (one_list left digits part rest l.list (sound left l.list (sign_word (codes ")") ∷ rest) l.read) l.part_is)

@@ -1,17 +1,17 @@
 -- Reading a list part by part.
-use Rattle.std.proofs.Common.{◌≡◌, ℕ, zero, suc, ◌-◌, ◌*◌, ◌<◌, ◌≤◌, List, [], ◌∷◌, ◌++◌, codes, Some, None, Result, Err, length, refl, sym, ap, subst, ◌∙◌, arith}
+use Rattle.std.proofs.Common.{◌≡◌, ℕ, zero, suc, ◌-◌, ◌*◌, ◌<◌, ◌≤◌, List, [], ◌∷◌, ◌++◌, codes, Option, Some, None, Result, Err, length, refl, sym, ap, subst, ◌∙◌, arith}
 use Rattle.std.proofs.lemmas.List.{append_assoc}
 use Rattle.kn_lex.specs.Literal.{literal_value}
 use Rattle.kn_lex.specs.declared.token.Sort.{Sort}
 use Rattle.kn_lex.specs.declared.token.Sort.TheVariants.{Label, Body, Name as SortName, Number, Text, Sign}
 use Rattle.kn_formula.specs.Words.{Word, word_by, is_sign_word, behind}
-use Rattle.kn_formula.specs.Trees.{joined, need_of}
-use Rattle.kn_formula.specs.Reading.{Parts, Part, with_front, join_read, more_parts, parts_after, closed, close_after, list_after, group_after, one_front, ors_at, ands_at, one_at, forms_at, behind_of, whole, read_words, Reads, ReadsWhole}
+use Rattle.kn_formula.specs.Trees.{need_of}
+use Rattle.kn_formula.specs.Reading.{Parts, Part, with_front, join_read, more_parts, parts_after, closed, close_after, in_brackets, rule_text, parts_at, item_at, one_front, ors_at, ands_at, one_at, forms_at, behind_of, whole, read_words, Reads, ReadsWhole}
 use Rattle.kn_formula.specs.declared.unread.Unread.{Unread}
 use Rattle.kn_formula.specs.declared.unread.Unread.TheVariants.{Syntax, NoMemory}
 use Rattle.kn_formula.specs.declared.written.Principal.TheVariants.{Literal, Name}
 use Rattle.kn_formula.specs.declared.written.Rule.{Rule}
-use Rattle.kn_formula.specs.declared.written.Rule.TheVariants.{All, Any}
+use Rattle.kn_formula.specs.declared.written.Rule.TheVariants.{All, Any, AtLeast}
 use Rattle.kn_formula.specs.declared.written.Written.{Written}
 use Rattle.kn_formula.specs.declared.written.Written.TheVariants.{Who}
 
@@ -23,13 +23,13 @@ pub record IsLevel (text : List ℕ) (item : ℕ → List Word → Part) (parts_
 less_one : (n : ℕ) → n ≡ suc n - 1
 less_one n = omega arith
 
-abbrev pub or_item : ℕ → List Word → Part
+abbrev or_item : ℕ → List Word → Part
 or_item n words = join_read All (ands_at n words)
 
-abbrev pub comma_item : ℕ → List Word → Part
+abbrev comma_item : ℕ → List Word → Part
 comma_item n words = join_read Any (ors_at n words)
 
-pub ors_level : IsLevel (codes "||") or_item ors_at
+ors_level : IsLevel (codes "||") or_item ors_at
 unfolding ors_at
 ors_level = record { none = λ words. refl; step = step }
   where
@@ -37,7 +37,7 @@ ors_level = record { none = λ words. refl; step = step }
     step zero words some = absurd (omega arith)
     step (suc n) words some = ap (λ m. parts_after (codes "||") (join_read All (ands_at m words)) (ors_at m)) (less_one n)
 
-pub ands_level : IsLevel (codes "&&") one_at ands_at
+ands_level : IsLevel (codes "&&") one_at ands_at
 unfolding ands_at
 ands_level = record { none = λ words. refl; step = step }
   where
@@ -45,13 +45,19 @@ ands_level = record { none = λ words. refl; step = step }
     step zero words some = absurd (omega arith)
     step (suc n) words some = ap (λ m. parts_after (codes "&&") (one_at m words) (ands_at m)) (less_one n)
 
-pub forms_level : IsLevel (codes ",") comma_item forms_at
+forms_level : IsLevel (codes ",") comma_item forms_at
 unfolding forms_at
 forms_level = record { none = λ words. refl; step = step }
   where
     step : (left : ℕ) (words : List Word) → 0 < left → forms_at left words ≡ parts_after (codes ",") (comma_item (left - 1) words) (forms_at (left - 1))
     step zero words some = absurd (omega arith)
     step (suc n) words some = ap (λ m. parts_after (codes ",") (join_read Any (ors_at m words)) (forms_at m)) (less_one n)
+
+-- the level of a rule
+pub rule_level : (rule : Rule) → IsLevel (rule_text rule) (item_at rule) (parts_at rule)
+rule_level All = ands_level
+rule_level Any = ors_level
+rule_level (AtLeast need) = forms_level
 
 front_twice : (list : List Written) (part : Written) (read : Parts) → with_front (list ++ part ∷ []) read ≡ with_front list (with_front (part ∷ []) read)
 front_twice list part None = refl
@@ -107,24 +113,21 @@ pub join_fault : (rule : Rule) (parts : Parts) (unread : Unread) (here : ℕ →
 join_fault rule parts Syntax here read = ap (join_read rule) read
 join_fault rule parts NoMemory here read = tt
 
--- a part in brackets
-pub group_closed : (words inner rest next : List Word) (list : List Written) (part : Written) (go : List Word → Parts) → Some inner ≡ behind (is_sign_word (codes "(")) words
-    → go inner ≡ Some (list, rest) → Some next ≡ behind (is_sign_word (codes ")")) rest → part ≡ joined Any list
-    → group_after (behind (is_sign_word (codes "(")) words) go ≡ Some (part, next)
-group_closed words inner rest next list part go opening read closing is =
-    ap (λ b. group_after b go) (sym opening)
-    ∙ ap (λ read. close_after (join_read Any read)) read
-    ∙ ap (closed (joined Any list)) (sym closing)
-    ∙ ap (λ (part : Written). Some (part, next)) (sym is)
+-- a list in brackets
+pub brackets_closed : (rule : Rule) (words rest next : List Word) (part : Written) (go : List Word → Parts)
+    → join_read rule (go words) ≡ Some (part, rest) → Some next ≡ behind (is_sign_word (codes ")")) rest → in_brackets rule (Some words) go ≡ Some (part, next)
+brackets_closed rule words rest next part go read closing = ap close_after read ∙ ap (closed part) (sym closing)
 
 -- brackets that aren't closed
-pub group_open : (words inner rest : List Word) (list : List Written) (go : List Word → Parts) → Some inner ≡ behind (is_sign_word (codes "(")) words
-    → go inner ≡ Some (list, rest) → None ≡ behind (is_sign_word (codes ")")) rest
-    → group_after (behind (is_sign_word (codes "(")) words) go ≡ None
-group_open words inner rest list go opening read closing =
-    ap (λ b. group_after b go) (sym opening)
-    ∙ ap (λ read. close_after (join_read Any read)) read
-    ∙ ap (closed (joined Any list)) (sym closing)
+pub brackets_open : (rule : Rule) (words rest : List Word) (part : Written) (go : List Word → Parts)
+    → join_read rule (go words) ≡ Some (part, rest) → None ≡ behind (is_sign_word (codes ")")) rest → in_brackets rule (Some words) go ≡ None
+brackets_open rule words rest part go read closing = ap close_after read ∙ ap (closed part) (sym closing)
+
+-- brackets whose parts aren't read
+pub brackets_unread : (rule : Rule) (words : List Word) (go : List Word → Parts) (unread : Unread) (here : ℕ → List Word)
+    → Reads {X = Written} (Err unread) (join_read rule (go words)) here → Reads {X = Written} (Err unread) (in_brackets rule (Some words) go) here
+brackets_unread rule words go Syntax here read = ap close_after read
+brackets_unread rule words go NoMemory here read = tt
 
 pub one_over : (budget : ℕ) (words : List Word) → budget ≡ 0 → one_at budget words ≡ None
 unfolding one_at
@@ -156,19 +159,22 @@ pub one_name : (budget : ℕ) (words rest : List Word) (sort : Sort) (text name 
 one_name budget words rest sort text name some is sort_is name_is =
     one_word budget words rest sort SortName text some is sort_is ∙ ap (λ (name : List ℕ). Some (Who (Name name), rest)) (sym name_is)
 
-pub one_number : (budget : ℕ) (words rest : List Word) (sort : Sort) (text : List ℕ) (need : ℕ) (result : Result (Written × ℕ) Unread) (here : ℕ → List Word)
-    → (budget ≡ 0 → ⊥) → words ≡ word_by sort text ∷ rest → sort ≡ Number → need ≡ need_of text
-    → Reads result (list_after need (behind_of rest) (forms_at (budget - 1))) here → Reads result (one_at budget words) here
-one_number budget words rest sort text need result here some is sort_is need_is read =
+pub one_number : (budget : ℕ) (words rest : List Word) (sort : Sort) (text : List ℕ) (need : ℕ) (inner : Option (List Word)) (result : Result (Written × ℕ) Unread) (here : ℕ → List Word)
+    → (budget ≡ 0 → ⊥) → words ≡ word_by sort text ∷ rest → sort ≡ Number → need ≡ need_of text → inner ≡ behind_of rest
+    → Reads result (in_brackets (AtLeast need) inner (forms_at (budget - 1))) here → Reads result (one_at budget words) here
+one_number budget words rest sort text need inner result here some is sort_is need_is inner_is read =
     subst (λ (part : Part). Reads result part here)
-    (ap (λ need. list_after need (behind_of rest) (forms_at (budget - 1))) need_is ∙ sym (one_word budget words rest sort Number text some is sort_is)) read
+    (ap (λ need. in_brackets (AtLeast need) inner (forms_at (budget - 1))) need_is
+    ∙ ap (λ inner. in_brackets (AtLeast (need_of text)) inner (forms_at (budget - 1))) inner_is
+    ∙ sym (one_word budget words rest sort Number text some is sort_is)) read
 
-pub one_sign : (budget : ℕ) (words rest : List Word) (sort : Sort) (text : List ℕ) (result : Result (Written × ℕ) Unread) (here : ℕ → List Word)
-    → (budget ≡ 0 → ⊥) → words ≡ word_by sort text ∷ rest → sort ≡ Sign
-    → Reads result (group_after (behind (is_sign_word (codes "(")) words) (ors_at (budget - 1))) here → Reads result (one_at budget words) here
-one_sign budget words rest sort text result here some is sort_is read =
+pub one_sign : (budget : ℕ) (words rest : List Word) (sort : Sort) (text : List ℕ) (inner : Option (List Word)) (result : Result (Written × ℕ) Unread) (here : ℕ → List Word)
+    → (budget ≡ 0 → ⊥) → words ≡ word_by sort text ∷ rest → sort ≡ Sign → inner ≡ behind (is_sign_word (codes "(")) words
+    → Reads result (in_brackets Any inner (ors_at (budget - 1))) here → Reads result (one_at budget words) here
+one_sign budget words rest sort text inner result here some is sort_is inner_is read =
     subst (λ (part : Part). Reads result part here)
-    (ap (λ words. group_after (behind (is_sign_word (codes "(")) words) (ors_at (budget - 1))) (is ∙ ap (λ sort. word_by sort text ∷ rest) sort_is)
+    (ap (λ inner. in_brackets Any inner (ors_at (budget - 1))) inner_is
+    ∙ ap (λ words. in_brackets Any (behind (is_sign_word (codes "(")) words) (ors_at (budget - 1))) (is ∙ ap (λ sort. word_by sort text ∷ rest) sort_is)
     ∙ sym (one_word budget words rest sort Sign text some is sort_is)) read
 
 pub one_other : (budget : ℕ) (words rest : List Word) (sort : Sort) (text : List ℕ) → (budget ≡ 0 → ⊥) → words ≡ word_by sort text ∷ rest
@@ -181,24 +187,19 @@ one_other budget words rest Number text some is t n d s = absurd (d refl)
 one_other budget words rest Sign text some is t n d s = absurd (s refl)
 
 -- the formula of all the words
-pub whole_read : (words rest : List Word) (list : List Written) (part : Written) (budget : ℕ) → budget ≡ 3 * length words → ors_at budget words ≡ Some (list, rest) → rest ≡ [] → part ≡ joined Any list
-    → read_words words ≡ Some part
+pub whole_read : (words rest : List Word) (part : Written) (budget : ℕ) → budget ≡ 3 * length words → join_read Any (ors_at budget words) ≡ Some (part, rest) → rest ≡ [] → read_words words ≡ Some part
 unfolding read_words
-whole_read words rest list part budget enough read end is =
-    ap (λ n. whole (join_read Any (ors_at n words))) (sym enough)
-    ∙ ap (λ read. whole (join_read Any read)) (read ∙ ap (λ (rest : List Word). Some (list, rest)) end)
-    ∙ ap (λ (part : Written). Some part) (sym is)
+whole_read words rest part budget enough read end =
+    ap (λ n. whole (join_read Any (ors_at n words))) (sym enough) ∙ ap whole (read ∙ ap (λ (rest : List Word). Some (part, rest)) end)
 
-pub more_left : (words rest further : List Word) (word : Word) (list : List Written) (budget : ℕ) → budget ≡ 3 * length words → ors_at budget words ≡ Some (list, rest) → rest ≡ word ∷ further
+pub more_left : (words rest further : List Word) (word : Word) (part : Written) (budget : ℕ) → budget ≡ 3 * length words → join_read Any (ors_at budget words) ≡ Some (part, rest) → rest ≡ word ∷ further
     → read_words words ≡ None
 unfolding read_words
-more_left words rest further word list budget enough read end =
-    ap (λ n. whole (join_read Any (ors_at n words))) (sym enough)
-    ∙ ap (λ read. whole (join_read Any read)) (read ∙ ap (λ (rest : List Word). Some (list, rest)) end)
+more_left words rest further word part budget enough read end =
+    ap (λ n. whole (join_read Any (ors_at n words))) (sym enough) ∙ ap whole (read ∙ ap (λ (rest : List Word). Some (part, rest)) end)
 
-pub none_read : (words : List Word) (budget : ℕ) (unread : Unread) (here : ℕ → List Word) → budget ≡ 3 * length words → Reads {X = List Written} (Err unread) (ors_at budget words) here
+pub none_read : (words : List Word) (budget : ℕ) (unread : Unread) (here : ℕ → List Word) → budget ≡ 3 * length words → Reads {X = Written} (Err unread) (join_read Any (ors_at budget words)) here
     → ReadsWhole (Err unread) (read_words words)
 unfolding read_words
-none_read words budget Syntax here enough read =
-    ap (λ n. whole (join_read Any (ors_at n words))) (sym enough) ∙ ap (λ read. whole (join_read Any read)) read
+none_read words budget Syntax here enough read = ap (λ n. whole (join_read Any (ors_at n words))) (sym enough) ∙ ap whole read
 none_read words budget NoMemory here enough read = tt

@@ -70,10 +70,8 @@ licensees_of constants (token ∷ tokens) = judged_read constants (read_words (w
 -- this is given, or there was no memory for it
 abbrev pub Gives : {X : Type 0} → Result X FormulaFault → Result X FormulaFault → Type 0
 Gives (Ok x) read = read ≡ Ok x
-Gives (Err Syntax) read = read ≡ Err Syntax
-Gives (Err Threshold) read = read ≡ Err Threshold
-Gives (Err Name) read = read ≡ Err Name
 Gives (Err NoMemory) read = Unit {0}
+Gives (Err fault) read = read ≡ Err fault
 
 abbrev pub of_unread : Unread → FormulaFault
 of_unread unread_Syntax = Syntax

@@ -1,6 +1,6 @@
 -- Reading a formula from the front of a field's words: the bridge between the grammar and the code. The number bounds
 -- the steps, of which three for each word are enough.
-use Rattle.std.specs.Prelude.{◌≡◌, ℕ, zero, suc, ◌*◌, Bool, List, [], ◌∷◌, ◌++◌, length, codes, Option, Some, None, Result, Ok, Err}
+use Rattle.std.specs.Prelude.{◌≡◌, ℕ, zero, suc, ◌*◌, Bool, true, false, List, [], ◌∷◌, ◌++◌, length, codes, Option, Some, None, Result, Ok, Err}
 use Rattle.kn_formula.specs.Words.{Word, is_sign_word, is_name_word, behind}
 use Rattle.kn_formula.specs.Words.Word.{literal, name, number, sign, other}
 use Rattle.kn_formula.specs.Trees.{joined, need_of}
@@ -24,9 +24,14 @@ abbrev pub with_front : List Written → Parts → Parts
 with_front front None = None
 with_front front (Some read) = Some (front ++ read.0, read.1)
 
+-- the parts of a list under a rule: one part alone is itself, but in a threshold
+abbrev pub finished : Rule → List Written → Written
+finished (AtLeast need) parts = Several (AtLeast need) parts
+finished rule parts = joined rule parts
+
 abbrev pub join_read : Rule → Parts → Part
 join_read rule None = None
-join_read rule (Some read) = Some (joined rule read.0, read.1)
+join_read rule (Some read) = Some (finished rule read.0, read.1)
 
 -- what stands behind one part of a list
 abbrev pub more_parts : Written → List Word → Option (List Word) → (List Word → Parts) → Parts
@@ -56,24 +61,17 @@ abbrev pub close_after : Part → Part
 close_after None = None
 close_after (Some read) = closed read.0 (behind (is_sign_word (codes ")")) read.1)
 
-abbrev pub several_read : ℕ → Parts → Part
-several_read need None = None
-several_read need (Some read) = Some (Several (AtLeast need) read.0, read.1)
-
-abbrev pub list_after : ℕ → Option (List Word) → (List Word → Parts) → Part
-list_after need None go = None
-list_after need (Some words) go = close_after (several_read need (go words))
-
-abbrev pub group_after : Option (List Word) → (List Word → Parts) → Part
-group_after None go = None
-group_after (Some words) go = close_after (join_read Any (go words))
+-- a list in brackets, of which the opening one is read
+abbrev pub in_brackets : Rule → Option (List Word) → (List Word → Parts) → Part
+in_brackets rule None go = None
+in_brackets rule (Some words) go = close_after (join_read rule (go words))
 
 abbrev pub one_front : List Word → (List Word → Parts) → (List Word → Parts) → Part
 one_front [] form forms = None
 one_front (literal value ∷ words) form forms = Some (Who (Literal value), words)
 one_front (name text ∷ words) form forms = Some (Who (Name text), words)
-one_front (number digits ∷ words) form forms = list_after (need_of digits) (behind_of words) forms
-one_front (sign text ∷ words) form forms = group_after (behind (is_sign_word (codes "(")) (sign text ∷ words)) form
+one_front (number digits ∷ words) form forms = in_brackets (AtLeast (need_of digits)) (behind_of words) forms
+one_front (sign text ∷ words) form forms = in_brackets Any (behind (is_sign_word (codes "(")) (sign text ∷ words)) form
 one_front (other ∷ words) form forms = None
 
 unfoldable mutual
@@ -92,6 +90,28 @@ unfoldable mutual
   pub forms_at : ℕ → List Word → Parts
   forms_at zero words = None
   forms_at (suc n) words = parts_after (codes ",") (join_read Any (ors_at n words)) (forms_at n)
+
+-- the sign between the parts of a list under a rule
+abbrev pub rule_text : Rule → List ℕ
+rule_text All = codes "&&"
+rule_text Any = codes "||"
+rule_text (AtLeast need) = codes ","
+
+-- a part behind these is the whole list
+abbrev pub is_whole : Rule → List Written → Bool
+is_whole (AtLeast need) list = false
+is_whole rule [] = true
+is_whole rule (part ∷ list) = false
+
+abbrev pub parts_at : Rule → ℕ → List Word → Parts
+parts_at All = ands_at
+parts_at Any = ors_at
+parts_at (AtLeast need) = forms_at
+
+abbrev pub item_at : Rule → ℕ → List Word → Part
+item_at All n words = one_at n words
+item_at Any n words = join_read All (ands_at n words)
+item_at (AtLeast need) n words = join_read Any (ors_at n words)
 
 -- a part, where nothing stands behind it
 abbrev pub whole : Part → Option Written

@@ -33,9 +33,8 @@ itself b = b
 
 -- a threshold of no number that it may have, or of one above the length of its list
 abbrev pub is_bad_rule : Rule → ℕ → Bool
-is_bad_rule All count = false
-is_bad_rule Any count = false
 is_bad_rule (AtLeast need) count = need == 0 || nat_lt count need
+is_bad_rule rule count = false
 
 abbrev pub threshold_step : Written-F Bool → Bool
 threshold_step (Who principal) = false

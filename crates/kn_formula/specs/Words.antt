@@ -16,12 +16,11 @@ pub data Word : Type 0 where
   other : Word
 
 abbrev pub word_by : Sort → List ℕ → Word
-word_by Label text = other
-word_by Body text = other
 word_by Name text = name text
 word_by Number text = number text
 word_by Text text = literal (literal_value text)
 word_by Sign text = sign text
+word_by sort text = other
 
 abbrev pub word_of : Seen → Word
 word_of token = word_by token.sort token.text
@@ -36,19 +35,13 @@ words_between from to tokens = words_of (between from to tokens)
 
 -- the word is this sign
 abbrev pub is_sign_word : List ℕ → Word → Bool
-is_sign_word text (literal value) = false
-is_sign_word text (name other_text) = false
-is_sign_word text (number digits) = false
 is_sign_word text (sign other_text) = bytes_eq other_text text
-is_sign_word text other = false
+is_sign_word text word = false
 
 -- the word is this name
 abbrev pub is_name_word : List ℕ → Word → Bool
-is_name_word text (literal value) = false
 is_name_word text (name other_text) = bytes_eq other_text text
-is_name_word text (number digits) = false
-is_name_word text (sign other_text) = false
-is_name_word text other = false
+is_name_word text word = false
 
 -- what stands behind the first word, where that passes
 unfoldable pub behind : (Word → Bool) → List Word → Option (List Word)

@@ -2,130 +2,109 @@
 //!
 //! The budget bounds the steps of a reading; each step down the grammar or on in a list takes one, and three for
 //! each token are enough.
-ghost use Rattle.std.specs.Prelude.{◌≡◌, ◌≤◌, length, codes};
-ghost use Rattle.kn_formula.specs.Trees.{joined};
-ghost use Rattle.kn_formula.specs.Words.{words_between, behind, is_sign_word};
-ghost use Rattle.kn_formula.specs.Reading.{Reads, ReadsWhole, ors_at, ands_at, one_at, forms_at, group_after, list_after, behind_of, read_words};
+ghost use Rattle.std.specs.Prelude.{◌≡◌, ◌≤◌, [], ◌∷◌, ◌++◌, IfOk, length};
+ghost use Rattle.std.specs.Option.{option_map};
+ghost use Rattle.kn_formula.specs.Words.{words_between};
+ghost use Rattle.kn_formula.specs.Reading.{Reads, ReadsWhole, rule_text, is_whole, finished, join_read, in_brackets, parts_at, item_at, one_at, read_words};
 
 use crate::threshold::need_of;
 use crate::unread::Unread;
 use crate::word::{behind_of, behind_sign, token_at};
 use crate::written::{Principal, Rule, Written};
-use kn_base::{List, Octets};
+use kn_base::{List, NoMemory, Octets};
 use kn_lex::{Sort, Tokens, literal};
 use std::alloc::Global;
 
-/// Several parts under a rule; one part alone is itself.
-fn joined(rule: Rule, list: List<Written>) -> Written
-    ensures { result ≡ joined rule list }
+/// The sign between the parts of a list under a rule.
+fn rule_text(rule: Rule) -> &'static [u8]
+    ensures { result.now ≡ rule_text rule }
 {
-    let mut parts = list;
-    if parts.len() != 1 {
-        return Written::Several { rule, parts };
-    }
-    match parts.pop() {
-        Some(only) => only,
-        None => Written::Several { rule, parts },
+    match rule {
+        Rule::All => b"&&".as_slice(),
+        Rule::Any => b"||".as_slice(),
+        Rule::AtLeast(_) => b",".as_slice(),
     }
 }
 
-/// The parts with `||` between them, and the place behind them.
+/// Whether a part that no other precedes is the whole list under a rule.
+fn is_whole(rule: Rule, list: &List<Written>) -> bool
+    ensures { result ≡ is_whole rule list.now }
+{
+    match rule {
+        Rule::AtLeast(_) => false,
+        _ => list.is_empty(),
+    }
+}
+
+/// The parts under a rule, of which the last comes alone: without another part it is itself, but in a threshold.
+fn finished(rule: Rule, list: List<Written>, last: Written) -> Result<Written, NoMemory>
+    ensures { IfOk result (λ whole. whole ≡ finished rule (list ++ last ∷ [])) }
+{
+    if is_whole(rule, &list) {
+        return Ok(last);
+    }
+    let mut parts = list;
+    match parts.push(last) {
+        Ok(()) => Ok(Written::Several { rule, parts }),
+        Err(_) => Err(NoMemory),
+    }
+}
+
+/// The parts of a list under a rule, and the place behind them.
 #[cycle(form)]
-fn alternatives(
+fn parts(
     alloc: Global,
     tokens: &Tokens<'_>,
+    rule: Rule,
     at: u32,
     end: u32,
     budget: u64,
-) -> Result<(List<Written>, u32), Unread>
+) -> Result<(Written, u32), Unread>
     requires within { end ≤ length tokens.now }
-    ensures { Reads result (ors_at budget (words_between at end tokens.now)) (λ next. words_between next end tokens.now) }
+    ensures { Reads result (join_read rule (parts_at rule budget (words_between at end tokens.now))) (λ next. words_between next end tokens.now) }
 {
     let mut list = List::new(alloc);
     let mut next = at;
     let mut left = budget;
     while left > 0 {
         left -= 1;
-        let (parts, rest) = match conjuncts(alloc, tokens, next, end, left) {
+        let (part, rest) = match item(alloc, tokens, rule, next, end, left) {
             Ok(read) => read,
             Err(unread) => return Err(unread),
         };
-        match list.push(joined(Rule::All, parts)) {
-            Ok(()) => {}
-            Err(_) => return Err(Unread::NoMemory),
-        }
-        match behind_sign(tokens, rest, end, b"||".as_slice()) {
-            Some(further) => next = further,
-            None => return Ok((list, rest)),
-        }
-    }
-    Err(Unread::Syntax)
-}
-
-/// The parts with `&&` between them, and the place behind them.
-#[cycle(form)]
-fn conjuncts(
-    alloc: Global,
-    tokens: &Tokens<'_>,
-    at: u32,
-    end: u32,
-    budget: u64,
-) -> Result<(List<Written>, u32), Unread>
-    requires within { end ≤ length tokens.now }
-    ensures { Reads result (ands_at budget (words_between at end tokens.now)) (λ next. words_between next end tokens.now) }
-{
-    let mut list = List::new(alloc);
-    let mut next = at;
-    let mut left = budget;
-    while left > 0 {
-        left -= 1;
-        let (part, rest) = match one(alloc, tokens, next, end, left) {
-            Ok(read) => read,
-            Err(unread) => return Err(unread),
+        let Some(further) = behind_sign(tokens, rest, end, rule_text(rule)) else {
+            return match finished(rule, list, part) {
+                Ok(whole) => Ok((whole, rest)),
+                Err(_) => Err(Unread::NoMemory),
+            };
         };
         match list.push(part) {
             Ok(()) => {}
             Err(_) => return Err(Unread::NoMemory),
         }
-        match behind_sign(tokens, rest, end, b"&&".as_slice()) {
-            Some(further) => next = further,
-            None => return Ok((list, rest)),
-        }
+        next = further;
     }
     Err(Unread::Syntax)
 }
 
-/// The forms with `,` between them, and the place behind them.
+/// A part of a list under a rule, and the place behind it.
 #[cycle(form)]
-fn members(
+fn item(
     alloc: Global,
     tokens: &Tokens<'_>,
+    rule: Rule,
     at: u32,
     end: u32,
     budget: u64,
-) -> Result<(List<Written>, u32), Unread>
+) -> Result<(Written, u32), Unread>
     requires within { end ≤ length tokens.now }
-    ensures { Reads result (forms_at budget (words_between at end tokens.now)) (λ next. words_between next end tokens.now) }
+    ensures { Reads result (item_at rule budget (words_between at end tokens.now)) (λ next. words_between next end tokens.now) }
 {
-    let mut list = List::new(alloc);
-    let mut next = at;
-    let mut left = budget;
-    while left > 0 {
-        left -= 1;
-        let (parts, rest) = match alternatives(alloc, tokens, next, end, left) {
-            Ok(read) => read,
-            Err(unread) => return Err(unread),
-        };
-        match list.push(joined(Rule::Any, parts)) {
-            Ok(()) => {}
-            Err(_) => return Err(Unread::NoMemory),
-        }
-        match behind_sign(tokens, rest, end, b",".as_slice()) {
-            Some(further) => next = further,
-            None => return Ok((list, rest)),
-        }
+    match rule {
+        Rule::All => one(alloc, tokens, at, end, budget),
+        Rule::Any => parts(alloc, tokens, Rule::All, at, end, budget),
+        Rule::AtLeast(_) => parts(alloc, tokens, Rule::Any, at, end, budget),
     }
-    Err(Unread::Syntax)
 }
 
 /// A principal, a formula in brackets or a threshold, and the place behind it.
@@ -155,62 +134,41 @@ fn one(
             let name = Octets::from_slice(alloc, token.text)?;
             Ok((Written::Who(Principal::Name(name)), at + 1))
         }
-        Sort::Number => threshold(alloc, tokens, at + 1, end, need_of(token.text), budget - 1),
-        Sort::Sign => group(alloc, tokens, at, end, budget - 1),
+        Sort::Number => {
+            let rule = Rule::AtLeast(need_of(token.text));
+            let inner = behind_of(tokens, at + 1, end);
+            bracketed(alloc, tokens, rule, inner, end, budget - 1)
+        }
+        Sort::Sign => {
+            let inner = behind_sign(tokens, at, end, b"(".as_slice());
+            bracketed(alloc, tokens, Rule::Any, inner, end, budget - 1)
+        }
         _ => Err(Unread::Syntax),
     }
 }
 
-/// A formula in brackets, and the place behind it.
+/// The parts of a list in brackets, of which the opening one is read, and the place behind them.
 #[cycle(form)]
-fn group(
+fn bracketed(
     alloc: Global,
     tokens: &Tokens<'_>,
-    at: u32,
+    rule: Rule,
+    inner: Option<u32>,
     end: u32,
     budget: u64,
 ) -> Result<(Written, u32), Unread>
     requires within { end ≤ length tokens.now }
-    ensures { Reads result (group_after (behind (is_sign_word (codes "(")) (words_between at end tokens.now)) (ors_at budget)) (λ next. words_between next end tokens.now) }
+    ensures { Reads result (in_brackets rule (option_map (λ next. words_between next end tokens.now) inner) (parts_at rule budget)) (λ next. words_between next end tokens.now) }
 {
-    let Some(inner) = behind_sign(tokens, at, end, b"(".as_slice()) else {
+    let Some(inner) = inner else {
         return Err(Unread::Syntax);
     };
-    let (parts, rest) = match alternatives(alloc, tokens, inner, end, budget) {
+    let (whole, rest) = match parts(alloc, tokens, rule, inner, end, budget) {
         Ok(read) => read,
         Err(unread) => return Err(unread),
     };
     match behind_sign(tokens, rest, end, b")".as_slice()) {
-        Some(next) => Ok((joined(Rule::Any, parts), next)),
-        None => Err(Unread::Syntax),
-    }
-}
-
-/// What stands behind the number of a threshold, and the place behind it.
-#[cycle(form)]
-fn threshold(
-    alloc: Global,
-    tokens: &Tokens<'_>,
-    at: u32,
-    end: u32,
-    need: u32,
-    budget: u64,
-) -> Result<(Written, u32), Unread>
-    requires within { end ≤ length tokens.now }
-    ensures { Reads result (list_after need (behind_of (words_between at end tokens.now)) (forms_at budget)) (λ next. words_between next end tokens.now) }
-{
-    let Some(inner) = behind_of(tokens, at, end) else {
-        return Err(Unread::Syntax);
-    };
-    let (parts, rest) = match members(alloc, tokens, inner, end, budget) {
-        Ok(read) => read,
-        Err(unread) => return Err(unread),
-    };
-    match behind_sign(tokens, rest, end, b")".as_slice()) {
-        Some(next) => {
-            let rule = Rule::AtLeast(need);
-            Ok((Written::Several { rule, parts }, next))
-        }
+        Some(next) => Ok((whole, next)),
         None => Err(Unread::Syntax),
     }
 }
@@ -227,12 +185,12 @@ pub(crate) fn written(
     ensures { ReadsWhole result (read_words (words_between from end tokens.now)) }
 {
     let budget = 3 * u64::from(end - from);
-    let (parts, rest) = match alternatives(alloc, tokens, from, end, budget) {
+    let (whole, rest) = match parts(alloc, tokens, Rule::Any, from, end, budget) {
         Ok(read) => read,
         Err(unread) => return Err(unread),
     };
     match token_at(tokens, rest, end) {
         Some(_) => Err(Unread::Syntax),
-        None => Ok(joined(Rule::Any, parts)),
+        None => Ok(whole),
     }
 }

@@ -9,7 +9,7 @@ use Rattle.kn_trees.specs.declared.program.Clause.{Clause}
 use Rattle.kn_trees.specs.declared.program.Then.{Then}
 use Rattle.kn_trees.specs.declared.program.Then.TheVariants.{Top, Value}
 use Rattle.kn_program.specs.Words.{Word, Mark, taken, marked}
-use Rattle.kn_program.specs.Signs.{joint_text, operation_of, comparison_of, prefix_of}
+use Rattle.kn_program.specs.Signs.{joint_text, height, operation_of, comparison_of, prefix_of}
 use Rattle.kn_program.specs.Trees.{joined, chained, prefixed}
 use Rattle.kn_program.specs.Grammar.{program_with}
 use Rattle.kn_program.specs.Reading.{map_read, then_read, behind_sign, with_front, tail_at, list_at, one_part, joined_parts, one_link, closed_by, constant_of, group_at, atom_by, atom_front, tests_at, negation_at, comparison_at, chain_at, operand_at, atom_at, test_at, side_at, has_clause, entry_by, entry_at, listed, one_entry, with_entry, clause_with, block, value_after, program_at, clause_at, whole, read_program, Reads, ReadsWhole}
@@ -112,6 +112,18 @@ tests_unread budget joint words some read =
     tests_step budget joint words some
     ∙ ap (λ (read : Option (Expr × List Word)). then_read read (λ first rest. map_read (joined_parts joint first) (tail_at (marked (joint_text joint)) one_part (test_at (budget - 1) joint) budget rest))) read
 
+positive : (n : ℕ) → (n ≡ 0 → ⊥) → 0 < n
+positive zero some = absurd (some refl)
+positive (suc n) some = omega arith
+
+-- one part alone
+pub tests_alone : (budget : ℕ) (joint : Joint) (words rest : List Word) (first : Expr) → (budget ≡ 0 → ⊥) → test_at (budget - 1) joint words ≡ Some (first, rest) → None ≡ marked (joint_text joint) rest
+    → tests_at budget joint words ≡ Some (first, rest)
+unfolding joined
+tests_alone budget joint words rest first some read none =
+    sym (tests_start budget joint words rest first (first ∷ []) some read refl)
+    ∙ ap (map_read (joined joint)) (tail_last (marked (joint_text joint)) one_part (test_at (budget - 1) joint) budget rest (first ∷ []) (positive budget some) none)
+
 -- operands with operations of a level between them
 
 chain_step : (budget : ℕ) (level : Level) (words : List Word) → (budget ≡ 0 → ⊥)
@@ -144,6 +156,67 @@ unfolding list_at
 chain_unread budget level words some read =
     chain_step budget level words some
     ∙ ap (λ (read : Option (Expr × List Word)). then_read read (λ first rest. map_read (chained first) (tail_at (taken (operation_of level)) one_link (side_at (budget - 1) level) budget rest))) read
+
+-- one side alone
+chain_alone : (budget : ℕ) (level : Level) (words rest : List Word) (first : Expr) → (budget ≡ 0 → ⊥) → side_at (budget - 1) level words ≡ Some (first, rest) → None ≡ taken (operation_of level) rest
+    → chain_at budget level words ≡ Some (first, rest)
+unfolding chained
+chain_alone budget level words rest first some read none =
+    sym (chain_start budget level words rest first [] some read refl)
+    ∙ ap (map_read (chained first)) (tail_last (taken (operation_of level)) one_link (side_at (budget - 1) level) budget rest [] (positive budget some) none)
+
+-- the first operand of a chain
+
+pub has_height : (level : Level) (budget : ℕ) → height level ≤ budget → budget ≡ 0 → ⊥
+has_height Sum budget enough none = omega (arith, enough, none)
+has_height Product budget enough none = omega (arith, enough, none)
+has_height Power budget enough none = omega (arith, enough, none)
+
+-- the first operand is read with a budget of this many fewer
+pub with_fewer : (budget fewer n : ℕ) (words : List Word) (read : Option (Expr × List Word)) → n ≡ budget - fewer → operand_at (budget - fewer) words ≡ read → operand_at n words ≡ read
+with_fewer budget fewer n words read same is = ap (λ n. operand_at n words) same ∙ is
+
+power_unread : (budget : ℕ) (words : List Word) → operand_at (budget - 1) words ≡ None → chain_at budget Power words ≡ None
+power_unread zero words none = chain_over zero Power words refl
+power_unread (suc n) words none = chain_unread (suc n) Power words (λ e. omega (arith, e)) none
+
+product_unread : (budget : ℕ) (words : List Word) → operand_at (budget - 2) words ≡ None → chain_at budget Product words ≡ None
+product_unread zero words none = chain_over zero Product words refl
+product_unread (suc n) words none =
+    chain_unread (suc n) Product words (λ e. omega (arith, e)) (power_unread (suc n - 1) words (with_fewer (suc n) 2 (suc n - 1 - 1) words None (omega arith) none))
+
+sum_unread : (budget : ℕ) (words : List Word) → operand_at (budget - 3) words ≡ None → chain_at budget Sum words ≡ None
+sum_unread zero words none = chain_over zero Sum words refl
+sum_unread (suc n) words none =
+    chain_unread (suc n) Sum words (λ e. omega (arith, e)) (product_unread (suc n - 1) words (with_fewer (suc n) 3 (suc n - 1 - 2) words None (omega arith) none))
+
+pub operand_unread : (level : Level) (budget : ℕ) (words : List Word) → operand_at (budget - height level) words ≡ None → chain_at budget level words ≡ None
+operand_unread Sum budget words none = sum_unread budget words none
+operand_unread Product budget words none = product_unread budget words none
+operand_unread Power budget words none = power_unread budget words none
+
+abbrev EndsChains : List Word → Type 0
+EndsChains rest = (level : Level) → None ≡ taken (operation_of level) rest
+
+power_alone : (budget : ℕ) (words rest : List Word) (x : Expr) → 1 ≤ budget → operand_at (budget - 1) words ≡ Some (x, rest) → EndsChains rest → chain_at budget Power words ≡ Some (x, rest)
+power_alone budget words rest x enough read ends = chain_alone budget Power words rest x (has_height Power budget enough) read (ends Power)
+
+product_alone : (budget : ℕ) (words rest : List Word) (x : Expr) → 2 ≤ budget → operand_at (budget - 2) words ≡ Some (x, rest) → EndsChains rest → chain_at budget Product words ≡ Some (x, rest)
+product_alone budget words rest x enough read ends =
+    chain_alone budget Product words rest x (has_height Product budget enough)
+    (power_alone (budget - 1) words rest x (omega (arith, enough)) (with_fewer budget 2 (budget - 1 - 1) words _ (omega arith) read) ends) (ends Product)
+
+sum_alone : (budget : ℕ) (words rest : List Word) (x : Expr) → 3 ≤ budget → operand_at (budget - 3) words ≡ Some (x, rest) → EndsChains rest → chain_at budget Sum words ≡ Some (x, rest)
+sum_alone budget words rest x enough read ends =
+    chain_alone budget Sum words rest x (has_height Sum budget enough)
+    (product_alone (budget - 1) words rest x (omega (arith, enough)) (with_fewer budget 3 (budget - 1 - 2) words _ (omega arith) read) ends) (ends Sum)
+
+-- an operand with no operation behind it
+pub operand_alone : (level : Level) (budget : ℕ) (words rest : List Word) (x : Expr) → height level ≤ budget → operand_at (budget - height level) words ≡ Some (x, rest) → EndsChains rest
+    → chain_at budget level words ≡ Some (x, rest)
+operand_alone Sum budget words rest x enough read ends = sum_alone budget words rest x enough read ends
+operand_alone Product budget words rest x enough read ends = product_alone budget words rest x enough read ends
+operand_alone Power budget words rest x enough read ends = power_alone budget words rest x enough read ends
 
 -- what is read of a list is made of all of it
 pub made_of : {E Y : Type 0} (make : List E → Y) (read : Option (List E × List Word)) (all : Option (Y × List Word)) (list : List E) (rest : List Word) (y : Y) → read ≡ Some (list, rest) → map_read make read ≡ all → y ≡ make list

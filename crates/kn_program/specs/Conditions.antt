@@ -55,9 +55,8 @@ program_of (token ∷ tokens) = judged_read (read_program (words_of (token ∷ t
 -- this is given, or there was no memory for it
 abbrev pub Gives : {X : Type 0} → Result X ProgramFault → Result X ProgramFault → Type 0
 Gives (Ok x) read = read ≡ Ok x
-Gives (Err Syntax) read = read ≡ Err Syntax
-Gives (Err Kind) read = read ≡ Err Kind
 Gives (Err NoMemory) read = Unit {0}
+Gives (Err fault) read = read ≡ Err fault
 
 abbrev pub of_unread : Unread → ProgramFault
 of_unread unread_Syntax = Syntax

@@ -72,8 +72,7 @@ constant_of (literal value) = Some (E.Text value)
 constant_of (truth value) = Some (E.Truth value)
 constant_of (name text) = Some (E.Name text)
 constant_of (number value) = Some (E.Whole (pos value))
-constant_of (sign text) = None
-constant_of other = None
+constant_of word = None
 
 abbrev pub group_at : List Word → (List Word → Option (Expr × List Word)) → Option (Expr × List Word)
 group_at words tests =

@@ -32,24 +32,17 @@ abbrev pub is_at : Level → Operation → Bool
 is_at Sum Plus = true
 is_at Sum Less = true
 is_at Sum Join = true
-is_at Sum Times = false
-is_at Sum Divide = false
-is_at Sum Rest = false
-is_at Sum Power = false
-is_at Product Plus = false
-is_at Product Less = false
-is_at Product Join = false
 is_at Product Times = true
 is_at Product Divide = true
 is_at Product Rest = true
-is_at Product Power = false
-is_at Powers Plus = false
-is_at Powers Less = false
-is_at Powers Join = false
-is_at Powers Times = false
-is_at Powers Divide = false
-is_at Powers Rest = false
 is_at Powers Power = true
+is_at level operation = false
+
+-- how many levels an operand is below this one
+abbrev pub height : Level → ℕ
+height Sum = 3
+height Product = 2
+height Powers = 1
 
 -- the operation of a level that a sign stands for
 unfoldable pub operation_of : Level → List ℕ → Option Operation

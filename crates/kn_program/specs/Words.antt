@@ -27,12 +27,11 @@ number_word None = other
 number_word (Some value) = number value
 
 abbrev pub word_by : Sort → List ℕ → Word
-word_by Label text = other
-word_by Body text = other
 word_by Name text = name_word (truth_of text) text
 word_by Number text = number_word (number_of text)
 word_by Text text = literal (literal_value text)
 word_by Sign text = sign text
+word_by sort text = other
 
 abbrev pub word_of : Seen → Word
 word_of token = word_by token.sort token.text
@@ -47,13 +46,8 @@ words_between from to tokens = words_of (between from to tokens)
 
 -- the sign at the front
 abbrev pub first_sign : List Word → Option (List ℕ)
-first_sign [] = None
-first_sign (literal value ∷ words) = None
-first_sign (truth value ∷ words) = None
-first_sign (name text ∷ words) = None
-first_sign (number value ∷ words) = None
 first_sign (sign text ∷ words) = Some text
-first_sign (other ∷ words) = None
+first_sign words = None
 
 abbrev pub with_rest : {S : Type 0} → Option S → List Word → Option (S × List Word)
 with_rest None words = None
@@ -61,13 +55,8 @@ with_rest (Some found) words = Some (found, words)
 
 -- what a sign at the front stands for, and the words behind it
 unfoldable pub taken : {S : Type 0} → (List ℕ → Option S) → List Word → Option (S × List Word)
-taken which [] = None
-taken which (literal value ∷ words) = None
-taken which (truth value ∷ words) = None
-taken which (name text ∷ words) = None
-taken which (number value ∷ words) = None
 taken which (sign text ∷ words) = with_rest (which text) words
-taken which (other ∷ words) = None
+taken which words = None
 
 -- a sign that stands for itself
 abbrev pub Mark : Type 0

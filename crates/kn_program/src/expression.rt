@@ -2,19 +2,29 @@
 //!
 //! The budget bounds the steps of a reading: each step down the grammar takes one, and a list of parts or of
 //! operations has fewer than it. Ten for each token are enough.
-ghost use Rattle.std.specs.Prelude.{◌≡◌, ◌≤◌, length};
+ghost use Rattle.std.specs.Prelude.{◌≡◌, ◌≤◌, ◌+◌, ◌-◌, length, Some};
+ghost use Rattle.std.specs.Option.{option_map};
 ghost use Rattle.kn_lex.specs.Seeing.{seen};
-ghost use Rattle.kn_program.specs.Words.{word_of, words_between};
+ghost use Rattle.kn_program.specs.Words.{word_of, words_between, marked};
+ghost use Rattle.kn_program.specs.Signs.{joint_text, height};
 ghost use Rattle.kn_program.specs.Reading.{Reads, ReadsWord, tests_at, test_at, negation_at, comparison_at, chain_at, side_at, operand_at, atom_at, group_at};
 
-use crate::signs::{Joint, Level, joint_text, number_of, truth_of};
+use crate::signs::{Joint, Level, height, joint_text, number_of, truth_of};
 use crate::tree::{chained, compared, joined, negated, prefixed};
 use crate::unread::Unread;
-use crate::word::{behind_sign, comparison_at, operation_at, prefix_at, token_at};
+use crate::word::{behind_sign, comparison_at, has_operation, operation_at, prefix_at, token_at};
 use kn_base::{List, Octets};
 use kn_lex::{Sort, Token, Tokens, literal};
 use kn_trees::{Expr, Link2};
 use std::alloc::Global;
+
+/// The place behind a joint, or None where it doesn't stand.
+fn behind_joint(tokens: &Tokens<'_>, at: u32, end: u32, joint: Joint) -> Option<u32>
+    requires within { end ≤ length tokens.now }
+    ensures { option_map (λ next. (tt, words_between next end tokens.now)) result ≡ marked (joint_text joint) (words_between at end tokens.now) }
+{
+    behind_sign(tokens, at, end, joint_text(joint))
+}
 
 /// The tests with `||` or `&&` between them, and the place behind them.
 #[cycle(expression)]
@@ -36,6 +46,10 @@ pub(crate) fn tests(
         Ok(read) => read,
         Err(unread) => return Err(unread),
     };
+    match behind_joint(tokens, next, end, joint) {
+        Some(_) => {}
+        None => return Ok((first, next)),
+    }
     let mut parts = List::new(alloc);
     match parts.push(first) {
         Ok(()) => {}
@@ -44,7 +58,7 @@ pub(crate) fn tests(
     let mut left = budget;
     while left > 0 {
         left -= 1;
-        let Some(start) = behind_sign(tokens, next, end, joint_text(joint)) else {
+        let Some(start) = behind_joint(tokens, next, end, joint) else {
             return Ok((joined(joint, parts), next));
         };
         let (part, rest) = match test(alloc, tokens, joint, start, end, budget - 1) {
@@ -140,6 +154,8 @@ fn comparison(
 }
 
 /// The operands with operations of a level between them, and the place behind them.
+///
+/// The first operand comes before the levels, so that one with no operation behind it takes no way through them.
 #[cycle(expression)]
 fn chain(
     alloc: Global,
@@ -152,10 +168,48 @@ fn chain(
     requires within { end ≤ length tokens.now }
     ensures { Reads result (chain_at budget level (words_between at end tokens.now)) (λ next. words_between next end tokens.now) }
 {
-    if budget == 0 {
+    let levels = height(level);
+    if budget < levels {
         return Err(Unread::Syntax);
     }
-    let (first, mut next) = match side(alloc, tokens, level, at, end, budget - 1) {
+    let (first, next) = match operand(alloc, tokens, at, end, budget - levels) {
+        Ok(read) => read,
+        Err(unread) => return Err(unread),
+    };
+    if has_operation(tokens, next, end) {
+        climb(alloc, tokens, level, at, first, next, end, budget)
+    } else {
+        Ok((first, next))
+    }
+}
+
+/// The same, where the first operand is read, from `at` up to `next`.
+#[cycle(expression)]
+fn climb(
+    alloc: Global,
+    tokens: &Tokens<'_>,
+    level: Level,
+    at: u32,
+    operand: Expr,
+    next: u32,
+    end: u32,
+    budget: u64,
+) -> Result<(Expr, u32), Unread>
+    requires within { end ≤ length tokens.now }
+    requires enough { height level ≤ budget }
+    requires read { operand_at (budget - height level) (words_between at end tokens.now) ≡ Some (operand, words_between next end tokens.now) }
+    ensures { Reads result (chain_at budget level (words_between at end tokens.now)) (λ next. words_between next end tokens.now) }
+{
+    let (first, mut next) = match first_side(
+        alloc,
+        tokens,
+        level,
+        at,
+        operand,
+        next,
+        end,
+        budget - 1,
+    ) {
         Ok(read) => read,
         Err(unread) => return Err(unread),
     };
@@ -180,6 +234,39 @@ fn chain(
         next = rest;
     }
     Err(Unread::Syntax)
+}
+
+/// The first side of the operations of a level, where its first operand is read, from `at` up to `next`.
+#[cycle(expression)]
+fn first_side(
+    alloc: Global,
+    tokens: &Tokens<'_>,
+    level: Level,
+    at: u32,
+    operand: Expr,
+    next: u32,
+    end: u32,
+    budget: u64,
+) -> Result<(Expr, u32), Unread>
+    requires within { end ≤ length tokens.now }
+    requires enough { height level ≤ budget + 1 }
+    requires read { operand_at (budget + 1 - height level) (words_between at end tokens.now) ≡ Some (operand, words_between next end tokens.now) }
+    ensures { Reads result (side_at budget level (words_between at end tokens.now)) (λ next. words_between next end tokens.now) }
+{
+    match level {
+        Level::Sum => climb(
+            alloc,
+            tokens,
+            Level::Product,
+            at,
+            operand,
+            next,
+            end,
+            budget,
+        ),
+        Level::Product => climb(alloc, tokens, Level::Power, at, operand, next, end, budget),
+        Level::Power => Ok((operand, next)),
+    }
 }
 
 /// A side of the operations of a level, and the place behind it.

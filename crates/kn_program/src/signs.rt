@@ -1,6 +1,7 @@
 //! The signs of the grammar of conditions, and the words that are no names.
-ghost use Rattle.std.specs.Prelude.{◌≡◌, ◌≤◌, IfSome};
-ghost use Rattle.kn_program.specs.Signs.{joint_text, operation_of, comparison_of, prefix_of, truth_of, number_of};
+ghost use Rattle.std.specs.Prelude.{◌≡◌, ◌≤◌, false, None, IfSome};
+ghost use Rattle.kn_program.specs.Signs.{joint_text, height, operation_of, comparison_of, prefix_of, truth_of, number_of};
+ghost use Rattle.kn_program.specs.declared.signs.Level.{Level as Tier};
 
 use kn_trees::{Comparison, Operation};
 
@@ -37,6 +38,17 @@ pub enum Prefix {
 
 /// The greatest number that an expression holds.
 const WHOLE_MAX: u64 = 2_147_483_647;
+
+/// How many levels an operand is below this one.
+pub(crate) fn height(level: Level) -> u64
+    ensures { result ≡ height level }
+{
+    match level {
+        Level::Sum => 3,
+        Level::Product => 2,
+        Level::Power => 1,
+    }
+}
 
 pub(crate) fn joint_text(joint: Joint) -> &'static [u8]
     ensures { result.now ≡ joint_text joint }
@@ -93,6 +105,15 @@ pub(crate) fn operation_of(level: Level, text: &[u8]) -> Option<Operation>
             }
         }
     }
+}
+
+/// Whether a sign stands for an operation of some level.
+pub(crate) fn is_operation(text: &[u8]) -> bool
+    ensures { result ≡ false → (level : Tier) → operation_of level text.now ≡ None }
+{
+    operation_of(Level::Sum, text).is_some()
+        || operation_of(Level::Product, text).is_some()
+        || operation_of(Level::Power, text).is_some()
 }
 
 /// The comparison that a sign stands for.

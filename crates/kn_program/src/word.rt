@@ -1,12 +1,13 @@
-ghost use Rattle.std.specs.Prelude.{◌≡◌, ◌+◌, ◌<◌, ◌≤◌, [], ◌∷◌, length, IfSome, MatchOption};
+ghost use Rattle.std.specs.Prelude.{◌≡◌, ◌+◌, ◌<◌, ◌≤◌, [], ◌∷◌, length, false, None, IfSome, MatchOption};
 ghost use Rattle.std.specs.Option.{option_map};
 ghost use Rattle.std.specs.Str.{bytes_eq};
 ghost use Rattle.kn_lex.specs.Seeing.{seen};
 ghost use Rattle.kn_program.specs.Words.{Word, word_of, words_between, first_sign, taken, marked};
 ghost use Rattle.kn_program.specs.Words.Word.{sign};
 ghost use Rattle.kn_program.specs.Signs.{operation_of, comparison_of, prefix_of};
+ghost use Rattle.kn_program.specs.declared.signs.Level.{Level as Tier};
 
-use crate::signs::{Level, Prefix, comparison_of, operation_of, prefix_of};
+use crate::signs::{Level, Prefix, comparison_of, is_operation, operation_of, prefix_of};
 use kn_lex::{Sort, Token, Tokens};
 use kn_trees::{Comparison, Operation};
 
@@ -74,6 +75,17 @@ pub(crate) fn operation_at(
         Some(operation) => Some((operation, at + 1)),
         None => None,
     }
+}
+
+/// Whether an operation of some level stands at a place.
+pub(crate) fn has_operation(tokens: &Tokens<'_>, at: u32, end: u32) -> bool
+    requires within { end ≤ length tokens.now }
+    ensures { result ≡ false → (level : Tier) → None ≡ taken (operation_of level) (words_between at end tokens.now) }
+{
+    let Some(text) = sign_at(tokens, at, end) else {
+        return false;
+    };
+    is_operation(text)
 }
 
 /// The comparison at a place, and the place behind it.

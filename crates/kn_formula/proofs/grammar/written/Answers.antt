@@ -17,5 +17,4 @@ returns-in-Some c =
 pub returns-in-None : goal.returns-in-None
 returns-in-None c =
     let size = words_length c.args.tokens.now c.args.from c.args.end c.requires.ordered c.requires.within in
-    whole_read (words_between c.args.from c.args.end c.args.tokens.now) _ c.in-Ok.read.0 c.joined.result (3 * c.from-budget.result)
-    (omega (arith, size)) c.in-Ok.ensures c.in-None.ensures.words c.joined.ensures
+    whole_read (words_between c.args.from c.args.end c.args.tokens.now) _ c.in-Ok.read.0 (3 * c.from-budget.result) (omega (arith, size)) c.in-Ok.ensures c.in-None.ensures.words

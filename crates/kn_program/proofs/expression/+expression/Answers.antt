@@ -1,14 +1,14 @@
-use Rattle.std.proofs.Common.{◌-◌, List, [], ◌∷◌, ◌++◌, ap, ◌∙◌}
+use Rattle.std.proofs.Common.{◌-◌, List, [], ◌∷◌, ◌++◌, sym, ap, ◌∙◌, arith}
 use Rattle.kn_lex.specs.Seeing.{seen}
 use Rattle.kn_trees.specs.declared.program.Expr.{Expr}
 use Rattle.kn_trees.specs.declared.program.Expr.TheVariants as E
 use Rattle.kn_program.specs.Words.{word_of, words_between, taken, marked}
-use Rattle.kn_program.specs.Signs.{joint_text, operation_of}
+use Rattle.kn_program.specs.Signs.{joint_text, height, operation_of}
 use Rattle.kn_program.specs.Trees.{joined, prefixed}
 use Rattle.kn_program.specs.Reading.{with_front, tail_at, one_part, one_link, test_at, negation_at, chain_at, side_at, operand_at}
 use Rattle.kn_program.specs.declared.signs.Level.TheVariants.{Sum}
 use Rattle.kn_program.proofs.WordLemmas.{at_mark}
-use Rattle.kn_program.proofs.Steps.{tail_more, tail_last, tail_unread, tail_over, fault_of_part, tests_over, tests_start, tests_unread, chain_over, chain_start, chain_unread, made_of, none_of, made_along, negation_over, negation_none, negation_some, mapped_some, mapped_none, reads_along, comparison_over, comparison_unread, comparison_alone, comparison_two, operand_over, operand_none, operand_some, atom_over, atom_end, atom_constant, atom_group}
+use Rattle.kn_program.proofs.Steps.{tail_more, tail_last, tail_unread, tail_over, fault_of_part, tests_over, tests_start, tests_unread, tests_alone, chain_start, chain_unread, has_height, with_fewer, operand_unread, operand_alone, made_of, none_of, made_along, negation_over, negation_none, negation_some, mapped_some, mapped_none, reads_along, comparison_over, comparison_unread, comparison_alone, comparison_two, operand_over, operand_none, operand_some, atom_over, atom_end, atom_constant, atom_group}
 use Rattle.kn_program.proofs.expression.+expression.Goals as goal
 
 pub tests-returns-then-budget-eq0 : goal.tests-returns-then-budget-eq0
@@ -18,6 +18,9 @@ pub tests-returns-in-Err : goal.tests-returns-in-Err
 tests-returns-in-Err t c =
     fault_of_part {X = Expr} {Y = Expr} c.in-Err.unread (test_at (c.args.budget - 1) c.args.joint (words_between c.args.at c.args.end c.args.tokens.now)) _ _ c.in-Err.ensures
     (tests_unread c.args.budget c.args.joint _ c.if-budget-eq0.false)
+
+pub tests-returns-in-None : goal.tests-returns-in-None
+tests-returns-in-None t c = tests_alone c.args.budget c.args.joint _ _ c.in-Ok.read.0 c.if-budget-eq0.false c.in-Ok.ensures c.in-None.ensures
 
 pub tests-loop-left-init : goal.tests-loop-left-init
 tests-loop-left-init t c =
@@ -30,17 +33,17 @@ tests-returns-in_default t c =
     (with_front c.loop-left.parts (tail_at (marked (joint_text c.args.joint)) one_part (test_at (c.args.budget - 1) c.args.joint) c.loop-left.left (words_between c.loop-left.next c.args.end c.args.tokens.now)))
     _ c.loop-left.parts _ c.joined.result
     (tail_last (marked (joint_text c.args.joint)) one_part (test_at (c.args.budget - 1) c.args.joint) c.loop-left.left _ c.loop-left.parts c.loop-left-test.true
-    (at_mark _ _ _ _ c.joint_text.ensures c.in_default.ensures))
+    c.in_default.ensures)
     c.loop-left.invariant c.joined.ensures
 
 pub tests-returns-in-Err-test : goal.tests-returns-in-Err-test
 tests-returns-in-Err-test t c =
-    fault_of_part {X = Expr} {Y = Expr} c.in-Err-test.unread (test_at (c.args.budget - 1) c.args.joint (words_between c.in-Some.start c.args.end c.args.tokens.now)) _ _ c.in-Err-test.ensures
+    fault_of_part {X = Expr} {Y = Expr} c.in-Err-test.unread (test_at (c.args.budget - 1) c.args.joint (words_between c.in-Some-behind_joint.start c.args.end c.args.tokens.now)) _ _ c.in-Err-test.ensures
     (λ none. none_of (joined c.args.joint)
     (with_front c.loop-left.parts (tail_at (marked (joint_text c.args.joint)) one_part (test_at (c.args.budget - 1) c.args.joint) c.loop-left.left (words_between c.loop-left.next c.args.end c.args.tokens.now)))
     _
-    (tail_unread (marked (joint_text c.args.joint)) one_part (test_at (c.args.budget - 1) c.args.joint) c.loop-left.left _ (words_between c.in-Some.start c.args.end c.args.tokens.now) tt c.loop-left.parts c.loop-left-test.true
-    (at_mark _ _ _ _ c.joint_text.ensures c.in-Some.ensures) none)
+    (tail_unread (marked (joint_text c.args.joint)) one_part (test_at (c.args.budget - 1) c.args.joint) c.loop-left.left _ (words_between c.in-Some-behind_joint.start c.args.end c.args.tokens.now) tt c.loop-left.parts c.loop-left-test.true
+    c.in-Some-behind_joint.ensures none)
     c.loop-left.invariant)
 
 pub tests-loop-left-preserved : goal.tests-loop-left-preserved
@@ -48,8 +51,8 @@ tests-loop-left-preserved t c =
     made_along (joined c.args.joint)
     (with_front c.loop-left.parts (tail_at (marked (joint_text c.args.joint)) one_part (test_at (c.args.budget - 1) c.args.joint) c.loop-left.left (words_between c.loop-left.next c.args.end c.args.tokens.now)))
     _ _
-    (tail_more (marked (joint_text c.args.joint)) one_part (test_at (c.args.budget - 1) c.args.joint) c.loop-left.left _ (words_between c.in-Some.start c.args.end c.args.tokens.now) _ tt c.in-Ok-test.read.0 c.loop-left.parts c.push-in-loop-left.new.self c.loop-left-test.true
-    (at_mark _ _ _ _ c.joint_text.ensures c.in-Some.ensures) c.in-Ok-test.ensures c.in-Ok-push-2.ensures.ok)
+    (tail_more (marked (joint_text c.args.joint)) one_part (test_at (c.args.budget - 1) c.args.joint) c.loop-left.left _ (words_between c.in-Some-behind_joint.start c.args.end c.args.tokens.now) _ tt c.in-Ok-test.read.0 c.loop-left.parts c.push-in-loop-left.new.self c.loop-left-test.true
+    c.in-Some-behind_joint.ensures c.in-Ok-test.ensures c.in-Ok-push-2.ensures.ok)
     c.loop-left.invariant
 
 pub tests-returns : goal.tests-returns
@@ -103,27 +106,39 @@ comparison-returns-in-Ok-compared t c =
     (comparison_two c.args.budget _ _ (words_between c.in-Some.start c.args.end c.args.tokens.now) c.in-Ok.read.0 c.in-Some.sign c.if-budget-eq0.false c.in-Ok.ensures c.in-Some.ensures)
     c.in-Ok-chain.ensures c.in-Ok-compared.ensures
 
-pub chain-returns-then-budget-eq0 : goal.chain-returns-then-budget-eq0
-chain-returns-then-budget-eq0 t c = chain_over c.args.budget c.args.level _ c.if-budget-eq0.true
+pub chain-returns-then-budget-levels : goal.chain-returns-then-budget-levels
+chain-returns-then-budget-levels t c =
+    operand_unread c.args.level c.args.budget _ (operand_over (c.args.budget - height c.args.level) _ (omega (arith, c.if-budget-levels.true, c.height-levels.ensures)))
 
 pub chain-returns-in-Err : goal.chain-returns-in-Err
 chain-returns-in-Err t c =
+    fault_of_part {X = Expr} {Y = Expr} c.in-Err.unread (operand_at (c.args.budget - c.height-levels.result) (words_between c.args.at c.args.end c.args.tokens.now)) _ _ c.in-Err.ensures
+    (λ none. operand_unread c.args.level c.args.budget _ (with_fewer c.args.budget c.height-levels.result _ _ _ (ap (λ h. c.args.budget - h) (sym c.height-levels.ensures)) none))
+
+pub chain-returns-else-has_operation : goal.chain-returns-else-has_operation
+chain-returns-else-has_operation t c =
+    operand_alone c.args.level c.args.budget _ _ c.in-Ok.read.0 (omega (arith, c.if-budget-levels.false, c.height-levels.ensures))
+    (with_fewer c.args.budget c.height-levels.result _ _ _ (ap (λ h. c.args.budget - h) (sym c.height-levels.ensures)) c.in-Ok.ensures)
+    (c.has_operation.ensures c.if-has_operation.false)
+
+pub climb-returns-in-Err : goal.climb-returns-in-Err
+climb-returns-in-Err t c =
     fault_of_part {X = Expr} {Y = Expr} c.in-Err.unread (side_at (c.args.budget - 1) c.args.level (words_between c.args.at c.args.end c.args.tokens.now)) _ _ c.in-Err.ensures
-    (chain_unread c.args.budget c.args.level _ c.if-budget-eq0.false)
+    (chain_unread c.args.budget c.args.level _ (has_height c.args.level c.args.budget c.requires.enough))
 
-pub chain-loop-left-init : goal.chain-loop-left-init
-chain-loop-left-init t c = chain_start c.args.budget c.args.level _ _ c.in-Ok.read.0 c.new-links.result c.if-budget-eq0.false c.in-Ok.ensures c.new-links.ensures
+pub climb-loop-left-init : goal.climb-loop-left-init
+climb-loop-left-init t c = chain_start c.args.budget c.args.level _ _ c.in-Ok.read.0 c.new-links.result (has_height c.args.level c.args.budget c.requires.enough) c.in-Ok.ensures c.new-links.ensures
 
-pub chain-returns-in-Ok-chained : goal.chain-returns-in-Ok-chained
-chain-returns-in-Ok-chained t c =
+pub climb-returns-in-Ok-chained : goal.climb-returns-in-Ok-chained
+climb-returns-in-Ok-chained t c =
     made_of _
     (with_front c.loop-left.links (tail_at (taken (operation_of c.args.level)) one_link (side_at (c.args.budget - 1) c.args.level) c.loop-left.left (words_between c.loop-left.next c.args.end c.args.tokens.now)))
     _ c.loop-left.links _ c.in-Ok-chained.whole
     (tail_last (taken (operation_of c.args.level)) one_link (side_at (c.args.budget - 1) c.args.level) c.loop-left.left _ c.loop-left.links c.loop-left-test.true c.in_default.ensures)
     c.loop-left.invariant c.in-Ok-chained.ensures
 
-pub chain-returns-in-Err-side : goal.chain-returns-in-Err-side
-chain-returns-in-Err-side t c =
+pub climb-returns-in-Err-side : goal.climb-returns-in-Err-side
+climb-returns-in-Err-side t c =
     fault_of_part {X = Expr} {Y = Expr} c.in-Err-side.unread (side_at (c.args.budget - 1) c.args.level (words_between c.in-Some.start c.args.end c.args.tokens.now)) _ _ c.in-Err-side.ensures
     (λ none. none_of _
     (with_front c.loop-left.links (tail_at (taken (operation_of c.args.level)) one_link (side_at (c.args.budget - 1) c.args.level) c.loop-left.left (words_between c.loop-left.next c.args.end c.args.tokens.now)))
@@ -132,8 +147,8 @@ chain-returns-in-Err-side t c =
     c.in-Some.ensures none)
     c.loop-left.invariant)
 
-pub chain-loop-left-preserved : goal.chain-loop-left-preserved
-chain-loop-left-preserved t c =
+pub climb-loop-left-preserved : goal.climb-loop-left-preserved
+climb-loop-left-preserved t c =
     made_along _
     (with_front c.loop-left.links (tail_at (taken (operation_of c.args.level)) one_link (side_at (c.args.budget - 1) c.args.level) c.loop-left.left (words_between c.loop-left.next c.args.end c.args.tokens.now)))
     _ _
@@ -141,8 +156,8 @@ chain-loop-left-preserved t c =
     c.in-Some.ensures c.in-Ok-side.ensures c.in-Ok-push.ensures.ok)
     c.loop-left.invariant
 
-pub chain-returns : goal.chain-returns
-chain-returns t c =
+pub climb-returns : goal.climb-returns
+climb-returns t c =
     none_of _
     (with_front c.loop-left.links (tail_at (taken (operation_of c.args.level)) one_link (side_at (c.args.budget - 1) c.args.level) c.loop-left.left (words_between c.loop-left.next c.args.end c.args.tokens.now)))
     _
