@@ -1,3 +1,11 @@
 pub mod Granted
 pub mod Flat
-pub mod Scanned
+pub mod Emptied
+pub mod Started
+pub mod Marked
+pub mod Formed
+pub mod Counted
+pub mod Climbed
+pub mod Used
+pub mod Levelled
+pub mod Reached

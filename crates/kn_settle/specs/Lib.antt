@@ -1,1 +1,1 @@
-pub mod Scans
+pub mod Counters

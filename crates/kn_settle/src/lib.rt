@@ -1,8 +1,10 @@
 //! Settling: the least levels of a system, with a proof.
 #![tactic(auto)]
 
-mod scans;
+mod counters;
+mod reaching;
+mod settling;
 #[cfg(test)]
 mod tests;
 
-pub use scans::{Settled, settle};
+pub use settling::{Settled, settle};

@@ -1,0 +1,19 @@
+use Rattle.std.proofs.Common.{◌≡◌, ◌≤◌, length}
+use Rattle.kn_system.specs.Equations.{node_total}
+use Rattle.kn_system.specs.Settled.{IsSettled, unsettled}
+use Rattle.kn_settle.specs.Counters.{bucket_at}
+use Rattle.kn_settle.proofs.Emptied.{ArePassed, Continues}
+use Rattle.kn_settle.proofs.settling.settle_level.Given as goal
+
+abbrev pub invariant-loop-row : goal.invariant-loop-row
+invariant-loop-row g l = record {
+  settled : IsSettled l.system l.value l.levels l.rows;
+  counts : length l.counters.counts.items ≡ node_total l.system.rows;
+  buckets : length l.counters.buckets.items ≡ l.system.levels;
+  within : l.at ≤ length (bucket_at l.counters.buckets.items l.value);
+  passed : ArePassed l.system l.levels (bucket_at l.counters.buckets.items l.value) l.at;
+  continues : Continues l.system l.value l.initial.levels l.initial.counters.counts.items l.initial.counters.buckets.items l.initial.steps l.levels l.counters.counts.items l.counters.buckets.items l.steps;
+}
+
+abbrev pub decreases-loop-row : goal.decreases-loop-row
+decreases-loop-row g l = unsettled l.levels
