@@ -33,10 +33,10 @@ use Rattle.kn_commands.specs.Asking.{status_of_ended}
 use Rattle.kn_commands.specs.Checking.{HasQuery, Reached, name_of, IsFaultyText, IsUnprovedText}
 use Rattle.kn_commands.specs.declared.generating.GenNumbers.{GenNumbers}
 use Rattle.keynoted.specs.Commands.{AskFor, CheckFor, GenFor, IsNoCommand}
-use Rattle.keynoted.specs.Running.{AsksServed, ChecksText, IsPolicyOfAsk, IsKeysOfAsk, IsNextOfCheck, IsNext, IsDone, IsPolicyFault, IsReplyFault, IsDue, IsPrinted, IsEnded}
+use Rattle.keynoted.specs.Running.{AsksServed, ChecksText, IsNext, IsDone, IsPolicyFault, IsReplyFault, IsDue, IsPrinted, IsEnded}
 use Rattle.keynoted.specs.Running as D
 use Rattle.keynoted.specs.Calling.{TooLarge, Failed, Passed, KeysLead, AskLeads, IsProofText, ReplyLeads, CheckLeads, CallsFor, CallsToServe, IsCalm, EndsWith}
-use Rattle.keynoted.proofs.Known.{Tells, ask_is_no_check, same_ask, same_names, policy_of_check, told_by, held, held_too_much}
+use Rattle.keynoted.proofs.Known.{Tells, ask_is_no_check, same_ask, same_names, told_by, held, held_too_much}
 use Rattle.keynoted.proofs.Leading.{ask_once, check_once}
 use Rattle.keynoted.proofs.Gen.{gen_is_no_ask, gen_is_no_check}
 
@@ -80,7 +80,7 @@ module _ (given : List (List ℕ)) (f f' : FilesSeen) (o o' : LinkSeen) (told : 
   by_served ended due at asks =
       let a = asks.answered in
       ByAsk asks.names asks.words
-      (Passed a.bytes (held f asks.names.policy a.bytes told a.policy.content) (a.policy.loadable, keys_passed asks.names.keys a.keys due a.known (ended, at, a.served.complete)))
+      (Passed a.bytes (held f asks.names.policy a.bytes told a.policy.content) (a.policy.loadable, keys_passed asks.names.keys a.keys due a.known (ended, at, a.runs.complete)))
 
   -- the files of `check` up to a query
   query_passed : (names : CheckNames) (session : Session) (values : List (List ℕ)) (due : ℕ) → HasQuery f names session values → ReplyLeads f names.reply session values due → CheckLeads f names due
@@ -105,23 +105,26 @@ module _ (given : List (List ℕ)) (f f' : FilesSeen) (o o' : LinkSeen) (told : 
       query_passed names reached.0 reached.1 due reached.2 (TooLarge much.0 much.1 at)
 
   by_large : (front : List (List ℕ)) (name : List ℕ) (due : ℕ) → due ≡ 2 → IsNext given f front name → IsTooLarge f name → Came given f o o' due
-  by_large front name due at (inl policy) large =
-      let much = held_too_much f policy.names.policy told (subst (IsTooLarge f) policy.named large) in
-      ByAsk policy.names policy.words (TooLarge much.0 much.1 at)
-  by_large front name due at (inr (inl keys)) large =
-      ByAsk keys.names keys.words
-      (Passed keys.bytes (held f keys.names.policy keys.bytes told keys.policy.content) (keys.policy.loadable, by_large_keys keys.names name due at keys.named large))
-  by_large front name due at (inr (inr check)) large =
-      ByCheck check.names check.words (by_large_check check.names check.source due at check.reached (subst (IsTooLarge f) check.named large))
+  by_large front name due at (D.PolicyOfAsk names words behind named) large =
+      let much = held_too_much f names.policy told (subst (IsTooLarge f) named large) in
+      ByAsk names words (TooLarge much.0 much.1 at)
+  by_large front name due at (D.KeysOfAsk names bytes words policy behind named) large =
+      ByAsk names words (Passed bytes (held f names.policy bytes told policy.content) (policy.loadable, by_large_keys names name due at named large))
+  by_large front name due at (D.PolicyOfCheck names words behind named) large = ByCheck names words (by_large_check names Policy due at tt (subst (IsTooLarge f) named large))
+  by_large front name due at (D.ScriptOfCheck names bytes words policy behind named) large =
+      ByCheck names words (by_large_check names TheScript due at (bytes, policy) (subst (IsTooLarge f) named large))
+  by_large front name due at (D.ReplyOfCheck names session values words query behind named) large =
+      ByCheck names words (by_large_check names Reply due at (session, values, query) (subst (IsTooLarge f) named large))
 
   by_policy : (name bytes line : List ℕ) (due : ℕ) → due ≡ 3 → IsNext given f [] name → HasContent f name bytes → (IsLoadable (pieces_of bytes) → ⊥) → Came given f o o' due
-  by_policy name bytes line due at (inl policy) has none =
-      ByAsk policy.names policy.words (Failed bytes (held f policy.names.policy bytes told (subst (λ (n : List ℕ). HasContent f n bytes) policy.named has)) none at)
-  by_policy name bytes line due at (inr (inl keys)) has none = let wrong : [] ≡ keys.names.policy ∷ [] = keys.behind in absurd (cc)
-  by_policy name bytes line due at (inr (inr check)) has none =
-      let first : check.source ≡ Policy = policy_of_check check.names check.source check.behind in
-      let named : name ≡ check.names.policy = check.named ∙ ap (name_of check.names) first in
-      ByCheck check.names check.words (Failed bytes (held f check.names.policy bytes told (subst (λ (n : List ℕ). HasContent f n bytes) named has)) none at)
+  by_policy name bytes line due at (D.PolicyOfAsk names words behind named) has none =
+      ByAsk names words (Failed bytes (held f names.policy bytes told (subst (λ (n : List ℕ). HasContent f n bytes) named has)) none at)
+  by_policy name bytes line due at (D.KeysOfAsk names held_bytes words policy behind named) has none = let wrong : [] ≡ names.policy ∷ [] = behind in absurd (cc)
+  by_policy name bytes line due at (D.PolicyOfCheck names words behind named) has none =
+      ByCheck names words (Failed bytes (held f names.policy bytes told (subst (λ (n : List ℕ). HasContent f n bytes) named has)) none at)
+  by_policy name bytes line due at (D.ScriptOfCheck names held_bytes words policy behind named) has none = let wrong : [] ≡ names.policy ∷ [] = behind in absurd (cc)
+  by_policy name bytes line due at (D.ReplyOfCheck names session values words query behind named) has none =
+      let wrong : [] ≡ names.policy ∷ names.script ∷ [] = behind in absurd (cc)
 
   by_reply : (session : Session) (values : List (List ℕ)) (text : List ℕ) (due : ℕ) → due ≡ 6 → ChecksText given f f' session values text →
       ((reply : ReadReply) → ¬ IsProofText session values text reply) → Came given f o o' due
@@ -155,12 +158,12 @@ module _ (given : List (List ℕ)) (f f' : FilesSeen) (o o' : LinkSeen) (told : 
   came_of due line (D.Memory at cause) = ByMemory at
   came_of due line (D.Reply at cause) = by_fault line due at cause
   came_of due line (D.Keys at cause) =
-      let k = cause.next in
-      ByAsk k.names k.words
-      (Passed k.bytes (held f k.names.policy k.bytes told k.policy.content) (
+      let k = cause.stopped in
+      ByAsk cause.names cause.words
+      (Passed k.bytes (held f cause.names.policy k.bytes told k.policy.content) (
         k.policy.loadable,
         subst (λ (key : Option (List ℕ)). KeysLead f key (IsServedSo o o') due) (sym k.named)
-            (Failed cause.text (held f cause.name cause.text told cause.content) (λ keys is. file_or_line cause.text keys cause.number is cause.malformed) at),
+            (Failed k.stops.1 (held f k.name k.stops.1 told k.stops.2) (λ keys is. file_or_line k.stops.1 keys cause.number is k.stops.3) at),
       ))
   came_of due line (D.Query at cause) =
       let none = cause.none in

@@ -8,7 +8,7 @@ use Rattle.clap.proofs.OnLiterals.{clap_on_literals}
 use Rattle.clap.proofs.WalkLemmas.{first_value-rows}
 use Rattle.kn_base.specs.Decimal.{decimal_of}
 use Rattle.kn_commands.specs.Serving.{Order}
-use Rattle.keynoted.specs.Commands.{serve_app, option_value, AreValuesOf, ServeFor, IsNoServe}
+use Rattle.keynoted.specs.Commands.{serve_app, option_value, AreValuesOf, ServeFor, IsNo}
 
 -- the command is one of which `clap` says what it reads
 pub serve_app_is_simple : is_simple serve_app ≡ true
@@ -53,6 +53,6 @@ pub words_taken : (words : List Text) (m : ArgMatches) (order : Order) → slice
 words_taken words m order serve texts matches taken values =
     record { serve = serve; texts = texts; taken = taken; values = same_values (first_value (found_of m)) (option_value words) order (read_value words m matches) values }
 
-pub words_without_service : (words : List Text) (m : ArgMatches) → HasMatchesOf serve_app words m → ((order : Order) → ¬ AreValuesOf (first_value (found_of m)) order) → IsNoServe words
+pub words_without_service : (words : List Text) (m : ArgMatches) → HasMatchesOf serve_app words m → ((order : Order) → ¬ AreValuesOf (first_value (found_of m)) order) → IsNo ServeFor words
 words_without_service words m matches none order asks =
     none order (same_values (option_value words) (first_value (found_of m)) order (λ id. sym (read_value words m matches id)) asks.values)

@@ -1,5 +1,5 @@
 -- The line that is due where a command ends so.
-use Rattle.std.proofs.Common.{◌≡◌, ℕ, inl, inr, List, [], ◌∷◌, take, refl, sym, subst, ⊎_elim}
+use Rattle.std.proofs.Common.{◌≡◌, ℕ, inl, inr, List, [], ◌∷◌, take, refl, sym, subst, ⊎_elim, Some}
 use Rattle.kn_outside.specs.Seen.{FilesSeen, LinkSeen}
 use Rattle.kn_outside.specs.Asked.{HasAsked, HasFailed}
 use Rattle.kn_daemon.specs.declared.ended.Ended.{Ended}
@@ -13,13 +13,14 @@ use Rattle.kn_commands.specs.declared.ending.Ending.TheVariants.{Stopped, NoQuer
 use Rattle.kn_commands.specs.declared.ask_ending.AskEnding.{AskEnding}
 use Rattle.kn_commands.specs.declared.ask_ending.AskEnding.TheVariants.{PolicyStopped, KeysStopped, Served}
 use Rattle.kn_commands.specs.Names.{AskNames, CheckNames, in_order}
+use Rattle.kn_commands.specs.Held.{IsPolicy}
 use Rattle.kn_commands.specs.Stopping.{status_of, stop_line, policy_fault_line, limit_line}
 use Rattle.kn_commands.specs.Asking.{IsLinkAnswered, AskCause, StopsAtPolicy, StopsAtKeys, AreKeysStopped, status_of_ended, line_of_ended, status_of_ask, line_of_ask}
 use Rattle.kn_commands.specs.Checking.{StopsCheckAt, CheckCause, Reached, name_of, count_before, count_to, status_of_ending, line_of_ending}
 use Rattle.kn_commands.proofs.Files.{asked_nothing}
 use Rattle.kn_commands.proofs.Reached.{one_more}
 use Rattle.keynoted.specs.Commands.{AskFor, CheckFor, IsNoCommand}
-use Rattle.keynoted.specs.Running.{AsksServed, IsNext, IsKeysOfAsk, IsDue, IsPrinted, IsEnded}
+use Rattle.keynoted.specs.Running.{AsksServed, IsNext, IsDue, IsPrinted, IsEnded}
 use Rattle.keynoted.specs.Running as D
 
 pub refused_ended : (given : List (List ℕ)) (f : FilesSeen) (o s s' : LinkSeen) (status : ℕ) → IsNoCommand given → IsPrinted (stop_line [] Words) 1 s s' status →
@@ -29,7 +30,7 @@ refused_ended given f o s s' status none told =
 
 module _ (given : List (List ℕ)) (names : AskNames) (f f' : FilesSeen) (o o' : LinkSeen) (words : AskFor given names) where
   ask_policy_next : IsNext given f [] names.policy
-  ask_policy_next = inl (record { names = names; words = words; behind = refl; named = refl })
+  ask_policy_next = D.PolicyOfAsk names words refl refl
 
   policy_due : (stop : Stop) → StopsAtPolicy f f' names.policy stop → o' ≡ o → IsDue given f f' o o' (status_of stop) (stop_line names.policy stop)
   policy_due FileFailed stops same = D.File refl (record { front = []; name = names.policy; next = ask_policy_next; fault = inl (stops, refl); link = same })
@@ -52,32 +53,28 @@ module _ (given : List (List ℕ)) (names : AskNames) (f f' : FilesSeen) (o o' :
   policy_due Words stops same = absurd stops
   policy_due (KeyLine n) stops same = absurd stops
 
-  module _ (name bytes : List ℕ) (next : IsKeysOfAsk given f (names.policy ∷ []) name) (same : o' ≡ o) where
+  module _ (name bytes : List ℕ) (policy : IsPolicy f names.policy bytes) (named : names.keys ≡ Some name) (same : o' ≡ o) where
+    keys_next : IsNext given f (names.policy ∷ []) name
+    keys_next = D.KeysOfAsk names bytes words policy refl named
+
     keys_due : (stop : Stop) → StopsAtKeys f f' (names.policy ∷ []) name stop → IsDue given f f' o o' (status_of stop) (stop_line name stop)
-    keys_due FileFailed stops = D.File refl (record { front = names.policy ∷ []; name = name; next = inr (inl next); fault = inl (stops, refl); link = same })
-    keys_due FileTooLarge stops = D.File refl (record { front = names.policy ∷ []; name = name; next = inr (inl next); fault = inr (stops.0, stops.1, refl); link = same })
+    keys_due FileFailed stops = D.File refl (record { front = names.policy ∷ []; name = name; next = keys_next; fault = inl (stops, refl); link = same })
+    keys_due FileTooLarge stops = D.File refl (record { front = names.policy ∷ []; name = name; next = keys_next; fault = inr (stops.0, stops.1, refl); link = same })
     keys_due (KeyLine n) stops = D.Keys refl (record {
-      front = names.policy ∷ [];
-      name = name;
-      next = next;
-      asked = stops.0;
-      text = stops.1;
-      content = stops.2;
+      names = names;
+      words = words;
       number = n;
-      malformed = stops.3;
+      stopped = record { name = name; named = named; bytes = bytes; policy = policy; stops = stops };
       link = same;
       told = refl;
     })
-    keys_due Memory stops = D.Memory refl (refl, same, inl (names.policy ∷ [], name, inr (inl next), stops))
+    keys_due Memory stops = D.Memory refl (refl, same, inl (names.policy ∷ [], name, keys_next, stops))
     keys_due Words stops = absurd stops
     keys_due (Policy n fault) stops = absurd stops
     keys_due (Limit n word count) stops = absurd stops
 
   keys_stopped_due : (stop : Stop) → AreKeysStopped f f' names stop → o' ≡ o → IsDue given f f' o o' (status_of stop) (line_of_ask names (KeysStopped stop))
-  keys_stopped_due stop stopped same =
-      let next : IsKeysOfAsk given f (names.policy ∷ []) stopped.name =
-      record { names = names; words = words; behind = refl; named = stopped.named; bytes = stopped.bytes; policy = stopped.policy } in
-      rw stopped.named (keys_due stopped.name stopped.bytes next same stop stopped.stops)
+  keys_stopped_due stop stopped same = rw stopped.named (keys_due stopped.name stopped.bytes stopped.policy stopped.named same stop stopped.stops)
 
   served : (ended : Ended) → IsLinkAnswered f f' o o' names ended → AsksServed given f f' o o' ended
   served ended answered = record { names = names; words = words; answered = answered }
@@ -87,7 +84,7 @@ module _ (given : List (List ℕ)) (names : AskNames) (f f' : FilesSeen) (o o' :
 
   served_due : (ended : Ended) → IsLinkAnswered f f' o o' names ended → IsDue given f f' o o' (status_of_ended ended) (line_of_ended ended)
   served_due E.Done answered = D.Done refl (inl (served E.Done answered, refl))
-  served_due E.Memory answered = D.Memory refl (refl, answered.served.cause, inr (inl (served E.Memory answered)))
+  served_due E.Memory answered = D.Memory refl (refl, answered.runs.cause, inr (inl (served E.Memory answered)))
   served_due E.ReadFault answered = link_due E.ReadFault refl answered
   served_due E.WriteFault answered = link_due E.WriteFault refl answered
   served_due (E.Cut held) answered = link_due (E.Cut held) refl answered
@@ -105,10 +102,12 @@ module _ (given : List (List ℕ)) (names : AskNames) (f f' : FilesSeen) (o o' :
 
 module _ (given : List (List ℕ)) (names : CheckNames) (f f' : FilesSeen) (o o' : LinkSeen) (words : CheckFor given names) (untouched : o' ≡ o) where
   next : (source : Source) → Reached f names source → IsNext given f (take (count_before source) (in_order names)) (name_of names source)
-  next source reached = inr (inr (record { names = names; words = words; source = source; reached = reached; behind = refl; named = refl }))
+  next At.Policy reached = D.PolicyOfCheck names words refl refl
+  next At.Script reached = D.ScriptOfCheck names reached.0 words reached.1 refl refl
+  next At.Reply reached = D.ReplyOfCheck names reached.0 reached.1 words reached.2 refl refl
 
   check_policy_next : IsNext given f [] names.policy
-  check_policy_next = inr (inr (record { names = names; words = words; source = At.Policy; reached = tt; behind = refl; named = refl }))
+  check_policy_next = D.PolicyOfCheck names words refl refl
 
   stopped_due : (source : Source) (stop : Stop) → StopsCheckAt f f' names source stop → IsDue given f f' o o' (status_of stop) (stop_line (name_of names source) stop)
   stopped_due source FileFailed cause = D.File refl (record {

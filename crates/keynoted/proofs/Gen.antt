@@ -14,7 +14,7 @@ use Rattle.kn_outside.specs.Faults.{Rose}
 use Rattle.kn_outside.specs.Printing.{Writes}
 use Rattle.kn_commands.specs.Names.{AskNames, CheckNames}
 use Rattle.kn_commands.specs.declared.generating.GenNumbers.{GenNumbers}
-use Rattle.keynoted.specs.Commands.{AskFor, CheckFor, AreGenNumbers, AreNoGenNumbers, GenFor, IsNoGen}
+use Rattle.keynoted.specs.Commands.{AskFor, CheckFor, AreGenNumbers, AreNoGenNumbers, GenFor, IsNo}
 use Rattle.keynoted.specs.Running.{AsksServed, IsNext, IsDone, LacksMemory, IsDue, IsPrinted, IsEnded}
 use Rattle.keynoted.specs.Running as D
 use Rattle.keynoted.specs.Calling.{EndsWith}
@@ -61,7 +61,7 @@ pub gen_some : (words : List (List ℕ)) (first second : List ℕ) (found : Opti
 gen_some words first second None spelled are = tt
 gen_some words first second (Some n) spelled are = record { first = first; second = second; spelled = spelled; are = are }
 
-pub gen_none : (words : List (List ℕ)) (first second : List ℕ) (found : Option GenNumbers) → words ≡ codes "gen" ∷ first ∷ second ∷ [] → IfNone found (AreNoGenNumbers first second) → IfNone found (IsNoGen words)
+pub gen_none : (words : List (List ℕ)) (first second : List ℕ) (found : Option GenNumbers) → words ≡ codes "gen" ∷ first ∷ second ∷ [] → IfNone found (AreNoGenNumbers first second) → IfNone found (IsNo GenFor words)
 gen_none words first second None spelled none = λ numbers gen.
     let both : codes "gen" ∷ gen.first ∷ gen.second ∷ [] ≡ codes "gen" ∷ first ∷ second ∷ [] = sym gen.spelled ∙ spelled in
     let a : gen.first ≡ first = cc in
@@ -109,9 +109,11 @@ gen_ended given numbers f o s s' status words (inr told) = record {
 
 module _ (given : List (List ℕ)) (numbers : GenNumbers) (f f' : FilesSeen) (o o' : LinkSeen) (words : GenFor given numbers) where
   no_next : (front : List (List ℕ)) (name : List ℕ) → IsNext given f front name → ⊥
-  no_next front name (inl policy) = gen_is_no_ask given numbers policy.names words policy.words
-  no_next front name (inr (inl keys)) = gen_is_no_ask given numbers keys.names words keys.words
-  no_next front name (inr (inr check)) = gen_is_no_check given numbers check.names words check.words
+  no_next front name (D.PolicyOfAsk names asks behind named) = gen_is_no_ask given numbers names words asks
+  no_next front name (D.KeysOfAsk names bytes asks policy behind named) = gen_is_no_ask given numbers names words asks
+  no_next front name (D.PolicyOfCheck names checks behind named) = gen_is_no_check given numbers names words checks
+  no_next front name (D.ScriptOfCheck names bytes checks policy behind named) = gen_is_no_check given numbers names words checks
+  no_next front name (D.ReplyOfCheck names session values checks query behind named) = gen_is_no_check given numbers names words checks
 
   -- the status that is due is 0, or memory lacked
   gen_due : (due : ℕ) (line : List ℕ) → IsDue given f f' o o' due line → EndsWith 0 due
@@ -122,7 +124,7 @@ module _ (given : List (List ℕ)) (numbers : GenNumbers) (f f' : FilesSeen) (o 
   gen_due due line (D.Link at cause) = absurd (gen_is_no_ask given numbers cause.served.names words cause.served.words)
   gen_due due line (D.Memory at cause) = inr at
   gen_due due line (D.Reply at cause) = absurd (gen_is_no_check given numbers cause.3.names words cause.3.words)
-  gen_due due line (D.Keys at cause) = absurd (gen_is_no_ask given numbers cause.next.names words cause.next.words)
+  gen_due due line (D.Keys at cause) = absurd (gen_is_no_ask given numbers cause.names words cause.words)
   gen_due due line (D.Query at cause) = absurd (gen_is_no_check given numbers cause.names words cause.words)
 
 -- `gen` ends with status 0 or 5, or with 9 in its place

@@ -1,15 +1,20 @@
 -- What is known of words, and of files whose contents are told.
-use Rattle.std.proofs.Common.{◌≡◌, ℕ, ◌<◌, List, [], ◌∷◌, length, take, refl, sym, ap, ◌∙◌, Option, Some, None}
+use Rattle.std.proofs.Common.{◌≡◌, ℕ, ◌<◌, ◌≤◌, List, [], ◌∷◌, length, take, refl, sym, ap, ◌∙◌, Option, Some, None}
 use Rattle.std.specs.Prelude.{codes, IfSome, IsSomeAnd, option_to_list}
 use Rattle.kn_base.specs.declared.limits.TheConstants.{FILE_BYTES}
 use Rattle.kn_outside.specs.Seen.{FilesSeen}
-use Rattle.kn_commands.specs.declared.ending.Source.{Source}
-use Rattle.kn_commands.specs.declared.ending.Source.TheVariants.{Policy, Script as TheScript, Reply}
 use Rattle.kn_commands.specs.Names.{AskNames, ask_order, CheckNames, in_order}
 use Rattle.kn_commands.specs.Held.{HasContent, IsTooLarge}
-use Rattle.kn_commands.specs.Checking.{count_before}
 use Rattle.keynoted.specs.Commands.{AskFor, CheckFor}
-use Rattle.keynoted.specs.Calling.{Holds, HoldsWithin, HoldsTooMuch, Leads, TooLarge, Failed, Passed}
+use Rattle.keynoted.specs.Calling.{Holds, Leads, TooLarge, Failed, Passed}
+
+-- the file of this name holds these bytes, and isn't too large
+abbrev pub HoldsWithin : FilesSeen → List ℕ → List ℕ → Type 0
+HoldsWithin f name bytes = Holds f name bytes × (length bytes ≤ FILE_BYTES)
+
+-- and is too large
+abbrev pub HoldsTooMuch : FilesSeen → List ℕ → List ℕ → Type 0
+HoldsTooMuch f name bytes = Holds f name bytes × (FILE_BYTES < length bytes)
 
 -- the words of `ask` aren't those of `check`
 pub ask_is_no_check : (given : List (List ℕ)) (names : AskNames) (others : CheckNames) → AskFor given names → CheckFor given others → ⊥
@@ -42,12 +47,6 @@ same_names given a b first second =
     ∙ ap (λ (t : List ℕ). record { policy = b.policy; script = t; reply = a.reply }) script
     ∙ ap (λ (r : List ℕ). record { policy = b.policy; script = b.script; reply = r }) reply
 
--- the first file of `check` is the policy
-pub policy_of_check : (names : CheckNames) (source : Source) → [] ≡ take (count_before source) (in_order names) → source ≡ Policy
-policy_of_check names Policy none = refl
-policy_of_check names TheScript none = absurd (cc)
-policy_of_check names Reply none = absurd (cc)
-
 -- the contents are told
 abbrev pub Tells : FilesSeen → Type 0
 Tells f = IsSomeAnd f.content (λ content_of. Unit {0})
@@ -61,13 +60,13 @@ told_there f name bytes holds = by f.content holds
 
 -- a file that leads to a status is told
 pub told_by : (f : FilesSeen) (name : List ℕ) (Fails : List ℕ → Type 0) (failed : ℕ) (On : List ℕ → ℕ → Type 0) (status : ℕ) → Leads f name Fails failed On status → Tells f
-told_by f name Fails failed On status (TooLarge bytes h e) = told_there f name bytes h.there
-told_by f name Fails failed On status (Failed bytes h fails e) = told_there f name bytes h.there
-told_by f name Fails failed On status (Passed bytes h on) = told_there f name bytes h.there
+told_by f name Fails failed On status (TooLarge bytes h e) = told_there f name bytes h.0
+told_by f name Fails failed On status (Failed bytes h fails e) = told_there f name bytes h.0
+told_by f name Fails failed On status (Passed bytes h on) = told_there f name bytes h.0
 
 -- what was read from a told file is its content
 pub held : (f : FilesSeen) (name bytes : List ℕ) → Tells f → HasContent f name bytes → HoldsWithin f name bytes
-held f name bytes told has = record { there = by f.content told has.content; within = has.within }
+held f name bytes told has = (by f.content told has.content, has.within)
   where
     by : (told : Option (List ℕ → Option (List ℕ))) → IsSomeAnd told (λ c. Unit {0}) → IfSome told (λ c. c name ≡ Some bytes) → IsSomeAnd told (λ c. c name ≡ Some bytes)
     by None x h = absurd x
@@ -77,7 +76,7 @@ held f name bytes told has = record { there = by f.content told has.content; wit
 pub held_too_much : (f : FilesSeen) (name : List ℕ) → Tells f → IsTooLarge f name → (bytes : List ℕ) × HoldsTooMuch f name bytes
 held_too_much f name told large =
     let found = by f.content told large in
-    (found.0, record { there = found.1; over = found.2 })
+    (found.0, (found.1, found.2))
   where
     in_file : (content : Option (List ℕ)) → IsSomeAnd content (λ bytes. FILE_BYTES < length bytes) → (bytes : List ℕ) × (content ≡ Some bytes) × (FILE_BYTES < length bytes)
     in_file None h = absurd h

@@ -12,7 +12,8 @@ use Rattle.kn_store.specs.History.{loaded_history}
 use Rattle.kn_store.specs.Loading.{IsLoadable}
 use Rattle.kn_play.specs.Meaning.{Means, OneQueryOfScript}
 use Rattle.kn_commands.specs.Names.{AskNames, CheckNames}
-use Rattle.keynoted.specs.Calling.{Holds, HoldsWithin, HoldsTooMuch, Leads, TooLarge, Failed, Passed, KeysLead, AskLeads, IsProofText, ReplyLeads, ScriptLeads, CheckLeads, EndsWith}
+use Rattle.keynoted.specs.Calling.{Holds, Leads, TooLarge, Failed, Passed, KeysLead, AskLeads, IsProofText, ReplyLeads, ScriptLeads, CheckLeads, EndsWith}
+use Rattle.keynoted.proofs.Known.{HoldsWithin, HoldsTooMuch}
 
 -- a told file has one content
 holds_once : (f : FilesSeen) (name a b : List ℕ) → Holds f name a → Holds f name b → a ≡ b
@@ -25,12 +26,12 @@ holds_once f name a b first second = by f.content first second
 -- which is too large or isn't
 not_both : (f : FilesSeen) (name a b : List ℕ) → HoldsTooMuch f name a → HoldsWithin f name b → ⊥
 not_both f name a b large small =
-    let within : length a ≤ FILE_BYTES = subst (λ (x : List ℕ). length x ≤ FILE_BYTES) (holds_once f name b a small.there large.there) small.within in
-    let over = large.over in
+    let within : length a ≤ FILE_BYTES = subst (λ (x : List ℕ). length x ≤ FILE_BYTES) (holds_once f name b a small.0 large.0) small.1 in
+    let over = large.1 in
     omega arith
 
 same_content : (f : FilesSeen) (name a b : List ℕ) → HoldsWithin f name a → HoldsWithin f name b → a ≡ b
-same_content f name a b first second = holds_once f name a b first.there second.there
+same_content f name a b first second = holds_once f name a b first.0 second.0
 
 module _ (f : FilesSeen) (name : List ℕ) (Fails : List ℕ → Type 0) (failed : ℕ) (On Next : List ℕ → ℕ → Type 0) (status other : ℕ)
     (apart : (bytes : List ℕ) → Fails bytes → On bytes status → ⊥) (apart' : (bytes : List ℕ) → Fails bytes → Next bytes other → ⊥)

@@ -111,9 +111,9 @@ module _ {C R : Type 0} (door : R → DoorSeen (ServedSeen C)) (link : C → Lin
   came (PolicyStopped stop) cause at = by_policy f f' told calm order.files due stop cause.0 at
   came (KeysStopped stop) cause at = by_keys f f' told calm order.files due stop cause.0.name cause.0.bytes cause.0.named cause.0.policy cause.0.stops at
   came BindMemory cause at = inr at
-  came Unbound cause at = absurd (net_calm cause.serves.0)
+  came Unbound cause at = absurd (net_calm cause.runs.0)
   came WorkMemory cause at = inr at
-  came DoorFailed cause at = absurd (net_calm cause.serves.3)
+  came DoorFailed cause at = absurd (net_calm cause.runs.3)
   came (Served finished version) cause at =
       passed f f' told calm order.files due cause.bytes cause.policy (keys_passed f f' told calm order.files due order.files.keys cause.keys cause.known at)
 

@@ -10,22 +10,22 @@ use Rattle.kn_commands.specs.Stopping.{stop_line}
 use Rattle.kn_commands.specs.declared.stop.Stop.TheVariants.{Words, Memory}
 use Rattle.kn_commands.specs.Serving.{Order, ServeCause, status_of_serve, line_of_serve}
 use Rattle.kn_commands.specs.declared.serve_ending.ServeEnding.{ServeEnding}
-use Rattle.keynoted.specs.Commands.{ServeFor, IsNoServe, IsNoCommand}
+use Rattle.keynoted.specs.Commands.{ServeFor, IsNoCommand, IsNo}
 use Rattle.keynoted.specs.Running.{IsPrinted, IsEnded}
 use Rattle.keynoted.specs.Running as D
 use Rattle.keynoted.specs.Serving.{Apart, Service, Unread, IsRun}
 use Rattle.keynoted.proofs.ServiceCalled.{ask_is_no_serve, check_is_no_serve, gen_is_no_serve}
 
 -- words that begin otherwise ask for no service
-pub no_serve_otherwise : (given : List (List ℕ)) → (slice_get given 0 ≡ Some (codes "serve") → ⊥) → IsNoServe given
+pub no_serve_otherwise : (given : List (List ℕ)) → (slice_get given 0 ≡ Some (codes "serve") → ⊥) → IsNo ServeFor given
 no_serve_otherwise given other order words = other words.serve
 
 -- words of which one isn't UTF-8 ask for no service
-pub no_serve_text : (given : List (List ℕ)) → ¬ All IsUtf8 given → IsNoServe given
+pub no_serve_text : (given : List (List ℕ)) → ¬ All IsUtf8 given → IsNo ServeFor given
 no_serve_text given other order words = other words.texts
 
 module _ {C R : Type 0} (door : R → DoorSeen (ServedSeen C)) (link : C → LinkSeen) (given : List (List ℕ)) (f f' : FilesSeen) (n n' : NetSeen R) (o o' s s' : LinkSeen) (status : ℕ) where
-  pub refused_run : slice_get given 0 ≡ Some (codes "serve") → IsNoServe given → IsPrinted (stop_line [] Words) 1 s s' status → IsRun door link given f f n n o o s s' status
+  pub refused_run : slice_get given 0 ≡ Some (codes "serve") → IsNo ServeFor given → IsPrinted (stop_line [] Words) 1 s s' status → IsRun door link given f f n n o o s s' status
   refused_run serve none told =
       let nothing : IsNoCommand given =
       record { ask = λ names words. ask_is_no_serve given names words serve; check = λ names words. check_is_no_serve given names words serve; gen = λ numbers words. gen_is_no_serve given numbers words serve; serve = none } in
@@ -43,5 +43,5 @@ module _ {C R : Type 0} (door : R → DoorSeen (ServedSeen C)) (link : C → Lin
     told = told;
   }
 
-  pub apart_run : IsNoServe given → IsEnded given f f' o o' s s' status → IsRun door link given f f' n n o o' s s' status
+  pub apart_run : IsNo ServeFor given → IsEnded given f f' o o' s s' status → IsRun door link given f f' n n o o' s s' status
   apart_run none ended = record { due = ended.due; line = ended.line; cause = Apart none refl ended.cause; told = ended.told }

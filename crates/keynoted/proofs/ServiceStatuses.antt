@@ -105,9 +105,9 @@ module _ {C R : Type 0} (door : R → DoorSeen (ServedSeen C)) (link : C → Lin
   listener order (PolicyStopped stop) cause at = absurd (seven_of_stop stop at)
   listener order (KeysStopped stop) cause at = absurd (seven_of_stop stop at)
   listener order BindMemory cause at = absurd (omega arith)
-  listener order Unbound cause at = (bound_of n n' _ cause.serves.1, cause.serves.0)
+  listener order Unbound cause at = (bound_of n n' _ cause.runs.1, cause.runs.0)
   listener order WorkMemory cause at = absurd (omega arith)
-  listener order DoorFailed cause at = (bound_of n n' _ cause.serves.2.back.net, cause.serves.3)
+  listener order DoorFailed cause at = (bound_of n n' _ cause.runs.2.back.net, cause.runs.3)
   listener order (Served finished version) cause at = absurd (omega arith)
 
   listener_line : (order : Order) (ending : ServeEnding) (line : List ℕ) → 7 ≡ status_of_serve ending → line ≡ line_of_serve order ending → line ≡ codes "error listener\n"

@@ -184,9 +184,11 @@ module _ (given : List (List ℕ)) (f f' : FilesSeen) (o o' s s' : LinkSeen) (st
   says_refused none = by ended.due ended.line ended.cause ended.told
     where
       next : (front : List (List ℕ)) (name : List ℕ) → IsNext given f front name → ⊥
-      next front name (inl policy) = none.ask policy.names policy.words
-      next front name (inr (inl keys)) = none.ask keys.names keys.words
-      next front name (inr (inr check)) = none.check check.names check.words
+      next front name (D.PolicyOfAsk names words behind named) = none.ask names words
+      next front name (D.KeysOfAsk names bytes words policy behind named) = none.ask names words
+      next front name (D.PolicyOfCheck names words behind named) = none.check names words
+      next front name (D.ScriptOfCheck names bytes words policy behind named) = none.check names words
+      next front name (D.ReplyOfCheck names session values words query behind named) = none.check names words
 
       done : (line : List ℕ) → IsDone given f f' o o' line → ⊥
       done line (inl ask) = none.ask ask.0.names ask.0.words
@@ -211,5 +213,5 @@ module _ (given : List (List ℕ)) (f f' : FilesSeen) (o o' s s' : LinkSeen) (st
       by due line (D.Link at cause) told = absurd (none.ask cause.served.names cause.served.words)
       by due line (D.Memory at cause) told = absurd (lacks line cause)
       by due line (D.Reply at cause) told = absurd (none.check cause.3.names cause.3.words)
-      by due line (D.Keys at cause) told = absurd (none.ask cause.next.names cause.next.words)
+      by due line (D.Keys at cause) told = absurd (none.ask cause.names cause.words)
       by due line (D.Query at cause) told = absurd (none.check cause.names cause.words)

@@ -23,21 +23,11 @@ use Rattle.keynoted.specs.Commands.{AskFor, CheckFor}
 abbrev pub Holds : FilesSeen → List ℕ → List ℕ → Type 0
 Holds f name bytes = IsSomeAnd f.content (λ content_of. content_of name ≡ Some bytes)
 
--- the same, of a file that isn't too large
-pub record HoldsWithin (f : FilesSeen) (name bytes : List ℕ) : Type 0 where
-  pub there : Holds f name bytes
-  pub within : length bytes ≤ FILE_BYTES
-
--- the same, of one that is
-pub record HoldsTooMuch (f : FilesSeen) (name bytes : List ℕ) : Type 0 where
-  pub there : Holds f name bytes
-  pub over : FILE_BYTES < length bytes
-
 -- A file is tried. It is too large, which has status 2; or what it holds fails, which has this status; or what it holds leads on.
 pub data Leads (f : FilesSeen) (name : List ℕ) (Fails : List ℕ → Type 0) (failed : ℕ) (On : List ℕ → ℕ → Type 0) (status : ℕ) : Type 0 where
-  TooLarge : (bytes : List ℕ) → HoldsTooMuch f name bytes → status ≡ 2 → Leads f name Fails failed On status
-  Failed : (bytes : List ℕ) → HoldsWithin f name bytes → Fails bytes → status ≡ failed → Leads f name Fails failed On status
-  Passed : (bytes : List ℕ) → HoldsWithin f name bytes → On bytes status → Leads f name Fails failed On status
+  TooLarge : (bytes : List ℕ) → Holds f name bytes × (FILE_BYTES < length bytes) → status ≡ 2 → Leads f name Fails failed On status
+  Failed : (bytes : List ℕ) → Holds f name bytes × (length bytes ≤ FILE_BYTES) → Fails bytes → status ≡ failed → Leads f name Fails failed On status
+  Passed : (bytes : List ℕ) → Holds f name bytes × (length bytes ≤ FILE_BYTES) → On bytes status → Leads f name Fails failed On status
 
 -- the file of this name is tried as a policy: it fails where its assertions make no history
 abbrev pub PolicyLeads : FilesSeen → List ℕ → (List ℕ → ℕ → Type 0) → ℕ → Type 0

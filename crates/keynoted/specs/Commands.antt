@@ -30,21 +30,9 @@ pub record GenFor (words : List (List ℕ)) (numbers : GenNumbers) : Type 0 wher
   pub spelled : words ≡ codes "gen" ∷ first ∷ second ∷ []
   pub are : AreGenNumbers first second numbers
 
--- the words don't ask for a policy
-abbrev pub IsNoAsk : List (List ℕ) → Type 0
-IsNoAsk words = (names : AskNames) → AskFor words names → ⊥
-
--- the words don't ask that
-abbrev pub IsNoCheck : List (List ℕ) → Type 0
-IsNoCheck words = (names : CheckNames) → CheckFor words names → ⊥
-
 -- two words spell no such numbers
 abbrev pub AreNoGenNumbers : List ℕ → List ℕ → Type 0
 AreNoGenNumbers first second = (numbers : GenNumbers) → AreGenNumbers first second numbers → ⊥
-
--- the words ask for no generated credentials
-abbrev pub IsNoGen : List (List ℕ) → Type 0
-IsNoGen words = (numbers : GenNumbers) → GenFor words numbers → ⊥
 
 -- The command that reads the words of `serve`, as `clap` sees it: one address, and options of which each has a value. The first
 -- word stands where a program has its name.
@@ -88,13 +76,13 @@ pub record ServeFor (words : List (List ℕ)) (order : Order) : Type 0 where
   pub taken : fault_of serve_app words ≡ []
   pub values : AreValuesOf (option_value words) order
 
--- the words don't ask for a service
-abbrev pub IsNoServe : List (List ℕ) → Type 0
-IsNoServe words = (order : Order) → ServeFor words order → ⊥
+-- the words ask for nothing of this kind
+abbrev pub IsNo : {X : Type 0} → (List (List ℕ) → X → Type 0) → List (List ℕ) → Type 0
+IsNo {X} For words = (asked : X) → For words asked → ⊥
 
 -- the words are those of no command
 pub record IsNoCommand (words : List (List ℕ)) : Type 0 where
-  pub ask : IsNoAsk words
-  pub check : IsNoCheck words
-  pub gen : IsNoGen words
-  pub serve : IsNoServe words
+  pub ask : IsNo AskFor words
+  pub check : IsNo CheckFor words
+  pub gen : IsNo GenFor words
+  pub serve : IsNo ServeFor words

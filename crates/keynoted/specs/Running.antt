@@ -5,7 +5,6 @@ use Rattle.kn_outside.specs.Seen.{FilesSeen, LinkSeen}
 use Rattle.kn_outside.specs.Asked.{HasAsked, HasFailed}
 use Rattle.kn_outside.specs.Printing.{Writes}
 use Rattle.kn_assert.specs.declared.fault.ReadFault.{ReadFault}
-use Rattle.kn_auth.specs.KeyFiles.{IsFirstMalformed}
 use Rattle.kn_files.specs.Pieces.{pieces_of}
 use Rattle.kn_check.specs.declared.reject.Reject.{Reject}
 use Rattle.kn_reply.specs.declared.refusal.LimitWord.{LimitWord}
@@ -13,13 +12,13 @@ use Rattle.kn_daemon.specs.declared.ended.Ended.{Ended}
 use Rattle.kn_daemon.specs.declared.ended.Ended.TheVariants as E
 use Rattle.kn_session.specs.Sessions.{Session}
 use Rattle.kn_store.specs.Loading.{IsFaultyAt}
-use Rattle.kn_commands.specs.declared.ending.Source.{Source}
+use Rattle.kn_commands.specs.declared.stop.Stop.TheVariants.{KeyLine}
 use Rattle.kn_commands.specs.Names.{AskNames, CheckNames, in_order}
-use Rattle.kn_commands.specs.Held.{HasContent, IsTooLarge, IsPolicy, IsFileRead}
+use Rattle.kn_commands.specs.Held.{IsTooLarge, IsPolicy, IsFileRead}
 use Rattle.kn_commands.specs.Loaded.{IsLimitAt}
 use Rattle.kn_commands.specs.Stopping.{policy_fault_line, limit_line, keys_line}
-use Rattle.kn_commands.specs.Asking.{IsLinkAnswered, status_of_ended, line_of_ended}
-use Rattle.kn_commands.specs.Checking.{IsTried, IsFaultyText, IsUnprovedText, IsProvedText, HasNoQuery, Reached, name_of, count_before, text_line, reject_line, proved_line}
+use Rattle.kn_commands.specs.Asking.{IsLinkAnswered, AreKeysStopped, status_of_ended, line_of_ended}
+use Rattle.kn_commands.specs.Checking.{IsTried, IsFaultyText, IsUnprovedText, IsProvedText, HasQuery, HasNoQuery, text_line, reject_line, proved_line}
 use Rattle.kn_commands.specs.Generating.{IsGenLine}
 use Rattle.kn_commands.specs.declared.generating.GenNumbers.{GenNumbers}
 use Rattle.keynoted.specs.Commands.{AskFor, CheckFor, GenFor, IsNoCommand}
@@ -46,34 +45,16 @@ pub record IsGenerated (given : List (List ℕ)) (f f' : FilesSeen) (o o' : Link
   pub files : f' ≡ f
   pub link : o' ≡ o
 
--- the words are `ask` and a policy file, which is the next
-pub record IsPolicyOfAsk (given front : List (List ℕ)) (name : List ℕ) : Type 0 where
-  pub names : AskNames
-  pub words : AskFor given names
-  pub behind : front ≡ []
-  pub named : name ≡ names.policy
-
--- the words are `ask`, a file that holds a policy, and a key file, which is the next
-pub record IsKeysOfAsk (given : List (List ℕ)) (f : FilesSeen) (front : List (List ℕ)) (name : List ℕ) : Type 0 where
-  pub names : AskNames
-  pub words : AskFor given names
-  pub behind : front ≡ names.policy ∷ []
-  pub named : names.keys ≡ Some name
-  pub bytes : List ℕ
-  pub policy : IsPolicy f names.policy bytes
-
--- the words are `check` and three files, of which this is the next behind these, and those hold what they have to
-pub record IsNextOfCheck (given : List (List ℕ)) (f : FilesSeen) (front : List (List ℕ)) (name : List ℕ) : Type 0 where
-  pub names : CheckNames
-  pub words : CheckFor given names
-  pub source : Source
-  pub reached : Reached f names source
-  pub behind : front ≡ take (count_before source) (in_order names)
-  pub named : name ≡ name_of names source
-
--- the words name this file next, behind files of these names, which hold what they have to
-abbrev pub IsNext : List (List ℕ) → FilesSeen → List (List ℕ) → List ℕ → Type 0
-IsNext given f front name = IsPolicyOfAsk given front name ⊎ (IsKeysOfAsk given f front name ⊎ IsNextOfCheck given f front name)
+-- The words name this file next, behind files of these names, which hold what they have to.
+pub data IsNext (given : List (List ℕ)) (f : FilesSeen) (front : List (List ℕ)) (name : List ℕ) : Type 0 where
+  PolicyOfAsk : (names : AskNames) → AskFor given names → front ≡ [] → name ≡ names.policy → IsNext given f front name
+  KeysOfAsk : (names : AskNames) (bytes : List ℕ) → AskFor given names → IsPolicy f names.policy bytes → front ≡ names.policy ∷ []
+      → names.keys ≡ Some name → IsNext given f front name
+  PolicyOfCheck : (names : CheckNames) → CheckFor given names → front ≡ [] → name ≡ names.policy → IsNext given f front name
+  ScriptOfCheck : (names : CheckNames) (bytes : List ℕ) → CheckFor given names → IsPolicy f names.policy bytes → front ≡ names.policy ∷ []
+      → name ≡ names.script → IsNext given f front name
+  ReplyOfCheck : (names : CheckNames) (session : Session) (values : List (List ℕ)) → CheckFor given names → HasQuery f names session values
+      → front ≡ names.policy ∷ names.script ∷ [] → name ≡ names.reply → IsNext given f front name
 
 -- Why a line is due. There is one relation for each status.
 
@@ -138,14 +119,10 @@ IsReplyFault given f f' o o' line =
 
 -- 8: a line of the key file is malformed, and this is the first
 pub record IsKeyFault (given : List (List ℕ)) (f f' : FilesSeen) (o o' : LinkSeen) (line : List ℕ) : Type 0 where
-  pub front : List (List ℕ)
-  pub name : List ℕ
-  pub next : IsKeysOfAsk given f front name
-  pub asked : HasAsked (front ++ name ∷ []) f f'
-  pub text : List ℕ
-  pub content : HasContent f name text
+  pub names : AskNames
+  pub words : AskFor given names
   pub number : ℕ
-  pub malformed : IsFirstMalformed text number
+  pub stopped : AreKeysStopped f f' names (KeyLine number)
   pub link : o' ≡ o
   pub told : line ≡ keys_line number
 

@@ -8,7 +8,7 @@ use Rattle.kn_workers.specs.Doors.{DoorSeen}
 use Rattle.kn_workers.specs.Nets.{NetSeen}
 use Rattle.kn_commands.specs.Serving.{Order, ServeCause, status_of_serve, line_of_serve}
 use Rattle.kn_commands.specs.declared.serve_ending.ServeEnding.{ServeEnding}
-use Rattle.keynoted.specs.Commands.{ServeFor, IsNoServe}
+use Rattle.keynoted.specs.Commands.{ServeFor, IsNo}
 use Rattle.keynoted.specs.Running.{LacksMemory, IsDue, IsPrinted}
 
 module _ {C R : Type 0} (door : R → DoorSeen (ServedSeen C)) (connection : C → LinkSeen) where
@@ -44,7 +44,7 @@ pub record AreUnread {R : Type 0} (given : List (List ℕ)) (f f' : FilesSeen) (
 module _ {C R : Type 0} (door : R → DoorSeen (ServedSeen C)) (connection : C → LinkSeen) (given : List (List ℕ)) (f f' : FilesSeen) (n n' : NetSeen R) (o o' : LinkSeen) where
   -- this line is due with this status: for a cause that doesn't concern the net, or as that of a service
   pub data IsEndDue (status : ℕ) (line : List ℕ) : Type 0 where
-    Apart : IsNoServe given → n' ≡ n → IsDue given f f' o o' status line → IsEndDue status line
+    Apart : IsNo ServeFor given → n' ≡ n → IsDue given f f' o o' status line → IsEndDue status line
     Service : IsServeDue door connection given f f' n n' o o' status line → IsEndDue status line
     Unread : status ≡ 5 → AreUnread given f f' n n' o o' line → IsEndDue status line
 

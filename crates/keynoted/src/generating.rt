@@ -1,6 +1,6 @@
 //! The words of `gen`, and how it ends.
 ghost use Rattle.std.specs.Prelude.{◌≤◌, IfSome, IfNone};
-ghost use Rattle.keynoted.specs.Commands.{AreGenNumbers, AreNoGenNumbers, GenFor, IsNoGen};
+ghost use Rattle.keynoted.specs.Commands.{AreGenNumbers, AreNoGenNumbers, GenFor, IsNo};
 ghost use Rattle.keynoted.specs.Generating.{IsGenPrinted};
 
 use crate::run::end;
@@ -14,7 +14,7 @@ use std::sync::Wait;
 /// The numbers, where the words are `gen` and two numbers within their limits.
 pub(crate) fn gen_numbers(words: &[Octets]) -> Option<GenNumbers>
     ensures some { IfSome result (λ numbers. GenFor words.now numbers) }
-    ensures none { IfNone result (IsNoGen words.now) }
+    ensures none { IfNone result (IsNo GenFor words.now) }
 {
     if words.len() != 3 || words[0].as_slice() != b"gen".as_slice() {
         return None;

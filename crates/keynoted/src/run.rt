@@ -7,7 +7,7 @@ ghost use Rattle.kn_commands.specs.Checking.{line_of_ending, status_of_ending};
 ghost use Rattle.kn_serve.specs.Serving.{IsOrderly};
 ghost use Rattle.kn_commands.specs.declared.generating.GenNumbers.{GenNumbers};
 ghost use Rattle.kn_commands.specs.Serving.{Order};
-ghost use Rattle.keynoted.specs.Commands.{AskFor, CheckFor, GenFor, ServeFor, IsNoAsk, IsNoCheck, IsNoServe, IsNoCommand};
+ghost use Rattle.keynoted.specs.Commands.{AskFor, CheckFor, GenFor, ServeFor, IsNoCommand, IsNo};
 ghost use Rattle.keynoted.specs.Running.{IsDone, HasNoCommand, IsFileFault, IsPolicyFault, IsLinkFault, LacksMemory, IsReplyFault, IsKeyFault, MeansNoQuery, IsDue, IsPrinted, IsEnded, Tells, TellsPart};
 ghost use Rattle.keynoted.specs.Serving.{OrServes, EndsRefused, LacksMemoryFor, IsListenerFault, IsEndDue, IsRun};
 ghost use Rattle.keynoted.specs.Calling.{AskLeads, CallsFor, CallsToServe, IsCalm, EndsWith};
@@ -38,7 +38,7 @@ fn third_word(words: &[Octets]) -> Option<&[u8]>
 /// The files, where the words are `ask` and one or two more.
 fn ask_files(words: &[Octets]) -> Option<AskFiles<'_>>
     ensures some { IfSome result (λ names. AskFor words.now names) }
-    ensures none { IfNone result (IsNoAsk words.now) }
+    ensures none { IfNone result (IsNo AskFor words.now) }
 {
     if words.len() < 2 || words.len() > 3 || words[0].as_slice() != b"ask".as_slice() {
         return None;
@@ -52,7 +52,7 @@ fn ask_files(words: &[Octets]) -> Option<AskFiles<'_>>
 /// The files, where the words are `check` and three more.
 fn check_files(words: &[Octets]) -> Option<CheckFiles<'_>>
     ensures some { IfSome result (λ names. CheckFor words.now names) }
-    ensures none { IfNone result (IsNoCheck words.now) }
+    ensures none { IfNone result (IsNo CheckFor words.now) }
 {
     if words.len() != 4 || words[0].as_slice() != b"check".as_slice() {
         return None;
@@ -104,7 +104,7 @@ fn carry_out_apart<R: Wait, F: Files, L: Link, O: Sink, G: Gate>(
     out: &mut O,
     gate: &G,
 ) -> u8
-    requires serve { IsNoServe words.now }
+    requires serve { IsNo ServeFor words.now }
     ensures { IsEnded words.now (F.seen files.old) (F.seen files.new) (L.seen own.old) (L.seen own.new) (O.seen out.old) (O.seen out.new) result }
 {
     if let Some(names) = ask_files(words) {

@@ -4,7 +4,7 @@ ghost use Rattle.std.specs.Str.{IsUtf8};
 ghost use Rattle.clap.specs.Words.{app_of, rule_of, first_value, found_of};
 ghost use Rattle.kn_base.specs.Decimal.{decimal_of};
 ghost use Rattle.kn_commands.specs.Serving.{Order};
-ghost use Rattle.keynoted.specs.Commands.{serve_app, address_rule, policy_rule, keys_rule, workers_rule, connections_rule, AreValuesOf, ServeFor, IsNoServe};
+ghost use Rattle.keynoted.specs.Commands.{serve_app, address_rule, policy_rule, keys_rule, workers_rule, connections_rule, AreValuesOf, ServeFor, IsNo};
 
 use clap::{Arg, ArgMatches, Command};
 use kn_base::limits::{CONNECTIONS, WORKERS};
@@ -42,7 +42,7 @@ pub(crate) fn service_of<'a>(
     requires serve { slice_get (map (λ w. w.now) words.now) 0 ≡ Some (codes "serve") }
     requires texts { All IsUtf8 (map (λ w. w.now) words.now) }
     ensures some { IfOk result (λ service. IfSome service (λ s. ServeFor (map (λ w. w.now) words.now) s)) }
-    ensures none { IfOk result (λ service. IfNone service (IsNoServe (map (λ w. w.now) words.now))) }
+    ensures none { IfOk result (λ service. IfNone service (IsNo ServeFor (map (λ w. w.now) words.now))) }
 {
     let command = match serve_command(alloc) {
         Ok(command) => command,

@@ -3,11 +3,12 @@ use Rattle.std.proofs.Common.{◌≡◌, ℕ, ◌+◌, ◌<◌, ◌≤◌, ◌^�
 use Rattle.std.specs.Prelude.{All, IfSome, sum_by}
 use Rattle.std.proofs.lemmas.List.Elements.{All-nil, All-cons}
 use Rattle.std.proofs.lemmas.List.Sums.{sum_by-cons}
+use Rattle.std.specs.Result.{result_ok}
 use Rattle.kn_trees.specs.declared.assertion.Assertion.{Assertion}
 use Rattle.kn_trees.specs.declared.formula.Formula.{Formula}
 use Rattle.kn_trees.specs.Formulas.{IsReadable}
 use Rattle.kn_assert.specs.declared.fault.ReadFault.{ReadFault}
-use Rattle.kn_assert.specs.Reading.{assertion_in, assertion_of, reading_of, IsSound}
+use Rattle.kn_assert.specs.Reading.{assertion_of, reading_of, IsSound}
 use Rattle.kn_assert.proofs.Answered.{ReadingTold, SoundTold}
 use Rattle.kn_meaning.specs.Equations.{Part}
 use Rattle.kn_answer.specs.declared.types.TheConstants.{QUERY_BYTES}
@@ -17,7 +18,7 @@ use Rattle.kn_answer.specs.Sizes.{HaveTexts, IsReadablePart, size_of, total_size
 sound_read : ReadingTold → SoundTold → (text : List ℕ) (assertion : Assertion) → assertion_of text ≡ Some assertion → IsSound (length text) assertion
 sound_read told sound text assertion read = sound text assertion ((told text assertion).0 (is_ok (reading_of text) read))
   where
-    is_ok : (r : Result Assertion ReadFault) → assertion_in r ≡ Some assertion → r ≡ Ok assertion
+    is_ok : (r : Result Assertion ReadFault) → result_ok r ≡ Some assertion → r ≡ Ok assertion
     is_ok (Ok other) e = cc
     is_ok (Err fault) e = cc
 

@@ -5,6 +5,7 @@ use Rattle.std.specs.List.{list_any, position_or_len, before_first, after_first,
 use Rattle.std.proofs.lemmas.Bool.Decides.{Decides-ltb, nat_tests}
 use Rattle.std.proofs.lemmas.Grind.{common_steps}
 use Rattle.std.proofs.lemmas.List.{length-append, length-map, length-drop, length-take-le}
+use Rattle.std.specs.Result.{result_err, result_ok}
 use Rattle.kn_env.specs.declared.constant.Constant.{Constant as Set}
 use Rattle.kn_lex.specs.Cutting.{Seen}
 use Rattle.kn_fields.specs.Fields.{Field, field_with}
@@ -21,7 +22,7 @@ use Rattle.kn_program.proofs.Depths.{stated_shallow}
 use Rattle.kn_principal.specs.Principals.{lower_case, is_colon, normal_rest, with_algorithm, normal_form}
 use Rattle.kn_assert.specs.Parts.{text_by, normal_in, principal_of}
 use Rattle.kn_assert.specs.Faults.{fault_place}
-use Rattle.kn_assert.specs.Reading.{of_fields, reading_with, reading_by, reading_of, assertion_in, fault_in, assertion_of, fault_of, IsSound}
+use Rattle.kn_assert.specs.Reading.{of_fields, reading_with, reading_by, reading_of, assertion_of, fault_of, IsSound}
 use Rattle.kn_assert.specs.Spelled.{IsShallow, IsReading, IsFirstReadFault}
 use Rattle.kn_assert.specs.declared.fault.ReadFault.{ReadFault}
 use Rattle.kn_assert.specs.declared.fault.ReadFault.TheVariants.{NoMemory}
@@ -110,12 +111,12 @@ unfolding reading_of
 reading_here text tokens constants read e c r = ap (reading_by text) e ∙ ap (reading_with text tokens) (sym c) ∙ sym r
 
 pub ok_told : (text : List ℕ) (r : Result Assertion ReadFault) → reading_of text ≡ r → IfOk r (λ assertion. assertion_of text ≡ Some assertion)
-ok_told text (Ok assertion) e = ap assertion_in e
+ok_told text (Ok assertion) e = ap result_ok e
 ok_told text (Err fault) e = tt
 
 pub err_told : (text : List ℕ) (r : Result Assertion ReadFault) → reading_of text ≡ r → IfErr r (λ fault. (fault ≡ NoMemory) ⊎ (fault_of text ≡ Some fault))
 err_told text (Ok assertion) e = tt
-err_told text (Err fault) e = inr (ap fault_in e)
+err_told text (Err fault) e = inr (ap result_err e)
 
 abbrev pub ReadingTold : Type 0
 ReadingTold = (text : List ℕ) (assertion : Assertion) → (reading_of text ≡ Ok assertion) ↔ IsReading text assertion
@@ -189,7 +190,7 @@ fields_fault told text fault read h e =
 
 pub fault_told : (text : List ℕ) (read : ReadFault) → (read ≡ NoMemory) ⊎ (reading_of text ≡ Err read) → (read ≡ NoMemory) ⊎ (fault_of text ≡ Some read)
 fault_told text read (inl none) = inl none
-fault_told text read (inr e) = inr (ap fault_in e)
+fault_told text read (inr e) = inr (ap result_err e)
 
 pub fault_first : FirstTold → (text : List ℕ) (read : ReadFault) → (read ≡ NoMemory) ⊎ (reading_of text ≡ Err read) → (read ≡ NoMemory) ⊎ IsFirstReadFault text read
 fault_first told text read (inl none) = inl none

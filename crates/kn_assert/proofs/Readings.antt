@@ -1,6 +1,8 @@
 -- What is computed of a text is the assertion that it spells, or its first fault.
 use Rattle.std.proofs.Common.{◌≡◌, ℕ, ◌<◌, ◌⊎◌, inl, inr, Bool, true, false, Option, Some, None, Result, Ok, Err, List, [], ◌∷◌, ◌++◌, arith, refl, sym, ◌∙◌, ap, subst, eqb-true}
 use Rattle.std.specs.Prelude.{◌↔◌, ◌==◌, MatchOption, find, if◌then◌else◌}
+use Rattle.std.specs.Result.{result_err}
+use Rattle.std.specs.Option.{option_or}
 use Rattle.kn_env.specs.declared.constant.Constant.{Constant as Set}
 use Rattle.kn_lex.specs.Cutting.{Seen, Cuts}
 use Rattle.kn_lex.specs.Literal.{literal_value}
@@ -17,7 +19,7 @@ use Rattle.kn_trees.specs.declared.program.Program.{Program}
 use Rattle.kn_formula.specs.Licensing.{AreLicensees, licensees_of}
 use Rattle.kn_program.specs.Conditions.{IsConditions, program_of}
 use Rattle.kn_assert.specs.Parts.{principal_of, authorizer_of, conditions_by, licensees_by, signature_of}
-use Rattle.kn_assert.specs.Reading.{of_fields, authorizer_in, conditions_in, licensees_in, signature_in, fault_of_part, fault_by, else_fault, first_of, faults_of, unless, assembled, reading_with, reading_by, reading_of}
+use Rattle.kn_assert.specs.Reading.{of_fields, authorizer_in, conditions_in, licensees_in, signature_in, fault_by, first_of, faults_of, unless, assembled, reading_with, reading_by, reading_of}
 use Rattle.kn_assert.specs.Spelled.{IsOne, IsShallow, Spells, IsReading, FieldShows, fault_order, IsFirstShown, IsFirstReadFault}
 use Rattle.kn_assert.specs.declared.fault.ReadFault.{ReadFault}
 use Rattle.kn_assert.specs.declared.fault.ReadFault.TheVariants.{NoAuthorizer, NoMemory}
@@ -151,12 +153,12 @@ unfoldable Below : Option ReadFault → ReadFault → Type 0
 Below None other = ⊥
 Below (Some fault) other = (fault_order fault < fault_order other) ⊎ (fault ≡ other)
 
-below_part : {X : Type 0} (r : Result X ReadFault) (other : ReadFault) → Least r other → Below (fault_of_part r) other
+below_part : {X : Type 0} (r : Result X ReadFault) (other : ReadFault) → Least r other → Below (result_err r) other
 unfolding Below Least
 below_part (Ok x) other h = h
 below_part (Err fault) other h = h
 
-part_err : {X : Type 0} (r : Result X ReadFault) (f : ReadFault) → fault_of_part r ≡ Some f → r ≡ Err f
+part_err : {X : Type 0} (r : Result X ReadFault) (f : ReadFault) → result_err r ≡ Some f → r ≡ Err f
 part_err (Ok x) f e = none_some f e
 part_err (Err g) f e = ap Err (some_same g f e)
 
@@ -171,16 +173,16 @@ field_shown depth constants tokens field f own e = by (field_of field.label) ref
     is : (n m : ℕ) → field_of field.label ≡ Some n → (n == m) ≡ true → field_of field.label ≡ Some m
     is n m o b = o ∙ ap Some (eqb-true n m b)
 
-    authorizer : field_of field.label ≡ Some 1 → fault_of_part (authorizer_in constants (field_with 1 tokens)) ≡ Some f → FieldShows constants field f
+    authorizer : field_of field.label ≡ Some 1 → result_err (authorizer_in constants (field_with 1 tokens)) ≡ Some f → FieldShows constants field f
     authorizer o h = inl (o, authorizer_shown depth constants field f (sym (ap (authorizer_in constants) (own 1 o)) ∙ part_err _ f h))
 
-    conditions : field_of field.label ≡ Some 3 → fault_of_part (conditions_in (field_with 3 tokens)) ≡ Some f → FieldShows constants field f
+    conditions : field_of field.label ≡ Some 3 → result_err (conditions_in (field_with 3 tokens)) ≡ Some f → FieldShows constants field f
     conditions o h = inr (inl (o, conditions_shown depth field f (sym (ap conditions_in (own 3 o)) ∙ part_err _ f h)))
 
-    licensees : field_of field.label ≡ Some 5 → fault_of_part (licensees_in constants (field_with 5 tokens)) ≡ Some f → FieldShows constants field f
+    licensees : field_of field.label ≡ Some 5 → result_err (licensees_in constants (field_with 5 tokens)) ≡ Some f → FieldShows constants field f
     licensees o h = inr (inr (inl (o, licensees_shown depth constants field f (sym (ap (licensees_in constants) (own 5 o)) ∙ part_err _ f h))))
 
-    signature : field_of field.label ≡ Some 7 → fault_of_part (signature_in (field_with 7 tokens)) ≡ Some f → FieldShows constants field f
+    signature : field_of field.label ≡ Some 7 → result_err (signature_in (field_with 7 tokens)) ≡ Some f → FieldShows constants field f
     signature o h = inr (inr (inr (o, signature_shown depth field f (sym (ap signature_in (own 7 o)) ∙ part_err _ f h))))
 
     of : (n : ℕ) → field_of field.label ≡ Some n → (a b c d : Bool) → (n == 1) ≡ a → (n == 3) ≡ b → (n == 5) ≡ c → (n == 7) ≡ d
@@ -252,7 +254,7 @@ first_shown depth constants tokens (x ∷ fields) f own e =
     mine : IsOwn tokens x
     mine = own [] x fields refl
 
-    by : (o : Option ReadFault) → fault_by (faults_of constants tokens) (field_of x.label) ≡ o → else_fault o (first_of (faults_of constants tokens) fields) ≡ Some f
+    by : (o : Option ReadFault) → fault_by (faults_of constants tokens) (field_of x.label) ≡ o → option_or o (first_of (faults_of constants tokens) fields) ≡ Some f
         → (first_of (faults_of constants tokens) fields ≡ Some f → IsFirstShown constants fields f) → IsFirstShown constants (x ∷ fields) f
     by (Some g) o h rest =
         let same : g ≡ f = some_same g f h in
@@ -309,10 +311,10 @@ shown_first depth constants tokens (x ∷ fields) [] field behind f own split sh
     let same : x ≡ field = head_same x field _ _ split in
     let here : fault_by (faults_of constants tokens) (field_of x.label) ≡ Some f =
     ap (λ (y : Field). fault_by (faults_of constants tokens) (field_of y.label)) same ∙ shown_here depth constants tokens field f (own [] field behind split) shown least in
-    ap (λ (o : Option ReadFault). else_fault o (first_of (faults_of constants tokens) fields)) here
+    ap (λ (o : Option ReadFault). option_or o (first_of (faults_of constants tokens) fields)) here
 shown_first depth constants tokens (x ∷ fields) (y ∷ before) field behind f own split shown least first =
     let same : x ≡ y = head_same x y _ _ split in
-    ap (λ (o : Option ReadFault). else_fault o (first_of (faults_of constants tokens) fields))
+    ap (λ (o : Option ReadFault). option_or o (first_of (faults_of constants tokens) fields))
     (by (fault_by (faults_of constants tokens) (field_of x.label)) refl same)
     ∙ shown_first depth constants tokens fields before field behind f (own_behind tokens x fields own) (tail_same x y _ _ split) shown least
     (λ front earlier rest k. first (y ∷ front) earlier rest (ap (λ (fs : List Field). y ∷ fs) k))
@@ -328,7 +330,7 @@ number_of : (n : ℕ) (o : Option ℕ) → is_this n o ≡ true → o ≡ Some n
 number_of n None h = absurd (cc)
 number_of n (Some m) h = ap Some (eqb-true m n h)
 
-else_none : (o p : Option ReadFault) → else_fault o p ≡ None → (o ≡ None) × (p ≡ None)
+else_none : (o p : Option ReadFault) → option_or o p ≡ None → (o ≡ None) × (p ≡ None)
 else_none None p e = (refl, e)
 else_none (Some f) p e = none_some f (sym e)
 
@@ -356,7 +358,7 @@ part_none faults n tokens field e h = no_fault faults n field (fields_of tokens)
 abbrev IsGiven : (X : Type 0) → Result X ReadFault → Type 0
 IsGiven X r = (x : X) × (r ≡ Ok x)
 
-part_ok : (X : Type 0) (r : Result X ReadFault) → fault_of_part r ≡ None → IsGiven X r
+part_ok : (X : Type 0) (r : Result X ReadFault) → result_err r ≡ None → IsGiven X r
 part_ok X (Ok x) e = (x, refl)
 part_ok X (Err f) e = none_some f (sym e)
 
@@ -402,7 +404,7 @@ clean_first : (faults : Faults) (fields : List Field) → faults.authorizer ≡ 
 unfolding first_of
 clean_first faults [] a k l s = refl
 clean_first faults (x ∷ fields) a k l s =
-    ap (λ (o : Option ReadFault). else_fault o (first_of faults fields)) (by (field_of x.label)) ∙ clean_first faults fields a k l s
+    ap (λ (o : Option ReadFault). option_or o (first_of faults fields)) (by (field_of x.label)) ∙ clean_first faults fields a k l s
   where
     of : (p q r t : Bool) → (if p then faults.authorizer else if q then faults.conditions else if r then faults.licensees else if t then faults.signature else None) ≡ None
     of true q r t = a
@@ -472,7 +474,7 @@ spelled_reading told text assertion h =
     let p = of_spelled told text h.tokens assertion h.spelled in
     let none : first_of (faults_of (constants_in (field_with 6 h.tokens)) h.tokens) (fields_of h.tokens) ≡ None =
     clean_first (faults_of (constants_in (field_with 6 h.tokens)) h.tokens) (fields_of h.tokens)
-    (ap fault_of_part p.authorizer_is) (ap fault_of_part p.conditions_is) (ap fault_of_part p.licensees_is) (ap fault_of_part p.signature_is) in
+    (ap result_err p.authorizer_is) (ap result_err p.conditions_is) (ap result_err p.licensees_is) (ap result_err p.signature_is) in
     ap (reading_by text) ((told.tokens text h.tokens).1 (h.cut, h.well_fielded))
     ∙ ap (λ (o : Option ReadFault). unless o (assembled (constants_in (field_with 6 h.tokens)) (signed_to text h.tokens)
     (authorizer_in (constants_in (field_with 6 h.tokens)) (field_with 1 h.tokens)) (licensees_in (constants_in (field_with 6 h.tokens)) (field_with 5 h.tokens))

@@ -1,6 +1,6 @@
 -- What is computed of one field is what its tokens spell, or its first fault.
 use Rattle.std.proofs.Common.{◌≡◌, ℕ, ◌<◌, ◌⊎◌, inl, inr, Bool, true, false, Option, Some, None, Result, Ok, Err, List, [], ◌∷◌, arith, refl, sym, ◌∙◌, ap, subst}
-use Rattle.std.specs.Prelude.{◌↔◌, if◌then◌else◌}
+use Rattle.std.specs.Prelude.{◌↔◌, ok_or, if◌then◌else◌}
 use Rattle.std.proofs.lemmas.Bool.{false≢true}
 use Rattle.kn_env.specs.declared.constant.Constant.{Constant as Set}
 use Rattle.kn_lex.specs.Cutting.{Seen}
@@ -19,7 +19,7 @@ use Rattle.kn_trees.specs.declared.program.Program.{Program}
 use Rattle.kn_program.specs.Conditions.{IsConditions, Shows as ProgramShows, program_of}
 use Rattle.kn_program.specs.declared.fault.ProgramFault.{ProgramFault}
 use Rattle.kn_program.specs.declared.fault.ProgramFault.TheVariants.{Syntax as NoProgram, Kind as WrongKind, NoMemory as NoProgramMemory}
-use Rattle.kn_assert.specs.Parts.{is_principal_token, principal_of, normal_in, text_by, only_of, named, authorizer_by, authorizer_of, program_fault, conditions_by, formula_fault, licensees_by, signature_by, signature_of}
+use Rattle.kn_assert.specs.Parts.{is_principal_token, principal_of, normal_in, text_by, only_of, authorizer_by, authorizer_of, program_fault, conditions_by, formula_fault, licensees_by, signature_by, signature_of}
 use Rattle.kn_assert.specs.Reading.{shallow, authorizer_in, conditions_in, licensees_in, signature_in}
 use Rattle.kn_assert.specs.Spelled.{IsOne, AuthorizerShows, ConditionsShows, LicenseesShows, SignatureShows, fault_order}
 use Rattle.kn_assert.specs.declared.fault.ReadFault.{ReadFault}
@@ -104,7 +104,7 @@ principal_token constants token a e = by token.sort refl
     by Text t = rw t refl
     by Sign t = none Sign t refl (is_principal_token token)
 
-named_some : (o : Option (List ℕ)) (a : List ℕ) → named o ≡ Ok a → o ≡ Some a
+named_some : (o : Option (List ℕ)) (a : List ℕ) → ok_or o (Name 1) ≡ Ok a → o ≡ Some a
 named_some None a e = absurd (cc)
 named_some (Some p) a e = let same : p ≡ a = cc in ap Some same
 
@@ -113,7 +113,7 @@ pub authorizer_spelled : (constants : List Set) (tokens : List Seen) (a : List �
 unfolding authorizer_of
 authorizer_spelled constants tokens a e = by (only_of tokens) refl e
   where
-    of : (token : Seen) (b : Bool) → (if b then named (principal_of constants token) else Err (Syntax 1)) ≡ Ok a → principal_of constants token ≡ Some a
+    of : (token : Seen) (b : Bool) → (if b then ok_or (principal_of constants token) (Name 1) else Err (Syntax 1)) ≡ Ok a → principal_of constants token ≡ Some a
     of token true h = named_some (principal_of constants token) a h
     of token false h = ok_err a (Syntax 1) (sym h)
 
@@ -126,8 +126,8 @@ pub spelled_authorizer : (constants : List Set) (tokens : List Seen) (a : List �
 unfolding authorizer_of
 spelled_authorizer constants tokens a h =
     ap (λ (ts : List Seen). authorizer_by constants (only_of ts)) h.1
-    ∙ ap (λ (b : Bool). if b then named (principal_of constants h.0) else Err (Syntax 1)) (principal_token constants h.0 a h.2)
-    ∙ ap named h.2
+    ∙ ap (λ (b : Bool). if b then ok_or (principal_of constants h.0) (Name 1) else Err (Syntax 1)) (principal_token constants h.0 a h.2)
+    ∙ ap (λ (o : Option (List ℕ)). ok_or o (Name 1)) h.2
 
 text_sort : (s : Sort) → is_text_sort s ≡ true → s ≡ Text
 text_sort Label e = absurd (false≢true e)
@@ -199,13 +199,13 @@ not_principal constants tokens f None o e =
     subst (AuthorizerShows constants tokens) same (refl, λ one. none_one tokens one.0 o one.1)
 not_principal constants tokens f (Some token) o e = by (is_principal_token token) refl e
   where
-    name : (p : Option (List ℕ)) → principal_of constants token ≡ p → is_principal_token token ≡ true → named p ≡ Err f → AuthorizerShows constants tokens f
+    name : (p : Option (List ℕ)) → principal_of constants token ≡ p → is_principal_token token ≡ true → ok_or p (Name 1) ≡ Err f → AuthorizerShows constants tokens f
     name None p b h =
         let same : Name 1 ≡ f = same_fault (Name 1) f (Err (Name 1)) refl h in
         subst (AuthorizerShows constants tokens) same (refl, (token, only_one tokens token o, (b, p)))
     name (Some a) p b h = ok_err a f h
 
-    by : (b : Bool) → is_principal_token token ≡ b → (if b then named (principal_of constants token) else Err (Syntax 1)) ≡ Err f → AuthorizerShows constants tokens f
+    by : (b : Bool) → is_principal_token token ≡ b → (if b then ok_or (principal_of constants token) (Name 1) else Err (Syntax 1)) ≡ Err f → AuthorizerShows constants tokens f
     by true b h = name (principal_of constants token) refl b h
     by false b h =
         let same : Syntax 1 ≡ f = same_fault (Syntax 1) f (Err (Syntax 1)) refl h in
@@ -235,7 +235,7 @@ misspelled_least constants tokens number n h = by (only_of tokens) refl
   where
     of : (token : Seen) → only_of tokens ≡ Some token → (b : Bool) → is_principal_token token ≡ b → authorizer_by constants (Some token) ≡ Err (Syntax 1)
     of token o true b = absurd (h (token, only_one tokens token o, b))
-    of token o false b = ap (λ (x : Bool). if x then named (principal_of constants token) else Err (Syntax 1)) b
+    of token o false b = ap (λ (x : Bool). if x then ok_or (principal_of constants token) (Name 1) else Err (Syntax 1)) b
 
     by : (o : Option Seen) → only_of tokens ≡ o → Least (authorizer_by constants o) (Syntax number)
     by None o = is_least _ (Syntax 1) (Syntax number) refl (inr (ap Syntax (sym n)))
@@ -247,8 +247,8 @@ unfolding authorizer_of
 unnamed_least constants tokens number n h =
     let is : authorizer_by constants (only_of tokens) ≡ Err (Name 1) =
     ap (λ (ts : List Seen). authorizer_by constants (only_of ts)) h.1
-    ∙ ap (λ (b : Bool). if b then named (principal_of constants h.0) else Err (Syntax 1)) h.2.0
-    ∙ ap named h.2.1 in
+    ∙ ap (λ (b : Bool). if b then ok_or (principal_of constants h.0) (Name 1) else Err (Syntax 1)) h.2.0
+    ∙ ap (λ (o : Option (List ℕ)). ok_or o (Name 1)) h.2.1 in
     is_least _ (Name 1) (Name number) is (inr (ap Name (sym n)))
 
 pub authorizer_least : PartsTold → (constants : List Set) (field : Field) (other : ReadFault) → AuthorizerShows constants field.tokens other

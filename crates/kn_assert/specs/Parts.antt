@@ -1,7 +1,7 @@
 -- What the fields of an assertion state, each by its own tokens (RFC 2704, section 4). What isn't said there is
 -- keynoted's own choice: that an Authorizer is one principal and a Signature one literal, which principals there
 -- are, and the faults.
-use Rattle.std.specs.Prelude.{ℕ, Bool, ◌&&◌, ◌||◌, nat_lt, nat_le, List, [], ◌∷◌, length, Option, Some, None, Result, Ok, Err, if◌then◌else◌}
+use Rattle.std.specs.Prelude.{ℕ, Bool, ◌&&◌, ◌||◌, nat_lt, nat_le, List, [], ◌∷◌, length, Option, Some, None, Result, Ok, Err, ok_or, if◌then◌else◌}
 use Rattle.kn_env.specs.declared.constant.Constant.{Constant}
 use Rattle.kn_lex.specs.Cutting.{Seen}
 use Rattle.kn_lex.specs.Literal.{literal_value}
@@ -21,12 +21,9 @@ use Rattle.kn_assert.specs.declared.fault.ReadFault.{ReadFault}
 use Rattle.kn_assert.specs.declared.fault.ReadFault.TheVariants.{Syntax, Kind, Threshold, Name, NoMemory}
 
 abbrev pub text_by : List Constant → Sort → List ℕ → Option (List ℕ)
-text_by constants Label bytes = None
-text_by constants Body bytes = None
 text_by constants NameSort bytes = principal_text constants (Unquoted bytes)
-text_by constants Number bytes = None
 text_by constants Text bytes = principal_text constants (Quoted (literal_value bytes))
-text_by constants Sign bytes = None
+text_by constants sort bytes = None
 
 abbrev pub normal_in : Option (List ℕ) → Option (List ℕ)
 normal_in None = None
@@ -42,17 +39,12 @@ is_principal_token token = is_name_sort token.sort || is_text_sort token.sort
 
 -- the one token, where there is one alone
 abbrev pub only_of : List Seen → Option Seen
-only_of [] = None
 only_of (token ∷ []) = Some token
-only_of (token ∷ next ∷ tokens) = None
-
-abbrev pub named : Option (List ℕ) → Result (List ℕ) ReadFault
-named None = Err (Name 1)
-named (Some principal) = Ok principal
+only_of tokens = None
 
 abbrev pub authorizer_by : List Constant → Option Seen → Result (List ℕ) ReadFault
 authorizer_by constants None = Err (Syntax 1)
-authorizer_by constants (Some token) = if is_principal_token token then named (principal_of constants token) else Err (Syntax 1)
+authorizer_by constants (Some token) = if is_principal_token token then ok_or (principal_of constants token) (Name 1) else Err (Syntax 1)
 
 -- the principal of an Authorizer field
 unfoldable pub authorizer_of : List Constant → List Seen → Result (List ℕ) ReadFault

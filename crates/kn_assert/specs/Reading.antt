@@ -1,5 +1,7 @@
 -- The assertion of a text, or its first fault, computed. Laws say that they are those of the relations.
 use Rattle.std.specs.Prelude.{ℕ, ◌+◌, ◌≡◌, ◌<◌, ◌≤◌, ◌==◌, true, List, [], ◌∷◌, length, Option, Some, None, Result, Ok, Err, IfSome, if◌then◌else◌}
+use Rattle.std.specs.Option.{option_or}
+use Rattle.std.specs.Result.{result_ok, result_err}
 use Rattle.kn_base.specs.declared.limits.TheConstants.{PRINCIPAL_BYTES}
 use Rattle.kn_env.specs.declared.constant.Constant.{Constant as Set}
 use Rattle.kn_lex.specs.Cutting.{Seen}
@@ -65,10 +67,6 @@ abbrev pub signature_in : Option Field → Result (Option (List ℕ)) ReadFault
 signature_in None = Ok None
 signature_in (Some field) = shallow 7 field.tokens (signature_of field.tokens)
 
-abbrev pub fault_of_part : {X : Type 0} → Result X ReadFault → Option ReadFault
-fault_of_part (Ok x) = None
-fault_of_part (Err fault) = Some fault
-
 -- the fault of the field of a number
 abbrev pub fault_by : Faults → Option ℕ → Option ReadFault
 fault_by faults None = None
@@ -79,21 +77,17 @@ fault_by faults (Some number) =
     else if number == 7 then faults.signature
     else None
 
-abbrev pub else_fault : Option ReadFault → Option ReadFault → Option ReadFault
-else_fault None other = other
-else_fault (Some fault) other = Some fault
-
 -- the fault of the first field that has one
 unfoldable pub first_of : Faults → List Field → Option ReadFault
 first_of faults [] = None
-first_of faults (field ∷ fields) = else_fault (fault_by faults (field_of field.label)) (first_of faults fields)
+first_of faults (field ∷ fields) = option_or (fault_by faults (field_of field.label)) (first_of faults fields)
 
 abbrev pub faults_of : List Set → List Seen → Faults
 faults_of constants tokens = record {
-  authorizer = fault_of_part (authorizer_in constants (field_with 1 tokens));
-  conditions = fault_of_part (conditions_in (field_with 3 tokens));
-  licensees = fault_of_part (licensees_in constants (field_with 5 tokens));
-  signature = fault_of_part (signature_in (field_with 7 tokens));
+  authorizer = result_err (authorizer_in constants (field_with 1 tokens));
+  conditions = result_err (conditions_in (field_with 3 tokens));
+  licensees = result_err (licensees_in constants (field_with 5 tokens));
+  signature = result_err (signature_in (field_with 7 tokens));
 }
 
 abbrev pub and_then : {X Y : Type 0} → Result X ReadFault → (X → Result Y ReadFault) → Result Y ReadFault
@@ -136,21 +130,13 @@ reading_by text (Err fault) = Err (of_fields fault)
 unfoldable pub reading_of : List ℕ → Result Assertion ReadFault
 reading_of text = reading_by text (fields_or_fault text)
 
-abbrev pub assertion_in : Result Assertion ReadFault → Option Assertion
-assertion_in (Ok assertion) = Some assertion
-assertion_in (Err fault) = None
-
-abbrev pub fault_in : Result Assertion ReadFault → Option ReadFault
-fault_in (Ok assertion) = None
-fault_in (Err fault) = Some fault
-
 -- the assertion of a text, where it has one
 abbrev pub assertion_of : List ℕ → Option Assertion
-assertion_of text = assertion_in (reading_of text)
+assertion_of text = result_ok (reading_of text)
 
 -- the first fault of a text, where it has one
 abbrev pub fault_of : List ℕ → Option ReadFault
-fault_of text = fault_in (reading_of text)
+fault_of text = result_err (reading_of text)
 
 -- An assertion of a text of so many bytes: its authorizer is as long as a principal may be, its formula is readable, with
 -- so much fewer nodes than bytes, and its program is well kinded.

@@ -1,7 +1,8 @@
 //! The first fault of what the fields state, in the order of the fields in the text.
 ghost use Rattle.std.specs.Prelude.{◌≡◌, ◌<◌, length, drop};
+ghost use Rattle.std.specs.Result.{result_err};
 ghost use Rattle.kn_fields.specs.Fields.{fields_of};
-ghost use Rattle.kn_assert.specs.Reading.{fault_of_part, fault_by, first_of};
+ghost use Rattle.kn_assert.specs.Reading.{fault_by, first_of};
 
 use crate::fault::ReadFault;
 use kn_fields::Fields;
@@ -16,7 +17,7 @@ pub struct Faults {
 }
 
 pub(crate) fn fault_of_part<T>(read: &Result<T, ReadFault>) -> Option<ReadFault>
-    ensures { result ≡ fault_of_part read.now }
+    ensures { result ≡ result_err read.now }
 {
     match read {
         Ok(_) => None,

@@ -1,5 +1,5 @@
 //! What each field of an assertion states.
-ghost use Rattle.std.specs.Prelude.{◌≡◌, ◌+◌, ◌≤◌, ◌<◌, Some, length, find, IfOk, IfSome};
+ghost use Rattle.std.specs.Prelude.{◌≡◌, ◌+◌, ◌≤◌, ◌<◌, Some, length, find, ok_or, IfOk, IfSome};
 ghost use Rattle.std.specs.Option.{option_copied, option_map};
 ghost use Rattle.std.specs.Str.{bytes_eq};
 ghost use Rattle.kn_lex.specs.Seeing.{seen};
@@ -10,7 +10,7 @@ ghost use Rattle.kn_formula.specs.Trees.{constant_value, principal_text};
 ghost use Rattle.kn_formula.specs.declared.written.Principal.TheVariants.{Name as Unquoted};
 ghost use Rattle.kn_formula.specs.Licensing.{licensees_of};
 ghost use Rattle.kn_program.specs.Conditions.{program_of};
-ghost use Rattle.kn_assert.specs.Parts.{normal_in, named, only_of, authorizer_by, conditions_by, licensees_by, signature_by};
+ghost use Rattle.kn_assert.specs.Parts.{normal_in, only_of, authorizer_by, conditions_by, licensees_by, signature_by};
 ghost use Rattle.kn_assert.specs.Reading.{authorizer_in, conditions_in, licensees_in, signature_in};
 
 use crate::fault::ReadFault;
@@ -103,7 +103,7 @@ fn principal_named(
 }
 
 fn named(principal: Option<Octets>) -> Result<Octets, ReadFault>
-    ensures { result ≡ named principal }
+    ensures { result ≡ ok_or principal (ReadFault.Name 1) }
 {
     match principal {
         Some(principal) => Ok(principal),

@@ -10,22 +10,16 @@ use Rattle.kn_auth.specs.declared.entry.Entry.TheVariants.{Comment, Mac, Digest,
 use Rattle.kn_auth.specs.declared.key_file.KeyFile.{KeyFile}
 
 abbrev pub key_in : Entry → Option MacKey
-key_in Comment = None
 key_in (Mac mac) = Some mac
-key_in (Digest digest) = None
-key_in (Secret secret) = None
+key_in entry = None
 
 abbrev pub digest_in : Entry → Option (List ℕ)
-digest_in Comment = None
-digest_in (Mac mac) = None
 digest_in (Digest digest) = Some digest
-digest_in (Secret secret) = None
+digest_in entry = None
 
 abbrev pub secret_in : Entry → Option (List ℕ)
-secret_in Comment = None
-secret_in (Mac mac) = None
-secret_in (Digest digest) = None
 secret_in (Secret secret) = Some secret
+secret_in entry = None
 
 -- the keys that lines state, in their order
 abbrev pub keys_in : List Entry → List MacKey

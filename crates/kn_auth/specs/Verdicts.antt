@@ -1,12 +1,12 @@
 -- What authenticators answer for a text with its reading: the number of the fault, and 0 where the text is admitted
 -- (keynoted's own; the signature covers what RFC 2704, section 4, the Signature field, says).
-use Rattle.std.specs.Prelude.{ℕ, ◌==◌, Bool, false, ◌||◌, nat_eq, List, length, take, drop, codes, find, Option, Some, None, is_some, Result, Ok, Err, if◌then◌else◌}
+use Rattle.std.specs.Prelude.{ℕ, ◌==◌, Bool, false, ◌||◌, nat_eq, List, length, take, drop, codes, find, Option, Some, None, is_some, if◌then◌else◌}
 use Rattle.std.specs.List.{list_any, starts_with}
-use Rattle.std.specs.Option.{option_map}
+use Rattle.std.specs.Option.{option_map, option_map_or}
+use Rattle.std.specs.Result.{result_ok}
 use Rattle.std.specs.Str.{bytes_eq}
 use Rattle.sha2.specs.Sha256.{sha256}
 use Rattle.hex.specs.Hex.{decode_sized}
-use Rattle.hex.specs.declared.error.FromHexError.{FromHexError}
 use Rattle.kn_trees.specs.declared.assertion.Assertion.{Assertion}
 use Rattle.kn_auth.specs.Codes.{mac_of}
 use Rattle.kn_auth.specs.declared.entry.MacKey.{MacKey}
@@ -26,13 +26,9 @@ has_digest digest digests = list_any (bytes_eq digest) digests
 abbrev pub mac_algorithm : List ℕ
 mac_algorithm = codes "sig-hmac-sha256-hex:"
 
-abbrev pub is_value : Result (List ℕ) FromHexError → List ℕ → Bool
-is_value (Ok bytes) mac = bytes_eq bytes mac
-is_value (Err error) mac = false
-
 -- the digits, of either case, spell a code of 32 bytes
 abbrev pub spells_code : List ℕ → List ℕ → Bool
-spells_code digits mac = is_value (decode_sized digits 32) mac
+spells_code digits mac = option_map_or (λ bytes. bytes_eq bytes mac) (result_ok (decode_sized digits 32)) false
 
 -- the digits are checked with the authorizer's key
 abbrev pub code_verdict : Option (List ℕ) → List ℕ → List ℕ → ℕ

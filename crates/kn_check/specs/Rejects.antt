@@ -77,35 +77,22 @@ IsReject s rows claimed (Unclosed i found) = AreSteps s (at_first s) rows × IsU
 IsReject s rows claimed (Claim found) = AreSteps s (at_first s) rows × IsOtherClaim s (levels_after (at_first s) rows) claimed found
 IsReject s rows claimed reject = (k : ℕ) × IsRowFault s rows reject k
 
--- the number of a reason
+-- what is told of a reason: its number, the row that it names, of the proof or of the system, or 0, and the level, or 0
+abbrev pub reason_numbers : Reject → ℕ × ℕ × ℕ
+reason_numbers (Range row) = (1, row, 0)
+reason_numbers (Requester row) = (2, row, 0)
+reason_numbers (Again row) = (3, row, 0)
+reason_numbers (Zero row) = (4, row, 0)
+reason_numbers (Foreign row) = (5, row, 0)
+reason_numbers (Unsupported row found) = (6, row, found)
+reason_numbers (Unclosed i found) = (7, i, found)
+reason_numbers (Claim found) = (8, 0, found)
+
 abbrev pub reason_number : Reject → ℕ
-reason_number (Range row) = 1
-reason_number (Requester row) = 2
-reason_number (Again row) = 3
-reason_number (Zero row) = 4
-reason_number (Foreign row) = 5
-reason_number (Unsupported row found) = 6
-reason_number (Unclosed i found) = 7
-reason_number (Claim found) = 8
+reason_number reject = (reason_numbers reject).0
 
--- the row that a reason names, of the proof or of the system, and 0 where there is none
 abbrev pub reason_row : Reject → ℕ
-reason_row (Range row) = row
-reason_row (Requester row) = row
-reason_row (Again row) = row
-reason_row (Zero row) = row
-reason_row (Foreign row) = row
-reason_row (Unsupported row found) = row
-reason_row (Unclosed i found) = i
-reason_row (Claim found) = 0
+reason_row reject = (reason_numbers reject).1
 
--- the level that a reason tells, and 0 where there is none
 abbrev pub reason_found : Reject → ℕ
-reason_found (Range row) = 0
-reason_found (Requester row) = 0
-reason_found (Again row) = 0
-reason_found (Zero row) = 0
-reason_found (Foreign row) = 0
-reason_found (Unsupported row found) = found
-reason_found (Unclosed i found) = found
-reason_found (Claim found) = found
+reason_found reject = (reason_numbers reject).2

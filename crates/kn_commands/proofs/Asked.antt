@@ -96,7 +96,7 @@ answered_there f mid f' o o' names bytes keys ended policy before asked known se
   policy = policy;
   keys = keys;
   known = keys_there (names.policy ∷ []) f mid names.keys keys before known;
-  served = served;
+  runs = served;
 }
 
 -- a link that a root served which is alone is served by a daemon of one thread

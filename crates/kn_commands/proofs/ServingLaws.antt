@@ -1,7 +1,9 @@
 -- Why `serve` ends.
 use Rattle.std.proofs.Common.{◌≡◌, ℕ, ◌+◌, ◌<◌, ◌≤◌, ◌⊎◌, Bool, true, false, List, [], ◌∷◌, length, map, refl, sym, ap, ◌∙◌, subst, arith, Option, Some, None}
-use Rattle.std.specs.Prelude.{IsSomeAnd, IfSome, MatchBool, min, nat_lt, ◌||◌, ◌^◌, ◌-◌, option_to_list}
+use Rattle.std.specs.Prelude.{IsSomeAnd, IfSome, MatchBool, min, nat_lt, sum_by, ◌||◌, ◌^◌, ◌-◌, option_to_list}
+use Rattle.std.specs.List.{list_any}
 use Rattle.std.proofs.lemmas.Bool.{ltb-true, lt-ltb}
+use Rattle.std.proofs.lemmas.List.Sums.{sum_by-cons}
 use Rattle.kn_outside.specs.Seen.{FilesSeen, LinkSeen}
 use Rattle.kn_outside.specs.Asked.{HasAsked}
 use Rattle.kn_outside.specs.Faults.{Rose}
@@ -16,7 +18,7 @@ use Rattle.kn_workers.specs.declared.worker.ServeEnd.{ServeEnd}
 use Rattle.kn_workers.specs.Connections.{ServedSeen}
 use Rattle.kn_workers.specs.Doors.{DoorSeen, HasGiven}
 use Rattle.kn_workers.specs.Nets.{NetSeen, share, AreBound, with_faults}
-use Rattle.kn_workers.specs.Workers.{Work, HasWorked, EachWorked, AllServed, all_served, all_quotas, some_less, gave_less}
+use Rattle.kn_workers.specs.Workers.{Work, HasWorked, EachWorked, AllServed, all_quotas, gave_less}
 use Rattle.kn_workers.proofs.ShareLaws.{shares_add_up}
 use Rattle.kn_commands.specs.Held.{IsPolicy, AreKeys}
 use Rattle.kn_commands.specs.Asking.{grounds_of}
@@ -36,14 +38,14 @@ module _ {C R : Type 0} (door : R → DoorSeen (ServedSeen C)) where
 
   module _ (link : C → LinkSeen) (g : Grounds) (start : ℕ) (history : List Update) where
     -- a door that gave less than its quota raises the count
-    pub faults_rise : (caller faults : ℕ) (works : List (Work C R)) → EachWorked door link g start history caller works → some_less door works ≡ true →
+    pub faults_rise : (caller faults : ℕ) (works : List (Work C R)) → EachWorked door link g start history caller works → list_any (λ (w : Work C R). gave_less door w.after) works ≡ true →
         min (faults + 1) (2 ^ 64 - 1) ≤ with_faults door faults (map (λ work. work.after) works)
     faults_rise caller faults [] each less = absurd (cc less)
     faults_rise caller faults (work ∷ works) each less =
         by (gave_less door work.after) refl (λ later. faults_rise (caller + 1) (min (faults + (door work.after).faults) (2 ^ 64 - 1)) works each.1 later)
       where
         by : (failed : Bool) → gave_less door work.after ≡ failed →
-            (some_less door works ≡ true → min (min (faults + (door work.after).faults) (2 ^ 64 - 1) + 1) (2 ^ 64 - 1) ≤ with_faults door (min (faults + (door work.after).faults) (2 ^ 64 - 1)) (map (λ w. w.after) works)) →
+            (list_any (λ (w : Work C R). gave_less door w.after) works ≡ true → min (min (faults + (door work.after).faults) (2 ^ 64 - 1) + 1) (2 ^ 64 - 1) ≤ with_faults door (min (faults + (door work.after).faults) (2 ^ 64 - 1)) (map (λ w. w.after) works)) →
             min (faults + 1) (2 ^ 64 - 1) ≤ with_faults door faults (map (λ w. w.after) (work ∷ works))
         by true e again =
             let given : HasGiven true (door work.before) (door work.after) = subst (λ (b : Bool). HasGiven b (door work.before) (door work.after)) e each.0.failed in
@@ -51,29 +53,30 @@ module _ {C R : Type 0} (door : R → DoorSeen (ServedSeen C)) where
             let rest = faults_stay (min (faults + (door work.after).faults) (2 ^ 64 - 1)) (map (λ w. w.after) works) in
             omega (arith, rose, rest)
         by false e again =
-            let later : some_less door works ≡ true = subst (λ (b : Bool). b || some_less door works ≡ true) e less in
+            let later : list_any (λ (w : Work C R). gave_less door w.after) works ≡ true = subst (λ (b : Bool). b || list_any (λ (w : Work C R). gave_less door w.after) works ≡ true) e less in
             let rest = again later in
             omega (arith, rest)
 
     -- where no door gave less than its quota, as many connections were served as all quotas together
-    all_given : (caller : ℕ) (quota doors i : ℕ) (works : List (Work C R)) → EachWorked door link g start history caller works → some_less door works ≡ false →
-        AreBound door quota doors i (map (λ work. work.before) works) → all_served door works ≡ all_quotas door (map (λ work. work.before) works)
+    all_given : (caller : ℕ) (quota doors i : ℕ) (works : List (Work C R)) → EachWorked door link g start history caller works → list_any (λ (w : Work C R). gave_less door w.after) works ≡ false →
+        AreBound door quota doors i (map (λ work. work.before) works) → sum_by (λ (w : Work C R). length w.connections) works ≡ all_quotas door (map (λ work. work.before) works)
     all_given caller quota doors i [] each less bound = refl
     all_given caller quota doors i (work ∷ works) each less bound =
         by (gave_less door work.after) refl (λ later. all_given (caller + 1) quota doors (i + 1) works each.1 later bound.1)
       where
-        by : (failed : Bool) → gave_less door work.after ≡ failed → (some_less door works ≡ false → all_served door works ≡ all_quotas door (map (λ w. w.before) works)) →
-            all_served door (work ∷ works) ≡ all_quotas door (map (λ w. w.before) (work ∷ works))
-        by true e again = absurd (cc (subst (λ (b : Bool). b || some_less door works ≡ false) e less))
+        by : (failed : Bool) → gave_less door work.after ≡ failed → (list_any (λ (w : Work C R). gave_less door w.after) works ≡ false → sum_by (λ (w : Work C R). length w.connections) works ≡ all_quotas door (map (λ w. w.before) works)) →
+            sum_by (λ (w : Work C R). length w.connections) (work ∷ works) ≡ all_quotas door (map (λ w. w.before) (work ∷ works))
+        by true e again = absurd (cc (subst (λ (b : Bool). b || list_any (λ (w : Work C R). gave_less door w.after) works ≡ false) e less))
         by false e again =
-            let later : some_less door works ≡ false = subst (λ (b : Bool). b || some_less door works ≡ false) e less in
+            let later : list_any (λ (w : Work C R). gave_less door w.after) works ≡ false = subst (λ (b : Bool). b || list_any (λ (w : Work C R). gave_less door w.after) works ≡ false) e less in
             let given : HasGiven false (door work.before) (door work.after) = subst (λ (b : Bool). HasGiven b (door work.before) (door work.after)) e each.0.failed in
             let all : (door work.after).given ≡ (door work.after).quota = given.0 in
             let rest = again later in
             let none = bound.0.none_given in
             let more = each.0.given in
             let same = each.0.quota in
-            omega (arith, all, rest, none, more, same)
+            let sum = sum_by-cons (λ (w : Work C R). length w.connections) work works in
+            omega (arith, all, rest, none, more, same, sum)
 
   map_length : {X Y : Type 0} (f : X → Y) (xs : List X) → length (map f xs) ≡ length xs
   map_length f [] = refl
@@ -106,7 +109,7 @@ module _ {C R : Type 0} (door : R → DoorSeen (ServedSeen C)) where
       policy = policy;
       keys = keys;
       known = keys_there (order.files.policy ∷ []) f mid order.files.keys keys before known;
-      serves = serves;
+      runs = serves;
     }
 
     pub served_there : (ending : ServeEnding) → ServesOver door link (grounds_of keys) (loaded_history (pieces_of bytes)) n n' order.binding ending → ServeCause door link f f' n n' order ending

@@ -46,14 +46,18 @@ pub record IsLinkServed (g : Grounds) (past : List Update) (o o' : LinkSeen) (en
   pub cause : HasCause ended o o'
   pub complete : IfSome o.left (λ input. IsOrderly input → IsFaultless o o' → (ended ≡ E.Done) ⊎ (ended ≡ E.Memory))
 
--- The files of these names were read: a policy and, where one is named, a key file. Over them the link was served.
-pub record IsLinkAnswered (f f' : FilesSeen) (o o' : LinkSeen) (names : AskNames) (ended : Ended) : Type 0 where
+-- The files of these names were read: a policy and, where one is named, a key file. Over what they hold something ran so.
+pub record RunsOver (f f' : FilesSeen) (names : AskNames) (Runs : Grounds → List Update → Type 0) : Type 0 where
   pub asked : HasAsked (ask_order names) f f'
   pub bytes : List ℕ
   pub policy : IsPolicy f names.policy bytes
   pub keys : KeyFile
   pub known : AreKeys f names.keys keys
-  pub served : IsLinkServed (grounds_of keys) (loaded_history (pieces_of bytes)) o o' ended
+  pub runs : Runs (grounds_of keys) (loaded_history (pieces_of bytes))
+
+-- the files were read, and over them the link was served
+abbrev pub IsLinkAnswered : FilesSeen → FilesSeen → LinkSeen → LinkSeen → AskNames → Ended → Type 0
+IsLinkAnswered f f' o o' names ended = RunsOver f f' names (λ g past. IsLinkServed g past o o' ended)
 
 -- why reading or loading the policy file stops a command
 abbrev pub StopsAtPolicy : FilesSeen → FilesSeen → List ℕ → Stop → Type 0
@@ -62,8 +66,7 @@ StopsAtPolicy f f' name FileTooLarge = HasAsked (name ∷ []) f f' × IsTooLarge
 StopsAtPolicy f f' name (Policy n fault) = (bytes : List ℕ) × IsFileRead name f f' bytes × IsFaultyAt (pieces_of bytes) n fault
 StopsAtPolicy f f' name (Limit n word count) = (bytes : List ℕ) × IsFileRead name f f' bytes × IsLimitAt (pieces_of bytes) n word count
 StopsAtPolicy f f' name Memory = (f' ≡ f) ⊎ HasAsked (name ∷ []) f f'
-StopsAtPolicy f f' name Words = ⊥
-StopsAtPolicy f f' name (KeyLine n) = ⊥
+StopsAtPolicy f f' name stop = ⊥
 
 -- why reading a key file stops a command, behind files of these names
 abbrev pub StopsAtKeys : FilesSeen → FilesSeen → List (List ℕ) → List ℕ → Stop → Type 0
@@ -71,9 +74,7 @@ StopsAtKeys f f' front name FileFailed = HasFailed (front ++ name ∷ []) f f'
 StopsAtKeys f f' front name FileTooLarge = HasAsked (front ++ name ∷ []) f f' × IsTooLarge f name
 StopsAtKeys f f' front name (KeyLine n) = HasAsked (front ++ name ∷ []) f f' × (text : List ℕ) × HasContent f name text × IsFirstMalformed text n
 StopsAtKeys f f' front name Memory = HasAsked front f f' ⊎ HasAsked (front ++ name ∷ []) f f'
-StopsAtKeys f f' front name Words = ⊥
-StopsAtKeys f f' front name (Policy n fault) = ⊥
-StopsAtKeys f f' front name (Limit n word count) = ⊥
+StopsAtKeys f f' front name stop = ⊥
 
 -- a key file is named, the policy file is a policy, and this stops the command
 pub record AreKeysStopped (f f' : FilesSeen) (names : AskNames) (stop : Stop) : Type 0 where
@@ -92,11 +93,7 @@ AskCause f f' o o' names (Served ended) = IsLinkAnswered f f' o o' names ended
 abbrev pub status_of_ended : Ended → ℕ
 status_of_ended E.Done = 0
 status_of_ended E.Memory = 5
-status_of_ended E.ReadFault = 4
-status_of_ended E.WriteFault = 4
-status_of_ended (E.Cut held) = 4
-status_of_ended (E.Block n) = 4
-status_of_ended E.Budget = 4
+status_of_ended ended = 4
 
 abbrev pub status_of_ask : AskEnding → ℕ
 status_of_ask (PolicyStopped stop) = status_of stop
@@ -121,12 +118,8 @@ line_of_ended (E.Cut held) = cut_line held
 line_of_ended (E.Block n) = block_line n
 line_of_ended E.Budget = codes "error link budget\n"
 
--- the name of the key file
-abbrev pub keys_name : AskNames → List ℕ
-keys_name names = unwrap_or names.keys []
-
 -- the line that is due
 abbrev pub line_of_ask : AskNames → AskEnding → List ℕ
 line_of_ask names (PolicyStopped stop) = stop_line names.policy stop
-line_of_ask names (KeysStopped stop) = stop_line (keys_name names) stop
+line_of_ask names (KeysStopped stop) = stop_line (unwrap_or names.keys []) stop
 line_of_ask names (Served ended) = line_of_ended ended

@@ -5,7 +5,7 @@ use Rattle.kn_outside.specs.Asked.{HasAsked, HasFailed}
 use Rattle.kn_files.specs.Pieces.{pieces_of}
 use Rattle.kn_proof.specs.declared.reply.ReadReply.{ReadReply}
 use Rattle.kn_check.specs.declared.reject.Reject.{Reject}
-use Rattle.kn_check.specs.Rejects.{reason_number, reason_row, reason_found}
+use Rattle.kn_check.specs.Rejects.{reason_numbers}
 use Rattle.kn_store.specs.History.{loaded_history}
 use Rattle.kn_store.specs.Loading.{IsFaultyAt}
 use Rattle.kn_session.specs.Sessions.{Session}
@@ -152,7 +152,7 @@ text_line fault line = codes "error proof text " ++ decimal fault ++ codes " " +
 -- the line that tells why rows are no proof
 unfoldable pub reject_line : Reject → List ℕ
 reject_line reject =
-    codes "error proof reject " ++ decimal (reason_number reject) ++ codes " " ++ decimal (reason_row reject) ++ codes " " ++ decimal (reason_found reject) ++ codes "\n"
+    codes "error proof reject " ++ decimal (reason_numbers reject).0 ++ codes " " ++ decimal (reason_numbers reject).1 ++ codes " " ++ decimal (reason_numbers reject).2 ++ codes "\n"
 
 unfoldable pub proved_line : ℕ → List ℕ → List ℕ
 proved_line value name = codes "PROVED " ++ decimal value ++ codes " " ++ name ++ codes "\n"

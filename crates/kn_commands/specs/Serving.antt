@@ -1,5 +1,5 @@
 -- How serving the connections of an address ends: its status, the line that tells it, and what it leaves (keynoted's own).
-use Rattle.std.specs.Prelude.{ℕ, ◌≡◌, Bool, true, false, List, ◌++◌, codes, decimal, length, Some}
+use Rattle.std.specs.Prelude.{ℕ, ◌≡◌, Bool, true, false, List, [], ◌++◌, codes, decimal, length, Some, unwrap_or}
 use Rattle.kn_outside.specs.Seen.{FilesSeen, LinkSeen}
 use Rattle.kn_outside.specs.Asked.{HasAsked}
 use Rattle.kn_outside.specs.Faults.{Rose}
@@ -18,7 +18,7 @@ use Rattle.kn_workers.specs.Workers.{AllServed}
 use Rattle.kn_commands.specs.Names.{AskNames, ask_order}
 use Rattle.kn_commands.specs.Held.{IsPolicy, AreKeys}
 use Rattle.kn_commands.specs.Stopping.{status_of, stop_line}
-use Rattle.kn_commands.specs.Asking.{grounds_of, StopsAtPolicy, AreKeysStopped, keys_name}
+use Rattle.kn_commands.specs.Asking.{RunsOver, StopsAtPolicy, AreKeysStopped}
 use Rattle.kn_commands.specs.declared.stop.Stop.{Stop}
 use Rattle.kn_commands.specs.declared.serve_ending.ServeEnding.{ServeEnding}
 use Rattle.kn_commands.specs.declared.serve_ending.ServeEnding.TheVariants.{PolicyStopped, KeysStopped, BindMemory, Unbound, WorkMemory, DoorFailed, Served}
@@ -52,8 +52,6 @@ module _ {C R : Type 0} (door : R → DoorSeen (ServedSeen C)) (link : C → Lin
   -- Why serving an address over this history ends so, and what it leaves of the net. A door that failed, or an address that
   -- couldn't be bound, raised the net's count.
   abbrev pub ServesOver : Grounds → List Update → NetSeen R → NetSeen R → Binding → ServeEnding → Type 0
-  ServesOver g past n n' binding (PolicyStopped stop) = ⊥
-  ServesOver g past n n' binding (KeysStopped stop) = ⊥
   ServesOver g past n n' binding BindMemory = n' ≡ n
   ServesOver g past n n' binding Unbound = Rose n.faults n'.faults × (n' ≡ record n { bound = Some binding; faults = n'.faults })
   ServesOver g past n n' binding WorkMemory = AreBack n n' binding n'.rooms
@@ -62,25 +60,17 @@ module _ {C R : Type 0} (door : R → DoorSeen (ServedSeen C)) (link : C → Lin
   ServesOver g past n n' binding (Served finished version) =
       (history : List Update) × AreServed g past n n' binding (record { finished = finished; failed = false }) history
       × (finished ≡ binding.quota) × (version ≡ length history)
+  ServesOver g past n n' binding ending = ⊥
 
-  -- The files were read: a policy and, where one is named, a key file. Over them the address was served.
-  pub record IsServiceRun (f f' : FilesSeen) (n n' : NetSeen R) (order : Order) (ending : ServeEnding) : Type 0 where
-    pub asked : HasAsked (ask_order order.files) f f'
-    pub bytes : List ℕ
-    pub policy : IsPolicy f order.files.policy bytes
-    pub keys : KeyFile
-    pub known : AreKeys f order.files.keys keys
-    pub serves : ServesOver (grounds_of keys) (loaded_history (pieces_of bytes)) n n' order.binding ending
+  -- the files were read, and over them the address was served
+  abbrev pub IsServiceRun : FilesSeen → FilesSeen → NetSeen R → NetSeen R → Order → ServeEnding → Type 0
+  IsServiceRun f f' n n' order ending = RunsOver f f' order.files (λ g past. ServesOver g past n n' order.binding ending)
 
   -- Why `serve` ends so, and what it leaves of the files and of the net. Before both files are tried the net is untouched.
   abbrev pub ServeCause : FilesSeen → FilesSeen → NetSeen R → NetSeen R → Order → ServeEnding → Type 0
   ServeCause f f' n n' order (PolicyStopped stop) = StopsAtPolicy f f' order.files.policy stop × (n' ≡ n)
   ServeCause f f' n n' order (KeysStopped stop) = AreKeysStopped f f' order.files stop × (n' ≡ n)
-  ServeCause f f' n n' order BindMemory = IsServiceRun f f' n n' order BindMemory
-  ServeCause f f' n n' order Unbound = IsServiceRun f f' n n' order Unbound
-  ServeCause f f' n n' order WorkMemory = IsServiceRun f f' n n' order WorkMemory
-  ServeCause f f' n n' order DoorFailed = IsServiceRun f f' n n' order DoorFailed
-  ServeCause f f' n n' order (Served finished version) = IsServiceRun f f' n n' order (Served finished version)
+  ServeCause f f' n n' order ending = IsServiceRun f f' n n' order ending
 
 abbrev pub status_of_serve : ServeEnding → ℕ
 status_of_serve (PolicyStopped stop) = status_of stop
@@ -98,7 +88,7 @@ served_line finished version = codes "served " ++ decimal finished ++ codes " ve
 -- the line that is due
 abbrev pub line_of_serve : Order → ServeEnding → List ℕ
 line_of_serve order (PolicyStopped stop) = stop_line order.files.policy stop
-line_of_serve order (KeysStopped stop) = stop_line (keys_name order.files) stop
+line_of_serve order (KeysStopped stop) = stop_line (unwrap_or order.files.keys []) stop
 line_of_serve order BindMemory = codes "error memory\n"
 line_of_serve order Unbound = codes "error listener\n"
 line_of_serve order WorkMemory = codes "error memory\n"

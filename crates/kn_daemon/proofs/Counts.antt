@@ -1,13 +1,14 @@
 -- So many requests start at most as many sessions, and add at most as many private assertions to each.
 use Rattle.std.proofs.Common.{◌≡◌, ℕ, ◌+◌, ◌≤◌, Option, None, Bool, true, false, cond, ◌==◌, List, [], ◌∷◌, ◌++◌, length, map, filter, find, sym, subst, arith, Some, take, add-zero}
 use Rattle.std.specs.List.{AllByRecursion}
+use Rattle.std.specs.Option.{option_map_or}
 use Rattle.kn_principal.specs.Principals.{normal_form}
 use Rattle.kn_store.specs.declared.update.Update.{Update}
 use Rattle.kn_reply.specs.declared.refusal.Refusal.{Refusal}
 use Rattle.kn_wire.specs.Requests.{Request, Open, Close, Pin, Assert, Retract, Set, SetHex, Unset, Auth, Unauth, Clear, Query, Admin, Add, Drop, Bye, Faulty}
 use Rattle.kn_reply.specs.Replies.{Reply, Done, Started, Number, PrivateAdded, Added, Value, No, NoMemory}
 use Rattle.kn_daemon.specs.Daemon.{Grounds, State, first_state, with_session, own_refusal, changed, Does, Permits}
-use Rattle.kn_daemon.specs.Played.{unless_refused, after_request, played}
+use Rattle.kn_daemon.specs.Played.{after_request, played}
 use Rattle.kn_session.specs.Sessions.{Session, started_session, add_requester, is_named}
 use Rattle.kn_daemon.specs.Linearized.{Exchange, Along}
 use Rattle.kn_wire.specs.Feeding.{Held}
@@ -117,7 +118,7 @@ small g taken written history start caller stops state held answered u =
 few-after : (n : ℕ) (g : Grounds) (past : List Update) (state : State) (request : Request) → AreFew n state → AreFew (n + 1) (after_request g past state request)
 few-after n g past state request few = by (own_refusal g state request)
   where
-    by : (o : Option Refusal) → AreFew (n + 1) (unless_refused o state (changed past state request))
+    by : (o : Option Refusal) → AreFew (n + 1) (option_map_or (λ refusal. state) o (changed past state request))
     by None = few-changed n past state request few
     by (Some refusal) = few-more n state few
 

@@ -1,15 +1,16 @@
 -- What the daemon permits changes the state as playing does.
 use Rattle.std.proofs.Common.{◌≡◌, ◌≢◌, ℕ, suc, Option, List, [], ◌∷◌, length, take, All, Some, None, refl, sym, ap, ◌∙◌, subst, arith, take_all, le_refl}
+use Rattle.std.specs.Option.{option_or, option_map_or}
 use Rattle.kn_reply.specs.declared.refusal.Refusal.{Refusal}
 use Rattle.kn_store.specs.declared.update.Update.{Update}
 use Rattle.kn_wire.specs.Requests.{Request, Open, Close, Pin, Assert, Retract, Set, SetHex, Unset, Auth, Unauth, Clear, Query, Admin, Add, Drop, Bye, Faulty}
 use Rattle.kn_reply.specs.Replies.{Reply, Done, Started, Number, PrivateAdded, Added, Value, No, NoMemory}
-use Rattle.kn_daemon.specs.Daemon.{Grounds, State, own_refusal, placed_refusal, or_else, first_refusal, changed, Does, Permits}
+use Rattle.kn_daemon.specs.Daemon.{Grounds, State, own_refusal, placed_refusal, first_refusal, changed, Does, Permits}
 use Rattle.kn_daemon.specs.Linearized.{Exchange, Along, requests_in}
-use Rattle.kn_daemon.specs.Played.{unless_refused, after_request, played}
+use Rattle.kn_daemon.specs.Played.{after_request, played}
 
 accepted : (g : Grounds) (caller : ℕ) (past : List Update) (old : State) (request : Request) (reply : Reply) (new : State) → Does g caller past old request reply new → new ≡ after_request g past old request
-accepted g caller past old request reply new d = d.next ∙ ap (λ o. unless_refused o old (changed past old request)) (sym d.accepted)
+accepted g caller past old request reply new d = d.next ∙ ap (λ o. option_map_or (λ refusal. old) o (changed past old request)) (sym d.accepted)
 
 -- a request that the history refuses changes no state
 refused : (g : Grounds) (past : List Update) (old : State) (request : Request) (refusal : Refusal) → first_refusal g past old request ≡ Some refusal → old ≡ after_request g past old request
@@ -34,7 +35,7 @@ refused g past old request refusal h = by (own_refusal g old request) h
     placed Bye e = refl
     placed (Faulty fault) e = refl
 
-    by : (own : Option Refusal) → or_else own (placed_refusal past request) ≡ Some refusal → old ≡ unless_refused own old (changed past old request)
+    by : (own : Option Refusal) → option_or own (placed_refusal past request) ≡ Some refusal → old ≡ option_map_or (λ refusal. old) own (changed past old request)
     by (Some first) e = refl
     by None e = placed request e
 

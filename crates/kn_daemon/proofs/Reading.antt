@@ -1,18 +1,19 @@
 -- What a text's reading refuses.
 use Rattle.std.proofs.Common.{◌≡◌, ℕ, List, Option, Some, Result, Ok, Err, option_map, ap}
+use Rattle.std.specs.Result.{result_err, result_ok}
 use Rattle.kn_trees.specs.declared.assertion.Assertion.{Assertion}
-use Rattle.kn_assert.specs.Reading.{reading_of, assertion_in, fault_in, assertion_of, fault_of}
+use Rattle.kn_assert.specs.Reading.{reading_of, assertion_of, fault_of}
 use Rattle.kn_assert.specs.Faults.{fault_number, fault_place}
 use Rattle.kn_assert.specs.declared.fault.ReadFault.{ReadFault}
 use Rattle.kn_reply.specs.declared.refusal.Refusal.{Refusal}
 use Rattle.kn_reply.specs.declared.refusal.Refusal.TheVariants as R
 use Rattle.kn_daemon.specs.Daemon.{refusal_of_reading}
 
-by_fault : (r : Result Assertion ReadFault) (fault : ReadFault) → fault_in r ≡ Some fault → r ≡ Err fault
+by_fault : (r : Result Assertion ReadFault) (fault : ReadFault) → result_err r ≡ Some fault → r ≡ Err fault
 by_fault (Ok assertion) fault e = cc
 by_fault (Err other) fault e = cc
 
-by_assertion : (r : Result Assertion ReadFault) (assertion : Assertion) → assertion_in r ≡ Some assertion → r ≡ Ok assertion
+by_assertion : (r : Result Assertion ReadFault) (assertion : Assertion) → result_ok r ≡ Some assertion → r ≡ Ok assertion
 by_assertion (Ok other) assertion e = cc
 by_assertion (Err fault) assertion e = cc
 

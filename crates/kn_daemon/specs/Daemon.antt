@@ -1,6 +1,7 @@
 -- The sequential specification: what a daemon of one thread may reply (keynoted's own; the calls are those of keynote(3)).
--- Each request has its cases in `own_refusal`, `change_of`, `changed`, `Answers` and `may_lack_memory`.
-use Rattle.std.specs.Prelude.{ℕ, ◌≡◌, ◌+◌, Bool, true, false, ◌==◌, ◌&&◌, not, nat_lt, List, [], ◌∷◌, ◌++◌, length, flat_map, slice_index_or, Option, Some, None, option_map, option_and_then, is_none, Result, Ok, Err, if◌then◌else◌}
+-- Each request has its cases in `own_refusal`, `change_of`, `changed` and `Answers`, and `may_lack_memory` lists some.
+use Rattle.std.specs.Prelude.{ℕ, ◌≡◌, ◌+◌, Bool, true, false, ◌==◌, ◌&&◌, not, nat_lt, List, [], ◌∷◌, ◌++◌, length, flat_map, slice_index_or, Option, Some, None, option_map, option_and_then, is_none, IsSomeAnd, Result, Ok, Err, if◌then◌else◌}
+use Rattle.std.specs.Option.{option_or}
 use Rattle.std.specs.Str.{bytes_eq}
 use Rattle.kn_env.specs.Environment.{Asked}
 use Rattle.kn_env.specs.Values.{values_of}
@@ -107,9 +108,6 @@ is_secret secret bytes = nat_lt 0 (length secret) && bytes_eq secret bytes
 abbrev pub refusal_of_verdict : ℕ → Option Refusal
 refusal_of_verdict number = refuse_if (not (number == 0)) (R.Auth number) None
 
-abbrev pub refusal_of_addition : Grounds → List ℕ → Option Refusal
-refusal_of_addition g text = refusal_of_reading (reading_of text) (λ a. refusal_of_verdict (g.verdict text a))
-
 abbrev pub own_refusal : Grounds → State → Request → Option Refusal
 own_refusal g state Open = refusal_by (start_fault state.sessions)
 own_refusal g state (Close s) = session_refusal state s (λ x. None)
@@ -124,7 +122,7 @@ own_refusal g state (Unauth s text) = session_refusal state s (unauth_fault text
 own_refusal g state (Clear s) = session_refusal state s (λ x. None)
 own_refusal g state (Query s names) = in_session (session_of state s) (λ x. refuse_if (is_none (values_of names)) R.Values None)
 own_refusal g state (Admin digits) = refuse_if (not (is_secret g.secret (bytes_of_digits digits))) R.Admin None
-own_refusal g state (Add text) = refuse_if (not state.is_admin) R.Admin (refusal_of_addition g text)
+own_refusal g state (Add text) = refuse_if (not state.is_admin) R.Admin (refusal_of_reading (reading_of text) (λ a. refusal_of_verdict (g.verdict text a)))
 own_refusal g state (Drop k) = refuse_if (not state.is_admin) R.Admin None
 own_refusal g state Bye = None
 own_refusal g state (Faulty fault) = Some (refusal_of_fault fault)
@@ -161,20 +159,12 @@ refusal_of_store (U.HistoryFull updates) = Some (R.Limit W.Updates updates)
 refusal_of_store (U.LogFull bytes) = Some (R.Limit W.LogBytes bytes)
 refusal_of_store U.NoMemory = None
 
-abbrev pub refusal_of_change : List Update → Option (Change × ℕ) → Option Refusal
-refusal_of_change past None = None
-refusal_of_change past (Some asked) = option_and_then refusal_of_store (refusal_of (all_changes past) asked.0 asked.1)
-
 abbrev pub placed_refusal : List Update → Request → Option Refusal
-placed_refusal past request = refusal_of_change past (change_of request)
-
-abbrev pub or_else : Option Refusal → Option Refusal → Option Refusal
-or_else (Some refusal) other = Some refusal
-or_else None other = other
+placed_refusal past request = option_and_then (λ asked. option_and_then refusal_of_store (refusal_of (all_changes past) asked.0 asked.1)) (change_of request)
 
 -- the first refusal that applies: those by the history come after all others
 abbrev pub first_refusal : Grounds → List Update → State → Request → Option Refusal
-first_refusal g past state request = or_else (own_refusal g state request) (placed_refusal past request)
+first_refusal g past state request = option_or (own_refusal g state request) (placed_refusal past request)
 
 -- Changes.
 
@@ -238,35 +228,19 @@ pub record IsAnswered (state : State) (s : ℕ) (names : List ℕ) (reply : Repl
   pub named : values_of names ≡ Some values
   pub answer : IsAnswer session values reply
 
--- the reply tells the id of a new private assertion
-pub record IsPrivateAdded (state : State) (s : ℕ) (reply : Reply) : Type 0 where
-  pub session : Session
-  pub found : session_of state s ≡ Some session
-  pub told : reply ≡ PrivateAdded (session.made + 1)
-
 -- the history ends with this update, which may follow what is before it
 pub record IsCommitted (past : List Update) (update : Update) : Type 0 where
   pub before : List Update
   pub ends : past ≡ before ++ update ∷ []
   pub accepted : update_may_follow (all_changes before) update ≡ true
 
--- the caller's addition is the last update of the history, and the reply tells its id and the version
-pub record IsAdded (caller : ℕ) (past : List Update) (text : List ℕ) (reply : Reply) : Type 0 where
-  pub id : ℕ
-  pub committed : IsCommitted past (addition_by caller text id)
-  pub told : reply ≡ Added id (length past)
-
--- the caller's removal is the last update of the history, and the reply tells the version
-pub record IsDropped (caller : ℕ) (past : List Update) (id : ℕ) (reply : Reply) : Type 0 where
-  pub committed : IsCommitted past (removal_by caller id)
-  pub told : reply ≡ Number (length past)
-
--- what an accepted request of this caller gives after this history
+-- What an accepted request of this caller gives after this history. An addition or a removal is the last update of the history,
+-- and a new private assertion is told by its id.
 abbrev pub Answers : ℕ → List Update → State → Request → Reply → Type 0
 Answers caller past old Open reply = reply ≡ Started (old.started + 1) (length past)
 Answers caller past old (Close s) reply = reply ≡ Done
 Answers caller past old (Pin s) reply = reply ≡ Number (length past)
-Answers caller past old (Assert s text) reply = IsPrivateAdded old s reply
+Answers caller past old (Assert s text) reply = IsSomeAnd (session_of old s) (λ session. reply ≡ PrivateAdded (session.made + 1))
 Answers caller past old (Retract s k) reply = reply ≡ Done
 Answers caller past old (Set s name value) reply = reply ≡ Done
 Answers caller past old (SetHex s name digits) reply = reply ≡ Done
@@ -276,8 +250,8 @@ Answers caller past old (Unauth s text) reply = reply ≡ Done
 Answers caller past old (Clear s) reply = reply ≡ Done
 Answers caller past old (Query s names) reply = IsAnswered old s names reply
 Answers caller past old (Admin digits) reply = reply ≡ Done
-Answers caller past old (Add text) reply = IsAdded caller past text reply
-Answers caller past old (Drop k) reply = IsDropped caller past k reply
+Answers caller past old (Add text) reply = (id : ℕ) × IsCommitted past (addition_by caller text id) × (reply ≡ Added id (length past))
+Answers caller past old (Drop k) reply = IsCommitted past (removal_by caller k) × (reply ≡ Number (length past))
 Answers caller past old Bye reply = reply ≡ Done
 Answers caller past old (Faulty fault) reply = ⊥
 
@@ -291,30 +265,18 @@ pub record Does (g : Grounds) (caller : ℕ) (past : List Update) (old : State) 
 -- the requests to which want of memory may be the reply; then nothing has changed
 abbrev pub may_lack_memory : Request → Bool
 may_lack_memory Open = true
-may_lack_memory (Close s) = false
 may_lack_memory (Pin s) = true
 may_lack_memory (Assert s text) = true
-may_lack_memory (Retract s k) = false
 may_lack_memory (Set s name value) = true
 may_lack_memory (SetHex s name digits) = true
-may_lack_memory (Unset s name) = false
 may_lack_memory (Auth s text) = true
-may_lack_memory (Unauth s text) = false
-may_lack_memory (Clear s) = false
 may_lack_memory (Query s names) = true
-may_lack_memory (Admin digits) = false
 may_lack_memory (Add text) = true
 may_lack_memory (Drop k) = true
-may_lack_memory Bye = false
-may_lack_memory (Faulty fault) = false
+may_lack_memory request = false
 
 -- A daemon of one thread may give this reply to the caller's request after this history, and be in the state `new` then.
 abbrev pub Permits : Grounds → ℕ → List Update → State → Request → Reply → State → Type 0
-Permits g caller past old request Done new = Does g caller past old request Done new
-Permits g caller past old request (Started s version) new = Does g caller past old request (Started s version) new
-Permits g caller past old request (Number version) new = Does g caller past old request (Number version) new
-Permits g caller past old request (PrivateAdded k) new = Does g caller past old request (PrivateAdded k) new
-Permits g caller past old request (Added k version) new = Does g caller past old request (Added k version) new
-Permits g caller past old request (Value index name version rows) new = Does g caller past old request (Value index name version rows) new
 Permits g caller past old request (No refusal) new = (first_refusal g past old request ≡ Some refusal) × (new ≡ old)
 Permits g caller past old request NoMemory new = (may_lack_memory request ≡ true) × (new ≡ old)
+Permits g caller past old request reply new = Does g caller past old request reply new

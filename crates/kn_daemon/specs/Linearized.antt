@@ -1,6 +1,5 @@
 -- A caller's requests at legal places of one history (keynoted's own).
 use Rattle.std.specs.Prelude.{ℕ, ◌≡◌, ◌≤◌, ◌<◌, Bool, true, false, ◌==◌, List, [], ◌∷◌, ◌++◌, length, map, take, filter, filter_map, slice_range, Option, Some, None}
-use Rattle.kn_reply.specs.declared.refusal.Refusal.{Refusal}
 use Rattle.kn_reply.specs.declared.refusal.Refusal.TheVariants as R
 use Rattle.kn_store.specs.declared.update.Update.{Update}
 use Rattle.kn_wire.specs.Requests.{Request, Open, Close, Pin, Assert, Retract, Set, SetHex, Unset, Auth, Unauth, Clear, Query, Admin, Add, Drop, Bye, Faulty}
@@ -26,29 +25,7 @@ requests_in exchanges = map (λ e. e.request) exchanges
 abbrev pub texts_in : List Exchange → List (List ℕ)
 texts_in exchanges = map (λ e. reply_text e.reply) exchanges
 
--- the caller's addition, where the reply says that it was accepted
-abbrev pub addition_in : ℕ → List ℕ → Reply → Option Update
-addition_in caller text Done = None
-addition_in caller text (Started s version) = None
-addition_in caller text (Number version) = None
-addition_in caller text (PrivateAdded k) = None
-addition_in caller text (Added id version) = Some (addition_by caller text id)
-addition_in caller text (Value index name version rows) = None
-addition_in caller text (No refusal) = None
-addition_in caller text NoMemory = None
-
--- the caller's removal, where the reply says that it was accepted
-abbrev pub removal_in : ℕ → ℕ → Reply → Option Update
-removal_in caller id Done = None
-removal_in caller id (Started s version) = None
-removal_in caller id (Number version) = Some (removal_by caller id)
-removal_in caller id (PrivateAdded k) = None
-removal_in caller id (Added k version) = None
-removal_in caller id (Value index name version rows) = None
-removal_in caller id (No refusal) = None
-removal_in caller id NoMemory = None
-
--- the update of an accepted request
+-- the caller's update, where the reply says that it was accepted
 abbrev pub update_by : ℕ → Request → Reply → Option Update
 update_by caller Open reply = None
 update_by caller (Close s) reply = None
@@ -63,8 +40,10 @@ update_by caller (Unauth s text) reply = None
 update_by caller (Clear s) reply = None
 update_by caller (Query s names) reply = None
 update_by caller (Admin digits) reply = None
-update_by caller (Add text) reply = addition_in caller text reply
-update_by caller (Drop id) reply = removal_in caller id reply
+update_by caller (Add text) (Added id version) = Some (addition_by caller text id)
+update_by caller (Add text) reply = None
+update_by caller (Drop id) (Number version) = Some (removal_by caller id)
+update_by caller (Drop id) reply = None
 update_by caller Bye reply = None
 update_by caller (Faulty fault) reply = None
 
@@ -81,65 +60,27 @@ abbrev pub InOrder : ℕ → ℕ → List Exchange → ℕ → Type 0
 InOrder caller low [] high = low ≤ high
 InOrder caller low (e ∷ es) high = IsBehind (update_of caller e) low e.place × InOrder caller e.place es high
 
--- the refusals by the history itself
-abbrev pub is_by_history : Refusal → Bool
-is_by_history R.Syntax = false
-is_by_history R.Command = false
-is_by_history R.Session = false
-is_by_history R.Admin = false
-is_by_history (R.Read fault place) = false
-is_by_history R.Policy = false
-is_by_history (R.Auth fault) = false
-is_by_history R.Name = false
-is_by_history R.Value = false
-is_by_history R.Values = false
-is_by_history R.Principal = false
-is_by_history R.Unknown = true
-is_by_history (R.Limit word count) = true
-is_by_history R.Long = false
-is_by_history R.Block = false
-
 -- a reply to ADD or DROP that depends on the place: the update was accepted, or refused by the history
 abbrev pub is_placed_update : Reply → Bool
-is_placed_update Done = false
-is_placed_update (Started s version) = false
 is_placed_update (Number version) = true
-is_placed_update (PrivateAdded k) = false
 is_placed_update (Added id version) = true
-is_placed_update (Value index name version rows) = false
-is_placed_update (No refusal) = is_by_history refusal
-is_placed_update NoMemory = false
+is_placed_update (No R.Unknown) = true
+is_placed_update (No (R.Limit word count)) = true
+is_placed_update reply = false
 
 -- a reply to OPEN or PIN that depends on the place: the version was pinned
 abbrev pub is_placed_pin : Reply → Bool
-is_placed_pin Done = false
 is_placed_pin (Started s version) = true
 is_placed_pin (Number version) = true
-is_placed_pin (PrivateAdded k) = false
-is_placed_pin (Added id version) = false
-is_placed_pin (Value index name version rows) = false
-is_placed_pin (No refusal) = false
-is_placed_pin NoMemory = false
+is_placed_pin reply = false
 
 -- whether the reply depends on its place
 abbrev pub is_placed : Request → Reply → Bool
 is_placed Open reply = is_placed_pin reply
-is_placed (Close s) reply = false
 is_placed (Pin s) reply = is_placed_pin reply
-is_placed (Assert s text) reply = false
-is_placed (Retract s k) reply = false
-is_placed (Set s name value) reply = false
-is_placed (SetHex s name digits) reply = false
-is_placed (Unset s name) reply = false
-is_placed (Auth s text) reply = false
-is_placed (Unauth s text) reply = false
-is_placed (Clear s) reply = false
-is_placed (Query s names) reply = false
-is_placed (Admin digits) reply = false
 is_placed (Add text) reply = is_placed_update reply
 is_placed (Drop k) reply = is_placed_update reply
-is_placed Bye reply = false
-is_placed (Faulty fault) reply = false
+is_placed request reply = false
 
 -- where the turn was had for an exchange: at its place if the reply depends on that, and else nowhere or once somewhere
 abbrev pub StandsFor : Bool → ℕ → List ℕ → Type 0

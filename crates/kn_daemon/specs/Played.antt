@@ -1,22 +1,17 @@
 -- Playing requests on the daemon of one thread (keynoted's own): each at one place of one history, and none is answered by
 -- want of memory.
 use Rattle.std.specs.Prelude.{ℕ, ◌≡◌, List, [], ◌∷◌, ◌++◌, Bool, ◌||◌, Option, Some, None, if◌then◌else◌}
+use Rattle.std.specs.Option.{option_map_or}
 use Rattle.kn_env.specs.Values.{values_of}
-use Rattle.kn_reply.specs.declared.refusal.Refusal.{Refusal}
 use Rattle.kn_store.specs.declared.update.Update.{Update}
 use Rattle.kn_wire.specs.Requests.{Request, Open, Close, Pin, Assert, Retract, Set, SetHex, Unset, Auth, Unauth, Clear, Query, Admin, Add, Drop, Bye, Faulty}
 use Rattle.kn_daemon.specs.Daemon.{Grounds, State, first_state, session_of, own_refusal, changed}
 use Rattle.kn_session.specs.Sessions.{Session}
 use Rattle.kn_daemon.specs.Served.{is_bye, is_block}
 
--- a refused request changes nothing
-abbrev pub unless_refused : Option Refusal → State → State → State
-unless_refused None state new = new
-unless_refused (Some refusal) state new = state
-
--- The state after a request. An update changes no state, so what refuses it by the history doesn't matter here.
+-- The state after a request: a refused one changes nothing. An update changes no state, so what refuses it by the history doesn't matter here.
 abbrev pub after_request : Grounds → List Update → State → Request → State
-after_request g past state request = unless_refused (own_refusal g state request) state (changed past state request)
+after_request g past state request = option_map_or (λ refusal. state) (own_refusal g state request) (changed past state request)
 
 -- the state after these requests
 abbrev pub played : Grounds → List Update → State → List Request → State
@@ -38,23 +33,8 @@ no_grounds = record { secret = []; verdict = λ text a. 1 }
 
 -- the request is a QUERY that is answered with a value: the session is open, and the text names these values
 abbrev pub IsAsking : State → Request → Session → List (List ℕ) → Type 0
-IsAsking state Open session values = ⊥
-IsAsking state (Close s) session values = ⊥
-IsAsking state (Pin s) session values = ⊥
-IsAsking state (Assert s text) session values = ⊥
-IsAsking state (Retract s k) session values = ⊥
-IsAsking state (Set s name value) session values = ⊥
-IsAsking state (SetHex s name digits) session values = ⊥
-IsAsking state (Unset s name) session values = ⊥
-IsAsking state (Auth s text) session values = ⊥
-IsAsking state (Unauth s text) session values = ⊥
-IsAsking state (Clear s) session values = ⊥
 IsAsking state (Query s names) session values = (session_of state s ≡ Some session) × (values_of names ≡ Some values)
-IsAsking state (Admin digits) session values = ⊥
-IsAsking state (Add text) session values = ⊥
-IsAsking state (Drop k) session values = ⊥
-IsAsking state Bye session values = ⊥
-IsAsking state (Faulty fault) session values = ⊥
+IsAsking state request session values = ⊥
 
 -- The query that requests mean over a history, without a secret: the last QUERY up to their end that is answered with a value,
 -- and the session as it then stands.

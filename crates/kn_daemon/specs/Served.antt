@@ -11,49 +11,13 @@ use Rattle.kn_daemon.specs.declared.ended.Ended.TheVariants as E
 use Rattle.kn_daemon.specs.Daemon.{Grounds, State, first_state}
 use Rattle.kn_daemon.specs.Linearized.{Exchange, Along, IsLinearized, requests_in, texts_in}
 
-abbrev pub is_block_fault : WireFault → Bool
-is_block_fault F.Syntax = false
-is_block_fault F.Command = false
-is_block_fault F.Long = false
-is_block_fault (F.Block n) = true
-
 abbrev pub is_bye : Request → Bool
-is_bye Open = false
-is_bye (Close s) = false
-is_bye (Pin s) = false
-is_bye (Assert s text) = false
-is_bye (Retract s k) = false
-is_bye (Set s name value) = false
-is_bye (SetHex s name digits) = false
-is_bye (Unset s name) = false
-is_bye (Auth s text) = false
-is_bye (Unauth s text) = false
-is_bye (Clear s) = false
-is_bye (Query s names) = false
-is_bye (Admin digits) = false
-is_bye (Add text) = false
-is_bye (Drop k) = false
 is_bye Bye = true
-is_bye (Faulty fault) = false
+is_bye request = false
 
 abbrev pub is_block : Request → Bool
-is_block Open = false
-is_block (Close s) = false
-is_block (Pin s) = false
-is_block (Assert s text) = false
-is_block (Retract s k) = false
-is_block (Set s name value) = false
-is_block (SetHex s name digits) = false
-is_block (Unset s name) = false
-is_block (Auth s text) = false
-is_block (Unauth s text) = false
-is_block (Clear s) = false
-is_block (Query s names) = false
-is_block (Admin digits) = false
-is_block (Add text) = false
-is_block (Drop k) = false
-is_block Bye = false
-is_block (Faulty fault) = is_block_fault fault
+is_block (Faulty (F.Block n)) = true
+is_block request = false
 
 -- of the texts, the last only in part
 pub record IsCut (written : List ℕ) (texts : List (List ℕ)) : Type 0 where
@@ -66,13 +30,8 @@ pub record IsCut (written : List ℕ) (texts : List (List ℕ)) : Type 0 where
 
 -- what was written: all replies, or where a write failed not all of the last
 abbrev pub IsWritten : Ended → List ℕ → List (List ℕ) → Type 0
-IsWritten E.Done written texts = written ≡ flat_map (λ text. text) texts
-IsWritten E.Memory written texts = written ≡ flat_map (λ text. text) texts
-IsWritten E.ReadFault written texts = written ≡ flat_map (λ text. text) texts
 IsWritten E.WriteFault written texts = IsCut written texts
-IsWritten (E.Cut held) written texts = written ≡ flat_map (λ text. text) texts
-IsWritten (E.Block n) written texts = written ≡ flat_map (λ text. text) texts
-IsWritten E.Budget written texts = written ≡ flat_map (λ text. text) texts
+IsWritten ended written texts = written ≡ flat_map (λ text. text) texts
 
 -- none of the requests ends the connection
 pub record GoesOn (requests : List Request) : Type 0 where

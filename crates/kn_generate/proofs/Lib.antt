@@ -5,3 +5,4 @@ pub mod Readings
 pub mod Loads
 pub mod TextLemmas
 pub mod QueryLemmas
+pub mod Counts

@@ -1,7 +1,8 @@
 -- That the generated texts read.
 use Rattle.std.proofs.Common.{◌≡◌, ℕ, zero, suc, true, false, Bool, ◌+◌, ◌*◌, ◌^◌, ◌<◌, ◌≤◌, ◌==◌, ◌&&◌, ◌||◌, if◌then◌else◌, List, [], ◌∷◌, ◌++◌, Option, Some, None, Result, Ok, Err, length, refl, sym, ◌∙◌, ap, subst, append_assoc, codes, arith}
 use Rattle.std.specs.List.{list_all}
-use Rattle.std.specs.Prelude.{pos, map, nat_lt, nat_le, is_ok, is_some, IsSome, decimal, flat_map}
+use Rattle.std.specs.Prelude.{pos, map, nat_lt, nat_le, is_ok, is_some, IsSome, ok_or, decimal, flat_map}
+use Rattle.std.specs.Result.{result_err, result_ok}
 use Rattle.kn_lex.specs.Cutting.{Seen, start}
 use Rattle.kn_lex.specs.Literal.{literal_value}
 use Rattle.kn_lex.specs.Computed.{tokens_or_fault}
@@ -43,9 +44,10 @@ use Rattle.kn_program.specs.Trees as trees
 use Rattle.kn_program.specs.Reading.{read_program, tail_at, list_at, tests_at, negation_at, comparison_at, chain_at, operand_at, atom_at, program_at, clause_at}
 use Rattle.kn_program.specs.Conditions as conditions
 use Rattle.kn_program.specs.Conditions.{program_of}
-use Rattle.kn_assert.specs.Parts.{named, principal_of, authorizer_of, licensees_by, conditions_by}
-use Rattle.kn_assert.specs.Reading.{authorizer_in, licensees_in, conditions_in, signature_in, fault_of_part, fault_by, first_of, unless, assembled, reading_with, reading_by, reading_of, assertion_in, assertion_of}
+use Rattle.kn_assert.specs.Parts.{principal_of, authorizer_of, licensees_by, conditions_by}
+use Rattle.kn_assert.specs.Reading.{authorizer_in, licensees_in, conditions_in, signature_in, fault_by, first_of, unless, assembled, reading_with, reading_by, reading_of, assertion_of}
 use Rattle.kn_assert.specs.declared.fault.ReadFault.{ReadFault}
+use Rattle.kn_assert.specs.declared.fault.ReadFault.TheVariants.{Name as BadName}
 use Rattle.kn_assert.specs.declared.order.Faults.{Faults}
 use Rattle.kn_generate.proofs.Scans.{bytes_of, tokens_at, AreCuts, text_tokens}
 use Rattle.kn_generate.proofs.Literals.{quoted, IsNaming}
@@ -72,7 +74,7 @@ none_first (field ∷ fields) = rw (none_by (field_of field.label)) (none_first 
 
 put_together : (fields : List Field) (constants : List Constant) (signed : ℕ) (a : Result (List ℕ) ReadFault) (l : Result (Option Formula) ReadFault) (c : Result (Option Program) ReadFault) (s : Result (Option (List ℕ)) ReadFault)
     → is_ok a ≡ true → is_ok l ≡ true → is_ok c ≡ true → is_ok s ≡ true
-    → is_some (assertion_in (unless (first_of (record { authorizer = fault_of_part a; conditions = fault_of_part c; licensees = fault_of_part l; signature = fault_of_part s }) fields) (assembled constants signed a l c s))) ≡ true
+    → is_some (result_ok (unless (first_of (record { authorizer = result_err a; conditions = result_err c; licensees = result_err l; signature = result_err s }) fields) (assembled constants signed a l c s))) ≡ true
 unfolding no_faults
 put_together fields constants signed (Ok a) (Ok l) (Ok c) (Ok s) ea el ec es = rw (none_first fields) refl
 put_together fields constants signed (Err a) l c s ea el ec es = cc
@@ -82,7 +84,7 @@ put_together fields constants signed (Ok a) (Ok l) (Ok c) (Err s) ea el ec es = 
 
 -- a text reads whose fields do
 pub fields_read : (text : List ℕ) (tokens : List Seen) (constants : List Constant) → is_ok (authorizer_in constants (field_with 1 tokens)) ≡ true → is_ok (licensees_in constants (field_with 5 tokens)) ≡ true
-    → is_ok (conditions_in (field_with 3 tokens)) ≡ true → is_ok (signature_in (field_with 7 tokens)) ≡ true → is_some (assertion_in (reading_with text tokens constants)) ≡ true
+    → is_ok (conditions_in (field_with 3 tokens)) ≡ true → is_ok (signature_in (field_with 7 tokens)) ≡ true → is_some (result_ok (reading_with text tokens constants)) ≡ true
 unfolding reading_with
 fields_read text tokens constants a l c s =
     put_together (fields_of tokens) constants (signed_to text tokens) (authorizer_in constants (field_with 1 tokens)) (licensees_in constants (field_with 5 tokens)) (conditions_in (field_with 3 tokens)) (signature_in (field_with 7 tokens)) a l c s
@@ -93,11 +95,11 @@ unfolding fields_or_fault
 fields_told text tokens short cut none = rw (short, cut, none) refl
 
 pub text_reads : (text : List ℕ) (tokens : List Seen) → nat_lt 16384 (length text) ≡ false → tokens_or_fault text ≡ Ok tokens → fault_in tokens ≡ None
-    → is_some (assertion_in (reading_with text tokens (constants_in (field_with 6 tokens)))) ≡ true → IsSome (assertion_of text)
+    → is_some (result_ok (reading_with text tokens (constants_in (field_with 6 tokens)))) ≡ true → IsSome (assertion_of text)
 unfolding reading_of
 text_reads text tokens short cut none reads = rw (fields_told text tokens short cut none) reads
 
-named_ok : (b : Bool) (x : List ℕ) → b ≡ true → is_ok (named (if b then Some x else None)) ≡ true
+named_ok : (b : Bool) (x : List ℕ) → b ≡ true → is_ok (ok_or (if b then Some x else None) (BadName 1)) ≡ true
 named_ok b x e = rw e refl
 
 -- the words of a formula, and what they spell

@@ -19,7 +19,7 @@ use Rattle.kn_reply.specs.declared.refusal.Refusal.TheVariants as R
 use Rattle.kn_wire.specs.Digits.{bytes_of_digits}
 use Rattle.kn_wire.specs.Requests.{Assert, Admin}
 use Rattle.kn_reply.specs.Replies.{Done, PrivateAdded, No, reply_text}
-use Rattle.kn_daemon.specs.Daemon.{Grounds, State, session_of, in_session, own_refusal, refuse_if, refusal_by, refusal_of_private, refusal_of_session, is_secret, IsPrivateAdded}
+use Rattle.kn_daemon.specs.Daemon.{Grounds, State, session_of, in_session, own_refusal, refuse_if, refusal_by, refusal_of_private, refusal_of_session, is_secret}
 use Rattle.kn_daemon.specs.Laws.{FaultRefuses, ReadingGoesOn}
 use Rattle.kn_serve.specs.Handling.{HasRoom, Tells, refused_reply, refusal_of_read}
 use Rattle.kn_serve.proofs.HandlingLaws.{told_refused, told_done}
@@ -69,9 +69,9 @@ module _ (g : Grounds) (a b : OpenSessions) (is_admin : Bool) (s : ℕ) (text : 
       (private_own assertion goes_on reading (session_in a.sessions s)) (λ reply. refl) (refusal_why fault (fault_at a s (private_fault text assertion)) why) (λ none. refl)
       (subst (λ (x : Option Refusal). Prints whole (reply_text (refused_reply x)) l l') same prints))
 
-  private_added : (k : ℕ) (found : Option Session) → session_in a.sessions s ≡ found → IsSomeAnd found (λ x. k ≡ x.made + 1) → IsPrivateAdded (state_with a is_admin) s (PrivateAdded k)
-  private_added k None e id = absurd id
-  private_added k (Some session) e id = record { session = session; found = e; told = ap (λ (n : ℕ). PrivateAdded n) id }
+  private_added : (k : ℕ) (found : Option Session) → IsSomeAnd found (λ x. k ≡ x.made + 1) → IsSomeAnd found (λ x. PrivateAdded k ≡ PrivateAdded (x.made + 1))
+  private_added k None id = absurd id
+  private_added k (Some session) id = ap (λ (n : ℕ). PrivateAdded n) id
 
   pub assert_done : (assertion : Assertion) (k : ℕ) → ReadingGoesOn → assertion_of text ≡ Some assertion → IsSomeAnd (session_in a.sessions s) (λ x. k ≡ x.made + 1) →
       fault_at a s (private_fault text assertion) ≡ None → b ≡ with_open_session a s (add_private text) → Prints whole (reply_text (PrivateAdded k)) l l' →
@@ -80,7 +80,7 @@ module _ (g : Grounds) (a b : OpenSessions) (is_admin : Bool) (s : ℕ) (text : 
       subst (λ (x : OpenSessions). Tells g (state_with a is_admin) (state_with x is_admin) (Assert s text) whole l l') (sym ok)
       (told_done g (state_with a is_admin) (state_with (with_open_session a s (add_private text)) is_admin) (Assert s text) (PrivateAdded k) whole l l' refl
       (private_own assertion goes_on reading (session_in a.sessions s) ∙ ap (λ (x : Option SessionFault). refusal_by x) accepted)
-      (λ caller past. private_added k (session_in a.sessions s) refl id) (λ past. refl) (λ caller. refl) refl prints)
+      (λ caller past. private_added k (session_in a.sessions s) id) (λ past. refl) (λ caller. refl) refl prints)
 
 -- The administrators' secret.
 

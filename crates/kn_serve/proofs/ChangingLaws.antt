@@ -2,9 +2,10 @@
 use Rattle.std.proofs.Common.{◌≡◌, ℕ, ◌<◌, Bool, true, false, List, [], ◌∷◌, length, refl, sym, ap, ◌∙◌, arith, Option, Some, None, subst, inl, inr}
 use Rattle.std.specs.Prelude.{◌⊎◌, Result, Ok, Err, ◌==◌}
 use Rattle.std.proofs.lemmas.Option.{none-some}
-use Rattle.std.specs.Option.{unwrap_or}
+use Rattle.std.specs.Option.{unwrap_or, option_or}
 use Rattle.std.proofs.lemmas.Bool.Decides.{nat_tests}
-use Rattle.kn_assert.specs.Reading.{reading_of, assertion_in, fault_in, assertion_of, fault_of}
+use Rattle.std.specs.Result.{result_err, result_ok}
+use Rattle.kn_assert.specs.Reading.{reading_of, assertion_of, fault_of}
 use Rattle.kn_assert.specs.Faults.{fault_number, fault_place}
 use Rattle.kn_assert.specs.declared.fault.ReadFault.{ReadFault}
 use Rattle.kn_assert.specs.declared.fault.ReadFault.TheVariants as RF
@@ -22,7 +23,7 @@ use Rattle.kn_reply.specs.declared.refusal.Refusal.TheVariants as R
 use Rattle.kn_reply.specs.declared.refusal.LimitWord.TheVariants as W
 use Rattle.kn_wire.specs.Requests.{Request, Add, Drop}
 use Rattle.kn_reply.specs.Replies.{Number, Added, No, NoMemory, reply_text}
-use Rattle.kn_daemon.specs.Daemon.{Grounds, State, own_refusal, placed_refusal, or_else, refusal_of_store}
+use Rattle.kn_daemon.specs.Daemon.{Grounds, State, own_refusal, placed_refusal, refusal_of_store}
 use Rattle.kn_registry.specs.Passes.{PassSeen, Looks, Adds, Removes, IsRefused, RefusesText, RefusesId}
 use Rattle.kn_serve.specs.Handling.{Handles, Tells, refusal_of_read, refused_reply}
 use Rattle.kn_serve.proofs.HandlingLaws.{handled_by, looked_handled, stayed_handled, told_refused, told_memory, refused_updates_nothing}
@@ -34,7 +35,7 @@ added_handled g v w old text id version whole l l' a own prints =
     handled_by g v w old old (Add text) (Added id version) whole l l' a.more (addition_by v.number text id ∷ []) (length w.seen ∷ []) a.moves refl
     (record {
       accepted = own;
-      answered = record { id = id; committed = record { before = a.before; ends = a.ends; accepted = a.follows }; told = ap (λ (n : ℕ). Added id n) a.at };
+      answered = (id, record { before = a.before; ends = a.ends; accepted = a.follows }, ap (λ (n : ℕ). Added id n) a.at);
       next = refl;
     }) refl prints
 
@@ -45,7 +46,7 @@ removed_handled g v w old id version whole l l' a own prints =
     handled_by g v w old old (Drop id) (Number version) whole l l' a.more (removal_by v.number id ∷ []) (length w.seen ∷ []) a.moves refl
     (record {
       accepted = own;
-      answered = record { committed = record { before = a.before; ends = a.ends; accepted = a.follows }; told = ap (λ (n : ℕ). Number n) a.at };
+      answered = (record { before = a.before; ends = a.ends; accepted = a.follows }, ap (λ (n : ℕ). Number n) a.at);
       next = refl;
     }) refl prints
 
@@ -55,7 +56,7 @@ refused_handled : (g : Grounds) (v w : PassSeen) (old : State) (request : Reques
     Handles g v w old old request whole l l'
 refused_handled g v w old request refusal whole l l' looks own placed prints =
     looked_handled g v w old old request (No refusal) whole l l' looks (refused_updates_nothing v.number request refusal)
-    (ap (λ (o : Option Refusal). or_else o (placed_refusal w.seen request)) own ∙ placed, refl) prints
+    (ap (λ (o : Option Refusal). option_or o (placed_refusal w.seen request)) own ∙ placed, refl) prints
 
 -- the text wasn't added
 pub unadded_handled : (g : Grounds) (v w : PassSeen) (old : State) (text : List ℕ) (fault : StoreFault) (refusal : Option Refusal) (whole : Bool) (l l' : LinkSeen) →
@@ -103,11 +104,11 @@ drop_unshown g old id whole l l' out prints = told_refused g old (Drop id) R.Adm
 pub drop_shown : (g : Grounds) (old : State) (id : ℕ) → old.is_admin ≡ true → own_refusal g old (Drop id) ≡ None
 drop_shown g old id admin = rw admin refl
 
-fault_reading : (read : Result Assertion ReadFault) (fault : ReadFault) → fault_in read ≡ Some fault → read ≡ Err fault
+fault_reading : (read : Result Assertion ReadFault) (fault : ReadFault) → result_err read ≡ Some fault → read ≡ Err fault
 fault_reading (Ok a) fault e = absurd (none-some _ e)
 fault_reading (Err other) fault e = ap (λ (x : ReadFault). Err x) (ap (λ (o : Option ReadFault). unwrap_or o other) e)
 
-reading_is : (read : Result Assertion ReadFault) (a : Assertion) → assertion_in read ≡ Some a → read ≡ Ok a
+reading_is : (read : Result Assertion ReadFault) (a : Assertion) → result_ok read ≡ Some a → read ≡ Ok a
 reading_is (Ok b) a e = ap (λ (x : Assertion). Ok x) (ap (λ (o : Option Assertion). unwrap_or o b) e)
 reading_is (Err fault) a e = absurd (none-some _ e)
 

@@ -1,6 +1,7 @@
 -- What the functions of the requests owe: a reply that is permitted, where the pass didn't move, looked at its turn, or had none.
 use Rattle.std.proofs.Common.{◌≡◌, ℕ, ◌≤◌, Bool, true, false, List, [], ◌∷◌, length, refl, sym, ap, append-nil, arith, Option, Some, None, subst}
 use Rattle.std.specs.Prelude.{option_to_list}
+use Rattle.std.specs.Option.{option_or}
 use Rattle.kn_outside.specs.Seen.{LinkSeen}
 use Rattle.kn_outside.specs.Printing.{Prints}
 use Rattle.kn_store.specs.declared.update.Update.{Update}
@@ -8,7 +9,7 @@ use Rattle.kn_wire.specs.declared.fault.WireFault.{WireFault}
 use Rattle.kn_reply.specs.declared.refusal.Refusal.{Refusal}
 use Rattle.kn_wire.specs.Requests.{Request, Open, Close, Pin, Assert, Retract, Set, SetHex, Unset, Auth, Unauth, Clear, Query, Admin, Add, Drop, Bye, Faulty}
 use Rattle.kn_reply.specs.Replies.{Reply, Done, Started, Number, PrivateAdded, Added, Value, No, NoMemory, reply_text}
-use Rattle.kn_daemon.specs.Daemon.{Grounds, State, Permits, Answers, own_refusal, placed_refusal, or_else, changed, may_lack_memory, refusal_of_fault}
+use Rattle.kn_daemon.specs.Daemon.{Grounds, State, Permits, Answers, own_refusal, placed_refusal, changed, may_lack_memory, refusal_of_fault}
 use Rattle.kn_daemon.specs.Linearized.{update_by, is_placed, StandsFor}
 use Rattle.kn_registry.specs.Passes.{PassSeen, Moves, Looks, Stays}
 use Rattle.kn_registry.proofs.PassMoves.{moves-nothing}
@@ -132,7 +133,7 @@ pub told_refused : (g : Grounds) (old : State) (request : Request) (refusal : Re
     own_refusal g old request ≡ Some refusal → is_placed request (No refusal) ≡ false → Prints whole (reply_text (No refusal)) l l' → Tells g old old request whole l l'
 told_refused g old request refusal whole l l' refused unplaced prints = record {
   reply = No refusal;
-  permitted = λ caller past. (ap (λ (o : Option Refusal). or_else o (placed_refusal past request)) refused, refl);
+  permitted = λ caller past. (ap (λ (o : Option Refusal). option_or o (placed_refusal past request)) refused, refl);
   no_update = λ caller. refused_updates_nothing caller request refusal;
   unplaced = unplaced;
   prints = prints;

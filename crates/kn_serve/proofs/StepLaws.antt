@@ -10,7 +10,7 @@ use Rattle.kn_wire.specs.Requests as Q
 use Rattle.kn_wire.specs.Feeding.{Held}
 use Rattle.kn_wire.specs.Feeds.{IsAnswer}
 use Rattle.kn_daemon.specs.Daemon.{Grounds, State}
-use Rattle.kn_daemon.specs.Served.{is_bye, is_block, is_block_fault}
+use Rattle.kn_daemon.specs.Served.{is_bye, is_block}
 use Rattle.kn_registry.specs.Passes.{PassSeen}
 use Rattle.kn_serve.specs.Handling.{Tells, TakesNext}
 use Rattle.kn_serve.proofs.HandlingLaws.{told_handled}
@@ -29,10 +29,10 @@ pub refused_as : (g : Grounds) (v : PassSeen) (now : State) (h h' : Held) (answe
 refused_as g v now h h' answer fault other whole l l' answered is told same =
     subst (λ (f : WireFault). TakesNext g v v now now h h' (Faulty f) whole l l') same (refused_took g v now h h' answer fault whole l l' answered is told)
 
-goes_on : (fault : WireFault) → (fault ≡ F.Syntax) ⊎ ((fault ≡ F.Command) ⊎ (fault ≡ F.Long)) → is_block_fault fault ≡ false
-goes_on fault (inl e) = ap is_block_fault e
-goes_on fault (inr (inl e)) = ap is_block_fault e
-goes_on fault (inr (inr e)) = ap is_block_fault e
+goes_on : (fault : WireFault) → (fault ≡ F.Syntax) ⊎ ((fault ≡ F.Command) ⊎ (fault ≡ F.Long)) → is_block (Faulty fault) ≡ false
+goes_on fault (inl e) = ap (λ (f : WireFault). is_block (Faulty f)) e
+goes_on fault (inr (inl e)) = ap (λ (f : WireFault). is_block (Faulty f)) e
+goes_on fault (inr (inr e)) = ap (λ (f : WireFault). is_block (Faulty f)) e
 
 -- and it doesn't end the connection
 pub refused_line : (g : Grounds) (v : PassSeen) (now : State) (h h' : Held) (answer : Result (Option Request) WireFault) (fault : WireFault) (l l' : LinkSeen) →

@@ -50,13 +50,10 @@ pub record Serving (g : Grounds) (v w : PassSeen) (l l' : LinkSeen) (now : State
 
 -- A fault has a cause, and at every other end no call of the link has failed; without memory nothing was read or written.
 abbrev pub HasCause : Ended → LinkSeen → LinkSeen → Type 0
-HasCause E.Done l l' = l'.faults ≡ l.faults
 HasCause E.Memory l l' = l' ≡ l
 HasCause E.ReadFault l l' = Rose l.faults l'.faults
 HasCause E.WriteFault l l' = Rose l.faults l'.faults
-HasCause (E.Cut held) l l' = l'.faults ≡ l.faults
-HasCause (E.Block n) l l' = l'.faults ≡ l.faults
-HasCause E.Budget l l' = l'.faults ≡ l.faults
+HasCause ended l l' = l'.faults ≡ l.faults
 
 -- The call has served the connection: what it took and wrote, what the pass has seen and where it had the turn. Without memory
 -- the pass is as before.

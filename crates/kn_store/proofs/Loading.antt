@@ -1,9 +1,10 @@
 -- Loading texts one after the other.
 use Rattle.std.proofs.Common.{◌≡◌, ℕ, ◌+◌, ◌⊎◌, inl, inr, ⊎_elim, List, [], ◌∷◌, ◌++◌, length, refl, sym, ap, ◌∙◌, subst, arith, append_assoc, append-nil, length-append, Option, Some, None}
 use Rattle.std.specs.Prelude.{Result, Ok, Err, IsSome}
+use Rattle.std.specs.Result.{result_err, result_ok}
 use Rattle.kn_trees.specs.declared.assertion.Assertion.{Assertion}
 use Rattle.kn_assert.specs.declared.fault.ReadFault.{ReadFault}
-use Rattle.kn_assert.specs.Reading.{reading_of, assertion_in, fault_in, assertion_of, fault_of}
+use Rattle.kn_assert.specs.Reading.{reading_of, assertion_of, fault_of}
 use Rattle.kn_store.specs.declared.fault.StoreFault.{StoreFault}
 use Rattle.kn_store.specs.Loading.{refusal_behind, IsAddedBehind, IsLoadable, IsNextText, IsFaultyAt, IsFullAt}
 use Rattle.kn_store.specs.Laws.{LoadingEndsOnce}
@@ -62,11 +63,11 @@ loadable_more front text loadable added =
           (meet f front t text rest [] (sym e));
     }
 
-reads_or_faults : (r : Result Assertion ReadFault) → IsSome (assertion_in r) ⊎ ((fault : ReadFault) × (fault_in r ≡ Some fault))
+reads_or_faults : (r : Result Assertion ReadFault) → IsSome (result_ok r) ⊎ ((fault : ReadFault) × (result_err r ≡ Some fault))
 reads_or_faults (Ok assertion) = inl refl
 reads_or_faults (Err fault) = inr (fault, refl)
 
-no_fault : (r : Result Assertion ReadFault) (fault : ReadFault) → fault_in r ≡ Some fault → IsSome (assertion_in r) → ⊥
+no_fault : (r : Result Assertion ReadFault) (fault : ReadFault) → result_err r ≡ Some fault → IsSome (result_ok r) → ⊥
 no_fault (Ok assertion) fault told reads = cc
 no_fault (Err other) fault told reads = cc
 

@@ -20,21 +20,15 @@ use Rattle.kn_trees.specs.declared.program.Then.TheFolds.{fold-Program, fold-Cla
 
 abbrev pub is_truth : Option Kind → Bool
 is_truth (Some K.Truth) = true
-is_truth (Some K.Whole) = false
-is_truth (Some K.Text) = false
-is_truth None = false
+is_truth kind = false
 
 abbrev pub is_whole : Option Kind → Bool
-is_whole (Some K.Truth) = false
 is_whole (Some K.Whole) = true
-is_whole (Some K.Text) = false
-is_whole None = false
+is_whole kind = false
 
 abbrev pub is_text : Option Kind → Bool
-is_text (Some K.Truth) = false
-is_text (Some K.Whole) = false
 is_text (Some K.Text) = true
-is_text None = false
+is_text kind = false
 
 -- both sides of a comparison are whole, or both are texts
 abbrev pub are_compared : Option Kind → Option Kind → Bool
@@ -47,12 +41,7 @@ gives right kind = if right then Some kind else None
 -- `.` joins texts, and the other operations are on whole numbers
 abbrev pub operation_kind : Operation → Option Kind → Option Kind → Option Kind
 operation_kind Join left right = gives (is_text left && is_text right) K.Text
-operation_kind Plus left right = gives (is_whole left && is_whole right) K.Whole
-operation_kind Less left right = gives (is_whole left && is_whole right) K.Whole
-operation_kind Times left right = gives (is_whole left && is_whole right) K.Whole
-operation_kind Divide left right = gives (is_whole left && is_whole right) K.Whole
-operation_kind Rest left right = gives (is_whole left && is_whole right) K.Whole
-operation_kind Power left right = gives (is_whole left && is_whole right) K.Whole
+operation_kind sign left right = gives (is_whole left && is_whole right) K.Whole
 
 -- a chain groups to the left
 abbrev pub chain_kind : Option Kind → List (Operation × Option Kind) → Option Kind

@@ -1,5 +1,5 @@
--- Rows that are refused are told one reason, and are no proof.
-use Rattle.std.proofs.Common.{◌≡◌, ℕ, suc, zero, ◌<◌, ◌≤◌, ◌⊎◌, Bool, true, false, ◌||◌, Any, List, [], ◌∷◌, ◌++◌, slice_get, get_or, length, map, take, flat_map, Some, inl, inr, refl, sym, ap, ◌∙◌, subst, arith, true≢false}
+-- Rows that are refused have one reason, and are no proof.
+use Rattle.std.proofs.Common.{◌≡◌, ℕ, suc, zero, ◌<◌, ◌≤◌, ◌⊎◌, Bool, true, false, ◌||◌, ◌==◌, if◌then◌else◌, Any, List, [], ◌∷◌, ◌++◌, slice_get, get_or, length, map, take, flat_map, Some, inl, inr, refl, sym, ap, ◌∙◌, subst, arith, true≢false}
 use Rattle.std.specs.List.{list_any}
 use Rattle.std.specs.Option.{option_map}
 use Rattle.std.specs.Str.{bytes_eq}
@@ -19,7 +19,44 @@ use Rattle.kn_meaning.specs.Occurring.{occurring, licensees_names, statement_nam
 use Rattle.kn_meaning.specs.Proofs.{levels_by, IsRow, AreRows, IsClosed, IsProof}
 use Rattle.kn_answer.specs.Numbering.{AreDistinct}
 use Rattle.kn_answer.proofs.Bridge.{bytes_eq-same}
-use Rattle.kn_verify.specs.Rejections.{IsNamedInRange, IsNamedRowReject, IsNamedRowFault, IsNamedUnclosed, IsNamedOtherClaim, IsRejected, SameReason}
+use Rattle.kn_verify.specs.Rejections.{IsNamedInRange, IsNamedRowReject, IsNamedRowFault, IsNamedUnclosed, IsNamedOtherClaim, IsRejected}
+
+-- Two reasons are told alike: by their number, row and level.
+record SameReason (reject other : Reject) : Type 0 where
+  number : reason_number reject ≡ reason_number other
+  row : reason_row reject ≡ reason_row other
+  found : reason_found reject ≡ reason_found other
+
+-- the reason of which so much is told
+abbrev reason_of : ℕ → ℕ → ℕ → Reject
+reason_of number row found =
+    if number == 1 then Range row
+    else if number == 2 then Requester row
+    else if number == 3 then Again row
+    else if number == 4 then Zero row
+    else if number == 5 then Foreign row
+    else if number == 6 then Unsupported row found
+    else if number == 7 then Unclosed row found
+    else Claim found
+
+reason_of-told : (reject : Reject) → reason_of (reason_number reject) (reason_row reject) (reason_found reject) ≡ reject
+reason_of-told (Range row) = refl
+reason_of-told (Requester row) = refl
+reason_of-told (Again row) = refl
+reason_of-told (Zero row) = refl
+reason_of-told (Foreign row) = refl
+reason_of-told (Unsupported row found) = refl
+reason_of-told (Unclosed i found) = refl
+reason_of-told (Claim found) = refl
+
+-- reasons that are told alike are one
+told_alike : (reject other : Reject) → SameReason reject other → reject ≡ other
+told_alike reject other same =
+    sym (reason_of-told reject)
+    ∙ ap (λ (n : ℕ). reason_of n (reason_row reject) (reason_found reject)) same.number
+    ∙ ap (λ (n : ℕ). reason_of (reason_number other) n (reason_found reject)) same.row
+    ∙ ap (reason_of (reason_number other) (reason_row other)) same.found
+    ∙ reason_of-told other
 
 -- no two statements have one id
 abbrev pub HaveIds : Equations → Type 0
@@ -76,8 +113,8 @@ not_row e ids before k row (Zero j) reason follows = let above : 1 ≤ row.value
 not_row e ids before k row (Foreign j) reason follows =
     let a = reason.2 in
     let b = follows.supported in
-    let same : a.1 ≡ b.1 = one_statement e ids a.0 b.0 a.1 b.1 (there e a) (there e b) (a.4.named ∙ sym b.4.named) in
-    a.4.another (ap (λ s. s.authorizer) same ∙ b.4.own)
+    let same : a.1 ≡ b.1 = one_statement e ids a.0 b.0 a.1 b.1 (there e a) (there e b) (a.4.0 ∙ sym b.4.named) in
+    a.4.1 (ap (λ s. s.authorizer) same ∙ b.4.own)
 not_row e ids before k row (Unsupported j found) reason follows =
     let a = reason.2 in
     let b = follows.supported in
@@ -159,8 +196,8 @@ not_later e ids before k row (Zero j) n reason passed less = let above : 1 ≤ r
 not_later e ids before k row (Foreign j) n reason passed less =
     let a = reason.2 in
     let b = passed.own (omega arith) in
-    let same : a.1 ≡ b.1 = one_statement e ids a.0 b.0 a.1 b.1 (there e a) (there e b) (a.4.named ∙ sym b.4.0) in
-    a.4.another (ap (λ s. s.authorizer) same ∙ b.4.1)
+    let same : a.1 ≡ b.1 = one_statement e ids a.0 b.0 a.1 b.1 (there e a) (there e b) (a.4.0 ∙ sym b.4.0) in
+    a.4.1 (ap (λ s. s.authorizer) same ∙ b.4.1)
 not_later e ids before k row (Unsupported j found) n reason passed less = let most : n ≤ 6 = passed.most in omega arith
 not_later e ids before k row (Unclosed i found) n reason passed less = absurd reason
 not_later e ids before k row (Claim found) n reason passed less = absurd reason
@@ -322,8 +359,8 @@ same_told : (a b reject other : Reject) → reject ≡ a → other ≡ b → Sam
 same_told a b reject other first second same = subst (λ r. SameReason r other) (sym first) (subst (SameReason a) (sym second) same)
 
 -- rows that are refused are told one reason
-pub one_reason : (e : Equations) → HaveIds e → (rows : List NamedRow) (level : ℕ) (reject other : Reject) → IsRejected e rows level reject → IsRejected e rows level other → SameReason reject other
-one_reason e ids rows level reject other a b = by (split e rows level reject a) (split e rows level other b)
+one_reason_told : (e : Equations) → HaveIds e → (rows : List NamedRow) (level : ℕ) (reject other : Reject) → IsRejected e rows level reject → IsRejected e rows level other → SameReason reject other
+one_reason_told e ids rows level reject other a b = by (split e rows level reject a) (split e rows level other b)
   where
     by : IsNamedRowFault e rows reject ⊎ (IsLaterUnclosed e rows reject ⊎ IsLaterClaim e rows level reject) → IsNamedRowFault e rows other ⊎ (IsLaterUnclosed e rows other ⊎ IsLaterClaim e rows level other) → SameReason reject other
     by (inl x) (inl y) = one_fault e ids rows reject other x y
@@ -337,6 +374,10 @@ one_reason e ids rows level reject other a b = by (split e rows level reject a) 
     by (inr (inl x)) (inr (inr y)) = absurd (not_closed_whole e (levels_by e rows) x.i x.found x.unclosed y.claim.closed)
     by (inr (inr x)) (inr (inl y)) = absurd (not_closed_whole e (levels_by e rows) y.i y.found y.unclosed x.claim.closed)
     by (inr (inr x)) (inr (inr y)) = same_told (Claim x.found) (Claim y.found) reject other x.is y.is (record { number = refl; row = refl; found = x.claim.level ∙ sym y.claim.level })
+
+-- so they have one
+pub one_reason : (e : Equations) → HaveIds e → (rows : List NamedRow) (level : ℕ) (reject other : Reject) → IsRejected e rows level reject → IsRejected e rows level other → reject ≡ other
+one_reason e ids rows level reject other a b = told_alike reject other (one_reason_told e ids rows level reject other a b)
 
 -- and are no proof
 pub not_both : (e : Equations) → HaveIds e → (rows : List NamedRow) (level : ℕ) (reject : Reject) → IsProof e rows level → IsRejected e rows level reject → ⊥

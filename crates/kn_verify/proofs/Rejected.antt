@@ -25,7 +25,7 @@ use Rattle.kn_answer.proofs.Grown.{AreNumbered-length}
 use Rattle.kn_answer.proofs.Rowed.{IsAt, at-statement, at-row, worth-at, flag-at, rows-few, length-rows, closed-named}
 use Rattle.kn_answer.proofs.Followed.{row_level-none, row_level-zero, HaveFollowed, HaveFollowed-none}
 use Rattle.kn_answer.proofs.Located.{found-within, found-there, IsFollowed, steps-named}
-use Rattle.kn_verify.specs.Rejections.{IsNamedInRange, NamesOther, StandsIn, NamesFresh, NamesRaised, IsNamedRowReject, IsNamedRowFault, IsNamedUnclosed, IsRejected}
+use Rattle.kn_verify.specs.Rejections.{IsNamedInRange, NamesOther, NamesFresh, NamesRaised, IsNamedRowReject, IsNamedRowFault, IsNamedUnclosed, IsRejected}
 
 -- a row by names, which stands where a row by numbers does
 record IsNamed (built : Interned) (rows : List NamedRow) (k : ℕ) (row : Row) : Type 0 where
@@ -131,7 +131,7 @@ fresh-named e built is before levels followed named_row row located fresh =
     }
 
 -- who has a level by the rows before stands in one of them
-stands-in : (before : List NamedRow) (name : List ℕ) → 0 < row_level before name → StandsIn before name
+stands-in : (before : List NamedRow) (name : List ℕ) → 0 < row_level before name → list_any (λ r. bytes_eq r.principal name) before ≡ true
 stands-in before name some = by (list_any (λ r. bytes_eq r.principal name) before) refl
   where
     by : (b : Bool) → list_any (λ r. bytes_eq r.principal name) before ≡ b → list_any (λ r. bytes_eq r.principal name) before ≡ true
@@ -167,7 +167,7 @@ reason-named e built is before levels followed k named_row row located (Foreign 
     let another : s.authorizer ≢ named_row.principal = λ same. reason.2 (is.of.numbered.distinct (row_at built.system.rows row.by).authorizer row.principal named_row.principal (there.at.row.authorizer ∙ ap Some same) there.number) in (
       reason.0,
       raised-named e built is before levels followed named_row row located reason.1,
-      (row.by, s, there.at.listed, there.at.here, record { named = there.id; another = another }),
+      (row.by, s, there.at.listed, there.at.here, (there.id, another)),
     )
 reason-named e built is before levels followed k named_row row located (Unsupported j found) reason =
     let own = reason.1 in

@@ -4,7 +4,6 @@ use Rattle.std.specs.List.{list_any}
 use Rattle.std.specs.Str.{bytes_eq}
 use Rattle.kn_principal.specs.Principals.{policy}
 use Rattle.kn_proof.specs.declared.named.NamedRow.{NamedRow}
-use Rattle.kn_check.specs.Rejects.{reason_number, reason_row, reason_found}
 use Rattle.kn_check.specs.declared.reject.Reject.{Reject}
 use Rattle.kn_check.specs.declared.reject.Reject.TheVariants.{Range, Requester, Again, Zero, Foreign, Unsupported, Unclosed, Claim}
 use Rattle.kn_meaning.specs.Formulas.{Levels}
@@ -24,10 +23,6 @@ pub record NamesOther (e : Equations) (row : NamedRow) : Type 0 where
   pub range : IsNamedInRange e row
   pub other : is_requester e row.principal ≡ false
 
--- the principal stands in one of these rows
-abbrev pub StandsIn : List NamedRow → List ℕ → Type 0
-StandsIn rows name = list_any (λ r. bytes_eq r.principal name) rows ≡ true
-
 -- a row in range whose principal is no requester and stands in none of these
 pub record NamesFresh (e : Equations) (before : List NamedRow) (row : NamedRow) : Type 0 where
   pub other : NamesOther e row
@@ -37,11 +32,6 @@ pub record NamesFresh (e : Equations) (before : List NamedRow) (row : NamedRow) 
 pub record NamesRaised (e : Equations) (before : List NamedRow) (row : NamedRow) : Type 0 where
   pub fresh : NamesFresh e before row
   pub above_lowest : 1 ≤ row.value
-
--- the row's assertion, which has another authorizer
-pub record IsOfAnother (row : NamedRow) (s : Statement) : Type 0 where
-  pub named : s.id ≡ row.id
-  pub another : s.authorizer ≢ row.principal
 
 -- the row's assertion, whose authorizer is the row's principal, and which is worth this
 pub record IsWorth (e : Equations) (at : Levels) (row : NamedRow) (found : ℕ) (s : Statement) : Type 0 where
@@ -53,12 +43,11 @@ pub record IsWorth (e : Equations) (at : Levels) (row : NamedRow) (found : ℕ) 
 abbrev pub IsNamedRowReject : Equations → List NamedRow → ℕ → NamedRow → Reject → Type 0
 IsNamedRowReject e before k row (Range j) = (j ≡ k) × ¬ IsNamedInRange e row
 IsNamedRowReject e before k row (Requester j) = (j ≡ k) × IsNamedInRange e row × (is_requester e row.principal ≡ true)
-IsNamedRowReject e before k row (Again j) = (j ≡ k) × NamesOther e row × StandsIn before row.principal
+IsNamedRowReject e before k row (Again j) = (j ≡ k) × NamesOther e row × (list_any (λ r. bytes_eq r.principal row.principal) before ≡ true)
 IsNamedRowReject e before k row (Zero j) = (j ≡ k) × NamesFresh e before row × (row.value ≡ 0)
-IsNamedRowReject e before k row (Foreign j) = (j ≡ k) × NamesRaised e before row × Any (IsOfAnother row) e.statements
+IsNamedRowReject e before k row (Foreign j) = (j ≡ k) × NamesRaised e before row × Any (λ s. (s.id ≡ row.id) × (s.authorizer ≢ row.principal)) e.statements
 IsNamedRowReject e before k row (Unsupported j found) = (j ≡ k) × NamesRaised e before row × Any (IsWorth e (levels_by e before) row found) e.statements × (found < row.value)
-IsNamedRowReject e before k row (Unclosed i found) = ⊥
-IsNamedRowReject e before k row (Claim found) = ⊥
+IsNamedRowReject e before k row reject = ⊥
 
 -- a row is the first that may not follow those before it, for this reason
 pub record IsNamedRowFault (e : Equations) (rows : List NamedRow) (reject : Reject) : Type 0 where
@@ -88,17 +77,11 @@ IsRejected e rows claimed (Unclosed i found) = AreRows e [] rows × IsNamedUnclo
 IsRejected e rows claimed (Claim found) = AreRows e [] rows × IsNamedOtherClaim e (levels_by e rows) claimed found
 IsRejected e rows claimed reject = IsNamedRowFault e rows reject
 
--- two reasons are told alike: by their number, row and level
-pub record SameReason (reject other : Reject) : Type 0 where
-  pub number : reason_number reject ≡ reason_number other
-  pub row : reason_row reject ≡ reason_row other
-  pub found : reason_found reject ≡ reason_found other
-
--- where the ids of assertions differ, rows that are refused are told one reason
+-- where the ids of assertions differ, rows that are refused have one reason
 abbrev pub OneReason : Type 0
 OneReason =
     (e : Equations) → AreDistinct (map (λ s. s.id) e.statements)
-    → (rows : List NamedRow) (level : ℕ) (reject other : Reject) → IsRejected e rows level reject → IsRejected e rows level other → SameReason reject other
+    → (rows : List NamedRow) (level : ℕ) (reject other : Reject) → IsRejected e rows level reject → IsRejected e rows level other → reject ≡ other
 
 -- and are no proof
 abbrev pub NotBoth : Type 0

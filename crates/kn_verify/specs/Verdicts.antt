@@ -8,7 +8,7 @@ use Rattle.kn_system.specs.Equations.{SystemEquations}
 use Rattle.kn_system.specs.Proofs as numbered
 use Rattle.kn_meaning.specs.Equations.{Equations, IsPolicyLevel}
 use Rattle.kn_meaning.specs.Proofs.{IsProof}
-use Rattle.kn_verify.specs.Rejections.{IsRejected, SameReason}
+use Rattle.kn_verify.specs.Rejections.{IsRejected}
 use Rattle.kn_verify.specs.declared.verdict.Refused.{Refused}
 use Rattle.kn_verify.specs.declared.verdict.Refused.TheVariants.{Other, Rejected, NoMemory}
 
@@ -30,7 +30,7 @@ pub record IsUnproved (e : Equations) (version : ℕ) (values : List (List ℕ))
   pub to_query : IsReplyTo version values reply
   pub unproved : ¬ IsProof e reply.rows reply.value
   pub rejected : IsRejected e reply.rows reply.value reject
-  pub only : (other : Reject) → IsRejected e reply.rows reply.value other → SameReason reject other
+  pub only : (other : Reject) → IsRejected e reply.rows reply.value other → reject ≡ other
 
 -- why a reply is refused
 abbrev pub IsRefusal : Equations → ℕ → List (List ℕ) → ReadReply → Refused → Type 0

@@ -3,8 +3,9 @@ use Rattle.std.proofs.Common.{ℕ, ◌≡◌, [], ◌∷◌, codes, refl, sym, a
 use Rattle.std.proofs.lemmas.Bool.{eq-eqb}
 use Rattle.std.specs.Fmt.{digits}
 use Rattle.std.specs.Prelude.{is_some}
+use Rattle.std.specs.Result.{result_ok}
 use Rattle.kn_trees.specs.declared.assertion.Assertion.{Assertion}
-use Rattle.kn_assert.specs.Reading.{reading_of, assertion_in}
+use Rattle.kn_assert.specs.Reading.{reading_of}
 use Rattle.kn_assert.specs.declared.fault.ReadFault.{ReadFault}
 use Rattle.kn_meaning.specs.Equations.{Equations, IsPolicyLevel}
 use Rattle.kn_meaning.specs.Proofs.{IsProof}
@@ -28,8 +29,8 @@ after_auth = changed policy_history after_admin (Auth 1 (codes "bob"))
 after_pin : ℕ → State
 after_pin caller = changed (longer_history caller) after_auth (Pin 1)
 
-credential_valid : is_some (assertion_in (reading_of credential_text)) ≡ true
-credential_valid = ap (λ (r : Result Assertion ReadFault). is_some (assertion_in r)) credential_reading
+credential_valid : is_some (result_ok (reading_of credential_text)) ≡ true
+credential_valid = ap (λ (r : Result Assertion ReadFault). is_some (result_ok r)) credential_reading
 
 admitted : (g : Grounds) → g.verdict credential_text credential_assertion ≡ 0 → refusal_of_reading (reading_of credential_text) (λ a. refusal_of_verdict (g.verdict credential_text a)) ≡ None
 admitted g verdict =
@@ -65,7 +66,7 @@ bob_is_answered g caller secret verdict = record {
           after_auth,
           record {
             accepted = admitted g verdict;
-            answered = record { id = 2; committed = record { before = policy_history; ends = refl; accepted = rw credential_valid refl }; told = refl };
+            answered = (2, record { before = policy_history; ends = refl; accepted = rw credential_valid refl }, refl);
             next = refl;
           },
           (

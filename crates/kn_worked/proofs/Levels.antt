@@ -2,8 +2,9 @@
 use Rattle.std.proofs.Common.{ℕ, zero, suc, ◌≡◌, ◌≤◌, List, [], ◌∷◌, ◌++◌, codes, refl, ◌∙◌, ap, arith, true, Some, Result, if◌then◌else◌}
 use Rattle.std.specs.Str.{bytes_eq}
 use Rattle.std.specs.Prelude.{is_some, All}
+use Rattle.std.specs.Result.{result_ok}
 use Rattle.kn_meaning.specs.Equations.{Statement}
-use Rattle.kn_assert.specs.Reading.{reading_of, assertion_in, assertion_of}
+use Rattle.kn_assert.specs.Reading.{reading_of, assertion_of}
 use Rattle.kn_assert.specs.declared.fault.ReadFault.{ReadFault}
 use Rattle.kn_trees.specs.declared.assertion.Assertion.{Assertion}
 use Rattle.kn_proof.specs.declared.named.NamedRow.{NamedRow}
@@ -78,10 +79,10 @@ abbrev pub alice_session : Session
 alice_session = record { number = 1; pinned = policy_history; privates = []; made = 0; attributes = []; requesters = codes "alice" ∷ [] }
 
 pub alice_question : equations_of alice_session two_values ≡ alice_equations
-alice_question = ap (λ (r : Result Assertion ReadFault). equations_over (asked_of alice_session two_values) ((part_by Shared 1 (assertion_in r) ++ []) ++ [])) policy_reading
+alice_question = ap (λ (r : Result Assertion ReadFault). equations_over (asked_of alice_session two_values) ((part_by Shared 1 (result_ok r) ++ []) ++ [])) policy_reading
 
-pub policy_valid : is_some (assertion_in (reading_of policy_text)) ≡ true
-policy_valid = ap (λ (r : Result Assertion ReadFault). is_some (assertion_in r)) policy_reading
+pub policy_valid : is_some (result_ok (reading_of policy_text)) ≡ true
+policy_valid = ap (λ (r : Result Assertion ReadFault). is_some (result_ok r)) policy_reading
 
 -- Bob asks: nothing is granted by the policy alone.
 
@@ -110,7 +111,7 @@ abbrev pub bob_session : Session
 bob_session = record { number = 1; pinned = policy_history; privates = []; made = 0; attributes = []; requesters = codes "bob" ∷ [] }
 
 pub bob_question : equations_of bob_session two_values ≡ bob_equations
-bob_question = ap (λ (r : Result Assertion ReadFault). equations_over (asked_of bob_session two_values) ((part_by Shared 1 (assertion_in r) ++ []) ++ [])) policy_reading
+bob_question = ap (λ (r : Result Assertion ReadFault). equations_over (asked_of bob_session two_values) ((part_by Shared 1 (result_ok r) ++ []) ++ [])) policy_reading
 
 -- With the credential the policy reaches bob through alice.
 
@@ -166,5 +167,5 @@ later_session caller = record { number = 1; pinned = longer_history caller; priv
 
 pub later_question : (caller : ℕ) → equations_of (later_session caller) two_values ≡ longer_equations
 later_question caller =
-    ap (λ (r : Result Assertion ReadFault). equations_over (asked_of (later_session caller) two_values) ((part_by Shared 1 (assertion_in r) ++ (part_by Shared 2 (assertion_of credential_text) ++ [])) ++ [])) policy_reading
-    ∙ ap (λ (r : Result Assertion ReadFault). equations_over (asked_of (later_session caller) two_values) ((part_by Shared 1 (Some policy_assertion) ++ (part_by Shared 2 (assertion_in r) ++ [])) ++ [])) credential_reading
+    ap (λ (r : Result Assertion ReadFault). equations_over (asked_of (later_session caller) two_values) ((part_by Shared 1 (result_ok r) ++ (part_by Shared 2 (assertion_of credential_text) ++ [])) ++ [])) policy_reading
+    ∙ ap (λ (r : Result Assertion ReadFault). equations_over (asked_of (later_session caller) two_values) ((part_by Shared 1 (Some policy_assertion) ++ (part_by Shared 2 (result_ok r) ++ [])) ++ [])) credential_reading

@@ -1,6 +1,7 @@
 -- What the texts of the worked examples state.
 use Rattle.std.proofs.Common.{◌≡◌, ℕ, true, false, Bool, ◌==◌, if◌then◌else◌, List, [], ◌∷◌, Option, Some, None, Result, Ok, refl, ap, ◌∙◌, codes, length, arith}
 use Rattle.std.specs.Prelude.{nat_lt}
+use Rattle.std.specs.Result.{result_err}
 use Rattle.kn_lex.specs.Cutting.{Seen, start}
 use Rattle.kn_lex.specs.Literal.{value_behind}
 use Rattle.kn_lex.specs.Computed.{tokens_or_fault}
@@ -28,7 +29,7 @@ use Rattle.kn_formula.specs.Reading.{read_words, ors_at, ands_at, one_at, forms_
 use Rattle.kn_formula.specs.Licensing as licensing
 use Rattle.kn_formula.specs.Licensing.{licensees_of}
 use Rattle.kn_assert.specs.Parts.{principal_of, authorizer_of, licensees_by}
-use Rattle.kn_assert.specs.Reading.{authorizer_in, licensees_in, conditions_in, signature_in, fault_of_part, first_of, unless, assembled, reading_with, reading_of}
+use Rattle.kn_assert.specs.Reading.{authorizer_in, licensees_in, conditions_in, signature_in, first_of, unless, assembled, reading_with, reading_of}
 use Rattle.kn_assert.specs.declared.fault.ReadFault.{ReadFault}
 use Rattle.kn_assert.specs.declared.order.Faults.{Faults}
 use Rattle.kn_generate.proofs.Scans.{tokens_at, AreCuts, text_tokens}
@@ -41,7 +42,7 @@ Cuts = List (Piece × List ℕ)
 -- the assertion where each field states what it should
 put_together : (fields : List Field) (constants : List Constant) (signed : ℕ) (a : Result (List ℕ) ReadFault) (l : Result (Option Formula) ReadFault) (c : Result (Option Program) ReadFault) (s : Result (Option (List ℕ)) ReadFault)
     (authorizer : List ℕ) (licensees : Option Formula) (conditions : Option Program) (signature : Option (List ℕ)) → a ≡ Ok authorizer → l ≡ Ok licensees → c ≡ Ok conditions → s ≡ Ok signature
-    → unless (first_of (record { authorizer = fault_of_part a; conditions = fault_of_part c; licensees = fault_of_part l; signature = fault_of_part s }) fields) (assembled constants signed a l c s)
+    → unless (first_of (record { authorizer = result_err a; conditions = result_err c; licensees = result_err l; signature = result_err s }) fields) (assembled constants signed a l c s)
     ≡ Ok (record { authorizer = authorizer; constants = constants; licensees = licensees; conditions = conditions; signature = signature; signed_to = signed })
 unfolding no_faults
 put_together fields constants signed a l c s authorizer licensees conditions signature ea el ec es = rw (ea, el, ec, es, none_first fields) refl

@@ -1,8 +1,9 @@
 -- What all workers have done, seen in the root's history.
 use Rattle.std.proofs.Common.{◌≡◌, ℕ, zero, suc, ◌+◌, ◌<◌, ◌≤◌, Bool, true, false, List, [], ◌∷◌, ◌++◌, length, refl, sym, ap, ◌∙◌, append_assoc, append-nil, length-append, arith, subst}
-use Rattle.std.specs.Prelude.{take, drop, map, All, slice_index_or, nat_lt, ◌||◌}
-use Rattle.std.specs.List.{AllByRecursion, AllZip}
+use Rattle.std.specs.Prelude.{take, drop, map, All, slice_index_or, nat_lt, sum_by, ◌||◌}
+use Rattle.std.specs.List.{AllByRecursion, AllZip, list_any}
 use Rattle.std.proofs.lemmas.Bool.{lt-ltb, ltb-true}
+use Rattle.std.proofs.lemmas.List.Sums.{sum_by-cons}
 use Rattle.std.proofs.Math.Seq.{take-append_seam, drop-append_seam}
 use mathlib.Core.List.{IsPrefix}
 use Rattle.atomic_table.specs.Seated.{TableId}
@@ -20,7 +21,7 @@ use Rattle.kn_workers.specs.Connections.{ServedSeen, IsConnection, own_in}
 use Rattle.kn_workers.specs.Doors.{DoorSeen, WorksAt, HasGiven}
 use Rattle.kn_workers.specs.declared.post.Post.{Post}
 use Rattle.kn_workers.specs.declared.worker.ServeEnd.{ServeEnd}
-use Rattle.kn_workers.specs.Workers.{splits_from, after_joins, Work, gave_less, all_quotas, HasWorked, EachWorked, all_served, some_less, AllServed}
+use Rattle.kn_workers.specs.Workers.{splits_from, after_joins, Work, gave_less, all_quotas, HasWorked, EachWorked, AllServed}
 use Rattle.kn_workers.specs.Posts.{IsSplit, posts_of, passes_of, doors_of, all_finished, some_failed, AllSeenIn, WorksAtPost}
 use Rattle.kn_workers.proofs.ConnectionLaws.{connection_longer}
 use Rattle.kn_workers.proofs.WorkLaws.{own-grows}
@@ -102,8 +103,8 @@ module _ {C D : Type 0} (registry : TableId) (door : D → DoorSeen (ServedSeen 
     after : map (λ work. work.after) works ≡ doors_of posts
     each : EachWorked door seen g (length root.seen) history (root.splits + 1) works
     kept : map (λ work. work.kept) works ≡ map kept_of (passes_of posts)
-    finished : all_finished posts ≡ all_served door works
-    failed : some_failed posts ≡ some_less door works
+    finished : all_finished posts ≡ sum_by (λ (work : Work C D). length work.connections) works
+    failed : some_failed posts ≡ list_any (λ (work : Work C D). gave_less door work.after) works
     count : length works ≡ length doors
     ended : AllByRecursion (λ p. p.ended ≡ []) (passes_of posts)
 
@@ -115,13 +116,14 @@ module _ {C D : Type 0} (registry : TableId) (door : D → DoorSeen (ServedSeen 
   built longer root history (d ∷ doors) (p ∷ posts) valid zip fronts =
       let rest = built longer (after_split root) history doors posts valid zip.1 fronts.1 in
       let k = zip.0 in
+      let work : Work C D = record { before = d; after = p.door; connections = k.works.connections; kept = kept_of p.pass } in
       record {
-        works = record { before = d; after = p.door; connections = k.works.connections; kept = kept_of p.pass } ∷ rest.works;
+        works = work ∷ rest.works;
         before = ap (λ (l : List D). d ∷ l) rest.before;
         after = ap (λ (l : List D). p.door ∷ l) rest.after;
         each = (has_worked longer root history d (record { finished = 0; failed = false }) p k fronts.0 valid, rest.each);
         kept = ap (λ (l : List (EndedPass Update)). kept_of p.pass ∷ l) rest.kept;
-        finished = ap (λ (n : ℕ × ℕ). n.0 + n.1) (λ i. (k.works.counted i, rest.finished i));
+        finished = ap (λ (n : ℕ × ℕ). n.0 + n.1) (λ i. (k.works.counted i, rest.finished i)) ∙ sym (sum_by-cons (λ (work : Work C D). length work.connections) work rest.works);
         failed = ap (λ (b : Bool × Bool). b.0 || b.1) (λ i. (less_is p.end.failed (door d) p.door k.failed i, rest.failed i));
         count = ap (λ (n : ℕ). suc n) rest.count;
         ended = (k.works.moves.ended, rest.ended);

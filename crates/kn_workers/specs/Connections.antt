@@ -21,13 +21,9 @@ pub record ServedSeen (C : Type 0) : Type 0 where
 
 -- whether a connection ended because a call of its link failed
 abbrev pub is_fault : Ended → Bool
-is_fault E.Done = false
-is_fault E.Memory = false
 is_fault E.ReadFault = true
 is_fault E.WriteFault = true
-is_fault (E.Cut held) = false
-is_fault (E.Block n) = false
-is_fault E.Budget = false
+is_fault ended = false
 
 -- nothing was taken of a link and nothing written to it, if it tells that, and no call of it failed
 pub record IsNew (l : LinkSeen) : Type 0 where

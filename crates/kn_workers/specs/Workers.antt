@@ -1,5 +1,6 @@
 -- Workers side by side: each serves a door by a pass of its own, which is joined into the root (keynoted's own).
-use Rattle.std.specs.Prelude.{ℕ, zero, suc, ◌≡◌, ◌+◌, ◌≤◌, Bool, false, ◌||◌, List, [], ◌∷◌, ◌++◌, length, map, drop, All, nat_lt}
+use Rattle.std.specs.Prelude.{ℕ, zero, suc, ◌≡◌, ◌+◌, ◌≤◌, Bool, false, List, [], ◌∷◌, ◌++◌, length, map, drop, All, nat_lt, sum_by}
+use Rattle.std.specs.List.{list_any}
 use mathlib.Core.List.{IsPrefix}
 use Rattle.kn_outside.specs.Seen.{LinkSeen}
 use Rattle.kn_store.specs.declared.update.Update.{Update}
@@ -65,16 +66,6 @@ module _ {C D : Type 0} (door : D → DoorSeen (ServedSeen C)) where
     EachWorked caller [] = Unit {0}
     EachWorked caller (work ∷ works) = HasWorked caller work × EachWorked (caller + 1) works
 
-  -- how many connections were served in all
-  abbrev pub all_served : List (Work C D) → ℕ
-  all_served [] = 0
-  all_served (work ∷ works) = length work.connections + all_served works
-
-  -- whether a door gave less than its quota
-  abbrev pub some_less : List (Work C D) → Bool
-  some_less [] = false
-  some_less (work ∷ works) = gave_less work.after || some_less works
-
   -- Each door had a worker, whose pass was split from the root and joined into it again, in the doors' order. The root made no
   -- update and didn't have the turn: each update that it has seen since is one of a connection.
   pub record AllServed (link : C → LinkSeen) (g : Grounds) (v w : PassSeen) (doors doors' : List D) (end : ServeEnd) : Type 0 where
@@ -90,5 +81,5 @@ module _ {C D : Type 0} (door : D → DoorSeen (ServedSeen C)) where
     pub stops : w.stops ≡ v.stops
     pub splits : w.splits ≡ v.splits + length works
     pub ended : w.ended ≡ v.ended ++ map (λ work. work.kept) works
-    pub finished : end.finished ≡ all_served works
-    pub failed : end.failed ≡ some_less works
+    pub finished : end.finished ≡ sum_by (λ work. length work.connections) works
+    pub failed : end.failed ≡ list_any (λ work. gave_less work.after) works

@@ -1,7 +1,7 @@
 use Rattle.std.proofs.Common.{◌≡◌, List, ℕ, map, sym, ap, ◌∙◌, subst}
 use Rattle.std.specs.Prelude.{All}
 use Rattle.std.specs.Str.{IsUtf8}
-use Rattle.keynoted.specs.Commands.{IsNoServe}
+use Rattle.keynoted.specs.Commands.{ServeFor, IsNo}
 use Rattle.keynoted.proofs.ClapLaws.{some_value, no_value}
 use Rattle.keynoted.proofs.ServiceDue.{refused_run}
 use Rattle.keynoted.proofs.run_service.run_service.Goals as goal
@@ -19,5 +19,5 @@ returns-in-Ok-None-service_of g c = λ o.
     let none = no_value c.in-Ok-None-service_of.field-0 c.in-Ok-None-service_of.field-0-is c.in-Ok-None-service_of.ensures.none in
     let f = g.F.Files.seen c.args.files.now in
     let n = g.N.Net.seen c.args.net.now in
-    refused_run g.N.Room.Door.seen g.N.Room.Conn.Sink.seen c.args.words.now f f n n o o _ _ _ c.requires.serve (subst (λ (l : List (List ℕ)). IsNoServe l) same none)
+    refused_run g.N.Room.Door.seen g.N.Room.Conn.Sink.seen c.args.words.now f f n n o o _ _ _ c.requires.serve (subst (λ (l : List (List ℕ)). IsNo ServeFor l) same none)
     c.end-in-Ok-None-service_of.ensures

@@ -1,10 +1,9 @@
 use Rattle.std.proofs.Common.{◌≡◌, ◌∙◌, ◌<◌, ◌≤◌, ℕ, List, length, sym, ap, subst, arith}
 use Rattle.std.specs.Prelude.{slice_index}
-use Rattle.kn_meaning.specs.Equations.{IsPolicyLevel}
 use Rattle.kn_system.specs.Equations.{SystemEquations, node_total, leaf_total}
 use Rattle.kn_system.specs.Least.{least_levels}
-use Rattle.kn_answer.proofs.Bridge.{IsPolicyLevel-by_name}
 use Rattle.kn_generate.specs.Measured.{granted_count}
+use Rattle.kn_generate.proofs.Counts.{counts-named}
 use Rattle.kn_generate.proofs.QueryLemmas.{least_fit, policy_low}
 use Rattle.kn_generate.proofs.query.measure_built.Goals as goal
 
@@ -25,18 +24,13 @@ returns-clause-measured c = λ e is.
     let s : SystemEquations = c.args.built.now.system in
     let same = c.system-system.ensures in
     let levels : c.as_slice-levels.result.now ≡ least_levels s = c.as_slice-levels.ensures ∙ c.in_ok-settled.ensures.levels ∙ ap least_levels same in
-    record {
-      level = subst (λ (ls : List ℕ). IsPolicyLevel e (slice_index ls 0)) (sym levels) (IsPolicyLevel-by_name e c.args.built.now.names s is.of (least_levels s) (c.least_levels_are_least.ensures s));
-      built = c.args.built.now;
-      is_built = is;
-      counts = record {
-        rows = c.count_granted.ensures ∙ ap (λ (x : SystemEquations). granted_count x.requesters c.as_slice-levels.result.now) same ∙ ap (granted_count s.requesters) levels;
-        principals = c.principals.ensures.exact ∙ ap (λ (x : SystemEquations). length x.requesters) same;
-        nodes = c.nodes.ensures ∙ ap (λ (x : SystemEquations). node_total x.rows) same;
-        uses = c.uses_total.ensures ∙ ap (λ (x : SystemEquations). leaf_total x.rows) same;
-        levels = c.levels-count.ensures.exact ∙ ap (λ (x : SystemEquations). x.levels) same;
-      };
-    }
+    counts-named e c.args.built.now _ is (c.least_levels_are_least.ensures s) (least_fit s (c.rounds_keep_levels.ensures s is.well_formed)).size (ap (λ (ls : List ℕ). slice_index ls 0) levels) (record {
+      rows = c.count_granted.ensures ∙ ap (λ (x : SystemEquations). granted_count x.requesters c.as_slice-levels.result.now) same ∙ ap (granted_count s.requesters) levels;
+      principals = c.principals.ensures.exact ∙ ap (λ (x : SystemEquations). length x.requesters) same;
+      nodes = c.nodes.ensures ∙ ap (λ (x : SystemEquations). node_total x.rows) same;
+      uses = c.uses_total.ensures ∙ ap (λ (x : SystemEquations). leaf_total x.rows) same;
+      levels = c.levels-count.ensures.exact ∙ ap (λ (x : SystemEquations). x.levels) same;
+    })
 
 pub returns-clause-low : goal.returns-clause-low
 returns-clause-low c =
