@@ -1,7 +1,7 @@
 -- The words of `gen`, and how it ends.
 use Rattle.std.proofs.Common.{◌≡◌, ◌<◌, ℕ, ◌⊎◌, inl, inr, Bool, true, false, List, [], ◌∷◌, length, get_or, refl, sym, ap, ◌∙◌, ⊎_elim, arith, Option, Some, None, subst}
 use Rattle.std.specs.Prelude.{not, codes, slice_get, IfSome, IfNone}
-use Rattle.kn_base.specs.declared.limits.TheConstants.{LIVE_CREDENTIALS}
+use Rattle.kn_base.specs.declared.limits.TheConstants.{GENERATED_CREDENTIALS}
 use Rattle.kn_base.specs.Decimal.{decimal_of}
 use Rattle.std.specs.Str.{bytes_eq}
 use Rattle.std.proofs.lemmas.Option.{slice_get-get_or}
@@ -76,13 +76,13 @@ no_start first second none numbers are = let both : None ≡ Some numbers.start 
 pub no_count : (first second : List ℕ) → None ≡ decimal_of second → AreNoGenNumbers first second
 no_count first second none numbers are = let both : None ≡ Some numbers.count = none ∙ are.count in absurd (cc)
 
-pub not_in_range : (first second : List ℕ) (count : ℕ) → Some count ≡ decimal_of second → (count < 1) ⊎ (LIVE_CREDENTIALS < count) → AreNoGenNumbers first second
+pub not_in_range : (first second : List ℕ) (count : ℕ) → Some count ≡ decimal_of second → (count < 1) ⊎ (GENERATED_CREDENTIALS < count) → AreNoGenNumbers first second
 not_in_range first second count is out numbers are =
     let both : Some count ≡ Some numbers.count = is ∙ are.count in
     let same : count ≡ numbers.count = cc in
     let some = are.some in
     let most = are.most in
-    ⊎_elim (λ (low : count < 1). absurd (omega arith)) (λ (high : LIVE_CREDENTIALS < count). absurd (omega arith)) out
+    ⊎_elim (λ (low : count < 1). absurd (omega arith)) (λ (high : GENERATED_CREDENTIALS < count). absurd (omega arith)) out
 
 -- the line of what was measured was due
 pub gen_printed : (numbers : GenNumbers) (m : Measured) (s s' : LinkSeen) (status : ℕ) → IsMeasured (generated_query numbers.start numbers.count) m → m.level < length generated_values

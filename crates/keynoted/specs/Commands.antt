@@ -3,7 +3,7 @@ use Rattle.std.specs.Prelude.{ℕ, ◌≡◌, ◌≤◌, List, [], ◌∷◌, Al
 use Rattle.std.specs.Str.{IsUtf8}
 use Rattle.clap.specs.Words.{App, Rule, Text, new_app, new_rule, with_rule, matches_of, first_of, fault_of}
 use Rattle.kn_base.specs.Decimal.{decimal_of}
-use Rattle.kn_base.specs.declared.limits.TheConstants.{LIVE_CREDENTIALS, WORKERS, CONNECTIONS}
+use Rattle.kn_base.specs.declared.limits.TheConstants.{GENERATED_CREDENTIALS, WORKERS, CONNECTIONS}
 use Rattle.kn_commands.specs.Names.{AskNames, ask_order, CheckNames, in_order}
 use Rattle.kn_commands.specs.declared.generating.GenNumbers.{GenNumbers}
 use Rattle.kn_commands.specs.Serving.{Order}
@@ -21,7 +21,7 @@ pub record AreGenNumbers (first second : List ℕ) (numbers : GenNumbers) : Type
   pub start : decimal_of first ≡ Some numbers.start
   pub count : decimal_of second ≡ Some numbers.count
   pub some : 1 ≤ numbers.count
-  pub most : numbers.count ≤ LIVE_CREDENTIALS
+  pub most : numbers.count ≤ GENERATED_CREDENTIALS
 
 -- the words ask for the credentials that these numbers give
 pub record GenFor (words : List (List ℕ)) (numbers : GenNumbers) : Type 0 where

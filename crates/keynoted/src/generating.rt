@@ -4,7 +4,7 @@ ghost use Rattle.keynoted.specs.Commands.{AreGenNumbers, AreNoGenNumbers, GenFor
 ghost use Rattle.keynoted.specs.Generating.{IsGenPrinted};
 
 use crate::run::end;
-use kn_base::limits::LIVE_CREDENTIALS;
+use kn_base::limits::GENERATED_CREDENTIALS;
 use kn_base::{NoMemory, Octets, decimal};
 use kn_commands::{GenNumbers, Stop, generate, print_gen};
 use kn_outside::{Failed, Sink};
@@ -29,7 +29,7 @@ fn numbers_of(first: &[u8], second: &[u8]) -> Option<GenNumbers>
 {
     let start = decimal(first)?;
     let count = decimal(second)?;
-    if count < 1 || count > LIVE_CREDENTIALS {
+    if count < 1 || count > GENERATED_CREDENTIALS {
         return None;
     }
     Some(GenNumbers { start, count })
@@ -44,7 +44,7 @@ pub(crate) fn run_gen<R: Wait, O: Sink>(
     out: &mut O,
 ) -> u8
     requires some { 1 ≤ numbers.count }
-    requires most { numbers.count ≤ LIVE_CREDENTIALS }
+    requires most { numbers.count ≤ GENERATED_CREDENTIALS }
     ensures { IsGenPrinted numbers (O.seen out.old) (O.seen out.new) result }
 {
     let measured = match generate(rt, alloc, numbers) {

@@ -51,6 +51,9 @@ pub const COMPLIANCE_VALUE_BYTES: usize = 128;
 /// The live credentials of the shared set.
 pub const LIVE_CREDENTIALS: u32 = 2_048;
 
+/// The credentials that `gen` makes.
+pub const GENERATED_CREDENTIALS: u32 = 2_048;
+
 /// The bytes of the live credentials together.
 pub const LIVE_BYTES: usize = 4_194_304;
 

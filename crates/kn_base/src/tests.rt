@@ -151,6 +151,7 @@ fn limits_in_counts(rt: HostRuntime) {
     assert_eq!(rt; limits::FEWEST_COMPLIANCE_VALUES, 2);
     assert_eq!(rt; limits::MOST_COMPLIANCE_VALUES, 64);
     assert_eq!(rt; limits::LIVE_CREDENTIALS, 2_048);
+    assert_eq!(rt; limits::GENERATED_CREDENTIALS, 2_048);
     assert_eq!(rt; limits::UPDATES, 65_536);
     assert_eq!(rt; limits::WORKERS, 16);
     assert_eq!(rt; limits::PASSES, 64);

@@ -1,5 +1,6 @@
 //! Generating credentials, adding them to a new registry, and settling one query over them.
 ghost use Rattle.std.specs.Prelude.{◌<◌, ◌≤◌, [], length, IfOk, IfErr, OnOk};
+ghost use Rattle.kn_base.specs.declared.limits.TheConstants.{GENERATED_CREDENTIALS};
 ghost use Rattle.kn_generate.specs.Generated.{generated_query, generated_values};
 ghost use Rattle.kn_generate.specs.Measured.{IsMeasured};
 ghost use Rattle.kn_commands.specs.Loaded.{IsLoaded, StopsLoading};
@@ -28,7 +29,7 @@ pub struct GenNumbers {
 /// `NoMemory` comes only for want of memory.
 pub fn generate<R: Wait>(rt: &R, alloc: Global, numbers: GenNumbers) -> Result<Measured, NoMemory>
     requires some { 1 ≤ numbers.count }
-    requires most { numbers.count ≤ 2048 }
+    requires most { numbers.count ≤ GENERATED_CREDENTIALS }
     ensures measured { IfOk result (λ m. IsMeasured (generated_query numbers.start numbers.count) m) }
     ensures low { IfOk result (λ m. m.level < length generated_values) }
 {

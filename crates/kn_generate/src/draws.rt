@@ -1,5 +1,6 @@
 //! The draws of the generator, and the numbers that they give to a credential.
 ghost use Rattle.std.specs.Prelude.{◌≡◌, ◌+◌, ◌<◌, ◌≤◌, ◌-◌};
+ghost use Rattle.kn_base.specs.declared.limits.TheConstants.{GENERATED_CREDENTIALS};
 ghost use Rattle.kn_generate.specs.Generated.{next_state, state_behind, draw_value, numbers_of};
 
 /// The state of the draws.
@@ -38,7 +39,7 @@ impl Draws {
     /// The numbers of the credential of principal `i` of `n`, by six draws.
     pub(crate) fn draw_numbers(&mut self, n: u32, i: u32) -> Numbers
         requires not_last { i + 1 < n }
-        requires most { n ≤ 2048 }
+        requires most { n ≤ GENERATED_CREDENTIALS }
         ensures state { self.new.state ≡ state_behind 6 self.old.state }
         ensures numbers { result ≡ numbers_of n i self.old.state }
     {

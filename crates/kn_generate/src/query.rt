@@ -1,5 +1,6 @@
 //! What is told of the generator's query.
 ghost use Rattle.std.specs.Prelude.{◌≡◌, ◌<◌, ◌≤◌, ◌∷◌, [], length, slice_get, Some, IfOk};
+ghost use Rattle.kn_base.specs.declared.limits.TheConstants.{GENERATED_CREDENTIALS};
 ghost use Rattle.std.specs.Arc.{arc_value};
 ghost use Rattle.kn_meaning.specs.Equations.{Equations};
 ghost use Rattle.kn_answer.specs.Built.{IsBuilt};
@@ -39,7 +40,7 @@ pub struct Measured {
 /// `NoMemory` comes only for want of memory.
 pub fn measure(alloc: Global, snapshot: &Snapshot, count: u32) -> Result<Measured, NoMemory>
     requires some { 1 ≤ count }
-    requires most { count ≤ 2048 }
+    requires most { count ≤ GENERATED_CREDENTIALS }
     ensures measured { IfOk result (λ m. IsMeasured (query_over (arc_value snapshot.now) count) m) }
     ensures low { IfOk result (λ m. m.level < length generated_values) }
 {
@@ -52,7 +53,7 @@ pub fn measure(alloc: Global, snapshot: &Snapshot, count: u32) -> Result<Measure
 /// `NoMemory` comes only for want of memory.
 pub fn build_generated(alloc: Global, snapshot: &Snapshot, count: u32) -> Result<Built, NoMemory>
     requires some { 1 ≤ count }
-    requires most { count ≤ 2048 }
+    requires most { count ≤ GENERATED_CREDENTIALS }
     ensures { IfOk result (λ built. IsBuilt (query_over (arc_value snapshot.now) count) built) }
 {
     let values = values(alloc)?;

@@ -1,5 +1,6 @@
 //! All credentials of the generator.
 ghost use Rattle.std.specs.Prelude.{◌≡◌, ◌≤◌, ◌++◌, ◌∷◌, [], IfOk, OnOk};
+ghost use Rattle.kn_base.specs.declared.limits.TheConstants.{GENERATED_CREDENTIALS};
 ghost use Rattle.kn_generate.specs.Generated.{generated_texts};
 
 use crate::draws::Draws;
@@ -12,7 +13,7 @@ use std::alloc::Global;
 /// `NoMemory` comes only for want of memory.
 pub fn generate_texts(alloc: Global, start: u32, count: u32) -> Result<List<Octets>, NoMemory>
     requires some { 1 ≤ count }
-    requires most { count ≤ 2048 }
+    requires most { count ≤ GENERATED_CREDENTIALS }
     ensures { IfOk result (λ texts. texts ≡ generated_texts start count) }
 {
     let mut texts = List::new(alloc);
