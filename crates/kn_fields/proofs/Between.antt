@@ -1,14 +1,16 @@
 -- The tokens from one place up to another, token by token.
 use Rattle.std.proofs.Common.{◌≡◌, ℕ, zero, suc, ◌+◌, ◌-◌, ◌<◌, ◌≤◌, Bool, true, false, ◌||◌, Option, Some, None, inl, inr, List, [], ◌∷◌, ◌++◌, length, take, drop, get_or, arith, refl, sym, ◌∙◌, ap, drop-cons}
-use Rattle.std.specs.Prelude.{slice_get, if◌then◌else◌}
+use Rattle.std.specs.Prelude.{◌==◌, slice_get, if◌then◌else◌}
 use Rattle.std.specs.List.{list_any}
 use Rattle.std.proofs.lemmas.Option.{slice_get_cases, slice_get_within, none-some, get_or_from_slice_get}
 use Rattle.std.proofs.lemmas.List.{take_more, length-drop, length-take-le, get_or-drop, drop_all}
 use Rattle.std.proofs.Math.Seq.{take-length}
 use Rattle.std.proofs.Math.Numerals.{add-one}
 use Rattle.kn_lex.specs.Cutting.{Seen}
-use Rattle.kn_fields.specs.Fields.{between}
-use Rattle.kn_fields.specs.Scanning.{first_place}
+use Rattle.kn_fields.specs.Fields.{between, is_label, field_of}
+use Rattle.kn_fields.specs.Scanning.{first_place, is_wrong}
+use Rattle.kn_fields.specs.declared.labels.Wrong.{Wrong}
+use Rattle.kn_fields.specs.declared.labels.Wrong.TheVariants.{NoField, Second, LateVersion, BehindSignature}
 
 pub drop_here : (xs : List Seen) (i : ℕ) (t : Seen) → slice_get xs i ≡ Some t → drop i xs ≡ t ∷ drop (i + 1) xs
 drop_here xs i t is =
@@ -141,3 +143,12 @@ unfolding between
 between_length xs i to le fits =
     let size : length (drop i xs) ≡ length xs - i = length-drop i xs in
     length-take-le (to - i) (drop i xs) (omega (arith, size, le, fits))
+
+-- a token within a line that is no label is never wrong
+pub quiet : (wrong : Wrong) (before : List Seen) (token : Seen) → (length before == 0 || token.first) ≡ false → is_label token ≡ false
+    → is_wrong wrong before token ≡ false
+unfolding field_of
+quiet NoField before token within other = rw within refl
+quiet Second before token within other = rw other refl
+quiet LateVersion before token within other = rw other refl
+quiet BehindSignature before token within other = rw other refl

@@ -1,6 +1,7 @@
 -- The scan tells whether the tokens go too deep.
 use Rattle.std.proofs.Common.{◌≡◌, ℕ, suc, ◌+◌, ◌<◌, ◌≤◌, ◌⊎◌, inl, inr, Bool, true, false, ◌||◌, Some, List, [], ◌∷◌, ◌++◌, fold, get_or, drop, length, arith, refl, sym, ◌∙◌, ap, subst}
-use Rattle.std.specs.Prelude.{slice_get, nat_lt}
+use Rattle.std.specs.Prelude.{◌&&◌, ◌==◌, slice_get, nat_lt}
+use Rattle.std.specs.Str.{bytes_eq}
 use Rattle.std.proofs.lemmas.Bool.{false≢true}
 use Rattle.std.proofs.lemmas.Bool.Decides.{Decides-ltb, nat_tests}
 use Rattle.kn_lex.specs.Cutting.{Seen}
@@ -19,6 +20,22 @@ either false b h = inr h
 neither : (a b : Bool) → (a || b) ≡ false → (a ≡ false) × (b ≡ false)
 neither true b h = absurd (false≢true (sym h))
 neither false b h = (refl, h)
+
+and_true : (a : Bool) → (a && true) ≡ a
+and_true true = refl
+and_true false = refl
+
+and_false : (a : Bool) → (a && false) ≡ false
+and_false true = refl
+and_false false = refl
+
+-- texts of one byte
+pub one_byte : (text : List ℕ) (byte : ℕ) → bytes_eq text (byte ∷ []) ≡ (length text == 1 && get_or text 0 0 == byte)
+one_byte [] byte = refl
+one_byte (c ∷ []) byte = and_true (c == byte)
+one_byte (c ∷ d ∷ ds) byte =
+    let more : (length (c ∷ d ∷ ds) == 1) ≡ false = grind (arith, nat_tests) in
+    rw more (and_false (c == byte))
 
 -- the tokens go too deep where so many brackets and signs stand before them
 record DeepFrom (depth run : ℕ) (tokens : List Seen) : Type 0 where

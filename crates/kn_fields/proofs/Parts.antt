@@ -1,10 +1,11 @@
 -- Where a field stands among the tokens.
-use Rattle.std.proofs.Common.{◌≡◌, ℕ, ◌+◌, ◌-◌, ◌<◌, ◌≤◌, Bool, true, false, not, Option, Some, None, List, [], ◌∷◌, length, take, drop, arith, refl, sym, ◌∙◌, ap}
-use Rattle.std.specs.Prelude.{slice_get, take_while, if◌then◌else◌}
+use Rattle.std.proofs.Common.{◌≡◌, ℕ, ◌+◌, ◌-◌, ◌<◌, ◌≤◌, Bool, true, false, not, Option, Some, None, List, [], ◌∷◌, cond, length, take, drop, arith, refl, sym, ◌∙◌, ap}
+use Rattle.std.specs.Prelude.{slice_get, take_while, find, if◌then◌else◌}
 use Rattle.std.specs.List.{prefix_len}
 use Rattle.std.proofs.lemmas.Option.{slice_get_within}
-use Rattle.std.proofs.lemmas.List.{length-drop, drop_all}
-use Rattle.std.proofs.lemmas.List.Sums.{prefix_len-le-length, prefix_len-drop_all}
+use Rattle.std.proofs.lemmas.List.{length-drop, drop_all, drop-drop}
+use Rattle.std.proofs.lemmas.List.Sums.{prefix_len-le-length}
+use Rattle.std.proofs.Math.Numerals.{one-add}
 use Rattle.kn_lex.specs.Cutting.{Seen}
 use Rattle.kn_fields.specs.Fields.{field_number, is_label, field_of, is_this, is_label_of, Field, fields_of, field_with, between, PartIs}
 use Rattle.kn_fields.specs.Faults.{is_version, is_two_by}
@@ -63,21 +64,31 @@ with_found n xs i end t e is h last =
       },
     )
 
-pub prefix_passed : (xs : List Seen) (from i : ℕ) (t : Seen) → from ≡ i + prefix_len goes_on (drop i xs) → Some t ≡ slice_get xs i → false ≡ is_label t
-    → from ≡ i + 1 + prefix_len goes_on (drop (i + 1) xs)
-prefix_passed xs from i t e is h =
-    let here : prefix_len goes_on (drop i xs) ≡ 1 + prefix_len goes_on (drop (i + 1) xs) = ap (prefix_len goes_on) (drop_here xs i t (sym is)) ∙ rw (← h) refl in
-    omega (arith, e, here)
+fields_skipped : (ts : List Seen) → fields_of ts ≡ fields_of (drop (prefix_len goes_on ts) ts)
+unfolding fields_of
+fields_skipped [] = refl
+fields_skipped (t ∷ ts) = by (is_label t) refl (fields_skipped ts)
+  where
+    k : ℕ
+    k = prefix_len goes_on ts
 
-pub prefix_found : (xs : List Seen) (from i : ℕ) (t : Seen) → from ≡ i + prefix_len goes_on (drop i xs) → Some t ≡ slice_get xs i → true ≡ is_label t → i ≡ from
-prefix_found xs from i t e is h =
-    let here : prefix_len goes_on (drop i xs) ≡ 0 = ap (prefix_len goes_on) (drop_here xs i t (sym is)) ∙ rw (← h) refl in
-    omega (arith, e, here)
+    by : (b : Bool) → is_label t ≡ b → fields_of ts ≡ fields_of (drop k ts)
+        → (if b then record { label = t; tokens = take_while goes_on ts } ∷ fields_of ts else fields_of ts) ≡ fields_of (drop (cond (not b) (1 + k) 0) (t ∷ ts))
+    by true e rest = rw e refl
+    by false e rest = rw (one-add k) rest
 
-pub prefix_over : (xs : List Seen) (from i n to : ℕ) → from ≡ i + prefix_len goes_on (drop i xs) → n ≡ length xs → to ≡ length xs → i ≤ to → to ≤ i → n ≡ from
-prefix_over xs from i n to e size same le over =
-    let here : prefix_len goes_on (drop i xs) ≡ 0 = prefix_len-drop_all goes_on xs i (omega (arith, over, same)) in
-    omega (arith, e, here, le, over, size, same)
+-- the tokens up to the next label begin no field
+pub with_skipped : (n : ℕ) (xs : List Seen) (i at : ℕ) (o : Option Field) → o ≡ field_with n (drop i xs) → at ≡ i + prefix_len goes_on (drop i xs)
+    → o ≡ field_with n (drop at xs)
+unfolding field_with
+with_skipped n xs i at o e is =
+    e ∙ ap (find (λ field. is_label_of n field.label)) (fields_skipped (drop i xs) ∙ ap fields_of (drop-drop (prefix_len goes_on (drop i xs)) i xs ∙ ap (λ (k : ℕ). drop k xs) (sym is)))
+
+pub next_within : (xs : List Seen) (i at : ℕ) → i ≤ length xs → at ≡ i + prefix_len goes_on (drop i xs) → (i ≤ at) × (at ≤ length xs)
+next_within xs i at le is =
+    let size : length (drop i xs) ≡ length xs - i = length-drop i xs in
+    let short : prefix_len goes_on (drop i xs) ≤ length (drop i xs) = prefix_len-le-length goes_on (drop i xs) in
+    (omega (arith, is), omega (arith, is, size, short, le))
 
 -- a list of another length than one is no version
 pub no_version : (xs : List Seen) (from to : ℕ) → from ≤ to → to ≤ length xs → (to ≡ from + 1 → ⊥) → false ≡ is_version (between from to xs)

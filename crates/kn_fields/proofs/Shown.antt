@@ -12,7 +12,7 @@ use Rattle.kn_fields.specs.Fields.{Field, field_with, between, PartIs}
 use Rattle.kn_fields.specs.Constants.{IsConstantList}
 use Rattle.kn_fields.specs.Turns.{turn_behind, departs}
 use Rattle.kn_fields.specs.Faults.{is_bad_field, is_second, is_late_version, is_behind_signature, is_version, DepartsAt, Shows, TokensShow, HasFault, fault_order, IsFirstFault, IsWellFielded, HasCause}
-use Rattle.kn_fields.specs.Scanning.{start_of, first_place, else_place, order_place, version_by, version_place, end_place, departure, constant_by, constant_place, fault_at, fault_without, fault_in, of_lexical}
+use Rattle.kn_fields.specs.Scanning.{start_of, first_place, else_place, order_place, version_by, version_place, end_place, departure, constant_by, constant_place, fault_at, fault_without, fault_in, of_lexical, StandsRight}
 use Rattle.kn_fields.specs.declared.constants.Turn.{Turn}
 use Rattle.kn_fields.specs.declared.constants.Turn.TheVariants.{Setting, Equals, Value}
 use Rattle.kn_fields.specs.declared.part.Part.{Part}
@@ -318,6 +318,13 @@ found fault o others at e = ap (λ (x : Option ℕ). fault_at fault x others) e
 pub passed : (fault : ℕ → FieldFault) (o : Option ℕ) (others : Option FieldFault) → None ≡ o → others ≡ fault_at fault o others
 unfolding fault_at
 passed fault o others e = ap (λ (x : Option ℕ). fault_at fault x others) e
+
+-- where no token is wrong by those before it the other faults are left
+pub right_passed : (tokens : List Seen) (others : Option FieldFault) → StandsRight tokens
+    → others ≡ fault_at BadField (first_place is_bad_field [] tokens) (fault_at FieldTwice (first_place is_second [] tokens) (fault_at FieldOrder (order_place tokens) others))
+right_passed tokens others h =
+    passed FieldOrder (order_place tokens) others (sym h.order) ∙ passed FieldTwice (first_place is_second [] tokens) _ (sym h.second)
+    ∙ passed BadField (first_place is_bad_field [] tokens) _ (sym h.field)
 
 pub found_without : (fault : FieldFault) (o : Option Field) (others : Option FieldFault) → o ≡ None → Some fault ≡ fault_without fault o others
 unfolding fault_without

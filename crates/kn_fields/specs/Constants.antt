@@ -6,31 +6,19 @@ use Rattle.kn_env.specs.declared.constant.Constant.{Constant}
 use Rattle.kn_lex.specs.Cutting.{Seen}
 use Rattle.kn_lex.specs.Literal.{literal_value}
 use Rattle.kn_lex.specs.declared.token.Sort.{Sort}
-use Rattle.kn_lex.specs.declared.token.Sort.TheVariants.{Label, Body, Name, Number, Text, Sign}
+use Rattle.kn_lex.specs.declared.token.Sort.TheVariants.{Name, Text, Sign}
 
 abbrev pub is_name_sort : Sort → Bool
-is_name_sort Label = false
-is_name_sort Body = false
 is_name_sort Name = true
-is_name_sort Number = false
-is_name_sort Text = false
-is_name_sort Sign = false
+is_name_sort sort = false
 
 abbrev pub is_sign_sort : Sort → Bool
-is_sign_sort Label = false
-is_sign_sort Body = false
-is_sign_sort Name = false
-is_sign_sort Number = false
-is_sign_sort Text = false
 is_sign_sort Sign = true
+is_sign_sort sort = false
 
 abbrev pub is_text_sort : Sort → Bool
-is_text_sort Label = false
-is_text_sort Body = false
-is_text_sort Name = false
-is_text_sort Number = false
 is_text_sort Text = true
-is_text_sort Sign = false
+is_text_sort sort = false
 
 abbrev pub constant_of : Seen → Seen → Constant
 constant_of name value = record { name = name.text; value = literal_value value.text }

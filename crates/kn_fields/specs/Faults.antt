@@ -8,7 +8,7 @@ use Rattle.kn_lex.specs.Cutting.{Seen, Cuts}
 use Rattle.kn_lex.specs.Faults.{IsFaultless, IsFirstLexicalFault}
 use Rattle.kn_lex.specs.Literal.{literal_value}
 use Rattle.kn_lex.specs.declared.token.Sort.{Sort}
-use Rattle.kn_lex.specs.declared.token.Sort.TheVariants.{Label, Body, Name, Number, Text, Sign}
+use Rattle.kn_lex.specs.declared.token.Sort.TheVariants.{Number, Text}
 use Rattle.kn_fields.specs.Fields.{is_label, field_of, is_label_of, Field, field_with}
 use Rattle.kn_fields.specs.Constants.{constants_of, IsConstantList, BeginsConstantList, HasDeparture}
 use Rattle.kn_fields.specs.declared.fault.FieldFault.{FieldFault}
@@ -54,12 +54,9 @@ abbrev pub is_two : List ℕ → Bool
 is_two text = bytes_eq text (codes "2")
 
 abbrev pub is_two_by : Sort → List ℕ → Bool
-is_two_by Label text = false
-is_two_by Body text = false
-is_two_by Name text = false
 is_two_by Number text = is_two text
 is_two_by Text text = is_two (literal_value text)
-is_two_by Sign text = false
+is_two_by sort text = false
 
 -- one number spelled `2`, or one literal of value `2`
 abbrev pub is_version : List Seen → Bool
@@ -101,13 +98,8 @@ pub record TokensShow (text : List ℕ) (fault : FieldFault) : Type 0 where
 abbrev pub HasFault : List ℕ → FieldFault → Type 0
 HasFault text (TooLong len) = (16384 < length text) × (len ≡ length text)
 HasFault text (Lexical fault) = IsFirstLexicalFault text fault
-HasFault text (BadField at) = TokensShow text (BadField at)
-HasFault text (FieldTwice at) = TokensShow text (FieldTwice at)
-HasFault text (FieldOrder at) = TokensShow text (FieldOrder at)
-HasFault text NoAuthorizer = TokensShow text NoAuthorizer
-HasFault text (Version at) = TokensShow text (Version at)
-HasFault text (Constant at) = TokensShow text (Constant at)
 HasFault text NoMemory = ⊥
+HasFault text fault = TokensShow text fault
 
 -- the one order of faults
 abbrev pub fault_order : FieldFault → ℕ
@@ -136,12 +128,5 @@ constants_in (Some field) = constants_of field.tokens
 
 -- the fault is the first of the text, or there is no memory
 abbrev pub HasCause : List ℕ → FieldFault → Type 0
-HasCause text (TooLong len) = IsFirstFault text (TooLong len)
-HasCause text (Lexical fault) = IsFirstFault text (Lexical fault)
-HasCause text (BadField at) = IsFirstFault text (BadField at)
-HasCause text (FieldTwice at) = IsFirstFault text (FieldTwice at)
-HasCause text (FieldOrder at) = IsFirstFault text (FieldOrder at)
-HasCause text NoAuthorizer = IsFirstFault text NoAuthorizer
-HasCause text (Version at) = IsFirstFault text (Version at)
-HasCause text (Constant at) = IsFirstFault text (Constant at)
 HasCause text NoMemory = Unit {0}
+HasCause text fault = IsFirstFault text fault

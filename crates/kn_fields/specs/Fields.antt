@@ -1,10 +1,9 @@
 -- The fields of an assertion (RFC 2704, section 4). Their numbers are keynoted's own: the order of their
 -- names.
-use Rattle.std.specs.Prelude.{◌≡◌, ℕ, ◌+◌, ◌-◌, ◌<◌, ◌≤◌, ◌==◌, Bool, true, false, not, List, [], ◌∷◌, length, take, drop, slice_get, take_while, find, codes, Option, Some, None, if◌then◌else◌}
+use Rattle.std.specs.Prelude.{◌≡◌, ℕ, ◌+◌, ◌-◌, ◌<◌, ◌≤◌, ◌==◌, Bool, false, not, List, [], ◌∷◌, length, take, drop, slice_get, take_while, find, codes, Option, Some, None, if◌then◌else◌}
 use Rattle.std.specs.Str.{str_eq_ignore_ascii_case}
 use Rattle.kn_lex.specs.Cutting.{Seen}
-use Rattle.kn_lex.specs.declared.token.Sort.{Sort}
-use Rattle.kn_lex.specs.declared.token.Sort.TheVariants.{Label, Body, Name, Number, Text, Sign}
+use Rattle.kn_lex.specs.Seeing.{is_label_sort}
 use Rattle.kn_fields.specs.declared.part.Part.{Part}
 
 -- the number of the field that a label names, in any case of letters
@@ -18,14 +17,6 @@ field_number label =
     else if str_eq_ignore_ascii_case label (codes "Local-Constants:") then Some 6
     else if str_eq_ignore_ascii_case label (codes "Signature:") then Some 7
     else None
-
-abbrev pub is_label_sort : Sort → Bool
-is_label_sort Label = true
-is_label_sort Body = false
-is_label_sort Name = false
-is_label_sort Number = false
-is_label_sort Text = false
-is_label_sort Sign = false
 
 abbrev pub is_label : Seen → Bool
 is_label token = is_label_sort token.sort

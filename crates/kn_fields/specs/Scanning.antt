@@ -1,14 +1,14 @@
 -- What the private readers give: the first fault, computed.
-use Rattle.std.specs.Prelude.{ℕ, Bool, List, [], ◌∷◌, ◌++◌, Option, Some, None, if◌then◌else◌, ◌||◌, nat_lt, false}
+use Rattle.std.specs.Prelude.{◌≡◌, ℕ, Bool, List, [], ◌∷◌, ◌++◌, Option, Some, None, if◌then◌else◌, ◌||◌, nat_lt, false}
 use Rattle.kn_lex.specs.Cutting.{Seen}
 use Rattle.kn_lex.specs.declared.fault.LexFault.{LexFault}
-use Rattle.kn_lex.specs.declared.fault.LexFault.TheVariants.{NotText, BadString, BadToken, Float, Regex, Number, Blank, NoMemory as NoLexMemory}
+use Rattle.kn_lex.specs.declared.fault.LexFault.TheVariants.{NoMemory as NoLexMemory}
 use Rattle.kn_fields.specs.Fields.{Field, field_with}
 use Rattle.kn_fields.specs.Turns.{turn_behind, departs}
 use Rattle.kn_fields.specs.Depth.{depth_behind, run_behind}
 use Rattle.kn_fields.specs.Faults.{is_bad_field, is_second, is_late_version, is_behind_signature, is_version}
 use Rattle.kn_fields.specs.declared.constants.Turn.{Turn}
-use Rattle.kn_fields.specs.declared.constants.Turn.TheVariants.{Setting, Equals, Value}
+use Rattle.kn_fields.specs.declared.constants.Turn.TheVariants.{Setting}
 use Rattle.kn_fields.specs.declared.labels.Wrong.{Wrong}
 use Rattle.kn_fields.specs.declared.labels.Wrong.TheVariants.{NoField, Second, LateVersion, BehindSignature}
 use Rattle.kn_fields.specs.declared.fault.FieldFault.{FieldFault}
@@ -33,6 +33,12 @@ is_wrong BehindSignature = is_behind_signature
 abbrev pub order_place : List Seen → Option ℕ
 order_place tokens = else_place (first_place is_late_version [] tokens) (first_place is_behind_signature [] tokens)
 
+-- no token is wrong by those before it
+pub record StandsRight (tokens : List Seen) : Type 0 where
+  pub field : first_place is_bad_field [] tokens ≡ None
+  pub second : first_place is_second [] tokens ≡ None
+  pub order : order_place tokens ≡ None
+
 abbrev pub start_of : Option Seen → Option ℕ
 start_of None = None
 start_of (Some token) = Some token.span.start
@@ -46,8 +52,7 @@ version_place tokens = version_by (field_with 4 tokens)
 
 abbrev pub end_place : Option ℕ → Turn → Option ℕ
 end_place label Setting = None
-end_place label Equals = label
-end_place label Value = label
+end_place label turn = label
 
 -- where a list of constants departs, or the label's place where it breaks off
 unfoldable pub departure : List Seen → Option ℕ → Option ℕ
@@ -80,14 +85,8 @@ fault_in tokens =
 
 -- what is told of a text whose tokens couldn't be had
 abbrev pub of_lexical : LexFault → FieldFault
-of_lexical (NotText at) = Lexical (NotText at)
-of_lexical (BadString at) = Lexical (BadString at)
-of_lexical (BadToken at) = Lexical (BadToken at)
-of_lexical (Float at) = Lexical (Float at)
-of_lexical (Regex at) = Lexical (Regex at)
-of_lexical (Number at) = Lexical (Number at)
-of_lexical (Blank at) = Lexical (Blank at)
 of_lexical NoLexMemory = NoMemory
+of_lexical fault = Lexical fault
 
 abbrev pub is_past : ℕ → ℕ → Bool
 is_past depth run = nat_lt 64 depth || nat_lt 8 run

@@ -1,4 +1,4 @@
-ghost use Rattle.std.specs.Prelude.{◌≡◌, ◌+◌, ◌<◌, ◌≤◌, ◌^◌, length};
+ghost use Rattle.std.specs.Prelude.{◌≡◌, [], ◌∷◌, ◌+◌, ◌<◌, ◌≤◌, ◌^◌, length};
 ghost use Rattle.kn_lex.specs.Seeing.{seen};
 ghost use Rattle.kn_fields.specs.Constants.{is_sign_sort};
 ghost use Rattle.kn_fields.specs.Depth.{is_sign, is_opening, is_closing, is_prefix, depth_behind, run_behind};
@@ -8,11 +8,14 @@ ghost use Rattle.kn_fields.specs.Scanning.{is_past, goes_deep};
 use kn_base::limits::{OPEN_BRACKETS, PREFIX_SIGNS};
 use kn_lex::{Sort, Token, Tokens};
 
-fn is_sign(token: &Token<'_>, text: &[u8]) -> bool
-    ensures { result ≡ is_sign text.now (seen token.now) }
+/// Whether a token is the sign of this one byte.
+#[inline(always)]
+#[tactic(auto, using(crate::proofs::Deep::one_byte))]
+fn is_sign(token: &Token<'_>, byte: u8) -> bool
+    ensures { result ≡ is_sign (byte ∷ []) (seen token.now) }
 {
     match token.sort {
-        Sort::Sign => token.text == text,
+        Sort::Sign => token.text.len() == 1 && token.text[0] == byte,
         _ => false,
     }
 }
@@ -20,22 +23,19 @@ fn is_sign(token: &Token<'_>, text: &[u8]) -> bool
 fn is_opening(token: &Token<'_>) -> bool
     ensures { result ≡ is_opening (seen token.now) }
 {
-    is_sign(token, b"(".as_slice()) || is_sign(token, b"{".as_slice())
+    is_sign(token, b'(') || is_sign(token, b'{')
 }
 
 fn is_closing(token: &Token<'_>) -> bool
     ensures { result ≡ is_closing (seen token.now) }
 {
-    is_sign(token, b")".as_slice()) || is_sign(token, b"}".as_slice())
+    is_sign(token, b')') || is_sign(token, b'}')
 }
 
 fn is_prefix(token: &Token<'_>) -> bool
     ensures { result ≡ is_prefix (seen token.now) }
 {
-    is_sign(token, b"!".as_slice())
-        || is_sign(token, b"-".as_slice())
-        || is_sign(token, b"@".as_slice())
-        || is_sign(token, b"$".as_slice())
+    is_sign(token, b'!') || is_sign(token, b'-') || is_sign(token, b'@') || is_sign(token, b'$')
 }
 
 /// The brackets that are open behind a token.

@@ -41,6 +41,7 @@ fn field_number(label: &[u8]) -> Option<u8>
     }
 }
 
+#[inline(always)]
 pub(crate) fn is_label(token: &Token<'_>) -> bool
     ensures { result ≡ is_label (seen token.now) }
 {
@@ -51,6 +52,7 @@ pub(crate) fn is_label(token: &Token<'_>) -> bool
 }
 
 /// The number of the field whose label a token is.
+#[inline(always)]
 #[tactic(auto, unfolding(crate::specs::Fields::field_of))]
 pub(crate) fn field_of(token: &Token<'_>) -> Option<u8>
     ensures { result ≡ field_of (seen token.now) }
@@ -62,6 +64,7 @@ pub(crate) fn field_of(token: &Token<'_>) -> Option<u8>
     }
 }
 
+#[inline(always)]
 pub(crate) fn is_label_of(token: &Token<'_>, number: u8) -> bool
     ensures { result ≡ is_label_of number (seen token.now) }
 {

@@ -1,4 +1,4 @@
-ghost use Rattle.std.specs.Prelude.{◌≡◌, ◌≤◌, ◌||◌, ◌==◌, [], length};
+ghost use Rattle.std.specs.Prelude.{◌≡◌, ◌≤◌, ◌||◌, ◌==◌, None, false, [], length};
 ghost use Rattle.std.specs.List.{list_any};
 ghost use Rattle.kn_lex.specs.Seeing.{seen};
 ghost use Rattle.kn_fields.specs.Fields.{is_label, is_label_of, between};
@@ -39,6 +39,7 @@ fn label_before(tokens: &Tokens<'_>, at: u32) -> bool
 }
 
 /// Whether this field, if any, stands before a place.
+#[inline(always)]
 fn is_repeat(tokens: &Tokens<'_>, at: u32, field: Option<u8>) -> bool
     requires { at ≤ length tokens.now }
     ensures { result ≡ is_repeat (between 0 at tokens.now) field }
@@ -62,6 +63,7 @@ pub enum Wrong {
     BehindSignature,
 }
 
+#[inline(always)]
 #[tactic(auto, using(crate::proofs::Between::between_length))]
 /// Whether a label must stand at a place: it is the first one, or begins a line.
 fn is_label_due(tokens: &Tokens<'_>, at: u32, token: &Token<'_>) -> bool
@@ -72,6 +74,7 @@ fn is_label_due(tokens: &Tokens<'_>, at: u32, token: &Token<'_>) -> bool
 }
 
 /// Whether a token is wrong at its place.
+#[inline(always)]
 fn is_wrong(wrong: Wrong, tokens: &Tokens<'_>, at: u32, token: &Token<'_>) -> bool
     requires { at ≤ length tokens.now }
     ensures { result ≡ is_wrong wrong (between 0 at tokens.now) (seen token.now) }
@@ -82,6 +85,35 @@ fn is_wrong(wrong: Wrong, tokens: &Tokens<'_>, at: u32, token: &Token<'_>) -> bo
         Wrong::LateVersion => is_label_of(token, VERSION) && label_before(tokens, at),
         Wrong::BehindSignature => is_label(token) && stands_before(tokens, at, SIGNATURE),
     }
+}
+
+/// Whether a token is wrong at its place in any way. No token within a line is, unless it is a label.
+#[inline(always)]
+fn is_any_wrong(tokens: &Tokens<'_>, at: u32, token: &Token<'_>) -> bool
+    requires { at ≤ length tokens.now }
+    ensures { result ≡ false → (wrong : Wrong) → is_wrong wrong (between 0 at tokens.now) (seen token.now) ≡ false }
+{
+    if !is_label_due(tokens, at, token) && !is_label(token) {
+        return false;
+    }
+    is_wrong(Wrong::NoField, tokens, at, token)
+        || is_wrong(Wrong::Second, tokens, at, token)
+        || is_wrong(Wrong::LateVersion, tokens, at, token)
+        || is_wrong(Wrong::BehindSignature, tokens, at, token)
+}
+
+/// Whether any token is wrong at its place. Only a text with such a token is looked through for each of the ways.
+pub(crate) fn has_wrong(tokens: &Tokens<'_>) -> bool
+    ensures { result ≡ false → (wrong : Wrong) → first_place (is_wrong wrong) [] tokens.now ≡ None }
+{
+    for i in 0..tokens.len() {
+        if let Some(token) = tokens.get(i) {
+            if is_any_wrong(tokens, i, token) {
+                return true;
+            }
+        }
+    }
+    false
 }
 
 /// The place of the first token that is wrong.

@@ -1,14 +1,14 @@
-ghost use Rattle.std.specs.Prelude.{◌≡◌, ◌≤◌, ℕ, List, length, IfOk, IfErr, OnOk};
+ghost use Rattle.std.specs.Prelude.{◌≡◌, ◌≤◌, ℕ, Some, List, length, MatchOption, IfOk, IfErr, OnOk};
 ghost use Rattle.kn_lex.specs.Cutting.{Cuts};
 ghost use Rattle.kn_lex.specs.Faults.{IsFaultless};
 ghost use Rattle.kn_fields.specs.Fields.{field_with, signed_to};
 ghost use Rattle.kn_fields.specs.Faults.{IsWellFielded, HasCause, constants_in};
-ghost use Rattle.kn_fields.specs.Scanning.{of_lexical, fault_in};
+ghost use Rattle.kn_fields.specs.Scanning.{of_lexical, StandsRight, fault_in};
 
 use crate::constants::{constant_place, constants};
 use crate::fault::FieldFault;
 use crate::label::{AUTHORIZER, SIGNATURE};
-use crate::labels::{Wrong, order_place, wrong_place};
+use crate::labels::{Wrong, has_wrong, order_place, wrong_place};
 use crate::outline::Fields;
 use crate::part::{label_start, part_of};
 use crate::version::version_place;
@@ -42,18 +42,31 @@ fn read_tokens<'a>(alloc: Global, text: &'a [u8]) -> Result<Tokens<'a>, FieldFau
     }
 }
 
+/// The first fault by what stands where among the tokens.
+fn wrong_fault(tokens: &Tokens<'_>) -> Option<FieldFault>
+    ensures { MatchOption result (StandsRight tokens.now) (λ fault. fault_in tokens.now ≡ Some fault) }
+{
+    if !has_wrong(tokens) {
+        return None;
+    }
+    if let Some(at) = wrong_place(Wrong::NoField, tokens) {
+        return Some(FieldFault::BadField { at });
+    }
+    if let Some(at) = wrong_place(Wrong::Second, tokens) {
+        return Some(FieldFault::FieldTwice { at });
+    }
+    match order_place(tokens) {
+        Some(at) => Some(FieldFault::FieldOrder { at }),
+        None => None,
+    }
+}
+
 /// The first fault that tokens show, if there is one.
 fn fault_in(alloc: Global, tokens: &Tokens<'_>) -> Result<Option<FieldFault>, NoMemory>
     ensures { IfOk result (λ fault. fault ≡ fault_in tokens.now) }
 {
-    if let Some(at) = wrong_place(Wrong::NoField, tokens) {
-        return Ok(Some(FieldFault::BadField { at }));
-    }
-    if let Some(at) = wrong_place(Wrong::Second, tokens) {
-        return Ok(Some(FieldFault::FieldTwice { at }));
-    }
-    if let Some(at) = order_place(tokens) {
-        return Ok(Some(FieldFault::FieldOrder { at }));
+    if let Some(fault) = wrong_fault(tokens) {
+        return Ok(Some(fault));
     }
     let Some(_authorizer) = part_of(tokens, AUTHORIZER) else {
         return Ok(Some(FieldFault::NoAuthorizer));

@@ -1,9 +1,9 @@
 -- The lines of a file, one at a time.
-use Rattle.std.proofs.Common.{◌≡◌, ℕ, true, false, Bool, ◌+◌, ◌<◌, ◌≤◌, List, [], ◌∷◌, cond, length, take, drop, get_or, arith, refl, ap, if◌then◌else◌}
-use Rattle.std.specs.Prelude.{◌==◌}
+use Rattle.std.proofs.Common.{◌≡◌, ℕ, true, false, Bool, ◌+◌, ◌<◌, ◌≤◌, List, [], ◌∷◌, cond, length, take, drop, arith, refl, sym, ap, if◌then◌else◌}
+use Rattle.std.specs.Prelude.{◌==◌, not}
 use Rattle.std.specs.List.{onto_first}
 use Rattle.std.proofs.Math.Numerals.{one-add}
-use Rattle.std.proofs.lemmas.List.{at_drop_more, at_drop_all}
+use Rattle.kn_lex.specs.Scanning.{line_len}
 use Rattle.kn_files.specs.Lines.{lines_of}
 
 -- how many bytes the first line has
@@ -11,14 +11,23 @@ unfoldable pub line_size : List ℕ → ℕ
 line_size [] = 0
 line_size (byte ∷ bytes) = if byte == 10 then 1 else 1 + line_size bytes
 
-pub line_size_at : (xs : List ℕ) (i : ℕ) → i < length xs
-    → line_size (drop i xs) ≡ (if get_or xs i 0 == 10 then 1 else 1 + line_size (drop (i + 1) xs))
+pub size_within : (bytes : List ℕ) (n : ℕ) → n ≡ line_len bytes → n < length bytes → line_size bytes ≡ n + 1
 unfolding line_size
-line_size_at xs i h = at_drop_more line_size xs i 0 h
+size_within [] n e h = absurd (omega (arith, h))
+size_within (c ∷ cs) n e h = by (c == 10) e (size_within cs (line_len cs) refl)
+  where
+    by : (b : Bool) → n ≡ cond (not b) (1 + line_len cs) 0 → (line_len cs < length cs → line_size cs ≡ line_len cs + 1) → cond b 1 (1 + line_size cs) ≡ n + 1
+    by true e rest = omega (arith, e)
+    by false e rest = let size = rest (omega (arith, h, e)) in omega (arith, size, e)
 
-pub line_size_end : (xs : List ℕ) (i : ℕ) → length xs ≤ i → line_size (drop i xs) ≡ 0
+pub size_at_end : (bytes : List ℕ) (n : ℕ) → n ≡ line_len bytes → length bytes ≤ n → line_size bytes ≡ n
 unfolding line_size
-line_size_end xs i h = at_drop_all line_size xs i h
+size_at_end [] n e h = sym e
+size_at_end (c ∷ cs) n e h = by (c == 10) e (size_at_end cs (line_len cs) refl)
+  where
+    by : (b : Bool) → n ≡ cond (not b) (1 + line_len cs) 0 → (length cs ≤ line_len cs → line_size cs ≡ line_len cs) → cond b 1 (1 + line_size cs) ≡ n
+    by true e rest = absurd (omega (arith, h, e))
+    by false e rest = let size = rest (omega (arith, h, e)) in omega (arith, size, e)
 
 pub line_size_whole : (xs : List ℕ) (n : ℕ) → line_size xs ≡ n → 0 < length xs → lines_of xs ≡ take n xs ∷ lines_of (drop n xs)
 unfolding line_size lines_of

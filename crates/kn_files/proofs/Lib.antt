@@ -1,5 +1,6 @@
 pub mod Rows
 pub mod Cutting
+pub mod Bare
 pub mod Splitting
 pub mod Tokens
 pub mod Whole

@@ -50,27 +50,22 @@ after_byte (Literal quote) byte = after_step (quote_step quote byte) byte
 
 -- a line ends comments and bodies, and a literal goes on where an escaped newline ends the line
 abbrev pub at_line_start : Within → Within
-at_line_start Plain = Plain
-at_line_start Comment = Plain
-at_line_start Body = Plain
 at_line_start (Literal quote) = Literal quote
+at_line_start within = Plain
 
 -- the line begins with the label of a comment, or goes on with its body
 abbrev pub is_of_comment : Within → List ℕ → Bool
-is_of_comment Plain line = is_comment_label (take 8 line)
-is_of_comment Comment line = is_comment_label (take 8 line)
-is_of_comment Body line = is_comment_label (take 8 line) || is_continuation line
 is_of_comment (Literal quote) line = false
+is_of_comment Body line = is_comment_label (take 8 line) || is_continuation line
+is_of_comment within line = is_comment_label (take 8 line)
 
 -- what the next line begins in; quotes have no meaning in a comment's body
 unfoldable pub after_line : Within → List ℕ → Within
 after_line within line = if is_of_comment within line then Body else fold after_byte (at_line_start within) line
 
 abbrev pub is_literal : Within → Bool
-is_literal Plain = false
-is_literal Comment = false
-is_literal Body = false
 is_literal (Literal quote) = true
+is_literal within = false
 
 -- a line of a file, the place of its first byte, and what it begins in
 pub record Line : Type 0 where

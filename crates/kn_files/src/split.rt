@@ -7,23 +7,18 @@ ghost use Rattle.kn_files.specs.Splitting.{span_if};
 use crate::within::{Within, after_line, is_literal};
 use kn_base::limits::FILE_BYTES;
 use kn_base::{List, NoMemory, Span};
-use kn_lex::{goes_on, is_blank};
+use kn_lex::{goes_on, is_blank, line_len};
 use std::alloc::Global;
 
 /// The bytes of the line that begins here, with its newline.
-#[tactic(auto, using(crate::proofs::Cutting::line_size_at, crate::proofs::Cutting::line_size_end, crate::proofs::Cutting::line_size_whole))]
-fn line_len(rest: &[u8]) -> usize
+fn line_size(rest: &[u8]) -> usize
     requires { 0 < length rest.now }
     ensures line { lines_of rest.now ≡ take result rest.now ∷ lines_of (drop result rest.now) }
     ensures some { 0 < result }
     ensures within { result ≤ length rest.now }
 {
-    for (i, byte) in rest.iter().enumerate() {
-        if *byte == b'\n' {
-            return i + 1;
-        }
-    }
-    rest.len()
+    let len = line_len(rest);
+    if len < rest.len() { len + 1 } else { len }
 }
 
 fn is_assertion(text: &[u8]) -> bool
@@ -77,7 +72,7 @@ pub fn split_file(alloc: Global, file: &[u8]) -> Result<List<Span>, NoMemory>
     let mut at: usize = 0;
     while at < file.len() {
         let rest = file.split_at(at).1;
-        let line = rest.split_at(line_len(rest)).0;
+        let line = rest.split_at(line_size(rest)).0;
         let next = at + line.len();
         if is_cut(within, line) {
             push_piece(&mut spans, file, start, at)?;

@@ -1,6 +1,7 @@
 ghost use Rattle.std.specs.Prelude.{◌≡◌, take, fold};
 ghost use Rattle.kn_lex.specs.Cutting.{is_comment_label};
 ghost use Rattle.kn_files.specs.Lines.{after_plain, after_byte, at_line_start, is_of_comment, after_line, is_literal};
+ghost use Rattle.kn_files.specs.Splitting.{ends_bare, settled};
 
 use kn_lex::{Quote, Step, is_comment_label, is_continuation, quote_step};
 
@@ -78,13 +79,27 @@ fn after_bytes(within: Within, bytes: &[u8]) -> Within
     within
 }
 
-/// What the next line begins in.
+/// Whether a line ends with a newline, before which a byte stands that is neither white space nor a backslash: no literal
+/// goes on behind it.
+#[tactic(auto, using(crate::proofs::Bare::ends_bare_by_last, crate::proofs::Bare::ends_bare_short))]
+fn ends_bare(line: &[u8]) -> bool
+    ensures { result ≡ ends_bare line.now }
+{
+    let len = line.len();
+    len > 1
+        && line[len - 1] == b'\n'
+        && !matches!(line[len - 2], b' ' | b'\t' | b'\r' | b'\n' | b'\\')
+}
+
+/// What the next line begins in. Whether a comment stands at the end of the line isn't told.
 #[tactic(auto, unfolding(crate::specs::Lines::after_line))]
 pub(crate) fn after_line(within: Within, line: &[u8]) -> Within
-    ensures { result ≡ after_line within line.now }
+    ensures { settled result ≡ settled (after_line within line.now) }
 {
     if is_of_comment(within, line) {
         Within::Body
+    } else if ends_bare(line) {
+        Within::Plain
     } else {
         after_bytes(at_line_start(within), line)
     }

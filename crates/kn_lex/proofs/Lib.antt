@@ -8,6 +8,8 @@ pub mod Along
 pub mod Pieces
 pub mod Settled
 pub mod Reaching
+pub mod Firsts
+pub mod Labels
 pub mod Scans
 pub mod Spelled
 pub mod Facts

@@ -5,9 +5,9 @@ use Rattle.std.specs.Str.{str_eq_ignore_ascii_case}
 use Rattle.kn_base.specs.declared.span.Span.{Span}
 use Rattle.kn_lex.specs.Spelling.{Spells}
 use Rattle.kn_lex.specs.declared.token.Sort.{Sort}
-use Rattle.kn_lex.specs.declared.token.Sort.TheVariants.{Label, Body, Name, Number, Text, Sign}
+use Rattle.kn_lex.specs.declared.token.Sort.TheVariants.{Label}
 use Rattle.kn_lex.specs.declared.piece.Piece.{Piece}
-use Rattle.kn_lex.specs.declared.piece.Piece.TheVariants.{White, Comment, Token}
+use Rattle.kn_lex.specs.declared.piece.Piece.TheVariants.{White, Token}
 use Rattle.kn_lex.specs.declared.piece.Place.{Place}
 use Rattle.kn_lex.specs.declared.piece.Context.{Context}
 use Rattle.kn_lex.specs.declared.piece.Context.TheVariants.{LineStart, WithinLine, CommentBody}
@@ -37,18 +37,12 @@ is_comment_label bytes = str_eq_ignore_ascii_case bytes (codes "Comment:")
 
 abbrev pub context_after : Piece → List ℕ → Context
 context_after White bytes = if ends_line bytes then LineStart else WithinLine
-context_after Comment bytes = WithinLine
 context_after (Token Label) bytes = if is_comment_label bytes then CommentBody else WithinLine
-context_after (Token Body) bytes = WithinLine
-context_after (Token Name) bytes = WithinLine
-context_after (Token Number) bytes = WithinLine
-context_after (Token Text) bytes = WithinLine
-context_after (Token Sign) bytes = WithinLine
+context_after piece bytes = WithinLine
 
 abbrev pub is_token : Piece → Bool
-is_token White = false
-is_token Comment = false
 is_token (Token sort) = true
+is_token piece = false
 
 -- the place behind a piece
 abbrev pub place_after : Place → Piece → List ℕ → Place
@@ -75,8 +69,7 @@ pub record Seen : Type 0 where
 
 abbrev pub is_line_start : Context → Bool
 is_line_start LineStart = true
-is_line_start WithinLine = false
-is_line_start CommentBody = false
+is_line_start context = false
 
 abbrev pub is_empty : List ℕ → Bool
 is_empty [] = true
@@ -84,8 +77,6 @@ is_empty (byte ∷ bytes) = false
 
 -- the token that a piece at this place is; white space, comments and empty bodies are none
 abbrev pub token_of : Context → ℕ → Piece → List ℕ → List Seen
-token_of context at White bytes = []
-token_of context at Comment bytes = []
 token_of context at (Token sort) bytes =
     if is_empty bytes then [] else record {
       sort = sort;
@@ -93,6 +84,7 @@ token_of context at (Token sort) bytes =
       text = bytes;
       first = is_line_start context;
     } ∷ []
+token_of context at piece bytes = []
 
 -- the tokens among the pieces, the first of which begins at this place
 abbrev pub tokens_of : Place → ℕ → List ℕ → List (Piece × ℕ) → List Seen

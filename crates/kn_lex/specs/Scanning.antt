@@ -123,14 +123,8 @@ zero_fault at None = None
 zero_fault at (Some k) = Some (NotText (at + k))
 
 abbrev pub is_number : Piece → Bool
-is_number White = false
-is_number Comment = false
-is_number (Token Label) = false
-is_number (Token Body) = false
-is_number (Token Name) = false
 is_number (Token Number) = true
-is_number (Token Text) = false
-is_number (Token Sign) = false
+is_number piece = false
 
 abbrev pub piece_fault : ℕ → Piece → List ℕ → List ℕ → Option LexFault
 piece_fault at piece bytes rest =

@@ -1,13 +1,29 @@
 -- What a contract sees of a token and of an answer.
-use Rattle.std.specs.Prelude.{◌≡◌, ℕ, List, Result, Ok, Err}
+use Rattle.std.specs.Prelude.{◌≡◌, ℕ, ◌+◌, Bool, true, false, nat_le, List, [], ◌∷◌, if◌then◌else◌, Result, Ok, Err}
 use Rattle.kn_lex.specs.Cutting.{Seen}
 use Rattle.kn_lex.specs.Faults.{IsFirstLexicalFault}
 use Rattle.kn_lex.specs.declared.fault.LexFault.{LexFault}
-use Rattle.kn_lex.specs.declared.fault.LexFault.TheVariants.{NotText, BadString, BadToken, Float, Regex, Number, Blank, NoMemory}
+use Rattle.kn_lex.specs.declared.fault.LexFault.TheVariants.{NoMemory}
+use Rattle.kn_lex.specs.declared.token.Sort.{Sort}
+use Rattle.kn_lex.specs.declared.token.Sort.TheVariants.{Label}
 use Rattle.kn_lex.specs.declared.token.Token.{Token}
 
 abbrev pub seen : Token → Seen
 seen token = record { sort = token.sort; span = token.span; text = token.text.now; first = token.first }
+
+abbrev pub is_label_sort : Sort → Bool
+is_label_sort Label = true
+is_label_sort sort = false
+
+-- the places of the labels among tokens, the first of which stands at this place
+unfoldable pub label_places : ℕ → List Seen → List ℕ
+label_places at [] = []
+label_places at (token ∷ tokens) = if is_label_sort token.sort then at ∷ label_places (at + 1) tokens else label_places (at + 1) tokens
+
+-- the first of some places that isn't below one, or the end
+unfoldable pub place_from : ℕ → ℕ → List ℕ → ℕ
+place_from from end [] = end
+place_from from end (at ∷ places) = if nat_le from at then at else place_from from end places
 
 -- these tokens are given, unless there is no memory
 abbrev pub GivesTokens : List Seen → Result (List Seen) LexFault → Type 0
@@ -16,11 +32,5 @@ GivesTokens tokens (Err fault) = fault ≡ NoMemory
 
 -- the fault is the first of the text, or there is no memory
 abbrev pub HasCause : List ℕ → LexFault → Type 0
-HasCause text (NotText p) = IsFirstLexicalFault text (NotText p)
-HasCause text (BadString p) = IsFirstLexicalFault text (BadString p)
-HasCause text (BadToken p) = IsFirstLexicalFault text (BadToken p)
-HasCause text (Float p) = IsFirstLexicalFault text (Float p)
-HasCause text (Regex p) = IsFirstLexicalFault text (Regex p)
-HasCause text (Number p) = IsFirstLexicalFault text (Number p)
-HasCause text (Blank p) = IsFirstLexicalFault text (Blank p)
 HasCause text NoMemory = Unit {0}
+HasCause text fault = IsFirstLexicalFault text fault

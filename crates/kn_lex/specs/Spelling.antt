@@ -108,14 +108,8 @@ SpellsPlain first (Token Sign) bytes = is_sign bytes ≡ true
 
 -- the bytes spell the body of a comment, which may be empty
 abbrev pub SpellsBody : Piece → List ℕ → Type 0
-SpellsBody White bytes = ⊥
-SpellsBody Comment bytes = ⊥
-SpellsBody (Token Label) bytes = ⊥
 SpellsBody (Token Body) bytes = is_body bytes ≡ true
-SpellsBody (Token Name) bytes = ⊥
-SpellsBody (Token Number) bytes = ⊥
-SpellsBody (Token Text) bytes = ⊥
-SpellsBody (Token Sign) bytes = ⊥
+SpellsBody piece bytes = ⊥
 
 -- the bytes spell this sort where they stand: labels stand at the beginning of a line alone, and behind
 -- the label of a comment nothing but its body is read

@@ -50,16 +50,41 @@ pub(crate) fn is_octal_digit(byte: u8) -> bool
     b'0' <= byte && byte <= b'7'
 }
 
+#[inline(always)]
 pub(crate) fn is_short_sign(byte: u8) -> bool
     ensures { result ≡ is_short_sign byte }
 {
-    b"(){},;!<>=+-*/%^.$@".contains(&byte)
+    matches!(
+        byte,
+        b'(' | b')'
+            | b'{'
+            | b'}'
+            | b','
+            | b';'
+            | b'!'
+            | b'<'
+            | b'>'
+            | b'='
+            | b'+'
+            | b'-'
+            | b'*'
+            | b'/'
+            | b'%'
+            | b'^'
+            | b'.'
+            | b'$'
+            | b'@'
+    )
 }
 
+#[inline(always)]
 pub(crate) fn is_long_sign(byte: u8, next: u8) -> bool
     ensures { result ≡ is_long_sign byte next }
 {
-    (byte == next && b"&|=".contains(&byte))
-        || (next == b'=' && b"!<>".contains(&byte))
-        || (byte == b'-' && next == b'>')
+    match (byte, next) {
+        (b'&', b'&') | (b'|', b'|') => true,
+        (b'=' | b'!' | b'<' | b'>', b'=') => true,
+        (b'-', b'>') => true,
+        _ => false,
+    }
 }

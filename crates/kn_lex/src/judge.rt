@@ -1,4 +1,4 @@
-ghost use Rattle.std.specs.Prelude.{◌≡◌, ◌+◌, ◌<◌, ◌≤◌, ◌^◌, true, false, nat_lt, ◌==◌, length, take, drop, IfSome, IfOk, IfErr, OnOk};
+ghost use Rattle.std.specs.Prelude.{◌≡◌, ◌+◌, ◌<◌, ◌≤◌, ◌^◌, true, false, nat_lt, ◌==◌, None, length, take, drop, IfSome, IfOk, IfErr, OnOk};
 ghost use Rattle.kn_base.specs.Decimal.{digits_value};
 ghost use Rattle.kn_lex.specs.Faults.{begins_fraction, begins_match, number_max, goes_on};
 ghost use Rattle.kn_lex.specs.Scanning.{stuck_fault, number_fault, zero_place, piece_fault, fault_by, piece_at, is_bad_blank, fault_at};
@@ -8,6 +8,7 @@ use crate::fault::LexFault;
 use crate::piece::{Context, Piece, Place, is_line_start, is_number};
 use crate::scan::{is_blank, piece_at};
 use crate::token::Sort;
+use memchr::memchr;
 
 /// The greatest number, which is that of 32 bits with a sign.
 const NUMBER_MAX: u64 = 2_147_483_647;
@@ -89,25 +90,33 @@ fn number_fault(at: u32, digits: &[u8], rest: &[u8]) -> Option<LexFault>
 }
 
 /// The place of the first byte 0.
-#[tactic(auto, using(crate::proofs::Scans::zero_place_at, crate::proofs::Scans::zero_place_end, crate::proofs::Scans::more_len_twice, crate::proofs::Scans::more_len_none))]
 fn zero_place(bytes: &[u8]) -> Option<usize>
     ensures place { result ≡ zero_place bytes.now }
     ensures within { IfSome result (λ k. k < length bytes.now) }
 {
-    for (i, byte) in bytes.iter().enumerate() {
-        if *byte == 0 {
-            return Some(i);
-        }
-    }
-    None
+    memchr(0, bytes)
 }
 
-fn piece_fault(at: u32, piece: Piece, bytes: &[u8], rest: &[u8]) -> Option<LexFault>
-    requires { at + length bytes.now < 2 ^ 32 }
+/// Whether the bytes have a byte 0.
+pub(crate) fn has_zero(bytes: &[u8]) -> bool
+    ensures { result ≡ false → zero_place bytes.now ≡ None }
+{
+    match zero_place(bytes) {
+        Some(_) => true,
+        None => false,
+    }
+}
+
+fn piece_fault(at: u32, piece: Piece, bytes: &[u8], rest: &[u8], has_zero: bool) -> Option<LexFault>
+    requires short { at + length bytes.now < 2 ^ 32 }
+    requires no_zero { has_zero ≡ false → zero_place bytes.now ≡ None }
     ensures { result ≡ piece_fault at piece bytes.now rest.now }
 {
     if is_number(piece) {
         return number_fault(at, bytes, rest);
+    }
+    if !has_zero {
+        return None;
     }
     match zero_place(bytes) {
         Some(k) => Some(LexFault::NotText { at: at + k as u32 }),
@@ -133,9 +142,16 @@ fn check_blank(place: Place, at: u32, rest: &[u8], settled: bool) -> Result<bool
 }
 
 /// The piece that begins here, or the fault that what is left shows, blank lines aside.
-fn clean_piece(context: Context, at: u32, rest: &[u8]) -> Result<(Piece, usize), LexFault>
+#[inline(always)]
+fn clean_piece(
+    context: Context,
+    at: u32,
+    rest: &[u8],
+    has_zero: bool,
+) -> Result<(Piece, usize), LexFault>
     requires some { 0 < length rest.now }
     requires short { at + length rest.now < 2 ^ 32 }
+    requires no_zero { has_zero ≡ false → zero_place rest.now ≡ None }
     ensures piece { IfOk result (λ p. piece_at context rest.now ≡ Some p) }
     ensures clean { IfOk result (λ p. fault_by at rest.now (piece_at context rest.now) ≡ None) }
     ensures within { IfOk result (λ p. p.1 ≤ length rest.now) }
@@ -145,7 +161,7 @@ fn clean_piece(context: Context, at: u32, rest: &[u8]) -> Result<(Piece, usize),
         return Err(stuck_fault(at, rest));
     };
     let (bytes, more) = rest.split_at(len);
-    match piece_fault(at, piece, bytes, more) {
+    match piece_fault(at, piece, bytes, more, has_zero) {
         Some(fault) => Err(fault),
         None => Ok((piece, len)),
     }
@@ -160,16 +176,20 @@ pub(crate) struct Read {
     pub(crate) settled: bool,
 }
 
-/// The piece that begins here, or the first fault that this place shows.
+/// The piece that begins here, or the first fault that this place shows. Most texts have no byte 0, and are then looked
+/// through for one only once, before the first piece.
+#[inline(always)]
 pub(crate) fn read_piece(
     place: Place,
     at: u32,
     rest: &[u8],
     settled: bool,
+    has_zero: bool,
 ) -> Result<Read, LexFault>
     requires some { 0 < length rest.now }
     requires short { at + length rest.now < 2 ^ 32 }
     requires known { settled ≡ true → goes_on false rest.now ≡ false }
+    requires no_zero { has_zero ≡ false → zero_place rest.now ≡ None }
     ensures piece { IfOk result (λ read. piece_at place.context rest.now ≡ Some (read.piece, read.len)) }
     ensures clean { IfOk result (λ read. fault_at place at rest.now ≡ None) }
     ensures within { IfOk result (λ read. read.len ≤ length rest.now) }
@@ -180,7 +200,7 @@ pub(crate) fn read_piece(
         Ok(settled) => settled,
         Err(fault) => return Err(fault),
     };
-    match clean_piece(place.context, at, rest) {
+    match clean_piece(place.context, at, rest, has_zero) {
         Ok((piece, len)) => Ok(Read {
             piece,
             len,

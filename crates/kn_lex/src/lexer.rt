@@ -1,19 +1,35 @@
-ghost use Rattle.std.specs.Prelude.{◌≡◌, ◌+◌, ◌≤◌, ◌<◌, ◌^◌, ◌++◌, List, length, map, OnOk, IfOk, IfErr};
+ghost use Rattle.std.specs.Prelude.{◌≡◌, ◌+◌, ◌≤◌, ◌<◌, ◌^◌, ◌++◌, ◌∷◌, [], if◌then◌else◌, List, length, map, OnOk, IfOk, IfErr};
 ghost use Rattle.kn_lex.specs.Cutting.{token_of, Seen, Cuts};
 ghost use Rattle.kn_lex.specs.Faults.{IsFaultless};
-ghost use Rattle.kn_lex.specs.Seeing.{seen, GivesTokens, HasCause};
+ghost use Rattle.kn_lex.specs.Seeing.{seen, is_label_sort, label_places, GivesTokens, HasCause};
 
 use crate::fault::LexFault;
-use crate::judge::read_piece;
+use crate::judge::{has_zero, read_piece};
 use crate::piece::{Context, Piece, is_line_start, place_after, start};
-use crate::token::{Token, Tokens};
+use crate::token::{Sort, Token, Tokens};
 use kn_base::limits::ASSERTION_BYTES;
 use kn_base::{List, Span};
 use std::alloc::Global;
 
-/// Adds the token that a piece is. White space, comments and empty bodies are none.
+/// Adds the place of a token to those of the labels, if it is one.
+fn push_label(labels: &mut List<u32>, sort: Sort, at: u32) -> Result<(), LexFault>
+    ensures ok { OnOk result (labels.new ≡ labels.old ++ (if is_label_sort sort then at ∷ [] else [])) }
+    ensures err { IfErr result (λ fault. fault ≡ LexFault.NoMemory) }
+{
+    let Sort::Label = sort else {
+        return Ok(());
+    };
+    match labels.push(at) {
+        Ok(()) => Ok(()),
+        Err(_) => Err(LexFault::NoMemory),
+    }
+}
+
+/// Adds the token that a piece is, and its place if it is a label. White space, comments and empty bodies are none.
+#[tactic(auto, unfolding(crate::specs::Seeing::label_places))]
 fn push_token<'a>(
     list: &mut List<Token<'a>>,
+    labels: &mut List<u32>,
     context: Context,
     at: u32,
     piece: Piece,
@@ -21,6 +37,7 @@ fn push_token<'a>(
 ) -> Result<(), LexFault>
     requires { at + length bytes.now < 2 ^ 32 }
     ensures ok { OnOk result (map seen list.new ≡ map seen list.old ++ token_of context at piece bytes.now) }
+    ensures labels { OnOk result (labels.new ≡ labels.old ++ label_places (length list.old) (token_of context at piece bytes.now)) }
     ensures err { IfErr result (λ fault. fault ≡ LexFault.NoMemory) }
 {
     let Piece::Token(sort) = piece else {
@@ -29,6 +46,7 @@ fn push_token<'a>(
     if bytes.is_empty() {
         return Ok(());
     }
+    push_label(labels, sort, list.len())?;
     let token = Token {
         sort,
         span: Span {
@@ -45,6 +63,7 @@ fn push_token<'a>(
 }
 
 /// The tokens of a text, or its first lexical fault (RFC 2704, section 4; the faults are keynoted's own).
+#[tactic(auto, unfolding(crate::specs::Seeing::label_places))]
 pub fn tokens<'a>(alloc: Global, text: &'a [u8]) -> Result<Tokens<'a>, LexFault>
     requires { length text.now ≤ ASSERTION_BYTES }
     ensures found { IfOk result (λ tokens. Cuts text.now tokens) }
@@ -52,18 +71,27 @@ pub fn tokens<'a>(alloc: Global, text: &'a [u8]) -> Result<Tokens<'a>, LexFault>
     ensures only { (tokens : List Seen) → Cuts text.now tokens → IsFaultless text.now → GivesTokens tokens result }
     ensures stuck { IfErr result (λ fault. HasCause text.now fault) }
 {
+    let has_zero = has_zero(text);
     let mut list = List::new(alloc);
+    let mut labels = List::new(alloc);
     let mut place = start();
     let mut settled = false;
     let mut at: usize = 0;
     while at < text.len() {
         let rest = text.split_at(at).1;
-        let read = match read_piece(place, at as u32, rest, settled) {
+        let read = match read_piece(place, at as u32, rest, settled, has_zero) {
             Ok(read) => read,
             Err(fault) => return Err(fault),
         };
         let bytes = rest.split_at(read.len).0;
-        match push_token(&mut list, place.context, at as u32, read.piece, bytes) {
+        match push_token(
+            &mut list,
+            &mut labels,
+            place.context,
+            at as u32,
+            read.piece,
+            bytes,
+        ) {
             Ok(()) => {}
             Err(_) => return Err(LexFault::NoMemory),
         }
@@ -71,5 +99,5 @@ pub fn tokens<'a>(alloc: Global, text: &'a [u8]) -> Result<Tokens<'a>, LexFault>
         settled = read.settled;
         at += read.len;
     }
-    Ok(Tokens::of(list))
+    Ok(Tokens::of(list, labels))
 }

@@ -18,7 +18,7 @@ pub use judge::goes_on;
 pub use lexer::tokens;
 pub use piece::is_comment_label;
 pub use quote::{Quote, Step, quote_step};
-pub use scan::{is_blank, is_continuation};
+pub use scan::{is_blank, is_continuation, line_len};
 pub use token::{Sort, Token, Tokens};
 
 #[cfg(test)]

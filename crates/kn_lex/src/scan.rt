@@ -12,6 +12,7 @@ use crate::bytes::{
 use crate::piece::{Context, Piece};
 use crate::quote::quote_len;
 use crate::token::Sort;
+use memchr::memchr;
 
 #[tactic(auto, using(crate::proofs::Scans::white_len_at, crate::proofs::Scans::white_len_end))]
 fn white_len(rest: &[u8]) -> usize
@@ -29,16 +30,15 @@ fn white_len(rest: &[u8]) -> usize
     rest.len()
 }
 
-fn line_len(rest: &[u8]) -> usize
+/// The bytes of the line that begins here, without its newline.
+pub fn line_len(rest: &[u8]) -> usize
     ensures len { result ≡ line_len rest.now }
     ensures within { result ≤ length rest.now }
 {
-    for (i, byte) in rest.iter().enumerate() {
-        if *byte == b'\n' {
-            return i;
-        }
+    match memchr(b'\n', rest) {
+        Some(len) => len,
+        None => rest.len(),
     }
-    rest.len()
 }
 
 fn name_len(rest: &[u8]) -> usize
@@ -131,6 +131,7 @@ fn body_len(rest: &[u8]) -> usize
     rest.len()
 }
 
+#[inline(always)]
 fn sign_len(rest: &[u8]) -> Option<usize>
     ensures len { result ≡ sign_len rest.now }
     ensures within { IfSome result (λ len. len ≤ length rest.now) }
@@ -145,6 +146,7 @@ fn sign_len(rest: &[u8]) -> Option<usize>
     }
 }
 
+#[inline(always)]
 fn word_piece(first: bool, rest: &[u8]) -> (Piece, usize)
     ensures piece { Some result ≡ word_piece (if first then label_len rest.now else None) rest.now }
     ensures within { result.1 ≤ length rest.now }
@@ -166,6 +168,7 @@ fn with_sort(sort: Sort, len: Option<usize>) -> Option<(Piece, usize)>
     }
 }
 
+#[inline(always)]
 #[tactic(auto, using(crate::proofs::Scans::plain_piece_at, crate::proofs::Scans::plain_piece_end))]
 fn plain_piece(first: bool, rest: &[u8]) -> Option<(Piece, usize)>
     ensures piece { result ≡ plain_piece first rest.now }
@@ -191,6 +194,7 @@ fn plain_piece(first: bool, rest: &[u8]) -> Option<(Piece, usize)>
 }
 
 /// The piece that begins here, with its length.
+#[inline(always)]
 pub(crate) fn piece_at(context: Context, rest: &[u8]) -> Option<(Piece, usize)>
     ensures piece { result ≡ piece_at context rest.now }
     ensures within { IfSome result (λ p. p.1 ≤ length rest.now) }

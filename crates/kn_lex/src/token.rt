@@ -1,4 +1,5 @@
-ghost use Rattle.std.specs.Prelude.{◌≡◌, ◌↔◌, IsTrue, length, map, slice_get};
+ghost use Rattle.std.specs.Prelude.{◌≡◌, ◌↔◌, ◌+◌, ◌≤◌, IsTrue, not, length, map, drop, slice_get};
+ghost use Rattle.std.specs.List.{prefix_len};
 ghost use Rattle.std.specs.Option.{option_copied, option_map};
 
 use kn_base::{List, Span};
@@ -25,37 +26,42 @@ pub enum Sort {
 #[derive(Debug, Clone, Copy)]
 pub struct Token<'a> {
     pub sort: Sort,
+    /// Whether it stands at the beginning of a line.
+    pub first: bool,
     /// Where it stands in the text, in bytes.
     pub span: Span,
     /// Its bytes, as they stand in the text.
     pub text: &'a [u8],
-    /// Whether it stands at the beginning of a line.
-    pub first: bool,
 }
 
 /// The tokens of a text in their order, seen as that list.
 #[derive(Debug, Drop)]
 pub struct Tokens<'a> {
     list: List<Token<'a>>,
+    /// The places of the labels among them.
+    labels: List<u32>,
 }
 
 impl<'a> Model for Tokens<'a> {
-    ghost use Rattle.std.specs.Prelude.{List, map};
+    ghost use Rattle.std.specs.Prelude.{◌≡◌, List, map};
     ghost use Rattle.kn_lex.specs.Cutting.{Seen};
-    ghost use Rattle.kn_lex.specs.Seeing.{seen};
+    ghost use Rattle.kn_lex.specs.Seeing.{seen, label_places};
 
     ghost Value = { List Seen };
 
     ghost view = { λ tokens. map seen tokens.list };
+
+    ghost invariant = { λ tokens. tokens.labels ≡ label_places 0 (map seen tokens.list) };
 }
 
 impl<'a> Tokens<'a> {
-    ghost use Rattle.kn_lex.specs.Seeing.{seen};
+    ghost use Rattle.kn_lex.specs.Seeing.{seen, is_label_sort, label_places};
 
-    pub(crate) fn of(list: List<Token<'a>>) -> Tokens<'a>
+    pub(crate) fn of(list: List<Token<'a>>, labels: List<u32>) -> Tokens<'a>
+        requires { labels ≡ label_places 0 (map seen list) }
         ensures { result ≡ map seen list.entry }
     {
-        Tokens { list }
+        Tokens { list, labels }
     }
 
     pub fn len(&self) -> u32
@@ -75,5 +81,18 @@ impl<'a> Tokens<'a> {
         ensures { option_map seen (option_copied result) ≡ slice_get self.now i }
     {
         self.list.get(i)
+    }
+
+    /// The place of the first label from place `from` on, or the number of tokens. No other tokens are looked at.
+    pub fn next_label(&self, from: u32) -> u32
+        requires { from ≤ length self.now }
+        ensures { result ≡ from + prefix_len (λ token. not (is_label_sort token.sort)) (drop from self.now) }
+    {
+        for at in self.labels.as_slice() {
+            if from <= *at {
+                return *at;
+            }
+        }
+        self.list.len()
     }
 }

@@ -1,8 +1,9 @@
-use Rattle.std.proofs.Common.{sym, subst, ◌∙◌, All}
+use Rattle.std.proofs.Common.{refl, sym, subst, ◌∙◌, All}
 use Rattle.kn_base.specs.declared.span.Span.{Span}
 use Rattle.std.specs.Prelude.{List}
 use Rattle.kn_files.specs.Pieces.{IsWithin}
 use Rattle.kn_files.specs.declared.within.Within.TheVariants.{Plain}
+use Rattle.kn_files.proofs.Bare.{split_settled}
 use Rattle.kn_files.proofs.Splitting.{IsSplit, IsFirstLine, split_start, split_on, split_cut, split_end, spans_within}
 use Rattle.kn_files.proofs.split.split_file.Goals as goal
 use Rattle.kn_files.proofs.split.split_file.Goals.{then-is_cut+in_ok-push_piece, else-is_cut}
@@ -12,14 +13,14 @@ loop-at-init c = subst (λ (spans : List Span). IsSplit c.args.file.now 0 0 Plai
 
 pub loop-at-preserved : goal.loop-at-preserved
 loop-at-preserved c =
-    let line : IsFirstLine c.args.file.now c.loop-at.at c.split_at.result.1.now c.split_at-in-loop-at.result.0.now c.line_len.result =
-    record { left = c.split_at.ensures.back; front = c.split_at-in-loop-at.ensures.front; size = c.line_len.ensures.within; cut = c.line_len.ensures.line } in
+    let line : IsFirstLine c.args.file.now c.loop-at.at c.split_at.result.1.now c.split_at-in-loop-at.result.0.now c.line_size.result =
+    record { left = c.split_at.ensures.back; front = c.split_at-in-loop-at.ensures.front; size = c.line_size.ensures.within; cut = c.line_size.ensures.line } in
     elim c.if-is_cut.branch [
       | then-is_cut+in_ok-push_piece w ↦
-          rw w.start-is (split_cut _ _ _ _ _ _ _ _ _ _ c.loop-at.invariant line (sym c.is_cut.ensures ∙ w.if-is_cut.true) c.after_line-within.ensures
-          (w.spans-is ∙ w.in_ok-push_piece.ensures))
+          rw w.start-is (split_settled _ _ _ _ _ _ (split_cut _ _ _ _ _ _ _ _ _ _ c.loop-at.invariant line (sym c.is_cut.ensures ∙ w.if-is_cut.true) refl
+          (w.spans-is ∙ w.in_ok-push_piece.ensures)) c.after_line-within.ensures)
       | else-is_cut w ↦
-          rw w.start-is (split_on _ _ _ _ _ _ _ _ _ _ c.loop-at.invariant line (sym c.is_cut.ensures ∙ w.if-is_cut.false) c.after_line-within.ensures w.spans-is)
+          rw w.start-is (split_settled _ _ _ _ _ _ (split_on _ _ _ _ _ _ _ _ _ _ c.loop-at.invariant line (sym c.is_cut.ensures ∙ w.if-is_cut.false) refl w.spans-is) c.after_line-within.ensures)
     ]
 
 pub returns-clause-spans : goal.returns-clause-spans

@@ -1,6 +1,13 @@
-use Rattle.std.proofs.Common.{arith, ◌∙◌}
+use Rattle.std.proofs.Common.{arith, sym, ◌∙◌}
+use Rattle.std.proofs.lemmas.List.{length-map}
+use Rattle.kn_lex.specs.Seeing.{seen}
+use Rattle.kn_lex.proofs.Labels.{places_step}
 use Rattle.kn_lex.proofs.Along.{reached_step, reached_fault, has_cause, finished, finished_cuts, finished_faultless, one_list, smaller_step, settled_step}
+use Rattle.kn_lex.proofs.Firsts.{zero_dropped}
 use Rattle.kn_lex.proofs.lexer.tokens.Goals as goal
+
+pub read_piece-requires-clause-no_zero : goal.read_piece-requires-clause-no_zero
+read_piece-requires-clause-no_zero c none = rw c.split_at.ensures.back (zero_dropped _ _ (c.has_zero-has_zero.ensures none))
 
 pub returns-in-Err-clause-only : goal.returns-in-Err-clause-only
 returns-in-Err-clause-only c tokens cuts faultless =
@@ -20,6 +27,7 @@ loop-at-smaller c =
 pub loop-at-preserved : goal.loop-at-preserved
 loop-at-preserved c = record {
   within = omega (arith, c.in-Ok.ensures.within);
+  labelled = places_step _ _ _ _ _ _ c.loop-at.invariant.labelled (sym (length-map c.loop-at.list seen)) c.in-Ok-push_token.ensures.labels c.in-Ok-push_token.ensures.ok;
   reached = reached_step _ _ _ _ _ _ _ _ (c.in-Ok.read.piece, c.in-Ok.read.len) c.loop-at.invariant.reached c.split_at.ensures.back
       c.split_at-in-loop-at.ensures.front c.in-Ok.ensures.piece c.in-Ok.ensures.clean c.in-Ok-push_token.ensures.ok c.place_after-place.ensures;
   settled = λ s. settled_step _ _ _ _ (c.in-Ok.read.piece, c.in-Ok.read.len) c.split_at.ensures.back c.in-Ok.ensures.piece (c.in-Ok.ensures.settled s);

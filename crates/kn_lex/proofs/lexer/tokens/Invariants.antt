@@ -1,6 +1,6 @@
 use Rattle.std.proofs.Common.{◌≡◌, ◌≤◌, ◌-◌, length, drop, map, true, false}
 use Rattle.kn_lex.specs.Faults.{goes_on}
-use Rattle.kn_lex.specs.Seeing.{seen}
+use Rattle.kn_lex.specs.Seeing.{seen, label_places}
 use Rattle.kn_lex.proofs.Along.{IsReached, to_do}
 use Rattle.kn_lex.proofs.lexer.tokens.Given as goal
 
@@ -8,6 +8,7 @@ abbrev pub invariant-loop-at : goal.invariant-loop-at
 invariant-loop-at l =
     record {
       within : l.at ≤ length l.text;
+      labelled : l.labels ≡ label_places 0 (map seen l.list);
       reached : IsReached l.text l.place l.at (map seen l.list);
       settled : l.settled ≡ true → goes_on false (drop l.at l.text) ≡ false;
     }
