@@ -1,11 +1,15 @@
 #!/usr/bin/env bash
-# Prints what one query takes over generated policies of 128 to 2,048 assertions: seconds of the processor, the ratio at each
-# doubling, and peak memory.
+# Prints what settling takes: first of systems alone, beside a C program of the same algorithm, then of whole queries.
 #
-# Three kinds of policy: a chain whose assertions stand in the order that is worst for scans (each scan settles one more
-# authorizer), the same chain in the order that is best for them, and a mixed one of `||`, thresholds and conditions with
-# four compliance values. The time of a query is that of a run with one less that of a run with an empty input, each the
-# least of several runs.
+# The systems are those of `crates/kn_settle_bench`, which wants `rt`, and of `bench/settle_c`, which is built with -O2: chains
+# of 128 to 4,096 rows in the order that is worst for scans of the rows, in the best, and mixed formulas. Printed are the
+# microseconds of building and of settling, the ratio to C's and that at each doubling, each from the least of several
+# rounds. Both programs print first what they settled, and must agree.
+#
+# The queries are over generated policies of 128 to 2,048 assertions: seconds of the processor, the ratio at each doubling,
+# and peak memory. Three kinds of policy: a chain whose assertions stand in the worst order, the same chain in the best, and
+# a mixed one of `||`, thresholds and conditions with four compliance values. The time of a query is that of a run with one
+# less that of a run with an empty input, each the least of several runs.
 #
 # Usage: settle.sh [RUNS]
 set -u
@@ -15,7 +19,48 @@ runs=${1:-5}
 room=$(mktemp -d) || exit 1
 trap 'rm -rf "$room"' EXIT
 
-# what isn't built yet is built here, where nobody looks at the clock
+# what isn't built yet is built here and before the queries, where nobody looks at the clock
+ours=$top/crates/kn_settle_bench/out/kn_settle_bench
+(cd "$top/crates/kn_settle_bench" && rt run) >"$room/ours" || exit 1
+cc -O2 -o "$room/c" "$top/bench/settle_c/settle.c" || exit 1
+"$room/c" | diff "$top/crates/kn_settle_bench/stdout" - || exit 1
+
+# the two take turns, and of each the least of three counts; freed pages are kept, since the C library else gives those of a
+# large list back to the system in each round
+export GLIBC_TUNABLES=glibc.malloc.mmap_threshold=64000000:glibc.malloc.trim_threshold=256000000
+for _ in 1 2 3; do
+    "$ours" time >>"$room/times.ours" && "$room/c" time >>"$room/times.c" || exit 1
+done
+python3 - "$room" <<'PYTHON'
+import sys
+
+room = sys.argv[1]
+
+
+def least(name):
+    """The nanoseconds of building and of settling, by shape and size."""
+    times = {}
+    with open(f"{room}/times.{name}") as file:
+        for line in file:
+            shape, size, building, settling = line.split()
+            key = (shape, int(size))
+            before = times.get(key, (10**18, 10**18))
+            times[key] = (min(before[0], int(building)), min(before[1], int(settling)))
+    return times
+
+
+ours, c = least("ours"), least("c")
+for place, part in enumerate(("building", "settling")):
+    print(f"{part}, microseconds{'':3}   ours    growth         C      of C")
+    for shape, size in ours:
+        spent, other = ours[shape, size][place], c[shape, size][place]
+        before = ours.get((shape, size // 2))
+        growth = f"{spent / before[place]:10.2f}" if before else f"{'':10}"
+        print(f"{shape:12} {size:6} {spent / 1000:10.1f}{growth}{other / 1000:10.1f}{spent / other:10.2f}")
+PYTHON
+
+unset GLIBC_TUNABLES
+
 "$top/keynoted" ask "$top/crates/keynoted/data/p.kn" </dev/null >/dev/null
 [[ $? == 125 ]] && exit 1
 

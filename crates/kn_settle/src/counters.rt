@@ -75,7 +75,7 @@ impl Counters {
     }
 
     // Marks a node, and each gate above it that has all it needs by it. A row whose formula is marked so is put
-    // into its bucket. Two steps for the node, and one for each gate that is marked.
+    // into its bucket. At most two steps for the node, and one for each gate that is marked.
     fn climb<L>(
         &mut self,
         system: &System<L>,

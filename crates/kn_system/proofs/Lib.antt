@@ -11,6 +11,7 @@ pub mod Granted
 pub mod Exists
 pub mod Counted
 pub mod Nodes
+pub mod Placed
 pub mod Flattened
 pub mod Linked
 pub mod KeptRows

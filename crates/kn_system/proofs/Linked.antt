@@ -1,9 +1,9 @@
 -- What the nodes of formulas are parts of, read node by node.
-use Rattle.std.proofs.Common.{◌≡◌, ℕ, zero, suc, ◌+◌, ◌-◌, ◌<◌, ◌≤◌, List, [], ◌∷◌, ◌++◌, length, take, drop, replicate, reverse, refl, sym, ap, ◌∙◌, subst, length-append, arith}
-use Rattle.std.proofs.lemmas.List.{reverse-append, replicate_more, length-replicate, length_push, length-take}
+use Rattle.std.proofs.Common.{◌≡◌, ℕ, zero, suc, ◌+◌, ◌<◌, List, [], ◌∷◌, ◌++◌, length, drop, replicate, reverse, refl, sym, ap, ◌∙◌, subst, length-append, arith}
+use Rattle.std.proofs.lemmas.List.{reverse-append, replicate_more, length-replicate, length_push}
 use Rattle.std.proofs.Math.Seq.{append_snoc}
 use Rattle.kn_system.specs.declared.links.Up.{Up}
-use Rattle.kn_system.specs.declared.links.Up.TheVariants.{Node, Row}
+use Rattle.kn_system.specs.declared.links.Up.TheVariants.{Node}
 use Rattle.kn_system.specs.declared.rows.Piece.{Piece}
 use Rattle.kn_system.specs.declared.rows.Piece.TheVariants.{Who, Gate}
 use Rattle.kn_system.specs.Forms.{AreForms}

@@ -1,5 +1,5 @@
 -- How a system keeps its rows: their formulas stand in one list of nodes.
-use Rattle.std.specs.Prelude.{ℕ, ◌+◌, ◌≡◌, ◌≤◌, List, All, length, map, take, drop}
+use Rattle.std.specs.Prelude.{◌+◌, ◌≡◌, ◌≤◌, List, All, length, map, take, drop}
 use Rattle.kn_system.specs.declared.rows.Piece.{Piece}
 use Rattle.kn_system.specs.declared.rows.StoredRow.{StoredRow}
 use Rattle.kn_system.specs.Nodes.{FlatNodes, pieces_of, ups_of_rows}

@@ -1,4 +1,5 @@
 pub use Rattle.kn_base.specs.Threshold
+pub mod Blocks
 pub mod Counts
 pub mod Equations
 pub mod Form

@@ -1,11 +1,13 @@
 -- The nodes of a system's formulas in one list, what each is a part of, and where each principal stands (keynoted's own).
-use Rattle.std.specs.Prelude.{ℕ, zero, suc, ◌≡◌, ◌==◌, List, [], ◌∷◌, ◌++◌, length, map, replicate, take, drop, slice_index_or, if◌then◌else◌}
+use Rattle.std.specs.Prelude.{ℕ, zero, suc, ◌≡◌, ◌==◌, List, [], ◌∷◌, ◌++◌, length, replicate, if◌then◌else◌}
 use Rattle.kn_system.specs.declared.links.NodeSort.{NodeSort}
 use Rattle.kn_system.specs.declared.links.NodeSort.TheVariants.{Leaf, Gate as GateNode}
 use Rattle.kn_system.specs.declared.links.Up.{Up}
 use Rattle.kn_system.specs.declared.links.Up.TheVariants.{Node, Row}
 use Rattle.kn_system.specs.declared.rows.Piece.{Piece}
 use Rattle.kn_system.specs.declared.rows.Piece.TheVariants.{Who, Gate}
+use Rattle.kn_system.specs.declared.uses.Block.{Block}
+use Rattle.kn_system.specs.Blocks.{block_at, list_in}
 use Rattle.kn_system.specs.Rows.{SystemRow}
 
 -- the pieces of all formulas, one after another
@@ -54,6 +56,6 @@ pub record FlatNodes : Type 0 where
   pub pieces : List Piece
   pub ups : List Up
 
--- lists of uses are those of each principal; a list that isn't there is empty
-abbrev pub AreUses : List Piece → List (List ℕ) → Type 0
-AreUses pieces uses = (p : ℕ) → slice_index_or uses p [] ≡ uses_of p pieces
+-- the lists in blocks are the uses of each principal
+abbrev pub AreUses : List Piece → List Block → List ℕ → Type 0
+AreUses pieces blocks nodes = (p : ℕ) → list_in nodes (block_at blocks p) ≡ uses_of p pieces

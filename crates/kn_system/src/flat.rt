@@ -1,6 +1,7 @@
 //! The formulas of a system in one list of nodes, with links upwards and the uses of each principal.
 ghost use Rattle.std.specs.Prelude.{List as ListOf, ◌≡◌, ◌+◌, ◌-◌, ◌^◌, ◌<◌, ◌≤◌, ◌==◌, [], ◌∷◌, ◌++◌, ℕ, IfOk, OnOk, OnErr, length, replicate, take, drop, min, slice_get, slice_index_or, if◌then◌else◌};
 ghost use Rattle.std.specs.Option.{option_copied};
+ghost use Rattle.kn_system.specs.Blocks.{ArePlaced};
 ghost use Rattle.kn_system.specs.Nodes.{FlatNodes, AreUses, parts_of, sort_of, ups_of, uses_of};
 ghost use Rattle.kn_system.specs.declared.rows.Piece.{Piece};
 ghost use Rattle.kn_system.specs.declared.rows.Piece.TheVariants.{Who};
@@ -10,9 +11,11 @@ ghost use Rattle.kn_system.specs.Forms.{AreForms};
 
 use crate::links::{Node, NodeSort, Up};
 use crate::rows::Piece;
-use kn_base::{List, NoMemory, Reserved};
+use crate::uses::Uses;
+use kn_base::{NoMemory, Reserved};
 use std::alloc::Global;
 use std::marker::Model;
+use std::mem;
 
 /// Formulas in one list: a piece and a link for each node, and for each principal the nodes that it is.
 ///
@@ -22,18 +25,22 @@ pub(crate) struct Flat {
     alloc: Global,
     pieces: Reserved<Piece>,
     ups: Reserved<Up>,
-    uses: Vec<List<u32>>,
+    uses: Uses,
+    // What the next nodes are parts of, while a formula is added; kept for its room.
+    above: Vec<Up>,
 }
 
 impl Model for Flat {
     ghost use Rattle.std.specs.Prelude.{◌≡◌, ◌<◌, ◌^◌, length};
+    ghost use Rattle.kn_system.specs.Blocks.{ArePlaced};
     ghost use Rattle.kn_system.specs.Nodes.{FlatNodes, AreUses};
 
     ghost Value = { FlatNodes };
 
     ghost view = { λ f. record { pieces = f.pieces.items; ups = f.ups.items } };
 
-    ghost invariant = { λ f. (length f.ups.items ≡ length f.pieces.items) × AreUses f.pieces.items f.uses.items };
+    ghost invariant = { λ f. (length f.ups.items ≡ length f.pieces.items)
+        × ArePlaced f.uses.blocks.items f.uses.nodes.items × AreUses f.pieces.items f.uses.blocks.items f.uses.nodes.items };
 }
 
 impl Flat {
@@ -44,7 +51,8 @@ impl Flat {
             alloc,
             pieces: Reserved::new(alloc),
             ups: Reserved::new(alloc),
-            uses: Vec::new(alloc),
+            uses: Uses::new(alloc),
+            above: Vec::new(alloc),
         }
     }
 
@@ -68,10 +76,7 @@ impl Flat {
     pub(crate) fn use_at(&self, principal: u32, k: u32) -> Option<u32>
         ensures { result ≡ slice_get (uses_of principal self.now.pieces) k }
     {
-        match self.uses.get(principal as usize) {
-            Some(uses) => uses.get(k).copied(),
-            None => None,
-        }
+        self.uses.get(principal, k)
     }
 
     pub(crate) fn node(&self, i: u32) -> Node
@@ -96,7 +101,7 @@ impl Flat {
     {
         self.pieces.reserve(1)?;
         self.ups.reserve(1)?;
-        add_use(self.alloc, &mut self.uses, piece, self.pieces.len())?;
+        add_use(&mut self.uses, piece, self.pieces.len())?;
         self.pieces.put(piece);
         self.ups.put(up);
         Ok(())
@@ -111,7 +116,10 @@ impl Flat {
         ensures err { OnErr result (self.new ≡ self.old) }
     {
         let before = self.len();
-        match self.add_nodes(formula, row) {
+        let mut above = mem::replace(&mut self.above, Vec::new(self.alloc));
+        let added = self.add_nodes(&mut above, formula, row);
+        self.above = above;
+        match added {
             Ok(()) => Ok(()),
             Err(NoMemory) => {
                 self.shorten(before);
@@ -121,7 +129,12 @@ impl Flat {
     }
 
     // As `add`, but want of memory leaves the nodes that came before it.
-    fn add_nodes(&mut self, formula: &[Piece], row: u32) -> Result<(), NoMemory>
+    fn add_nodes(
+        &mut self,
+        above: &mut Vec<Up>,
+        formula: &[Piece],
+        row: u32,
+    ) -> Result<(), NoMemory>
         requires one { (p : ℕ) × AreForms p 1 formula.now }
         requires few { length self.old.pieces + length formula.now < 2 ^ 24 }
         ensures pieces { OnOk result (self.new.pieces ≡ self.old.pieces ++ formula.now) }
@@ -130,13 +143,16 @@ impl Flat {
         ensures kept_pieces { take (length self.old.pieces) self.new.pieces ≡ self.old.pieces }
         ensures kept_ups { take (length self.old.ups) self.new.ups ≡ self.old.ups }
     {
-        let mut above = List::new(self.alloc);
+        let size = formula.len() as u32;
+        self.pieces.reserve(size)?;
+        self.ups.reserve(size)?;
+        above.clear();
         match above.push(Up::Row(row)) {
             Ok(()) => {}
             Err(_) => return Err(NoMemory),
         }
         for piece in formula {
-            let up = take_up(&mut above, *piece, self.len())?;
+            let up = take_up(above, *piece, self.len())?;
             self.push(*piece, up)?;
         }
         Ok(())
@@ -168,9 +184,9 @@ impl Flat {
 }
 
 // Takes what the next node is a part of, and puts the node itself there for each of its parts.
-fn take_up(above: &mut List<Up>, piece: Piece, node: u32) -> Result<Up, NoMemory>
-    requires some { 0 < length above.old }
-    ensures { IfOk result (λ up. (ups : ListOf Up) × (above.old ≡ ups ++ up ∷ []) × (above.new ≡ ups ++ replicate (parts_of piece) (InNode node))) }
+fn take_up(above: &mut Vec<Up>, piece: Piece, node: u32) -> Result<Up, NoMemory>
+    requires some { 0 < length above.old.items }
+    ensures { IfOk result (λ up. (ups : ListOf Up) × (above.old.items ≡ ups ++ up ∷ []) × (above.new.items ≡ ups ++ replicate (parts_of piece) (InNode node))) }
 {
     let count = match piece {
         Piece::Who(_) => 0,
@@ -185,8 +201,8 @@ fn take_up(above: &mut List<Up>, piece: Piece, node: u32) -> Result<Up, NoMemory
     }
 }
 
-fn add_parts(above: &mut List<Up>, count: u32, node: u32) -> Result<(), NoMemory>
-    ensures { OnOk result (above.new ≡ above.old ++ replicate count (InNode node)) }
+fn add_parts(above: &mut Vec<Up>, count: u32, node: u32) -> Result<(), NoMemory>
+    ensures { OnOk result (above.new.items ≡ above.old.items ++ replicate count (InNode node)) }
 {
     for _part in 0..count {
         match above.push(Up::Node(node)) {
@@ -198,62 +214,30 @@ fn add_parts(above: &mut List<Up>, count: u32, node: u32) -> Result<(), NoMemory
 }
 
 // Adds the use, if any, that one more node is.
-#[tactic(auto, using(crate::proofs::Flattened::uses_pushed, crate::proofs::Flattened::uses_gate))]
-fn add_use(
-    alloc: Global,
-    uses: &mut Vec<List<u32>>,
-    piece: Piece,
-    node: u32,
-) -> Result<(), NoMemory>
-    ensures ok { OnOk result ((ps : ListOf Piece) → length ps ≡ node → AreUses ps uses.old.items → AreUses (ps ++ piece ∷ []) uses.new.items) }
-    ensures err { OnErr result ((ps : ListOf Piece) → AreUses ps uses.old.items → AreUses ps uses.new.items) }
+fn add_use(uses: &mut Uses, piece: Piece, node: u32) -> Result<(), NoMemory>
+    requires { ArePlaced uses.old.blocks.items uses.old.nodes.items }
+    ensures placed { ArePlaced uses.new.blocks.items uses.new.nodes.items }
+    ensures ok { OnOk result ((ps : ListOf Piece) → length ps ≡ node → AreUses ps uses.old.blocks.items uses.old.nodes.items
+        → AreUses (ps ++ piece ∷ []) uses.new.blocks.items uses.new.nodes.items) }
+    ensures err { OnErr result ((ps : ListOf Piece) → AreUses ps uses.old.blocks.items uses.old.nodes.items
+        → AreUses ps uses.new.blocks.items uses.new.nodes.items) }
 {
     match piece {
-        Piece::Who(principal) => push_use(alloc, uses, principal, node)?,
+        Piece::Who(principal) => uses.push(principal, node)?,
         Piece::Gate { .. } => {}
     }
     Ok(())
 }
 
 // Takes away the use, if any, that the last node was.
-#[tactic(auto, using(crate::proofs::Flattened::uses_no_gate))]
-fn drop_use(uses: &mut Vec<List<u32>>, piece: Piece)
-    ensures { (ps : ListOf Piece) → AreUses (ps ++ piece ∷ []) uses.old.items → AreUses ps uses.new.items }
+fn drop_use(uses: &mut Uses, piece: Piece)
+    requires { ArePlaced uses.old.blocks.items uses.old.nodes.items }
+    ensures placed { ArePlaced uses.new.blocks.items uses.new.nodes.items }
+    ensures uses { (ps : ListOf Piece) → AreUses (ps ++ piece ∷ []) uses.old.blocks.items uses.old.nodes.items
+        → AreUses ps uses.new.blocks.items uses.new.nodes.items }
 {
     match piece {
-        Piece::Who(principal) => pop_use(uses, principal),
+        Piece::Who(principal) => uses.pop(principal),
         Piece::Gate { .. } => {}
-    }
-}
-
-fn pop_use(uses: &mut Vec<List<u32>>, principal: u32)
-    ensures { (ps : ListOf Piece) → AreUses (ps ++ Who principal ∷ []) uses.old.items → AreUses ps uses.new.items }
-{
-    if (principal as usize) < uses.len() {
-        uses[principal as usize].pop();
-    }
-}
-
-// Adds a use of the principal at the end of its list.
-#[tactic(auto, using(crate::proofs::Flattened::uses_set, crate::proofs::Flattened::uses_kept, crate::proofs::Flattened::uses_more))]
-fn push_use(
-    alloc: Global,
-    uses: &mut Vec<List<u32>>,
-    principal: u32,
-    node: u32,
-) -> Result<(), NoMemory>
-    ensures ok { OnOk result ((p : ℕ) → slice_index_or uses.new.items p []
-        ≡ (if principal == p then slice_index_or uses.old.items p [] ++ node ∷ [] else slice_index_or uses.old.items p [])) }
-    ensures err { OnErr result ((p : ℕ) → slice_index_or uses.new.items p [] ≡ slice_index_or uses.old.items p []) }
-{
-    while uses.len() <= principal as usize {
-        match uses.push(List::new(alloc)) {
-            Ok(()) => {}
-            Err(_) => return Err(NoMemory),
-        }
-    }
-    match uses[principal as usize].push(node) {
-        Ok(()) => Ok(()),
-        Err(_) => Err(NoMemory),
     }
 }

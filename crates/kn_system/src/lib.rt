@@ -9,6 +9,7 @@ mod links;
 mod rows;
 #[cfg(test)]
 mod tests;
+mod uses;
 
 pub use interned::System;
 pub use links::{Node, NodeSort, Up};

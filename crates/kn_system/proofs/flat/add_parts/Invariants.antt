@@ -3,4 +3,4 @@ use Rattle.kn_system.specs.declared.links.Up.TheVariants.{Node}
 use Rattle.kn_system.proofs.flat.add_parts.Given as goal
 
 abbrev pub invariant-loop-part : goal.invariant-loop-part
-invariant-loop-part l = l.above ≡ l.initial.above ++ replicate l._part (Node l.node)
+invariant-loop-part l = l.above.items ≡ l.initial.above.items ++ replicate l._part (Node l.node)

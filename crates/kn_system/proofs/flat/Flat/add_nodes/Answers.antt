@@ -27,7 +27,7 @@ loop-piece-preserved c =
     let node : c.len.result ≡ length old + k = c.len.ensures.nodes ∙ ap length c.loop-piece.invariant.pieces ∙ length-append old (take k formula) ∙ (omega (arith, length-take k formula)) in
     record {
       pieces = pieces ∙ ap (λ ps. ps ++ x ∷ []) c.loop-piece.invariant.pieces ∙ append_assoc old (take k formula) (x ∷ []) ∙ ap (λ ps. old ++ ps) (sym (take_more formula k (Who 0) within));
-      added = added_next formula (length old) _ before c.loop-piece.self.ups c.loop-piece.above k x c.in_ok-up.up c.len.result _ c.take_up.new.above c.loop-piece.invariant.added (drop_more formula k (Who 0) within) node ups c.in_ok-up.ensures;
+      added = added_next formula (length old) _ before c.loop-piece.self.ups c.loop-piece.above.items k x c.in_ok-up.up c.len.result _ c.take_up.new.above.items c.loop-piece.invariant.added (drop_more formula k (Who 0) within) node ups c.in_ok-up.ensures;
       kept_ups = ap (take (length before)) ups ∙ take-append-le (length before) c.loop-piece.self.ups (c.in_ok-up.up ∷ []) c.loop-piece.invariant.longer ∙ c.loop-piece.invariant.kept_ups;
       longer = omega (arith, c.loop-piece.invariant.longer, ap length ups, length_push c.loop-piece.self.ups c.in_ok-up.up);
     }

@@ -5,8 +5,8 @@ use Rattle.kn_system.proofs.flat.Flat.add_nodes.Given as goal
 
 abbrev pub invariant-loop-piece : goal.invariant-loop-piece
 invariant-loop-piece l = record {
-  pieces : l.self.pieces ≡ l.initial.self.pieces ++ take l.piece-index l.formula;
-  added : AreAdded l.formula (length l.initial.self.pieces) (Row l.row ∷ []) l.initial.self.ups l.self.ups l.above l.piece-index;
-  kept_ups : take (length l.initial.self.ups) l.self.ups ≡ l.initial.self.ups;
-  longer : length l.initial.self.ups ≤ length l.self.ups;
+  pieces : l.self.pieces ≡ l.fn.self.pieces ++ take l.piece-index l.formula;
+  added : AreAdded l.formula (length l.fn.self.pieces) (Row l.row ∷ []) l.fn.self.ups l.self.ups l.above.items l.piece-index;
+  kept_ups : take (length l.fn.self.ups) l.self.ups ≡ l.fn.self.ups;
+  longer : length l.fn.self.ups ≤ length l.self.ups;
 }
