@@ -1,6 +1,8 @@
 -- Reading a list part by part.
 use Rattle.std.proofs.Common.{◌≡◌, ℕ, zero, suc, ◌-◌, ◌*◌, ◌<◌, ◌≤◌, List, [], ◌∷◌, ◌++◌, codes, Option, Some, None, Result, Err, length, refl, sym, ap, subst, ◌∙◌, arith}
+use Rattle.std.specs.Result.{IsErrAnd}
 use Rattle.std.proofs.lemmas.List.{append_assoc}
+use Rattle.std.proofs.lemmas.Result.{err_from_is_err_and}
 use Rattle.kn_lex.specs.Literal.{literal_value}
 use Rattle.kn_lex.specs.declared.token.Sort.{Sort}
 use Rattle.kn_lex.specs.declared.token.Sort.TheVariants.{Label, Body, Name as SortName, Number, Text, Sign}
@@ -108,26 +110,17 @@ pub level_fault : (text : List ℕ) (item : ℕ → List Word → Part) (parts_a
 level_fault text item parts_at left words list all Syntax here level some read before = level_unread text item parts_at left words list all level some read before
 level_fault text item parts_at left words list all NoMemory here level some read before = tt
 
+-- the fault that is handed on
+pub fault_handed_on : {X : Type 0} (unread : Unread) (all : Option (X × List Word)) (here : ℕ → List Word) (result : Result (X × ℕ) Unread) → IsErrAnd result (λ e. e ≡ unread)
+    → Reads {X = X} (Err unread) all here → Reads result all here
+fault_handed_on {X} unread all here result handed read =
+    let p = err_from_is_err_and result handed in
+    rw (p.1, p.2) read
+
 -- the fault of parts is that of what they are joined to
 pub join_fault : (rule : Rule) (parts : Parts) (unread : Unread) (here : ℕ → List Word) → Reads {X = List Written} (Err unread) parts here → Reads {X = Written} (Err unread) (join_read rule parts) here
 join_fault rule parts Syntax here read = ap (join_read rule) read
 join_fault rule parts NoMemory here read = tt
-
--- a list in brackets
-pub brackets_closed : (rule : Rule) (words rest next : List Word) (part : Written) (go : List Word → Parts)
-    → join_read rule (go words) ≡ Some (part, rest) → Some next ≡ behind (is_sign_word (codes ")")) rest → in_brackets rule (Some words) go ≡ Some (part, next)
-brackets_closed rule words rest next part go read closing = ap close_after read ∙ ap (closed part) (sym closing)
-
--- brackets that aren't closed
-pub brackets_open : (rule : Rule) (words rest : List Word) (part : Written) (go : List Word → Parts)
-    → join_read rule (go words) ≡ Some (part, rest) → None ≡ behind (is_sign_word (codes ")")) rest → in_brackets rule (Some words) go ≡ None
-brackets_open rule words rest part go read closing = ap close_after read ∙ ap (closed part) (sym closing)
-
--- brackets whose parts aren't read
-pub brackets_unread : (rule : Rule) (words : List Word) (go : List Word → Parts) (unread : Unread) (here : ℕ → List Word)
-    → Reads {X = Written} (Err unread) (join_read rule (go words)) here → Reads {X = Written} (Err unread) (in_brackets rule (Some words) go) here
-brackets_unread rule words go Syntax here read = ap close_after read
-brackets_unread rule words go NoMemory here read = tt
 
 pub one_over : (budget : ℕ) (words : List Word) → budget ≡ 0 → one_at budget words ≡ None
 unfolding one_at
@@ -198,8 +191,13 @@ unfolding read_words
 more_left words rest further word part budget enough read end =
     ap (λ n. whole (join_read Any (ors_at n words))) (sym enough) ∙ ap whole (read ∙ ap (λ (rest : List Word). Some (part, rest)) end)
 
-pub none_read : (words : List Word) (budget : ℕ) (unread : Unread) (here : ℕ → List Word) → budget ≡ 3 * length words → Reads {X = Written} (Err unread) (join_read Any (ors_at budget words)) here
-    → ReadsWhole (Err unread) (read_words words)
+pub none_read : (words : List Word) (budget : ℕ) (unread : Unread) (here : ℕ → List Word) (result : Result Written Unread) → budget ≡ 3 * length words → IsErrAnd result (λ e. e ≡ unread)
+    → Reads {X = Written} (Err unread) (join_read Any (ors_at budget words)) here → ReadsWhole result (read_words words)
 unfolding read_words
-none_read words budget Syntax here enough read = ap (λ n. whole (join_read Any (ors_at n words))) (sym enough) ∙ ap whole read
-none_read words budget NoMemory here enough read = tt
+none_read words budget unread here result enough handed read =
+    let p = err_from_is_err_and result handed in
+    rw (p.1, p.2) (by unread enough read)
+  where
+    by : (unread : Unread) → budget ≡ 3 * length words → Reads {X = Written} (Err unread) (join_read Any (ors_at budget words)) here → ReadsWhole (Err unread) (read_words words)
+    by Syntax enough read = ap (λ n. whole (join_read Any (ors_at n words))) (sym enough) ∙ ap whole read
+    by NoMemory enough read = tt

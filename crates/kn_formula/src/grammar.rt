@@ -68,15 +68,10 @@ fn parts(
     let mut left = budget;
     while left > 0 {
         left -= 1;
-        let (part, rest) = match item(alloc, tokens, rule, next, end, left) {
-            Ok(read) => read,
-            Err(unread) => return Err(unread),
-        };
+        let (part, rest) = item(alloc, tokens, rule, next, end, left)?;
         let Some(further) = behind_sign(tokens, rest, end, rule_text(rule)) else {
-            return match finished(rule, list, part) {
-                Ok(whole) => Ok((whole, rest)),
-                Err(_) => Err(Unread::NoMemory),
-            };
+            let whole = finished(rule, list, part)?;
+            return Ok((whole, rest));
         };
         match list.push(part) {
             Ok(()) => {}
@@ -163,10 +158,7 @@ fn bracketed(
     let Some(inner) = inner else {
         return Err(Unread::Syntax);
     };
-    let (whole, rest) = match parts(alloc, tokens, rule, inner, end, budget) {
-        Ok(read) => read,
-        Err(unread) => return Err(unread),
-    };
+    let (whole, rest) = parts(alloc, tokens, rule, inner, end, budget)?;
     match behind_sign(tokens, rest, end, b")".as_slice()) {
         Some(next) => Ok((whole, next)),
         None => Err(Unread::Syntax),
@@ -185,10 +177,7 @@ pub(crate) fn written(
     ensures { ReadsWhole result (read_words (words_between from end tokens.now)) }
 {
     let budget = 3 * u64::from(end - from);
-    let (whole, rest) = match parts(alloc, tokens, Rule::Any, from, end, budget) {
-        Ok(read) => read,
-        Err(unread) => return Err(unread),
-    };
+    let (whole, rest) = parts(alloc, tokens, Rule::Any, from, end, budget)?;
     match token_at(tokens, rest, end) {
         Some(_) => Err(Unread::Syntax),
         None => Ok(whole),

@@ -1,10 +1,13 @@
 -- Reading step by step.
 use Rattle.std.proofs.Common.{◌≡◌, ℕ, zero, suc, ◌+◌, ◌-◌, ◌*◌, ◌<◌, ◌≤◌, true, false, List, [], ◌∷◌, ◌++◌, length, codes, Option, Some, None, Result, Err, refl, sym, ap, subst, ◌∙◌, arith, append-nil}
+use Rattle.std.specs.Result.{IsErrAnd}
 use Rattle.std.proofs.lemmas.List.{append_assoc}
+use Rattle.std.proofs.lemmas.Result.{err_from_is_err_and}
 use Rattle.kn_trees.specs.declared.program.Expr.{Expr}
 use Rattle.kn_trees.specs.declared.program.Expr.TheVariants as E
 use Rattle.kn_trees.specs.declared.program.Link2.{Link2}
 use Rattle.kn_trees.specs.declared.program.Comparison.{Comparison}
+use Rattle.kn_trees.specs.declared.program.Program.{Program}
 use Rattle.kn_trees.specs.declared.program.Clause.{Clause}
 use Rattle.kn_trees.specs.declared.program.Then.{Then}
 use Rattle.kn_trees.specs.declared.program.Then.TheVariants.{Top, Value}
@@ -79,6 +82,13 @@ pub fault_of_part : {X Y : Type 0} (unread : Unread) (part : Option (X × List W
     → Reads {X = Y} (Err unread) all here
 fault_of_part Syntax part all here read go = go read
 fault_of_part NoMemory part all here read go = tt
+
+-- so where the fault is handed on
+pub fault_handed_on : {X Y : Type 0} (unread : Unread) (part : Option (X × List Word)) (all : Option (Y × List Word)) (here : ℕ → List Word) (result : Result (Y × ℕ) Unread) → IsErrAnd result (λ e. e ≡ unread)
+    → Reads {X = X} (Err unread) part here → (part ≡ None → all ≡ None) → Reads result all here
+fault_handed_on {X} {Y} unread part all here result handed read go =
+    let p = err_from_is_err_and result handed in
+    rw (p.1, p.2) (fault_of_part {X = X} {Y = Y} unread part all here read go)
 
 -- tests with a joint between them
 
@@ -504,9 +514,14 @@ more_left words rest further word clauses budget enough read end =
     ap (λ n. whole (map_read program_with (program_at n words))) (sym enough)
     ∙ ap (λ (read : Option (List Clause × List Word)). whole (map_read program_with read)) (read ∙ ap (λ (rest : List Word). Some (clauses, rest)) end)
 
-pub none_read : (words : List Word) (budget : ℕ) (unread : Unread) (here : ℕ → List Word) → budget ≡ 12 * length words + 1 → Reads {X = List Clause} (Err unread) (program_at budget words) here
-    → ReadsWhole (Err unread) (read_program words)
+pub none_read : (words : List Word) (budget : ℕ) (unread : Unread) (here : ℕ → List Word) (result : Result Program Unread) → budget ≡ 12 * length words + 1 → IsErrAnd result (λ e. e ≡ unread)
+    → Reads {X = List Clause} (Err unread) (program_at budget words) here → ReadsWhole result (read_program words)
 unfolding read_program
-none_read words budget Syntax here enough read =
-    ap (λ n. whole (map_read program_with (program_at n words))) (sym enough) ∙ ap (λ (read : Option (List Clause × List Word)). whole (map_read program_with read)) read
-none_read words budget NoMemory here enough read = tt
+none_read words budget unread here result enough handed read =
+    let p = err_from_is_err_and result handed in
+    rw (p.1, p.2) (by unread enough read)
+  where
+    by : (unread : Unread) → budget ≡ 12 * length words + 1 → Reads {X = List Clause} (Err unread) (program_at budget words) here → ReadsWhole (Err unread) (read_program words)
+    by Syntax enough read =
+        ap (λ n. whole (map_read program_with (program_at n words))) (sym enough) ∙ ap (λ (read : Option (List Clause × List Word)). whole (map_read program_with read)) read
+    by NoMemory enough read = tt

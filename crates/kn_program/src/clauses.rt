@@ -42,29 +42,17 @@ fn clauses(
     if budget == 0 {
         return Err(Unread::Syntax);
     }
-    let (first, mut next) = match entry(alloc, tokens, at, end, budget - 1) {
-        Ok(read) => read,
-        Err(unread) => return Err(unread),
-    };
+    let (first, mut next) = entry(alloc, tokens, at, end, budget - 1)?;
     let mut list = List::new(alloc);
-    match add(&mut list, first) {
-        Ok(()) => {}
-        Err(_) => return Err(Unread::NoMemory),
-    }
+    add(&mut list, first)?;
     let mut left = budget;
     while left > 0 {
         left -= 1;
         let Some(start) = behind_sign(tokens, next, end, b";".as_slice()) else {
             return Ok((list, next));
         };
-        let (found, rest) = match entry(alloc, tokens, start, end, budget - 1) {
-            Ok(read) => read,
-            Err(unread) => return Err(unread),
-        };
-        match add(&mut list, found) {
-            Ok(()) => {}
-            Err(_) => return Err(Unread::NoMemory),
-        }
+        let (found, rest) = entry(alloc, tokens, start, end, budget - 1)?;
+        add(&mut list, found)?;
         next = rest;
     }
     Err(Unread::Syntax)
@@ -99,10 +87,8 @@ fn entry(
     if !has_clause(tokens, at, end) {
         return Ok((None, at));
     }
-    match clause(alloc, tokens, at, end, budget) {
-        Ok((clause, next)) => Ok((Some(clause), next)),
-        Err(unread) => Err(unread),
-    }
+    let (clause, next) = clause(alloc, tokens, at, end, budget)?;
+    Ok((Some(clause), next))
 }
 
 /// A clause, and the place behind it.
@@ -120,18 +106,13 @@ fn clause(
     if budget == 0 {
         return Err(Unread::Syntax);
     }
-    let (test, rest) = match tests(alloc, tokens, Joint::Or, at, end, budget - 1) {
-        Ok(read) => read,
-        Err(unread) => return Err(unread),
-    };
+    let (test, rest) = tests(alloc, tokens, Joint::Or, at, end, budget - 1)?;
     let Some(start) = behind_sign(tokens, rest, end, b"->".as_slice()) else {
         let then = Then::Top;
         return Ok((Clause { test, then }, rest));
     };
-    match value(alloc, tokens, start, end, budget - 1) {
-        Ok((then, next)) => Ok((Clause { test, then }, next)),
-        Err(unread) => Err(unread),
-    }
+    let (then, next) = value(alloc, tokens, start, end, budget - 1)?;
+    Ok((Clause { test, then }, next))
 }
 
 /// What stands behind `->`, and the place behind it.
@@ -147,15 +128,10 @@ fn value(
     ensures { Reads result (value_after (words_between at end tokens.now) (tests_at budget Joint.Or) (program_at budget)) (λ next. words_between next end tokens.now) }
 {
     let Some(inner) = behind_sign(tokens, at, end, b"{".as_slice()) else {
-        return match tests(alloc, tokens, Joint::Or, at, end, budget) {
-            Ok((value, next)) => Ok((Then::Value(value), next)),
-            Err(unread) => Err(unread),
-        };
+        let (value, next) = tests(alloc, tokens, Joint::Or, at, end, budget)?;
+        return Ok((Then::Value(value), next));
     };
-    let (clauses, rest) = match clauses(alloc, tokens, inner, end, budget) {
-        Ok(read) => read,
-        Err(unread) => return Err(unread),
-    };
+    let (clauses, rest) = clauses(alloc, tokens, inner, end, budget)?;
     match behind_sign(tokens, rest, end, b"}".as_slice()) {
         Some(next) => Ok((Then::Block(Program { clauses }), next)),
         None => Err(Unread::Syntax),
@@ -174,10 +150,7 @@ pub(crate) fn program(
     ensures { ReadsWhole result (read_program (words_between from end tokens.now)) }
 {
     let budget = 12 * u64::from(end - from) + 1;
-    let (clauses, rest) = match clauses(alloc, tokens, from, end, budget) {
-        Ok(read) => read,
-        Err(unread) => return Err(unread),
-    };
+    let (clauses, rest) = clauses(alloc, tokens, from, end, budget)?;
     match token_at(tokens, rest, end) {
         Some(_) => Err(Unread::Syntax),
         None => Ok(Program { clauses }),

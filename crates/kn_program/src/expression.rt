@@ -42,10 +42,7 @@ pub(crate) fn tests(
     if budget == 0 {
         return Err(Unread::Syntax);
     }
-    let (first, mut next) = match test(alloc, tokens, joint, at, end, budget - 1) {
-        Ok(read) => read,
-        Err(unread) => return Err(unread),
-    };
+    let (first, mut next) = test(alloc, tokens, joint, at, end, budget - 1)?;
     match behind_joint(tokens, next, end, joint) {
         Some(_) => {}
         None => return Ok((first, next)),
@@ -61,10 +58,7 @@ pub(crate) fn tests(
         let Some(start) = behind_joint(tokens, next, end, joint) else {
             return Ok((joined(joint, parts), next));
         };
-        let (part, rest) = match test(alloc, tokens, joint, start, end, budget - 1) {
-            Ok(read) => read,
-            Err(unread) => return Err(unread),
-        };
+        let (part, rest) = test(alloc, tokens, joint, start, end, budget - 1)?;
         match parts.push(part) {
             Ok(()) => {}
             Err(_) => return Err(Unread::NoMemory),
@@ -111,14 +105,9 @@ fn negation(
     let Some(inner) = behind_sign(tokens, at, end, b"!".as_slice()) else {
         return comparison(alloc, tokens, at, end, budget - 1);
     };
-    let (part, next) = match negation(alloc, tokens, inner, end, budget - 1) {
-        Ok(read) => read,
-        Err(unread) => return Err(unread),
-    };
-    match negated(alloc, part) {
-        Ok(whole) => Ok((whole, next)),
-        Err(_) => Err(Unread::NoMemory),
-    }
+    let (part, next) = negation(alloc, tokens, inner, end, budget - 1)?;
+    let whole = negated(alloc, part)?;
+    Ok((whole, next))
 }
 
 /// A sum, or two with a comparison between them, and the place behind it.
@@ -136,21 +125,13 @@ fn comparison(
     if budget == 0 {
         return Err(Unread::Syntax);
     }
-    let (left, rest) = match chain(alloc, tokens, Level::Sum, at, end, budget - 1) {
-        Ok(read) => read,
-        Err(unread) => return Err(unread),
-    };
+    let (left, rest) = chain(alloc, tokens, Level::Sum, at, end, budget - 1)?;
     let Some((sign, start)) = comparison_at(tokens, rest, end) else {
         return Ok((left, rest));
     };
-    let (right, next) = match chain(alloc, tokens, Level::Sum, start, end, budget - 1) {
-        Ok(read) => read,
-        Err(unread) => return Err(unread),
-    };
-    match compared(alloc, sign, left, right) {
-        Ok(whole) => Ok((whole, next)),
-        Err(_) => Err(Unread::NoMemory),
-    }
+    let (right, next) = chain(alloc, tokens, Level::Sum, start, end, budget - 1)?;
+    let whole = compared(alloc, sign, left, right)?;
+    Ok((whole, next))
 }
 
 /// The operands with operations of a level between them, and the place behind them.
@@ -172,10 +153,7 @@ fn chain(
     if budget < levels {
         return Err(Unread::Syntax);
     }
-    let (first, next) = match operand(alloc, tokens, at, end, budget - levels) {
-        Ok(read) => read,
-        Err(unread) => return Err(unread),
-    };
+    let (first, next) = operand(alloc, tokens, at, end, budget - levels)?;
     if has_operation(tokens, next, end) {
         climb(alloc, tokens, level, at, first, next, end, budget)
     } else {
@@ -200,33 +178,16 @@ fn climb(
     requires read { operand_at (budget - height level) (words_between at end tokens.now) ≡ Some (operand, words_between next end tokens.now) }
     ensures { Reads result (chain_at budget level (words_between at end tokens.now)) (λ next. words_between next end tokens.now) }
 {
-    let (first, mut next) = match first_side(
-        alloc,
-        tokens,
-        level,
-        at,
-        operand,
-        next,
-        end,
-        budget - 1,
-    ) {
-        Ok(read) => read,
-        Err(unread) => return Err(unread),
-    };
+    let (first, mut next) = first_side(alloc, tokens, level, at, operand, next, end, budget - 1)?;
     let mut links = List::new(alloc);
     let mut left = budget;
     while left > 0 {
         left -= 1;
         let Some((sign, start)) = operation_at(tokens, next, end, level) else {
-            return match chained(alloc, first, links) {
-                Ok(whole) => Ok((whole, next)),
-                Err(_) => Err(Unread::NoMemory),
-            };
+            let whole = chained(alloc, first, links)?;
+            return Ok((whole, next));
         };
-        let (right, rest) = match side(alloc, tokens, level, start, end, budget - 1) {
-            Ok(read) => read,
-            Err(unread) => return Err(unread),
-        };
+        let (right, rest) = side(alloc, tokens, level, start, end, budget - 1)?;
         match links.push(Link2 { sign, right }) {
             Ok(()) => {}
             Err(_) => return Err(Unread::NoMemory),
@@ -307,14 +268,9 @@ fn operand(
     let Some((prefix, inner)) = prefix_at(tokens, at, end) else {
         return atom(alloc, tokens, at, end, budget - 1);
     };
-    let (part, next) = match operand(alloc, tokens, inner, end, budget - 1) {
-        Ok(read) => read,
-        Err(unread) => return Err(unread),
-    };
-    match prefixed(alloc, prefix, part) {
-        Ok(whole) => Ok((whole, next)),
-        Err(_) => Err(Unread::NoMemory),
-    }
+    let (part, next) = operand(alloc, tokens, inner, end, budget - 1)?;
+    let whole = prefixed(alloc, prefix, part)?;
+    Ok((whole, next))
 }
 
 /// An expression of one token, or None for a sign and for a token that stands in no expression.
@@ -359,10 +315,9 @@ fn atom(
     let Some(token) = token_at(tokens, at, end) else {
         return Err(Unread::Syntax);
     };
-    match constant(alloc, token) {
-        Ok(Some(whole)) => Ok((whole, at + 1)),
-        Ok(None) => group(alloc, tokens, at, end, budget - 1),
-        Err(unread) => Err(unread),
+    match constant(alloc, token)? {
+        Some(whole) => Ok((whole, at + 1)),
+        None => group(alloc, tokens, at, end, budget - 1),
     }
 }
 
@@ -381,10 +336,7 @@ fn group(
     let Some(inner) = behind_sign(tokens, at, end, b"(".as_slice()) else {
         return Err(Unread::Syntax);
     };
-    let (whole, rest) = match tests(alloc, tokens, Joint::Or, inner, end, budget) {
-        Ok(read) => read,
-        Err(unread) => return Err(unread),
-    };
+    let (whole, rest) = tests(alloc, tokens, Joint::Or, inner, end, budget)?;
     match behind_sign(tokens, rest, end, b")".as_slice()) {
         Some(next) => Ok((whole, next)),
         None => Err(Unread::Syntax),

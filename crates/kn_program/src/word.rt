@@ -32,9 +32,7 @@ fn sign_at<'t, 'a>(tokens: &'t Tokens<'a>, at: u32, end: u32) -> Option<&'a [u8]
     ensures words { MatchOption result (first_sign (words_between at end tokens.now) ≡ None) (λ text. words_between at end tokens.now ≡ sign text.now ∷ words_between (at + 1) end tokens.now) }
     ensures before { IfSome result (λ text. at < end) }
 {
-    let Some(token) = token_at(tokens, at, end) else {
-        return None;
-    };
+    let token = token_at(tokens, at, end)?;
     match token.sort {
         Sort::Sign => Some(token.text),
         _ => None,
@@ -52,9 +50,7 @@ pub(crate) fn behind_sign(tokens: &Tokens<'_>, at: u32, end: u32, wanted: &[u8])
     requires within { end ≤ length tokens.now }
     ensures { option_map (λ next. (tt, words_between next end tokens.now)) result ≡ marked wanted.now (words_between at end tokens.now) }
 {
-    let Some(text) = sign_at(tokens, at, end) else {
-        return None;
-    };
+    let text = sign_at(tokens, at, end)?;
     if is(text, wanted) { Some(at + 1) } else { None }
 }
 
@@ -68,13 +64,9 @@ pub(crate) fn operation_at(
     requires within { end ≤ length tokens.now }
     ensures { option_map (λ found. (found.0, words_between found.1 end tokens.now)) result ≡ taken (operation_of level) (words_between at end tokens.now) }
 {
-    let Some(text) = sign_at(tokens, at, end) else {
-        return None;
-    };
-    match operation_of(level, text) {
-        Some(operation) => Some((operation, at + 1)),
-        None => None,
-    }
+    let text = sign_at(tokens, at, end)?;
+    let operation = operation_of(level, text)?;
+    Some((operation, at + 1))
 }
 
 /// Whether an operation of some level stands at a place.
@@ -93,13 +85,9 @@ pub(crate) fn comparison_at(tokens: &Tokens<'_>, at: u32, end: u32) -> Option<(C
     requires within { end ≤ length tokens.now }
     ensures { option_map (λ found. (found.0, words_between found.1 end tokens.now)) result ≡ taken comparison_of (words_between at end tokens.now) }
 {
-    let Some(text) = sign_at(tokens, at, end) else {
-        return None;
-    };
-    match comparison_of(text) {
-        Some(comparison) => Some((comparison, at + 1)),
-        None => None,
-    }
+    let text = sign_at(tokens, at, end)?;
+    let comparison = comparison_of(text)?;
+    Some((comparison, at + 1))
 }
 
 /// The sign before an operand at a place, and the place behind it.
@@ -107,11 +95,7 @@ pub(crate) fn prefix_at(tokens: &Tokens<'_>, at: u32, end: u32) -> Option<(Prefi
     requires within { end ≤ length tokens.now }
     ensures { option_map (λ found. (found.0, words_between found.1 end tokens.now)) result ≡ taken prefix_of (words_between at end tokens.now) }
 {
-    let Some(text) = sign_at(tokens, at, end) else {
-        return None;
-    };
-    match prefix_of(text) {
-        Some(prefix) => Some((prefix, at + 1)),
-        None => None,
-    }
+    let text = sign_at(tokens, at, end)?;
+    let prefix = prefix_of(text)?;
+    Some((prefix, at + 1))
 }

@@ -3,31 +3,32 @@ use Rattle.kn_formula.specs.Words.{words_between}
 use Rattle.kn_formula.specs.Reading.{join_read, rule_text, parts_at, item_at}
 use Rattle.kn_formula.specs.declared.written.Written.{Written}
 use Rattle.kn_formula.proofs.WordLemmas.{at_sign}
-use Rattle.kn_formula.proofs.Steps.{rule_level, level_more, level_last, level_over, level_fault, join_fault, brackets_closed, brackets_open, brackets_unread, one_over, one_end, one_literal, one_name, one_number, one_sign, one_other}
+use Rattle.kn_formula.proofs.Steps.{rule_level, level_more, level_last, level_over, level_fault, join_fault, fault_handed_on, one_over, one_end, one_literal, one_name, one_number, one_sign, one_other}
 use Rattle.kn_formula.proofs.grammar.+form.Goals as goal
 
-pub parts-returns-in-Err : goal.parts-returns-in-Err
-parts-returns-in-Err t c =
-    join_fault c.args.rule _ c.in-Err.unread _
-    (level_fault (rule_text c.args.rule) (item_at c.args.rule) (parts_at c.args.rule) c.loop-left.left (words_between c.loop-left.next c.args.end c.args.tokens.now) c.loop-left.list _ c.in-Err.unread _
-    (rule_level c.args.rule) c.loop-left-test.true c.in-Err.ensures c.loop-left.invariant.read)
+pub parts-returns-in_err-part : goal.parts-returns-in_err-part
+parts-returns-in_err-part t c =
+    fault_handed_on {X = Written} _ _ _ _ c.from_residual.ensures.1
+    (join_fault c.args.rule _ _ _
+    (level_fault (rule_text c.args.rule) (item_at c.args.rule) (parts_at c.args.rule) c.loop-left.left (words_between c.loop-left.next c.args.end c.args.tokens.now) c.loop-left.list _ _ _
+    (rule_level c.args.rule) c.loop-left-test.true c.in_err-part.ensures c.loop-left.invariant.read))
 
 pub parts-loop-left-preserved : goal.parts-loop-left-preserved
 parts-loop-left-preserved t c =
     record {
       fewer = omega (arith, c.loop-left.invariant.fewer);
       read = level_more (rule_text c.args.rule) (item_at c.args.rule) (parts_at c.args.rule) c.loop-left.left (words_between c.loop-left.next c.args.end c.args.tokens.now)
-          (words_between c.in-Ok.read.1 c.args.end c.args.tokens.now) (words_between c.in-Some.further c.args.end c.args.tokens.now) c.in-Ok.read.0 c.loop-left.list c.push.new.self _
-          (rule_level c.args.rule) c.loop-left-test.true c.in-Ok.ensures c.in-Ok-push.ensures.ok (at_sign _ _ _ _ c.rule_text.ensures c.in-Some.ensures) c.loop-left.invariant.read;
+          (words_between c.in_ok-part.rest c.args.end c.args.tokens.now) (words_between c.in-Some.further c.args.end c.args.tokens.now) c.in_ok-part.part c.loop-left.list c.push.new.self _
+          (rule_level c.args.rule) c.loop-left-test.true c.in_ok-part.ensures c.in-Ok.ensures.ok (at_sign _ _ _ _ c.rule_text.ensures c.in-Some.ensures) c.loop-left.invariant.read;
     }
 
-pub parts-returns-in-Ok-finished : goal.parts-returns-in-Ok-finished
-parts-returns-in-Ok-finished t c =
+pub parts-returns-in_default : goal.parts-returns-in_default
+parts-returns-in_default t c =
     ap (join_read c.args.rule)
     (level_last (rule_text c.args.rule) (item_at c.args.rule) (parts_at c.args.rule) c.loop-left.left (words_between c.loop-left.next c.args.end c.args.tokens.now)
-    (words_between c.in-Ok.read.1 c.args.end c.args.tokens.now) c.in-Ok.read.0 c.loop-left.list (c.loop-left.list ++ c.in-Ok.read.0 ∷ []) _
-    (rule_level c.args.rule) c.loop-left-test.true c.in-Ok.ensures refl (at_sign _ _ _ _ c.rule_text.ensures c.in_default.ensures) c.loop-left.invariant.read)
-    ∙ ap (λ (whole : Written). Some (whole, words_between c.in-Ok.read.1 c.args.end c.args.tokens.now)) (sym c.in-Ok-finished.ensures)
+    (words_between c.in_ok-part.rest c.args.end c.args.tokens.now) c.in_ok-part.part c.loop-left.list (c.loop-left.list ++ c.in_ok-part.part ∷ []) _
+    (rule_level c.args.rule) c.loop-left-test.true c.in_ok-part.ensures refl (at_sign _ _ _ _ c.rule_text.ensures c.in_default.ensures) c.loop-left.invariant.read)
+    ∙ ap (λ (whole : Written). Some (whole, words_between c.in_ok-part.rest c.args.end c.args.tokens.now)) (sym c.in_ok-whole.ensures)
 
 pub parts-returns : goal.parts-returns
 parts-returns t c =

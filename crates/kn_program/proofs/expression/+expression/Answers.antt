@@ -8,24 +8,24 @@ use Rattle.kn_program.specs.Trees.{joined, prefixed}
 use Rattle.kn_program.specs.Reading.{with_front, tail_at, one_part, one_link, test_at, negation_at, chain_at, side_at, operand_at}
 use Rattle.kn_program.specs.declared.signs.Level.TheVariants.{Sum}
 use Rattle.kn_program.proofs.WordLemmas.{at_mark}
-use Rattle.kn_program.proofs.Steps.{tail_more, tail_last, tail_unread, tail_over, fault_of_part, tests_over, tests_start, tests_unread, tests_alone, chain_start, chain_unread, has_height, with_fewer, operand_unread, operand_alone, made_of, none_of, made_along, negation_over, negation_none, negation_some, mapped_some, mapped_none, reads_along, comparison_over, comparison_unread, comparison_alone, comparison_two, operand_over, operand_none, operand_some, atom_over, atom_end, atom_constant, atom_group}
+use Rattle.kn_program.proofs.Steps.{tail_more, tail_last, tail_unread, tail_over, fault_handed_on, tests_over, tests_start, tests_unread, tests_alone, chain_start, chain_unread, has_height, with_fewer, operand_unread, operand_alone, made_of, none_of, made_along, negation_over, negation_none, negation_some, mapped_some, mapped_none, reads_along, comparison_over, comparison_unread, comparison_alone, comparison_two, operand_over, operand_none, operand_some, atom_over, atom_end, atom_constant, atom_group}
 use Rattle.kn_program.proofs.expression.+expression.Goals as goal
 
 pub tests-returns-then-budget-eq0 : goal.tests-returns-then-budget-eq0
 tests-returns-then-budget-eq0 t c = tests_over c.args.budget c.args.joint _ c.if-budget-eq0.true
 
-pub tests-returns-in-Err : goal.tests-returns-in-Err
-tests-returns-in-Err t c =
-    fault_of_part {X = Expr} {Y = Expr} c.in-Err.unread (test_at (c.args.budget - 1) c.args.joint (words_between c.args.at c.args.end c.args.tokens.now)) _ _ c.in-Err.ensures
+pub tests-returns-in_err-first : goal.tests-returns-in_err-first
+tests-returns-in_err-first t c =
+    fault_handed_on {X = Expr} {Y = Expr} _ (test_at (c.args.budget - 1) c.args.joint (words_between c.args.at c.args.end c.args.tokens.now)) _ _ _ c.from_residual.ensures.1 c.in_err-first.ensures
     (tests_unread c.args.budget c.args.joint _ c.if-budget-eq0.false)
 
 pub tests-returns-in-None : goal.tests-returns-in-None
-tests-returns-in-None t c = tests_alone c.args.budget c.args.joint _ _ c.in-Ok.read.0 c.if-budget-eq0.false c.in-Ok.ensures c.in-None.ensures
+tests-returns-in-None t c = tests_alone c.args.budget c.args.joint _ _ c.in_ok-first.first c.if-budget-eq0.false c.in_ok-first.ensures c.in-None.ensures
 
 pub tests-loop-left-init : goal.tests-loop-left-init
 tests-loop-left-init t c =
-    tests_start c.args.budget c.args.joint _ _ c.in-Ok.read.0 c.push.new.self c.if-budget-eq0.false c.in-Ok.ensures
-    (c.in-Ok-push.ensures.ok ∙ ap (λ (list : List Expr). list ++ c.in-Ok.read.0 ∷ []) c.new-parts.ensures)
+    tests_start c.args.budget c.args.joint _ _ c.in_ok-first.first c.push.new.self c.if-budget-eq0.false c.in_ok-first.ensures
+    (c.in-Ok.ensures.ok ∙ ap (λ (list : List Expr). list ++ c.in_ok-first.first ∷ []) c.new-parts.ensures)
 
 pub tests-returns-in_default : goal.tests-returns-in_default
 tests-returns-in_default t c =
@@ -36,9 +36,9 @@ tests-returns-in_default t c =
     c.in_default.ensures)
     c.loop-left.invariant c.joined.ensures
 
-pub tests-returns-in-Err-test : goal.tests-returns-in-Err-test
-tests-returns-in-Err-test t c =
-    fault_of_part {X = Expr} {Y = Expr} c.in-Err-test.unread (test_at (c.args.budget - 1) c.args.joint (words_between c.in-Some-behind_joint.start c.args.end c.args.tokens.now)) _ _ c.in-Err-test.ensures
+pub tests-returns-in_err-part : goal.tests-returns-in_err-part
+tests-returns-in_err-part t c =
+    fault_handed_on {X = Expr} {Y = Expr} _ (test_at (c.args.budget - 1) c.args.joint (words_between c.in-Some-behind_joint.start c.args.end c.args.tokens.now)) _ _ _ c.from_residual-in_err-part.ensures.1 c.in_err-part.ensures
     (λ none. none_of (joined c.args.joint)
     (with_front c.loop-left.parts (tail_at (marked (joint_text c.args.joint)) one_part (test_at (c.args.budget - 1) c.args.joint) c.loop-left.left (words_between c.loop-left.next c.args.end c.args.tokens.now)))
     _
@@ -51,8 +51,8 @@ tests-loop-left-preserved t c =
     made_along (joined c.args.joint)
     (with_front c.loop-left.parts (tail_at (marked (joint_text c.args.joint)) one_part (test_at (c.args.budget - 1) c.args.joint) c.loop-left.left (words_between c.loop-left.next c.args.end c.args.tokens.now)))
     _ _
-    (tail_more (marked (joint_text c.args.joint)) one_part (test_at (c.args.budget - 1) c.args.joint) c.loop-left.left _ (words_between c.in-Some-behind_joint.start c.args.end c.args.tokens.now) _ tt c.in-Ok-test.read.0 c.loop-left.parts c.push-in-loop-left.new.self c.loop-left-test.true
-    c.in-Some-behind_joint.ensures c.in-Ok-test.ensures c.in-Ok-push-2.ensures.ok)
+    (tail_more (marked (joint_text c.args.joint)) one_part (test_at (c.args.budget - 1) c.args.joint) c.loop-left.left _ (words_between c.in-Some-behind_joint.start c.args.end c.args.tokens.now) _ tt c.in_ok-part.part c.loop-left.parts c.push-in-loop-left.new.self c.loop-left-test.true
+    c.in-Some-behind_joint.ensures c.in_ok-part.ensures c.in-Ok-push.ensures.ok)
     c.loop-left.invariant
 
 pub tests-returns : goal.tests-returns
@@ -71,75 +71,75 @@ negation-returns-in_default t c =
     reads_along {X = Expr} c.comparison.result _ _ _
     (negation_none c.args.budget (words_between c.args.at c.args.end c.args.tokens.now) c.if-budget-eq0.false (at_mark _ _ _ _ c.as_slice.ensures c.in_default.ensures)) c.comparison.ensures
 
-pub negation-returns-in-Err : goal.negation-returns-in-Err
-negation-returns-in-Err t c =
-    fault_of_part {X = Expr} {Y = Expr} c.in-Err.unread (negation_at (c.args.budget - 1) (words_between c.in-Some.inner c.args.end c.args.tokens.now)) _ _ c.in-Err.ensures
+pub negation-returns-in_err-part : goal.negation-returns-in_err-part
+negation-returns-in_err-part t c =
+    fault_handed_on {X = Expr} {Y = Expr} _ (negation_at (c.args.budget - 1) (words_between c.in-Some.inner c.args.end c.args.tokens.now)) _ _ _ c.from_residual.ensures.1 c.in_err-part.ensures
     (mapped_none E.Not (negation_at (c.args.budget - 1) (words_between c.in-Some.inner c.args.end c.args.tokens.now)) _
     (negation_some c.args.budget _ (words_between c.in-Some.inner c.args.end c.args.tokens.now) c.if-budget-eq0.false (at_mark _ _ _ _ c.as_slice.ensures c.in-Some.ensures)))
 
-pub negation-returns-in-Ok-negated : goal.negation-returns-in-Ok-negated
-negation-returns-in-Ok-negated t c =
-    mapped_some E.Not (negation_at (c.args.budget - 1) (words_between c.in-Some.inner c.args.end c.args.tokens.now)) _ c.in-Ok.read.0 _ c.in-Ok-negated.whole
+pub negation-returns : goal.negation-returns
+negation-returns t c =
+    mapped_some E.Not (negation_at (c.args.budget - 1) (words_between c.in-Some.inner c.args.end c.args.tokens.now)) _ c.in_ok-part.part _ c.in_ok-whole.whole
     (negation_some c.args.budget _ (words_between c.in-Some.inner c.args.end c.args.tokens.now) c.if-budget-eq0.false (at_mark _ _ _ _ c.as_slice.ensures c.in-Some.ensures))
-    c.in-Ok.ensures c.in-Ok-negated.ensures
+    c.in_ok-part.ensures c.in_ok-whole.ensures
 
 pub comparison-returns-then-budget-eq0 : goal.comparison-returns-then-budget-eq0
 comparison-returns-then-budget-eq0 t c = comparison_over c.args.budget _ c.if-budget-eq0.true
 
-pub comparison-returns-in-Err : goal.comparison-returns-in-Err
-comparison-returns-in-Err t c =
-    fault_of_part {X = Expr} {Y = Expr} c.in-Err.unread (chain_at (c.args.budget - 1) Sum (words_between c.args.at c.args.end c.args.tokens.now)) _ _ c.in-Err.ensures
+pub comparison-returns-in_err-left : goal.comparison-returns-in_err-left
+comparison-returns-in_err-left t c =
+    fault_handed_on {X = Expr} {Y = Expr} _ (chain_at (c.args.budget - 1) Sum (words_between c.args.at c.args.end c.args.tokens.now)) _ _ _ c.from_residual.ensures.1 c.in_err-left.ensures
     (comparison_unread c.args.budget _ c.if-budget-eq0.false)
 
 pub comparison-returns-in_default : goal.comparison-returns-in_default
-comparison-returns-in_default t c = comparison_alone c.args.budget _ _ c.in-Ok.read.0 c.if-budget-eq0.false c.in-Ok.ensures c.in_default.ensures
+comparison-returns-in_default t c = comparison_alone c.args.budget _ _ c.in_ok-left.left c.if-budget-eq0.false c.in_ok-left.ensures c.in_default.ensures
 
-pub comparison-returns-in-Err-chain : goal.comparison-returns-in-Err-chain
-comparison-returns-in-Err-chain t c =
-    fault_of_part {X = Expr} {Y = Expr} c.in-Err-chain.unread (chain_at (c.args.budget - 1) Sum (words_between c.in-Some.start c.args.end c.args.tokens.now)) _ _ c.in-Err-chain.ensures
-    (mapped_none (E.Compare c.in-Some.sign c.in-Ok.read.0) (chain_at (c.args.budget - 1) Sum (words_between c.in-Some.start c.args.end c.args.tokens.now)) _
-    (comparison_two c.args.budget _ _ (words_between c.in-Some.start c.args.end c.args.tokens.now) c.in-Ok.read.0 c.in-Some.sign c.if-budget-eq0.false c.in-Ok.ensures c.in-Some.ensures))
+pub comparison-returns-in_err-right : goal.comparison-returns-in_err-right
+comparison-returns-in_err-right t c =
+    fault_handed_on {X = Expr} {Y = Expr} _ (chain_at (c.args.budget - 1) Sum (words_between c.in-Some.start c.args.end c.args.tokens.now)) _ _ _ c.from_residual-in_err-right.ensures.1 c.in_err-right.ensures
+    (mapped_none (E.Compare c.in-Some.sign c.in_ok-left.left) (chain_at (c.args.budget - 1) Sum (words_between c.in-Some.start c.args.end c.args.tokens.now)) _
+    (comparison_two c.args.budget _ _ (words_between c.in-Some.start c.args.end c.args.tokens.now) c.in_ok-left.left c.in-Some.sign c.if-budget-eq0.false c.in_ok-left.ensures c.in-Some.ensures))
 
-pub comparison-returns-in-Ok-compared : goal.comparison-returns-in-Ok-compared
-comparison-returns-in-Ok-compared t c =
-    mapped_some (E.Compare c.in-Some.sign c.in-Ok.read.0) (chain_at (c.args.budget - 1) Sum (words_between c.in-Some.start c.args.end c.args.tokens.now)) _ c.in-Ok-chain.read.0 _ c.in-Ok-compared.whole
-    (comparison_two c.args.budget _ _ (words_between c.in-Some.start c.args.end c.args.tokens.now) c.in-Ok.read.0 c.in-Some.sign c.if-budget-eq0.false c.in-Ok.ensures c.in-Some.ensures)
-    c.in-Ok-chain.ensures c.in-Ok-compared.ensures
+pub comparison-returns : goal.comparison-returns
+comparison-returns t c =
+    mapped_some (E.Compare c.in-Some.sign c.in_ok-left.left) (chain_at (c.args.budget - 1) Sum (words_between c.in-Some.start c.args.end c.args.tokens.now)) _ c.in_ok-right.right _ c.in_ok-whole.whole
+    (comparison_two c.args.budget _ _ (words_between c.in-Some.start c.args.end c.args.tokens.now) c.in_ok-left.left c.in-Some.sign c.if-budget-eq0.false c.in_ok-left.ensures c.in-Some.ensures)
+    c.in_ok-right.ensures c.in_ok-whole.ensures
 
 pub chain-returns-then-budget-levels : goal.chain-returns-then-budget-levels
 chain-returns-then-budget-levels t c =
     operand_unread c.args.level c.args.budget _ (operand_over (c.args.budget - height c.args.level) _ (omega (arith, c.if-budget-levels.true, c.height-levels.ensures)))
 
-pub chain-returns-in-Err : goal.chain-returns-in-Err
-chain-returns-in-Err t c =
-    fault_of_part {X = Expr} {Y = Expr} c.in-Err.unread (operand_at (c.args.budget - c.height-levels.result) (words_between c.args.at c.args.end c.args.tokens.now)) _ _ c.in-Err.ensures
+pub chain-returns-in_err-first : goal.chain-returns-in_err-first
+chain-returns-in_err-first t c =
+    fault_handed_on {X = Expr} {Y = Expr} _ (operand_at (c.args.budget - c.height-levels.result) (words_between c.args.at c.args.end c.args.tokens.now)) _ _ _ c.from_residual.ensures.1 c.in_err-first.ensures
     (λ none. operand_unread c.args.level c.args.budget _ (with_fewer c.args.budget c.height-levels.result _ _ _ (ap (λ h. c.args.budget - h) (sym c.height-levels.ensures)) none))
 
 pub chain-returns-else-has_operation : goal.chain-returns-else-has_operation
 chain-returns-else-has_operation t c =
-    operand_alone c.args.level c.args.budget _ _ c.in-Ok.read.0 (omega (arith, c.if-budget-levels.false, c.height-levels.ensures))
-    (with_fewer c.args.budget c.height-levels.result _ _ _ (ap (λ h. c.args.budget - h) (sym c.height-levels.ensures)) c.in-Ok.ensures)
+    operand_alone c.args.level c.args.budget _ _ c.in_ok-first.first (omega (arith, c.if-budget-levels.false, c.height-levels.ensures))
+    (with_fewer c.args.budget c.height-levels.result _ _ _ (ap (λ h. c.args.budget - h) (sym c.height-levels.ensures)) c.in_ok-first.ensures)
     (c.has_operation.ensures c.if-has_operation.false)
 
-pub climb-returns-in-Err : goal.climb-returns-in-Err
-climb-returns-in-Err t c =
-    fault_of_part {X = Expr} {Y = Expr} c.in-Err.unread (side_at (c.args.budget - 1) c.args.level (words_between c.args.at c.args.end c.args.tokens.now)) _ _ c.in-Err.ensures
+pub climb-returns-in_err-first : goal.climb-returns-in_err-first
+climb-returns-in_err-first t c =
+    fault_handed_on {X = Expr} {Y = Expr} _ (side_at (c.args.budget - 1) c.args.level (words_between c.args.at c.args.end c.args.tokens.now)) _ _ _ c.from_residual.ensures.1 c.in_err-first.ensures
     (chain_unread c.args.budget c.args.level _ (has_height c.args.level c.args.budget c.requires.enough))
 
 pub climb-loop-left-init : goal.climb-loop-left-init
-climb-loop-left-init t c = chain_start c.args.budget c.args.level _ _ c.in-Ok.read.0 c.new-links.result (has_height c.args.level c.args.budget c.requires.enough) c.in-Ok.ensures c.new-links.ensures
+climb-loop-left-init t c = chain_start c.args.budget c.args.level _ _ c.in_ok-first.first c.new-links.result (has_height c.args.level c.args.budget c.requires.enough) c.in_ok-first.ensures c.new-links.ensures
 
-pub climb-returns-in-Ok-chained : goal.climb-returns-in-Ok-chained
-climb-returns-in-Ok-chained t c =
+pub climb-returns-in_default : goal.climb-returns-in_default
+climb-returns-in_default t c =
     made_of _
     (with_front c.loop-left.links (tail_at (taken (operation_of c.args.level)) one_link (side_at (c.args.budget - 1) c.args.level) c.loop-left.left (words_between c.loop-left.next c.args.end c.args.tokens.now)))
-    _ c.loop-left.links _ c.in-Ok-chained.whole
+    _ c.loop-left.links _ c.in_ok-whole.whole
     (tail_last (taken (operation_of c.args.level)) one_link (side_at (c.args.budget - 1) c.args.level) c.loop-left.left _ c.loop-left.links c.loop-left-test.true c.in_default.ensures)
-    c.loop-left.invariant c.in-Ok-chained.ensures
+    c.loop-left.invariant c.in_ok-whole.ensures
 
-pub climb-returns-in-Err-side : goal.climb-returns-in-Err-side
-climb-returns-in-Err-side t c =
-    fault_of_part {X = Expr} {Y = Expr} c.in-Err-side.unread (side_at (c.args.budget - 1) c.args.level (words_between c.in-Some.start c.args.end c.args.tokens.now)) _ _ c.in-Err-side.ensures
+pub climb-returns-in_err-right : goal.climb-returns-in_err-right
+climb-returns-in_err-right t c =
+    fault_handed_on {X = Expr} {Y = Expr} _ (side_at (c.args.budget - 1) c.args.level (words_between c.in-Some.start c.args.end c.args.tokens.now)) _ _ _ c.from_residual-in_err-right.ensures.1 c.in_err-right.ensures
     (λ none. none_of _
     (with_front c.loop-left.links (tail_at (taken (operation_of c.args.level)) one_link (side_at (c.args.budget - 1) c.args.level) c.loop-left.left (words_between c.loop-left.next c.args.end c.args.tokens.now)))
     _
@@ -152,8 +152,8 @@ climb-loop-left-preserved t c =
     made_along _
     (with_front c.loop-left.links (tail_at (taken (operation_of c.args.level)) one_link (side_at (c.args.budget - 1) c.args.level) c.loop-left.left (words_between c.loop-left.next c.args.end c.args.tokens.now)))
     _ _
-    (tail_more (taken (operation_of c.args.level)) one_link (side_at (c.args.budget - 1) c.args.level) c.loop-left.left _ (words_between c.in-Some.start c.args.end c.args.tokens.now) _ c.in-Some.sign c.in-Ok-side.read.0 c.loop-left.links c.push.new.self c.loop-left-test.true
-    c.in-Some.ensures c.in-Ok-side.ensures c.in-Ok-push.ensures.ok)
+    (tail_more (taken (operation_of c.args.level)) one_link (side_at (c.args.budget - 1) c.args.level) c.loop-left.left _ (words_between c.in-Some.start c.args.end c.args.tokens.now) _ c.in-Some.sign c.in_ok-right.right c.loop-left.links c.push.new.self c.loop-left-test.true
+    c.in-Some.ensures c.in_ok-right.ensures c.in-Ok.ensures.ok)
     c.loop-left.invariant
 
 pub climb-returns : goal.climb-returns
@@ -171,17 +171,17 @@ pub operand-returns-in_default : goal.operand-returns-in_default
 operand-returns-in_default t c =
     reads_along {X = Expr} c.atom.result _ _ _ (operand_none c.args.budget (words_between c.args.at c.args.end c.args.tokens.now) c.if-budget-eq0.false c.in_default.ensures) c.atom.ensures
 
-pub operand-returns-in-Err : goal.operand-returns-in-Err
-operand-returns-in-Err t c =
-    fault_of_part {X = Expr} {Y = Expr} c.in-Err.unread (operand_at (c.args.budget - 1) (words_between c.in-Some.inner c.args.end c.args.tokens.now)) _ _ c.in-Err.ensures
+pub operand-returns-in_err-part : goal.operand-returns-in_err-part
+operand-returns-in_err-part t c =
+    fault_handed_on {X = Expr} {Y = Expr} _ (operand_at (c.args.budget - 1) (words_between c.in-Some.inner c.args.end c.args.tokens.now)) _ _ _ c.from_residual.ensures.1 c.in_err-part.ensures
     (mapped_none (prefixed c.in-Some.prefix) (operand_at (c.args.budget - 1) (words_between c.in-Some.inner c.args.end c.args.tokens.now)) _
     (operand_some c.args.budget _ (words_between c.in-Some.inner c.args.end c.args.tokens.now) c.in-Some.prefix c.if-budget-eq0.false c.in-Some.ensures))
 
-pub operand-returns-in-Ok-prefixed : goal.operand-returns-in-Ok-prefixed
-operand-returns-in-Ok-prefixed t c =
-    mapped_some (prefixed c.in-Some.prefix) (operand_at (c.args.budget - 1) (words_between c.in-Some.inner c.args.end c.args.tokens.now)) _ c.in-Ok.read.0 _ c.in-Ok-prefixed.whole
+pub operand-returns : goal.operand-returns
+operand-returns t c =
+    mapped_some (prefixed c.in-Some.prefix) (operand_at (c.args.budget - 1) (words_between c.in-Some.inner c.args.end c.args.tokens.now)) _ c.in_ok-part.part _ c.in_ok-whole.whole
     (operand_some c.args.budget _ (words_between c.in-Some.inner c.args.end c.args.tokens.now) c.in-Some.prefix c.if-budget-eq0.false c.in-Some.ensures)
-    c.in-Ok.ensures c.in-Ok-prefixed.ensures
+    c.in_ok-part.ensures c.in_ok-whole.ensures
 
 pub atom-returns-then-budget-eq0 : goal.atom-returns-then-budget-eq0
 atom-returns-then-budget-eq0 t c = atom_over c.args.budget _ c.if-budget-eq0.true
@@ -189,12 +189,12 @@ atom-returns-then-budget-eq0 t c = atom_over c.args.budget _ c.if-budget-eq0.tru
 pub atom-returns-in_default : goal.atom-returns-in_default
 atom-returns-in_default t c = atom_end c.args.budget _ c.if-budget-eq0.false c.in_default.ensures.words
 
-pub atom-returns-in-Ok-Some : goal.atom-returns-in-Ok-Some
-atom-returns-in-Ok-Some t c =
-    atom_constant c.args.budget _ _ (word_of (seen c.in-Some.token.now)) c.in-Ok-Some.whole c.if-budget-eq0.false c.in-Some.ensures.words (c.in-Ok-Some.ensures ∙ c.in-Ok-Some.field-0-is)
+pub atom-returns-in-Some-2 : goal.atom-returns-in-Some-2
+atom-returns-in-Some-2 t c =
+    atom_constant c.args.budget _ _ (word_of (seen c.in-Some.token.now)) c.in-Some-2.whole c.if-budget-eq0.false c.in-Some.ensures.words (c.in_ok-whole.ensures ∙ c.in-Some-2.is)
 
-pub atom-returns-in-Ok-None : goal.atom-returns-in-Ok-None
-atom-returns-in-Ok-None t c =
+pub atom-returns-in-None : goal.atom-returns-in-None
+atom-returns-in-None t c =
     reads_along {X = Expr} c.group.result _ _ _
     (atom_group c.args.budget (words_between c.args.at c.args.end c.args.tokens.now) _ (word_of (seen c.in-Some.token.now)) c.if-budget-eq0.false c.in-Some.ensures.words
-    (c.in-Ok-None.ensures ∙ c.in-Ok-None.field-0-is)) c.group.ensures
+    (c.in_ok-whole.ensures ∙ c.in-None.is)) c.group.ensures
