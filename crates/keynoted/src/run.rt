@@ -8,7 +8,7 @@ ghost use Rattle.kn_serve.specs.Serving.{IsOrderly};
 ghost use Rattle.kn_commands.specs.declared.generating.GenNumbers.{GenNumbers};
 ghost use Rattle.kn_commands.specs.Serving.{Order};
 ghost use Rattle.keynoted.specs.Commands.{AskFor, CheckFor, GenFor, ServeFor, IsNoCommand, IsNo};
-ghost use Rattle.keynoted.specs.Running.{IsDone, HasNoCommand, IsFileFault, IsPolicyFault, IsLinkFault, LacksMemory, IsReplyFault, IsKeyFault, MeansNoQuery, IsDue, IsPrinted, IsEnded, Tells, TellsPart};
+ghost use Rattle.keynoted.specs.Running.{IsDone, HasNoCommand, IsFileFault, IsPolicyFault, IsLinkFault, IsReplyFault, IsKeyFault, MeansNoQuery, IsPrinted, IsEnded, Tells, TellsPart};
 ghost use Rattle.keynoted.specs.Serving.{OrServes, EndsRefused, LacksMemoryFor, IsListenerFault, IsEndDue, IsRun};
 ghost use Rattle.keynoted.specs.Calling.{AskLeads, CallsFor, CallsToServe, IsCalm, EndsWith};
 

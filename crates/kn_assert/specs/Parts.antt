@@ -6,7 +6,7 @@ use Rattle.kn_env.specs.declared.constant.Constant.{Constant}
 use Rattle.kn_lex.specs.Cutting.{Seen}
 use Rattle.kn_lex.specs.Literal.{literal_value}
 use Rattle.kn_lex.specs.declared.token.Sort.{Sort}
-use Rattle.kn_lex.specs.declared.token.Sort.TheVariants.{Label, Body, Name as NameSort, Number, Text, Sign}
+use Rattle.kn_lex.specs.declared.token.Sort.TheVariants.{Name as NameSort, Text}
 use Rattle.kn_fields.specs.Constants.{is_name_sort, is_text_sort}
 use Rattle.kn_trees.specs.declared.formula.Formula.{Formula}
 use Rattle.kn_trees.specs.declared.program.Program.{Program}

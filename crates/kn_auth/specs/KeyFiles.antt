@@ -6,7 +6,7 @@ use Rattle.std.specs.Str.Lines.{lines}
 use Rattle.kn_auth.specs.KeyLines.{States}
 use Rattle.kn_auth.specs.declared.entry.MacKey.{MacKey}
 use Rattle.kn_auth.specs.declared.entry.Entry.{Entry}
-use Rattle.kn_auth.specs.declared.entry.Entry.TheVariants.{Comment, Mac, Digest, Secret}
+use Rattle.kn_auth.specs.declared.entry.Entry.TheVariants.{Mac, Digest, Secret}
 use Rattle.kn_auth.specs.declared.key_file.KeyFile.{KeyFile}
 
 abbrev pub key_in : Entry → Option MacKey

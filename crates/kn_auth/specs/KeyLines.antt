@@ -1,6 +1,5 @@
 -- The lines of a key file, and what each states by itself (keynoted's own format).
-use Rattle.std.specs.Prelude.{ℕ, ◌≡◌, ◌≤◌, ◌==◌, Bool, true, false, List, [], ◌∷◌, ◌++◌, length, codes, Ok}
-use Rattle.std.specs.Str.Lines.{lines}
+use Rattle.std.specs.Prelude.{ℕ, ◌≡◌, ◌≤◌, ◌==◌, Bool, true, List, [], ◌∷◌, ◌++◌, length, codes, Ok}
 use Rattle.hex.specs.Hex.{decode_of, decode_sized}
 use Rattle.kn_base.specs.declared.limits.TheConstants.{PRINCIPAL_BYTES}
 use Rattle.kn_principal.specs.Principals.{normal_form}

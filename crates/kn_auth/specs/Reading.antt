@@ -1,5 +1,5 @@
 -- What one line more changes of what a key file's lines say so far.
-use Rattle.std.specs.Prelude.{ℕ, ◌≡◌, List, [], ◌∷◌, ◌++◌, Bool, Option, Some, None, if◌then◌else◌}
+use Rattle.std.specs.Prelude.{ℕ, ◌≡◌, List, [], ◌∷◌, ◌++◌, Option, Some, None, if◌then◌else◌}
 use Rattle.kn_auth.specs.KeyLines.{States}
 use Rattle.kn_auth.specs.Verdicts.{has_key}
 use Rattle.kn_auth.specs.declared.entry.Entry.{Entry}

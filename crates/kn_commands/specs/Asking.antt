@@ -22,7 +22,7 @@ use Rattle.kn_commands.specs.Held.{HasContent, IsTooLarge, IsPolicy, AreKeys, Is
 use Rattle.kn_commands.specs.Loaded.{IsLimitAt}
 use Rattle.kn_commands.specs.Stopping.{status_of, stop_line}
 use Rattle.kn_commands.specs.declared.stop.Stop.{Stop}
-use Rattle.kn_commands.specs.declared.stop.Stop.TheVariants.{Words, FileFailed, FileTooLarge, Policy, Limit, KeyLine, Memory}
+use Rattle.kn_commands.specs.declared.stop.Stop.TheVariants.{FileFailed, FileTooLarge, Policy, Limit, KeyLine, Memory}
 use Rattle.kn_commands.specs.declared.ask_ending.AskEnding.{AskEnding}
 use Rattle.kn_commands.specs.declared.ask_ending.AskEnding.TheVariants.{PolicyStopped, KeysStopped, Served}
 

@@ -1,12 +1,8 @@
 -- How serving the connections of an address ends: its status, the line that tells it, and what it leaves (keynoted's own).
-use Rattle.std.specs.Prelude.{ℕ, ◌≡◌, Bool, true, false, List, [], ◌++◌, codes, decimal, length, Some, unwrap_or}
+use Rattle.std.specs.Prelude.{ℕ, ◌≡◌, true, false, List, [], ◌++◌, codes, decimal, length, Some, unwrap_or}
 use Rattle.kn_outside.specs.Seen.{FilesSeen, LinkSeen}
-use Rattle.kn_outside.specs.Asked.{HasAsked}
 use Rattle.kn_outside.specs.Faults.{Rose}
-use Rattle.kn_files.specs.Pieces.{pieces_of}
-use Rattle.kn_auth.specs.declared.key_file.KeyFile.{KeyFile}
 use Rattle.kn_store.specs.declared.update.Update.{Update}
-use Rattle.kn_store.specs.History.{loaded_history}
 use Rattle.kn_daemon.specs.Daemon.{Grounds}
 use Rattle.kn_registry.specs.Passes.{PassSeen}
 use Rattle.kn_workers.specs.declared.binding.Binding.{Binding}
@@ -15,11 +11,9 @@ use Rattle.kn_workers.specs.Connections.{ServedSeen}
 use Rattle.kn_workers.specs.Doors.{DoorSeen}
 use Rattle.kn_workers.specs.Nets.{NetSeen, AreBound, with_faults}
 use Rattle.kn_workers.specs.Workers.{AllServed}
-use Rattle.kn_commands.specs.Names.{AskNames, ask_order}
-use Rattle.kn_commands.specs.Held.{IsPolicy, AreKeys}
+use Rattle.kn_commands.specs.Names.{AskNames}
 use Rattle.kn_commands.specs.Stopping.{status_of, stop_line}
 use Rattle.kn_commands.specs.Asking.{RunsOver, StopsAtPolicy, AreKeysStopped}
-use Rattle.kn_commands.specs.declared.stop.Stop.{Stop}
 use Rattle.kn_commands.specs.declared.serve_ending.ServeEnding.{ServeEnding}
 use Rattle.kn_commands.specs.declared.serve_ending.ServeEnding.TheVariants.{PolicyStopped, KeysStopped, BindMemory, Unbound, WorkMemory, DoorFailed, Served}
 

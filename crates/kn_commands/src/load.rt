@@ -12,8 +12,8 @@ use kn_base::limits::FILE_BYTES;
 use kn_base::{List, NoMemory, Span};
 use kn_files::split_file;
 use kn_registry::{Pass, Registry};
-use kn_store::{Ready, StoreFault};
 use kn_reply::LimitWord;
+use kn_store::{Ready, StoreFault};
 use std::alloc::Global;
 use std::sync::Wait;
 

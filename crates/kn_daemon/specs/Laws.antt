@@ -1,5 +1,5 @@
 -- Laws of a connection that is being served, of requests, and of histories.
-use Rattle.std.specs.Prelude.{ℕ, ◌≡◌, ◌≢◌, ◌+◌, ◌<◌, ◌==◌, Bool, true, false, not, List, [], ◌∷◌, ◌++◌, length, take, drop, filter, flat_map, All, Option, Some, None, option_map, codes}
+use Rattle.std.specs.Prelude.{ℕ, ◌≡◌, ◌≢◌, ◌+◌, ◌<◌, Bool, true, false, List, [], ◌∷◌, ◌++◌, length, take, drop, All, Option, Some, None, option_map, codes}
 use Rattle.kn_base.specs.declared.limits.TheConstants.{REQUESTS}
 use Rattle.kn_trees.specs.declared.assertion.Assertion.{Assertion}
 use Rattle.kn_assert.specs.Reading.{reading_of, assertion_of, fault_of}
@@ -10,17 +10,15 @@ use Rattle.kn_reply.specs.declared.refusal.Refusal.{Refusal}
 use Rattle.kn_reply.specs.declared.refusal.Refusal.TheVariants as R
 use Rattle.kn_store.specs.declared.update.Change.TheVariants as C
 use Rattle.kn_store.specs.declared.update.Update.{Update}
-use Rattle.kn_wire.specs.Requests.{Request, Bye, Faulty, Takes, AreRequests}
+use Rattle.kn_wire.specs.Requests.{Request, Bye, Faulty}
 use Rattle.kn_reply.specs.Replies.{Reply, NoMemory, reply_text}
-use Rattle.kn_store.specs.declared.update.Numbered.{Numbered}
-use Rattle.kn_store.specs.History.{live, is_valid_history, may_follow, all_changes}
+use Rattle.kn_store.specs.History.{is_valid_history}
 use Rattle.kn_daemon.specs.declared.ended.Ended.{Ended}
 use Rattle.kn_daemon.specs.declared.ended.Ended.TheVariants as E
 use Rattle.kn_daemon.specs.Daemon.{Grounds, State, first_state, refusal_of_reading, Permits}
 use Rattle.kn_daemon.specs.Linearized.{Exchange, Along, own_updates, requests_in}
 use Rattle.kn_session.specs.Sessions.{Session}
 use Rattle.kn_daemon.specs.Played.{after_request, played, IsMeant}
-use Rattle.kn_wire.specs.Pieces.{Pieced}
 use Rattle.kn_daemon.specs.Alone.{IsServedAlone}
 use Rattle.kn_wire.specs.Feeding.{Held, Bytes, held_bytes, pushed, next_of}
 use Rattle.kn_daemon.specs.Served.{IsServed, is_bye, is_block}

@@ -3,7 +3,7 @@ use Rattle.std.specs.Prelude.{ℕ, ◌≡◌, ◌≤◌, ◌<◌, Bool, true, fa
 use Rattle.kn_reply.specs.declared.refusal.Refusal.TheVariants as R
 use Rattle.kn_store.specs.declared.update.Update.{Update}
 use Rattle.kn_wire.specs.Requests.{Request, Open, Close, Pin, Assert, Retract, Set, SetHex, Unset, Auth, Unauth, Clear, Query, Admin, Add, Drop, Bye, Faulty}
-use Rattle.kn_reply.specs.Replies.{Reply, Done, Started, Number, PrivateAdded, Added, Value, No, NoMemory, reply_text}
+use Rattle.kn_reply.specs.Replies.{Reply, Started, Number, Added, No, reply_text}
 use Rattle.kn_store.specs.History.{is_valid_history}
 use Rattle.kn_daemon.specs.Daemon.{Grounds, State, Permits}
 use Rattle.kn_store.specs.History.{addition_by, removal_by}

@@ -1,10 +1,10 @@
 -- Playing requests on the daemon of one thread (keynoted's own): each at one place of one history, and none is answered by
 -- want of memory.
-use Rattle.std.specs.Prelude.{ℕ, ◌≡◌, List, [], ◌∷◌, ◌++◌, Bool, ◌||◌, Option, Some, None, if◌then◌else◌}
+use Rattle.std.specs.Prelude.{ℕ, ◌≡◌, List, [], ◌∷◌, ◌++◌, Bool, ◌||◌, Some, if◌then◌else◌}
 use Rattle.std.specs.Option.{option_map_or}
 use Rattle.kn_env.specs.Values.{values_of}
 use Rattle.kn_store.specs.declared.update.Update.{Update}
-use Rattle.kn_wire.specs.Requests.{Request, Open, Close, Pin, Assert, Retract, Set, SetHex, Unset, Auth, Unauth, Clear, Query, Admin, Add, Drop, Bye, Faulty}
+use Rattle.kn_wire.specs.Requests.{Request, Query}
 use Rattle.kn_daemon.specs.Daemon.{Grounds, State, first_state, session_of, own_refusal, changed}
 use Rattle.kn_session.specs.Sessions.{Session}
 use Rattle.kn_daemon.specs.Served.{is_bye, is_block}

@@ -2,10 +2,9 @@
 use Rattle.std.specs.Prelude.{ℕ, ◌≡◌, ◌≢◌, ◌-◌, ◌≤◌, ◌<◌, Bool, true, false, List, [], ◌∷◌, ◌++◌, length, take, flat_map, Some, None, ◌⊎◌}
 use Rattle.std.specs.List.{list_any, last_or}
 use Rattle.kn_base.specs.declared.limits.TheConstants.{REQUESTS}
-use Rattle.kn_wire.specs.declared.fault.WireFault.{WireFault}
 use Rattle.kn_wire.specs.declared.fault.WireFault.TheVariants as F
 use Rattle.kn_store.specs.declared.update.Update.{Update}
-use Rattle.kn_wire.specs.Requests.{Request, Open, Close, Pin, Assert, Retract, Set, SetHex, Unset, Auth, Unauth, Clear, Query, Admin, Add, Drop, Bye, Faulty, Takes, first_of}
+use Rattle.kn_wire.specs.Requests.{Request, Bye, Faulty, Takes, first_of}
 use Rattle.kn_daemon.specs.declared.ended.Ended.{Ended}
 use Rattle.kn_daemon.specs.declared.ended.Ended.TheVariants as E
 use Rattle.kn_daemon.specs.Daemon.{Grounds, State, first_state}

@@ -1,5 +1,5 @@
 //! What a request makes of the sessions. One that is refused changes nothing.
-ghost use Rattle.std.specs.Prelude.{◌≡◌, ◌≢◌, List, true, OnOk};
+ghost use Rattle.std.specs.Prelude.{◌≡◌, ◌≢◌, List, true, OnErr, OnOk};
 ghost use Rattle.std.specs.Arc.{arc_value};
 ghost use Rattle.kn_store.specs.declared.update.Update.{Update};
 ghost use Rattle.kn_session.specs.declared.fault.SessionFault.TheVariants as F;
@@ -49,6 +49,7 @@ pub(crate) fn apply(
 /// Hands on want of memory, and passes over a refusal.
 fn pass_refusal(fault: SessionFault) -> Result<(), NoMemory>
     ensures ok { OnOk result (fault ≢ F.NoMemory) }
+    ensures err { OnErr result (fault ≡ F.NoMemory) }
 {
     match fault {
         SessionFault::NoMemory => Err(NoMemory),

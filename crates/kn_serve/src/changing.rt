@@ -14,8 +14,8 @@ use kn_auth::Authenticator;
 use kn_base::NoMemory;
 use kn_outside::{Failed, Link};
 use kn_registry::{Pass, Registry};
-use kn_store::Ready;
 use kn_reply::{Refusal, Reply, print};
+use kn_store::Ready;
 use std::alloc::Global;
 use std::sync::Wait;
 

@@ -9,9 +9,9 @@ ghost use Rattle.kn_serve.specs.Handling.{refusal_of_read, refusal_of_values, re
 use kn_assert::ReadFault;
 use kn_env::ValuesFault;
 use kn_outside::{Failed, Link};
+use kn_reply::{LimitWord, Refusal, Reply, print};
 use kn_session::SessionFault;
 use kn_store::StoreFault;
-use kn_reply::{LimitWord, Refusal, Reply, print};
 use kn_wire::WireFault;
 
 /// The refusal of a line that is no request, or of a block.

@@ -1,6 +1,6 @@
 //! Serving a connection to its end.
 ghost use Rattle.std.specs.Prelude.{◌≡◌, ◌⊎◌, IfSome};
-ghost use Rattle.kn_registry.specs.Passes.{IsReady, IsSoundPass};
+ghost use Rattle.kn_registry.specs.Passes.{IsReady};
 ghost use Rattle.kn_serve.specs.Serving.{Serves, IsOrderly, IsFaultless};
 
 use crate::connection::Connection;

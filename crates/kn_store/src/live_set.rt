@@ -128,7 +128,9 @@ impl LiveSet {
     {
         let size = ready.text().len() as u32;
         let added = self.added + 1;
-        let pages = self.pages.with_item(alloc, CREDENTIALS_PAGE, ready.numbered(added))?;
+        let pages = self
+            .pages
+            .with_item(alloc, CREDENTIALS_PAGE, ready.numbered(added))?;
         Ok(LiveSet {
             pages,
             count: self.count + 1,

@@ -1,5 +1,7 @@
 //! The net of the system.
-ghost use Rattle.std.specs.Prelude.{◌≡◌, ◌≤◌, ◌<◌, None, [], length, IfOk, IfErr, IsSomeAnd};
+ghost use Rattle.std.specs.Prelude.{◌≡◌, ◌≢◌, ◌≤◌, ◌<◌, None, [], length, IfOk, IfErr, IsSomeAnd};
+ghost use Rattle.std.specs.IoError.{error_kind};
+ghost use Rattle.std.specs.declared.io.ErrorKind.{ErrorKind};
 ghost use Rattle.kn_workers.specs.declared.binding.BindFault.TheVariants as B;
 ghost use Rattle.kn_tcp.specs.Tcp.{counted_seen};
 ghost use Rattle.kn_workers.specs.Nets.{AreBound, share, with_faults};
@@ -108,7 +110,10 @@ fn listen(rt: &HostRuntime, alloc: Global, address: &[u8]) -> Result<Arc<TcpList
     }
 }
 
-fn fault_of(error: &io::Error) -> BindFault {
+fn fault_of(error: &io::Error) -> BindFault
+    ensures memory { error_kind error.now ≡ ErrorKind.OutOfMemory → result ≡ B.NoMemory }
+    ensures other { error_kind error.now ≢ ErrorKind.OutOfMemory → result ≡ B.Failed }
+{
     if error.kind() == ErrorKind::OutOfMemory {
         BindFault::NoMemory
     } else {

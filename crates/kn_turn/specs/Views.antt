@@ -1,11 +1,11 @@
 -- The views of a turn's seats: what each counts, and how each kind of step changes them.
-use Rattle.std.specs.Prelude.{◌≡◌, ℕ, ◌+◌, ◌≤◌, ◌==◌, List, [], ◌∷◌, ◌++◌, length, Bool, true, false}
+use Rattle.std.specs.Prelude.{◌≡◌, ℕ, ◌+◌, ◌==◌, List, [], ◌∷◌, ◌++◌, length, Bool, true, false}
 use Rattle.kn_turn.specs.declared.view.EndedPass.{EndedPass}
 use Rattle.kn_turn.specs.declared.view.View.{View}
 use Rattle.kn_turn.specs.declared.view.Stage.{Stage}
 use Rattle.kn_turn.specs.declared.view.Stage.TheVariants.{Idle, Waits, Served, Holds}
 use Rattle.kn_turn.specs.Counts.{one_if, total}
-use Rattle.kn_turn.specs.Entries.{entries_of, AllNameUpTo, longer}
+use Rattle.kn_turn.specs.Entries.{entries_of, longer}
 
 -- 1 where a ticket was drawn and the turn not yet passed on
 abbrev pub ticket_at : Stage → ℕ

@@ -1,5 +1,5 @@
 -- Doors and nets in memory (keynoted's own).
-use Rattle.std.specs.Prelude.{ℕ, ◌≡◌, ◌+◌, ◌≤◌, ◌⊎◌, Bool, true, false, List, [], ◌∷◌, length, All, Option, Some}
+use Rattle.std.specs.Prelude.{ℕ, ◌≡◌, ◌+◌, ◌≤◌, ◌⊎◌, true, false, List, [], ◌∷◌, length, All, Some}
 use Rattle.kn_base.specs.ListWithRoom.{ListWithRoom}
 use Rattle.kn_outside.specs.Faults.{raised}
 use Rattle.kn_outside.specs.InMemory.{LinkInMemory, is_failing}

@@ -1,5 +1,5 @@
 -- A net in memory and its rooms: what the doors get of them, and the room for their results (keynoted's own).
-use Rattle.std.specs.Prelude.{ℕ, zero, suc, ◌≡◌, ◌+◌, ◌≤◌, Bool, true, false, List, [], ◌∷◌, length, Option, Result, Ok, Err}
+use Rattle.std.specs.Prelude.{ℕ, zero, suc, ◌≡◌, ◌+◌, ◌≤◌, true, false, List, [], ◌∷◌, length, Option, Result, Ok, Err}
 use Rattle.kn_base.specs.ListWithRoom.{ListWithRoom}
 use Rattle.kn_outside.specs.Faults.{raised}
 use Rattle.kn_outside.specs.InMemory.{LinkInMemory, is_failing}
