@@ -29,15 +29,32 @@ use Rattle.kn_formula.specs.Reading.{read_words, ors_at, ands_at, one_at, forms_
 use Rattle.kn_formula.specs.Licensing as licensing
 use Rattle.kn_formula.specs.Licensing.{licensees_of}
 use Rattle.kn_assert.specs.Parts.{principal_of, authorizer_of, licensees_by}
-use Rattle.kn_assert.specs.Reading.{authorizer_in, licensees_in, conditions_in, signature_in, first_of, unless, assembled, reading_with, reading_of}
+use Rattle.kn_assert.specs.Reading.{authorizer_in, licensees_in, conditions_in, signature_in, fault_by, first_of, unless, assembled, reading_with, reading_of}
 use Rattle.kn_assert.specs.declared.fault.ReadFault.{ReadFault}
 use Rattle.kn_assert.specs.declared.order.Faults.{Faults}
 use Rattle.kn_generate.proofs.Scans.{tokens_at, AreCuts, text_tokens}
-use Rattle.kn_generate.proofs.Readings.{no_faults, none_first, fields_told, one_spells}
+use Rattle.kn_generate.proofs.Readings.{fields_told, one_spells}
 use Rattle.kn_worked.specs.Texts.{policy_text, policy_assertion, credential_text, credential_assertion}
 
 abbrev Cuts : Type 0
 Cuts = List (Piece × List ℕ)
+
+no_faults : Faults
+no_faults = record { authorizer = None; conditions = None; licensees = None; signature = None }
+
+still_none : (b : Bool) (o : Option ReadFault) → o ≡ None → (if b then None else o) ≡ None
+still_none true o e = refl
+still_none false o e = e
+
+none_by : (o : Option ℕ) → fault_by no_faults o ≡ None
+unfolding no_faults
+none_by None = refl
+none_by (Some n) = still_none (n == 1) _ (still_none (n == 3) _ (still_none (n == 5) _ (still_none (n == 7) _ refl)))
+
+none_first : (fields : List Field) → first_of no_faults fields ≡ None
+unfolding first_of
+none_first [] = refl
+none_first (field ∷ fields) = rw (none_by (field_of field.label)) (none_first fields)
 
 -- the assertion where each field states what it should
 put_together : (fields : List Field) (constants : List Constant) (signed : ℕ) (a : Result (List ℕ) ReadFault) (l : Result (Option Formula) ReadFault) (c : Result (Option Program) ReadFault) (s : Result (Option (List ℕ)) ReadFault)
