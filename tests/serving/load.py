@@ -104,7 +104,7 @@ class Load(Long):
 def read_words():
     parser = argparse.ArgumentParser(prog="tests/load", description="Serves random clients under limits of memory and open files.")
     parser.add_argument("--minutes", type=float, default=60, help="how long (60)")
-    parser.add_argument("--memory", type=int, default=512, help="the MiB of address space that a run may take (512)")
+    parser.add_argument("--memory", type=int, default=2048, help="the MiB of address space that a run may take; the C library reserves 64 for each worker (2048)")
     parser.add_argument("--files", type=int, default=WORKERS + 8, help=f"the files that a run may have open ({WORKERS + 8})")
     return parser.parse_args()
 
