@@ -1,3 +1,4 @@
+//! Cutting a policy file into its texts, at blank lines that stand in no literal.
 ghost use Rattle.std.specs.Prelude.{◌≡◌, ◌≤◌, ◌<◌, ◌-◌, ◌++◌, ◌∷◌, not, ◌&&◌, IfOk, OnOk, length, All, take, drop};
 ghost use Rattle.kn_lex.specs.Spelling.{is_blank};
 ghost use Rattle.kn_files.specs.Lines.{lines_of, is_literal};

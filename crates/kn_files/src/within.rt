@@ -1,3 +1,4 @@
+//! Where in a text the bytes of a line stand: in a comment, a body, a literal or none of them.
 ghost use Rattle.std.specs.Prelude.{◌≡◌, take, fold};
 ghost use Rattle.kn_lex.specs.Cutting.{is_comment_label};
 ghost use Rattle.kn_files.specs.Lines.{after_plain, after_byte, at_line_start, is_of_comment, after_line, is_literal};
