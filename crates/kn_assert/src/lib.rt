@@ -7,8 +7,6 @@ pub mod laws;
 mod order;
 mod parts;
 mod reader;
-#[cfg(test)]
-mod tests;
 
 pub use fault::ReadFault;
 pub use kn_env::Constant;

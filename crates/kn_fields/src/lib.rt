@@ -10,8 +10,6 @@ pub mod laws;
 mod outline;
 mod part;
 mod reader;
-#[cfg(test)]
-mod tests;
 mod version;
 
 pub use fault::FieldFault;

@@ -6,6 +6,3 @@ mod split;
 mod within;
 
 pub use split::split_file;
-
-#[cfg(test)]
-mod tests;

@@ -6,8 +6,6 @@ mod grammar;
 pub mod laws;
 mod named;
 mod reader;
-#[cfg(test)]
-mod tests;
 mod threshold;
 mod unread;
 mod word;

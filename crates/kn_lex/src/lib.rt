@@ -20,6 +20,3 @@ pub use piece::is_comment_label;
 pub use quote::{Quote, Step, quote_step};
 pub use scan::{is_blank, is_continuation, line_len};
 pub use token::{Sort, Token, Tokens};
-
-#[cfg(test)]
-mod tests;

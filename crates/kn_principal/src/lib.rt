@@ -3,7 +3,5 @@
 
 pub mod laws;
 mod principal;
-#[cfg(test)]
-mod tests;
 
 pub use principal::{PrincipalFault, normal, same};

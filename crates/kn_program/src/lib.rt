@@ -7,8 +7,6 @@ mod fault;
 pub mod laws;
 mod reader;
 mod signs;
-#[cfg(test)]
-mod tests;
 mod tree;
 mod unread;
 mod word;
