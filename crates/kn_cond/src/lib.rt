@@ -5,8 +5,6 @@ mod evaluation;
 mod numbers;
 mod programs;
 mod results;
-#[cfg(test)]
-mod tests;
 mod texts;
 
 pub use programs::{conditions_value, field_value};

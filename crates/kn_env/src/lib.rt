@@ -4,8 +4,6 @@
 mod attributes;
 mod constant;
 mod environment;
-#[cfg(test)]
-mod tests;
 mod values;
 
 pub use attributes::{Absent, Attributes, EnvFault, is_attribute_name};
