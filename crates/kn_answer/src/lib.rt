@@ -7,8 +7,6 @@ mod built;
 pub mod laws;
 mod names;
 mod numbered;
-#[cfg(test)]
-mod tests;
 mod types;
 
 pub use answers::answer;

@@ -3,8 +3,6 @@
 
 mod reject;
 mod rows;
-#[cfg(test)]
-mod tests;
 
 pub use reject::Reject;
 pub use rows::check;

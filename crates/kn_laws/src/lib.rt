@@ -5,5 +5,3 @@
 
 pub mod laws;
 pub mod plain;
-#[cfg(test)]
-mod tests;

@@ -4,6 +4,4 @@
 #![tactic(auto)]
 
 pub mod plain;
-#[cfg(test)]
-mod tests;
 pub mod worked;

@@ -11,8 +11,6 @@ mod reader;
 mod reply;
 mod row;
 mod row_line;
-#[cfg(test)]
-mod tests;
 mod text;
 
 pub use fault::ProofFault;

@@ -4,7 +4,5 @@
 mod counters;
 mod reaching;
 mod settling;
-#[cfg(test)]
-mod tests;
 
 pub use settling::{Settled, settle};

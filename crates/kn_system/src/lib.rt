@@ -7,8 +7,6 @@ mod interned;
 pub mod laws;
 mod links;
 mod rows;
-#[cfg(test)]
-mod tests;
 mod uses;
 
 pub use interned::System;
