@@ -1,6 +1,6 @@
 -- Names with which there is no fault are those of compliance values.
-use Rattle.std.proofs.Common.{◌≡◌, ◌≢◌, ℕ, ◌+◌, ◌<◌, ◌≤◌, Bool, true, false, not, nat_lt, List, [], ◌∷◌, length, take, get_or, Option, Some, None, refl, sym, ap, ◌∙◌, zero-add, arith, suc, if◌then◌else◌}
-use Rattle.std.specs.List.{AllByRecursion, IsDistinct, AllPairs, list_any, position, position_or_len, range_with_len}
+use Rattle.std.proofs.Common.{◌≡◌, ◌≢◌, ℕ, ◌<◌, ◌≤◌, Bool, true, false, not, nat_lt, List, [], ◌∷◌, length, take, get_or, Option, Some, None, refl, sym, ap, ◌∙◌, zero-add, arith, suc, if◌then◌else◌}
+use Rattle.std.specs.List.{AllByRecursion, IsDistinct, AllPairs, position, position_or_len, range_with_len}
 use Rattle.std.specs.Str.{bytes_eq}
 use Rattle.std.proofs.lemmas.Bool.{ltb-false}
 use Rattle.std.proofs.lemmas.List.{get_or-take, get_or_default, length-take-le}
