@@ -1,5 +1,4 @@
 pub mod Granted
-pub mod Flat
 pub mod Emptied
 pub mod Started
 pub mod Marked
