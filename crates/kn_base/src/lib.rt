@@ -11,8 +11,6 @@ mod octets;
 mod reserved;
 mod span;
 mod steps;
-#[cfg(test)]
-mod tests;
 
 pub use boxed::Boxed;
 pub use list::List;

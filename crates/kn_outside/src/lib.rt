@@ -11,8 +11,6 @@ mod mem_link;
 mod mem_sink;
 mod numbered;
 mod sink;
-#[cfg(test)]
-mod tests;
 
 pub use entry::FileEntry;
 pub use failed::Failed;

@@ -9,8 +9,6 @@ mod retry;
 mod std_link;
 mod std_out;
 mod tcp_link;
-#[cfg(test)]
-mod tests;
 
 pub use real_files::RealFiles;
 pub use std_link::StdLink;

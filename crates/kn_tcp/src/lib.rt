@@ -3,8 +3,6 @@
 
 mod tcp_door;
 mod tcp_net;
-#[cfg(test)]
-mod tests;
 
 pub use tcp_door::TcpDoor;
 pub use tcp_net::TcpNet;
