@@ -10,8 +10,6 @@ mod hmac;
 mod key_file;
 pub mod laws;
 mod mac_keys;
-#[cfg(test)]
-mod tests;
 mod text;
 
 pub use authenticator::Authenticator;
