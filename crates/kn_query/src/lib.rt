@@ -4,7 +4,5 @@
 
 mod parts;
 mod query;
-#[cfg(test)]
-mod tests;
 
 pub use query::{answer_query, build_query};

@@ -4,7 +4,5 @@
 #![tactic(auto)]
 
 mod registry;
-#[cfg(test)]
-mod tests;
 
 pub use registry::{Pass, Registry, SharedBook};

@@ -15,8 +15,6 @@ mod refusals;
 mod serving;
 mod setting;
 mod step;
-#[cfg(test)]
-mod tests;
 
 pub use kn_daemon::ended::Ended;
 pub use serving::serve_connection;

@@ -8,8 +8,6 @@ mod fault;
 pub mod laws;
 mod session;
 mod sessions;
-#[cfg(test)]
-mod tests;
 mod view;
 
 pub use fault::SessionFault;

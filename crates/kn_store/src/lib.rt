@@ -8,8 +8,6 @@ mod items;
 pub mod laws;
 mod live_set;
 mod pages;
-#[cfg(test)]
-mod tests;
 mod update;
 mod version;
 
