@@ -12,8 +12,6 @@ mod meant;
 mod playing;
 mod query;
 mod script;
-#[cfg(test)]
-mod tests;
 
 pub use meant::Meant;
 pub use query::find_query;

@@ -2,8 +2,6 @@
 #![tactic(auto)]
 
 pub mod laws;
-#[cfg(test)]
-mod tests;
 mod verdict;
 
 pub use verdict::{Refused, verify};
