@@ -4,8 +4,6 @@
 //! examples. Requests are kn_wire's.
 #![tactic(auto)]
 
-#[cfg(test)]
-mod print_tests;
 mod printer;
 mod printing;
 mod refusal;

@@ -8,8 +8,6 @@ mod buffer;
 mod digits;
 mod fault;
 mod feed;
-#[cfg(test)]
-mod feed_tests;
 mod first;
 pub mod laws;
 mod line;
