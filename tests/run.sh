@@ -9,8 +9,8 @@
 #   memory    the KiB of address space that the program has (no file: as the shell has)
 #   seconds   the seconds of processor time that the program has (no file: as the shell has)
 #   make      a script that writes the large ones of these files into the copy
-#   start     a script that starts the program, whose path is its first word, with an input or an output of another kind; what
-#             it writes and its status count as the program's
+#   start     a script that starts the program, whose path is its first word, with an input or an output of another kind, or
+#             more than once; what it writes and its status count as the program's
 #
 # An example is a folder with policy.kn, requests.txt and replies.txt: what `ask` writes for the requests, with the key file
 # keys.txt where there is one.
