@@ -6,8 +6,10 @@ ghost use Rattle.kn_outside.specs.Faults.{Rose};
 use crate::meeting::Meeting;
 use crate::run::run;
 use kn_base::{List, NoMemory, Octets};
-use kn_outside::{Failed, FileEntry, Link, MemFiles, MemLink, MemSink, Sink};
-use kn_workers::MemNet;
+use kn_outside::{Failed, FileEntry, FileFault, Files, Link, MemFiles, MemLink, MemSink, Sink};
+use kn_real::RealFiles;
+use kn_tcp::TcpNet;
+use kn_workers::{BindFault, MemNet, Net};
 use std::alloc::Global;
 use std::process::Abort;
 use std::sync::Wait;
@@ -21,8 +23,6 @@ const POLICY: &[u8] =
 const FAULTY: &[u8] = b"Authorizer: \"x\ny\"\n";
 
 const KEYS: &[u8] = b"secret 733363726574\n";
-
-const BAD_KEYS: &[u8] = b"# keys\nmac 0b0 alice\n";
 
 // The policy licenses alice.
 const ONE: &[u8] = b"Authorizer: \"POLICY\"\nLicensees: \"alice\"\n";
@@ -43,6 +43,22 @@ const ASK: &[&[u8]] = &[b"ask", b"p.kn"];
 const ASK_KEYS: &[&[u8]] = &[b"ask", b"p.kn", b"k.txt"];
 
 const CHECK: &[&[u8]] = &[b"check", b"p.kn", b"s.in", b"r.out"];
+
+const GEN: &[&[u8]] = &[b"gen", b"1", b"3"];
+
+const SERVE: &[&[u8]] = &[
+    b"serve",
+    b"127.0.0.1",
+    b"--policy",
+    b"p.kn",
+    b"--keys=k.txt",
+    b"--connections",
+    b"1",
+];
+
+const NOT_READ: &[u8] = b"error link read\n";
+
+const NOT_WRITTEN: &[u8] = b"error link write\n";
 
 // A link that takes at most seven bytes a write.
 #[derive(Drop)]
@@ -95,11 +111,10 @@ pub(crate) fn octets(alloc: Global, words: &[&[u8]]) -> Result<List<Octets>, NoM
 
 fn entries(alloc: Global) -> Result<List<FileEntry>, NoMemory> {
     let mut list = List::new(alloc);
-    let files: [(&[u8], &[u8]); 8] = [
+    let files: [(&[u8], &[u8]); 7] = [
         (b"p.kn", POLICY),
         (b"f.kn", FAULTY),
         (b"k.txt", KEYS),
-        (b"b.txt", BAD_KEYS),
         (b"s.in", SCRIPT),
         (b"r.out", REPLY),
         (b"one.kn", ONE),
@@ -177,17 +192,16 @@ pub(crate) fn status_of<R: Threads + Wait + Sync>(
     )
 }
 
-// Over this input a run of these words ends with this status, so many files asked for, these bytes on the link, and this line.
-fn ends_over<R: Abort + Threads + Wait + Sync>(
+// Over the script a run of these words ends with this status, so many files asked for, these bytes on the link, and this line.
+fn ends<R: Abort + Threads + Wait + Sync>(
     rt: &R,
     alloc: Global,
-    input: &[u8],
     words: &[&[u8]],
     failing: (u32, u32, u32),
     expected: (u8, u32, &[u8], &[u8]),
 ) -> Result<(), Fail> {
     let net = MemNet::of(alloc, List::new(alloc), List::new(alloc));
-    let mut left = outside_of(alloc, input, failing, net)?;
+    let mut left = outside_of(alloc, SCRIPT, failing, net)?;
     let words = octets(alloc, words)?;
     let status = status_of(rt, alloc, words.as_slice(), &mut left, &Meeting::new(false));
     assert_eq!(rt; status, expected.0);
@@ -197,164 +211,32 @@ fn ends_over<R: Abort + Threads + Wait + Sync>(
     Ok(())
 }
 
-// The same over the script.
-fn ends<R: Abort + Threads + Wait + Sync>(
-    rt: &R,
-    alloc: Global,
-    words: &[&[u8]],
-    failing: (u32, u32, u32),
-    expected: (u8, u32, &[u8], &[u8]),
-) -> Result<(), Fail> {
-    ends_over(rt, alloc, SCRIPT, words, failing, expected)
-}
-
+// The reads of the link are its calls 1, 4 and 14. The others write, where a reply of 51 bytes is written by calls 6 to 13.
 #[test]
-fn runs_in_which_no_call_fails(rt: HostRuntime) -> Result<(), Fail> {
-    ends(&rt, rt.alloc(), ASK, (0, 0, 0), (0, 1, REPLIES, b""))?;
-    ends(&rt, rt.alloc(), ASK_KEYS, (0, 0, 0), (0, 2, REPLIES, b""))?;
-    ends(
-        &rt,
-        rt.alloc(),
-        CHECK,
-        (0, 0, 0),
-        (0, 3, b"", b"PROVED 1 log\n"),
-    )
-}
-
-#[test]
-fn the_secret_is_that_of_the_key_file(rt: HostRuntime) -> Result<(), Fail> {
-    let input = b"ADMIN 733363726574\nDROP a1\n";
-    let refused = b"NO 4 admin\nNO 4 admin\n";
-    ends_over(&rt, rt.alloc(), input, ASK, (0, 0, 0), (0, 1, refused, b""))?;
-    ends_over(
-        &rt,
-        rt.alloc(),
-        input,
-        ASK_KEYS,
-        (0, 0, 0),
-        (0, 2, b"OK\nOK 3\n", b""),
-    )?;
-    let bad: &[&[u8]] = &[b"ask", b"p.kn", b"b.txt"];
-    ends(
-        &rt,
-        rt.alloc(),
-        bad,
-        (0, 0, 0),
-        (8, 2, b"", b"error keys 2\n"),
-    )
-}
-
-#[test]
-fn each_failed_file_is_told(rt: HostRuntime) -> Result<(), Fail> {
-    let table: [(&[&[u8]], u32, &[u8]); 5] = [
-        (ASK, 1, b"error file p.kn read\n"),
-        (ASK_KEYS, 2, b"error file k.txt read\n"),
-        (CHECK, 1, b"error file p.kn read\n"),
-        (CHECK, 2, b"error file s.in read\n"),
-        (CHECK, 3, b"error file r.out read\n"),
-    ];
-    for (words, call, line) in table {
-        ends(&rt, rt.alloc(), words, (call, 0, 0), (2, call, b"", line))?;
-    }
-    Ok(())
-}
-
-// The reads are calls 1, 4 and 14. The other calls write, where a reply of 51 bytes is written by calls 6 to 13.
-#[test]
-fn each_failed_call_of_the_link_is_told(rt: HostRuntime) -> Result<(), Fail> {
-    for (call, bytes) in [(1, 0), (4, 10), (14, 64)] {
-        let front = REPLIES.split_at(bytes).0;
-        ends(
-            &rt,
-            rt.alloc(),
+fn each_failed_file_and_call_is_told(rt: HostRuntime) -> Result<(), Fail> {
+    let all_but_two = REPLIES.split_at(62).0;
+    let table: [(&[&[u8]], (u32, u32, u32), (u8, u32, &[u8], &[u8])); 17] = [
+        (ASK_KEYS, (0, 0, 0), (0, 2, REPLIES, b"")),
+        (CHECK, (0, 0, 0), (0, 3, b"", b"PROVED 1 log\n")),
+        (ASK, (1, 0, 0), (2, 1, b"", b"error file p.kn read\n")),
+        (ASK_KEYS, (2, 0, 0), (2, 2, b"", b"error file k.txt read\n")),
+        (CHECK, (1, 0, 0), (2, 1, b"", b"error file p.kn read\n")),
+        (CHECK, (2, 0, 0), (2, 2, b"", b"error file s.in read\n")),
+        (CHECK, (3, 0, 0), (2, 3, b"", b"error file r.out read\n")),
+        (SERVE, (2, 0, 0), (2, 2, b"", b"error file k.txt read\n")),
+        (ASK, (0, 1, 0), (4, 1, b"", NOT_READ)),
+        (ASK, (0, 4, 0), (4, 1, b"OK 1 2\nOK\n", NOT_READ)),
+        (ASK, (0, 14, 0), (4, 1, REPLIES, NOT_READ)),
+        (ASK, (0, 2, 0), (4, 1, b"", NOT_WRITTEN)),
+        (ASK, (0, 3, 0), (4, 1, b"OK 1 2\n", NOT_WRITTEN)),
+        (ASK, (0, 5, 0), (4, 1, b"OK 1 2\nOK\n", NOT_WRITTEN)),
+        (ASK, (0, 6, 0), (4, 1, b"OK 1 2\nOK\nOK\n", NOT_WRITTEN)),
+        (
             ASK,
-            (0, call, 0),
-            (4, 1, front, b"error link read\n"),
-        )?;
-    }
-    for (call, bytes) in [(2, 0), (3, 7), (5, 10), (6, 13), (7, 20), (13, 62)] {
-        let front = REPLIES.split_at(bytes).0;
-        let line = b"error link write\n";
-        ends(&rt, rt.alloc(), ASK, (0, call, 0), (4, 1, front, line))?;
-    }
-    Ok(())
-}
-
-#[test]
-fn an_unfinished_input_is_told(rt: HostRuntime) -> Result<(), Fail> {
-    let table: [(&[u8], &[u8], &[u8]); 3] = [
-        (
-            b"OPEN\nADD 40\n0123456789",
-            b"OK 1 2\n",
-            b"error link cut 17\n",
+            (0, 7, 0),
+            (4, 1, b"OK 1 2\nOK\nOK\nVALUE 1", NOT_WRITTEN),
         ),
-        (
-            b"ADD 16385\n",
-            b"NO 15 block\n",
-            b"error link block 16385\n",
-        ),
-        (b"ADD 1\nab", b"NO 15 block\n", b"error link block 1\n"),
-    ];
-    for (input, written, line) in table {
-        ends_over(
-            &rt,
-            rt.alloc(),
-            input,
-            ASK,
-            (0, 0, 0),
-            (4, 1, written, line),
-        )?;
-    }
-    Ok(())
-}
-
-#[test]
-fn generated_credentials_are_told(rt: HostRuntime) -> Result<(), Fail> {
-    let line = b"GEN 1 v1 3 3 4 13 9 4\n";
-    let table: [(&[&[u8]], (u32, u32, u32), u8, &[u8]); 9] = [
-        (
-            &[b"gen", b"1", b"1"],
-            (0, 0, 0),
-            0,
-            b"GEN 3 v3 1 1 2 1 1 4\n",
-        ),
-        (
-            &[b"gen", b"1", b"2"],
-            (0, 0, 0),
-            0,
-            b"GEN 3 v3 2 2 3 7 5 4\n",
-        ),
-        (&[b"gen", b"1", b"3"], (0, 0, 0), 0, line),
-        // no file is read, and no call of the link is made
-        (&[b"gen", b"1", b"3"], (1, 1, 0), 0, line),
-        (&[b"gen", b"1", b"3"], (0, 0, 1), 9, b""),
-        (&[b"gen", b"1", b"0"], (0, 0, 0), 1, b"error words\n"),
-        (&[b"gen", b"1", b"2049"], (0, 0, 0), 1, b"error words\n"),
-        (&[b"gen", b"x", b"1"], (0, 0, 0), 1, b"error words\n"),
-        (&[b"gen", b"1"], (0, 0, 0), 1, b"error words\n"),
-    ];
-    for (words, failing, status, told) in table {
-        ends(&rt, rt.alloc(), words, failing, (status, 0, b"", told))?;
-    }
-    Ok(())
-}
-
-// A line is written at once, where it isn't long.
-#[test]
-fn a_front_of_a_line_may_be_written(rt: HostRuntime) -> Result<(), Fail> {
-    let long: &[&[u8]] = &[b"ask", &[b'n'; 600]];
-    let faulty: &[&[u8]] = &[b"ask", b"f.kn"];
-    let table: [(&[&[u8]], (u32, u32, u32), (u8, u32, &[u8], &[u8])); 6] = [
-        (&[b"ask"], (0, 0, 1), (9, 0, b"", b"")),
-        (faulty, (0, 0, 1), (9, 1, b"", b"")),
-        (
-            faulty,
-            (0, 0, 2),
-            (3, 1, b"", b"error policy f.kn 1 2 12\n"),
-        ),
-        (long, (0, 0, 2), (9, 1, b"", b"error file ")),
-        (ASK, (0, 5, 1), (9, 1, b"OK 1 2\nOK\n", b"")),
-        (CHECK, (0, 0, 1), (9, 3, b"", b"")),
+        (ASK, (0, 13, 0), (4, 1, all_but_two, NOT_WRITTEN)),
     ];
     for (words, failing, expected) in table {
         ends(&rt, rt.alloc(), words, failing, expected)?;
@@ -362,57 +244,35 @@ fn a_front_of_a_line_may_be_written(rt: HostRuntime) -> Result<(), Fail> {
     Ok(())
 }
 
+// A line is written at once, where it isn't long. `gen` reads no file, and makes no call of the link.
 #[test]
-fn words_of_a_service(rt: HostRuntime) -> Result<(), Fail> {
-    let bound: &[&[u8]] = &[
-        b"serve",
-        b"127.0.0.1",
-        b"--policy",
-        b"p.kn",
-        b"--keys=k.txt",
-        b"--connections",
-        b"1",
+fn a_front_of_a_line_may_be_written(rt: HostRuntime) -> Result<(), Fail> {
+    let long: &[&[u8]] = &[b"ask", &[b'n'; 600]];
+    let faulty: &[&[u8]] = &[b"ask", b"f.kn"];
+    let told: &[u8] = b"error policy f.kn 1 2 12\n";
+    let table: [(&[&[u8]], (u32, u32, u32), (u8, u32, &[u8], &[u8])); 10] = [
+        (&[b"ask"], (0, 0, 1), (9, 0, b"", b"")),
+        (faulty, (0, 0, 1), (9, 1, b"", b"")),
+        (faulty, (0, 0, 2), (3, 1, b"", told)),
+        (long, (0, 0, 2), (9, 1, b"", b"error file ")),
+        (ASK, (0, 5, 1), (9, 1, b"OK 1 2\nOK\n", b"")),
+        (CHECK, (0, 0, 1), (9, 3, b"", b"")),
+        (GEN, (1, 1, 0), (0, 0, b"", b"GEN 1 v1 3 3 4 13 9 4\n")),
+        (GEN, (0, 0, 1), (9, 0, b"", b"")),
+        (SERVE, (0, 0, 0), (7, 2, b"", b"error listener\n")),
+        (SERVE, (0, 0, 1), (9, 2, b"", b"")),
     ];
-    let listener: &[u8] = b"error listener\n";
-    ends(&rt, rt.alloc(), bound, (0, 0, 0), (7, 2, b"", listener))?;
-    ends(&rt, rt.alloc(), bound, (0, 0, 1), (9, 2, b"", b""))?;
-    ends(
-        &rt,
-        rt.alloc(),
-        bound,
-        (2, 0, 0),
-        (2, 2, b"", b"error file k.txt read\n"),
-    )?;
-    let refused: [&[&[u8]]; 6] = [
-        &[b"serve"],
-        &[b"serve", b"--help"],
-        &[b"serve", b":1", b"--policy", b"p.kn"],
-        &[b"serve", b":1", b"--connections", b"1"],
-        &[
-            b"serve",
-            b":1",
-            b"--policy",
-            b"p.kn",
-            b"--connections",
-            b"01",
-        ],
-        &[
-            b"serve",
-            b"\xff",
-            b"--policy",
-            b"p.kn",
-            b"--connections",
-            b"1",
-        ],
-    ];
-    for words in refused {
-        ends(
-            &rt,
-            rt.alloc(),
-            words,
-            (0, 0, 0),
-            (1, 0, b"", b"error words\n"),
-        )?;
+    for (words, failing, expected) in table {
+        ends(&rt, rt.alloc(), words, failing, expected)?;
     }
     Ok(())
+}
+
+// The program's own words are UTF-8 before they come to the system.
+#[test]
+fn the_system_takes_names_in_utf8(rt: HostRuntime) {
+    let file = RealFiles::new(rt).read(b"\xff");
+    assert!(rt; matches!(file, Err(FileFault::Failed)));
+    let rooms = TcpNet::new(rt).bind(&rt, rt.alloc(), b"\xff:1", 1, 1);
+    assert!(rt; matches!(rooms, Err(BindFault::Failed)));
 }

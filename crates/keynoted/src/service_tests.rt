@@ -8,6 +8,7 @@ use kn_base::{List, NoMemory, Octets};
 use kn_outside::MemLink;
 use kn_workers::{MemNet, MemRoom};
 use std::alloc::Global;
+use std::process::Abort;
 use std::sync::Wait;
 use std::test::Fail;
 use std::thread::Threads;
@@ -143,6 +144,27 @@ fn written(net: &MemNet, door: u32, i: usize) -> &[u8] {
     }
 }
 
+/// Serves three connections over these rooms, and sees what the run told, what was written to the first two links of door 0
+/// and to the first one of door 1, and how many calls failed.
+fn serves<R: Abort + Threads + Wait + Sync>(
+    rt: &R,
+    alloc: Global,
+    rooms: List<MemRoom>,
+    failing: u32,
+    gate: &Meeting,
+    expected: (u8, &[u8], [&[u8]; 3], u64),
+) -> Result<(), Fail> {
+    let (status, left) = serve_rooms(rt, alloc, rooms, failing, gate)?;
+    assert_eq!(rt; status, expected.0);
+    assert_eq!(rt; left.files.asked().len(), 2);
+    assert_eq!(rt; left.out.written(), expected.1);
+    assert_eq!(rt; written(&left.net, 0, 0), expected.2[0]);
+    assert_eq!(rt; written(&left.net, 0, 1), expected.2[1]);
+    assert_eq!(rt; written(&left.net, 1, 0), expected.2[2]);
+    assert_eq!(rt; left.net.faults(), expected.3);
+    Ok(())
+}
+
 #[test]
 fn connections_are_served_side_by_side(rt: HostRuntime) -> Result<(), Fail> {
     let alloc = rt.alloc();
@@ -150,60 +172,39 @@ fn connections_are_served_side_by_side(rt: HostRuntime) -> Result<(), Fail> {
     let second = one_link(alloc, link(alloc, OPENS_AND_ADDS, 0)?)?;
     let meeting = Meeting::new(true);
     let rooms = two_rooms(alloc, first, second)?;
-    let (status, left) = serve_rooms(&rt, alloc, rooms, 0, &meeting)?;
+    let due: [&[u8]; 3] = [ANSWERS, b"OK 1 2\n", ADDED];
+    let expected = (0, b"served 3 version 2\n".as_slice(), due, 0);
+    serves(&rt, alloc, rooms, 0, &meeting, expected)?;
     assert!(rt; !meeting.was_missed());
-    assert_eq!(rt; status, 0);
-    assert_eq!(rt; left.out.written(), b"served 3 version 2\n".as_slice());
-    assert_eq!(rt; written(&left.net, 0, 0), ANSWERS);
-    assert_eq!(rt; written(&left.net, 0, 1), b"OK 1 2\n".as_slice());
-    assert_eq!(rt; written(&left.net, 1, 0), ADDED);
     Ok(())
 }
 
 #[test]
-fn door_that_fails_ends_its_worker_alone(rt: HostRuntime) -> Result<(), Fail> {
+fn each_failed_door_is_told(rt: HostRuntime) -> Result<(), Fail> {
     let alloc = rt.alloc();
+    let gate = Meeting::new(false);
+    let line: &[u8] = b"error listener\n";
+    // the address can't be bound
+    let due: [&[u8]; 3] = [b"none", b"none", b"none"];
+    serves(&rt, alloc, List::new(alloc), 1, &gate, (7, line, due, 1))?;
+    // a door that fails ends its worker alone
     let first = two_links(alloc, link(alloc, ASKS, 0)?, link(alloc, b"OPEN\n", 0)?, 0)?;
-    let second = no_links(alloc, 1)?;
-    let rooms = two_rooms(alloc, first, second)?;
-    let (status, left) = serve_rooms(&rt, alloc, rooms, 0, &Meeting::new(false))?;
-    assert_eq!(rt; status, 7);
-    assert_eq!(rt; left.out.written(), b"error listener\n".as_slice());
-    assert_eq!(rt; written(&left.net, 0, 0), ANSWERS);
-    assert_eq!(rt; written(&left.net, 0, 1), b"OK 1 1\n".as_slice());
-    assert_eq!(rt; left.net.faults(), 1);
-    Ok(())
-}
-
-#[test]
-fn door_fails_at_its_second_call(rt: HostRuntime) -> Result<(), Fail> {
-    let alloc = rt.alloc();
-    let first = two_links(alloc, link(alloc, ASKS, 0)?, link(alloc, b"OPEN\n", 0)?, 2)?;
+    let rooms = two_rooms(alloc, first, no_links(alloc, 1)?)?;
+    let due: [&[u8]; 3] = [ANSWERS, b"OK 1 1\n", b"none"];
+    serves(&rt, alloc, rooms, 0, &gate, (7, line, due, 1))?;
+    // a door fails at its second call
+    let own = link(alloc, b"BYE\n", 0)?;
+    let next = link(alloc, b"OPEN\n", 0)?;
+    let first = two_links(alloc, own, next, 2)?;
     let second = one_link(alloc, link(alloc, OPENS_AND_ADDS, 0)?)?;
     let rooms = two_rooms(alloc, first, second)?;
-    let (status, left) = serve_rooms(&rt, alloc, rooms, 0, &Meeting::new(false))?;
-    assert_eq!(rt; status, 7);
-    assert_eq!(rt; written(&left.net, 0, 1), b"none".as_slice());
-    assert_eq!(rt; written(&left.net, 1, 0), ADDED);
-    assert_eq!(rt; left.net.faults(), 1);
-    Ok(())
-}
-
-// Door 0 has one link fewer than its quota, and door 1 has no room.
-#[test]
-fn doors_without_links_fail(rt: HostRuntime) -> Result<(), Fail> {
-    let alloc = rt.alloc();
-    let mut rooms = List::new(alloc);
-    match rooms.push(one_link(alloc, link(alloc, b"OPEN\n", 0)?)?) {
-        Ok(()) => {}
-        Err(_) => return Err(Fail::from("memory")),
-    }
-    let (status, left) = serve_rooms(&rt, alloc, rooms, 0, &Meeting::new(false))?;
-    assert_eq!(rt; status, 7);
-    assert_eq!(rt; written(&left.net, 0, 0), b"OK 1 1\n".as_slice());
-    assert_eq!(rt; written(&left.net, 1, 0), b"none".as_slice());
-    assert_eq!(rt; left.net.faults(), 2);
-    Ok(())
+    let due: [&[u8]; 3] = [b"OK\n", b"none", ADDED];
+    serves(&rt, alloc, rooms, 0, &gate, (7, line, due, 1))?;
+    // door 0 has one link fewer than its quota, and door 1 has none
+    let first = one_link(alloc, link(alloc, b"OPEN\n", 0)?)?;
+    let rooms = two_rooms(alloc, first, no_links(alloc, 0)?)?;
+    let due: [&[u8]; 3] = [b"OK 1 1\n", b"none", b"none"];
+    serves(&rt, alloc, rooms, 0, &gate, (7, line, due, 2))
 }
 
 /// What is written to a link on which a credential is added, whose call of this number fails, and to the next one of its door.
@@ -242,17 +243,5 @@ fn update_stands_though_its_reply_is_lost(rt: HostRuntime) -> Result<(), Fail> {
         };
         assert_eq!(rt; next.as_slice(), version);
     }
-    Ok(())
-}
-
-#[test]
-fn address_that_cannot_be_bound_is_told(rt: HostRuntime) -> Result<(), Fail> {
-    let alloc = rt.alloc();
-    let rooms = List::new(alloc);
-    let (status, left) = serve_rooms(&rt, alloc, rooms, 1, &Meeting::new(false))?;
-    assert_eq!(rt; status, 7);
-    assert_eq!(rt; left.out.written(), b"error listener\n".as_slice());
-    assert_eq!(rt; left.files.asked().len(), 2);
-    assert_eq!(rt; left.net.faults(), 1);
     Ok(())
 }

@@ -18,10 +18,6 @@ before_parts front next old mid None first second = first ∙ ap (before front) 
 before_parts front next old mid (Some told) first second =
     first ∙ ap (before front) second ∙ ap Some (sym (append_assoc front next told))
 
--- two parts that were written, one after the other
-pub more_both : (front next : List ℕ) (old mid new : Option (List ℕ)) → mid ≡ more front old → new ≡ more next mid → new ≡ more (front ++ next) old
-more_both front next old mid new first second = second ∙ ap (more next) first ∙ more_more front next old
-
 pub more_nothing : (old : Option (List ℕ)) → old ≡ more [] old
 more_nothing None = refl
 more_nothing (Some told) = ap Some (sym (append-nil told))
