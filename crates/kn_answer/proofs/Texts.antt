@@ -1,5 +1,5 @@
 -- What the texts of a query's assertions say of its system.
-use Rattle.std.proofs.Common.{◌≡◌, ℕ, ◌+◌, ◌<◌, ◌≤◌, ◌^◌, List, [], ◌∷◌, ◌++◌, length, map, Option, Some, None, Result, Ok, Err, refl, sym, ap, subst, ◌∙◌, arith}
+use Rattle.std.proofs.Common.{◌≡◌, ℕ, ◌+◌, ◌<◌, ◌≤◌, ◌^◌, List, [], ◌∷◌, length, map, Option, Some, None, Result, Ok, Err, arith}
 use Rattle.std.specs.Prelude.{All, IfSome, sum_by}
 use Rattle.std.proofs.lemmas.List.Elements.{All-nil, All-cons}
 use Rattle.std.proofs.lemmas.List.Sums.{sum_by-cons}
@@ -11,7 +11,6 @@ use Rattle.kn_assert.specs.declared.fault.ReadFault.{ReadFault}
 use Rattle.kn_assert.specs.Reading.{assertion_of, reading_of, IsSound}
 use Rattle.kn_assert.proofs.Answered.{ReadingTold, SoundTold}
 use Rattle.kn_meaning.specs.Equations.{Part}
-use Rattle.kn_answer.specs.declared.types.TheConstants.{QUERY_BYTES}
 use Rattle.kn_answer.specs.Sizes.{HaveTexts, IsReadablePart, size_of, total_size}
 
 -- what was read is sound
@@ -52,7 +51,3 @@ texts_small told sound parts have =
     let size = texts_size told sound have.texts parts have.read in
     let short = have.short in
     omega arith
-
--- no assertions are those of no texts
-pub no_texts : (parts : List Part) → parts ≡ [] → HaveTexts parts
-no_texts parts none = subst HaveTexts (sym none) (record { texts = []; read = refl; short = omega arith })
