@@ -214,7 +214,8 @@ fn ends<R: Abort + Threads + Wait + Sync>(
 // The reads of the link are its calls 1, 4 and 14. The others write, where a reply of 51 bytes is written by calls 6 to 13.
 #[test]
 fn each_failed_file_and_call_is_told(rt: HostRuntime) -> Result<(), Fail> {
-    let all_but_two = REPLIES.split_at(62).0;
+    let all_but_two: &[u8] =
+        b"OK 1 2\nOK\nOK\nVALUE 1 log 2 2\nROW 1 a2 \"y\"\nROW 1 a1 \"POLICY\"\nEN";
     let table: [(&[&[u8]], (u32, u32, u32), (u8, u32, &[u8], &[u8])); 17] = [
         (ASK_KEYS, (0, 0, 0), (0, 2, REPLIES, b"")),
         (CHECK, (0, 0, 0), (0, 3, b"", b"PROVED 1 log\n")),

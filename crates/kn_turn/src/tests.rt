@@ -116,6 +116,24 @@ fn join_all(turn: &Turn<Callers>, root: &mut Pass<Callers>, mut passes: Vec<Pass
     }
 }
 
+/// Adds by all the passes side by side, and joins them into the root.
+fn add_and_join<R: Threads + Wait + Sync>(
+    rt: &R,
+    turn: &Turn<Callers>,
+    root: &mut Pass<Callers>,
+    mut passes: Vec<Pass<Callers>>,
+    count: u32,
+)
+    requires turn { root.old.turn ≡ turn.now }
+    requires idle { root.old.is_idle ≡ true }
+    requires passes { All (λ p. (p.turn ≡ turn.now) × (p.is_idle ≡ true) × (p.number ≢ 0)) passes.items }
+    ensures turn { root.new.turn ≡ turn.now }
+    ensures idle { root.new.is_idle ≡ true }
+{
+    add_side_by_side(rt, turn, passes.as_mut_slice(), count);
+    join_all(turn, root, passes);
+}
+
 /// How often each of these numbers stands in the list: once a number that doesn't stand there so often is met, false.
 fn each_stands(numbers: &List<u32>, from: u32, to: u32, count: usize) -> bool {
     for number in from..to {
@@ -127,12 +145,13 @@ fn each_stands(numbers: &List<u32>, from: u32, to: u32, count: usize) -> bool {
 }
 
 #[test]
-fn two_passes_in_turn(rt: HostRuntime) -> Result<(), Fail> {
+fn passes_in_turn_and_side_by_side(rt: HostRuntime) -> Result<(), Fail> {
     let callers = Callers {
         numbers: List::new(rt.alloc()),
     };
     let (turn, mut a) = Turn::start(rt.alloc(), callers).or(Err("a turn"))?;
     let mut b = turn.split(&mut a).or(Err("a pass"))?;
+    let passes = split_many(rt.alloc(), &turn, &mut a, 8).or(Err("passes"))?;
     assert_eq!(rt; (a.number(), b.number()), (0, 1));
     assert_eq!(rt; add(&rt, &turn, &mut b), Ok(1));
     assert_eq!(rt; (a.seen_length(), b.seen_length()), (0, 1));
@@ -140,28 +159,14 @@ fn two_passes_in_turn(rt: HostRuntime) -> Result<(), Fail> {
     assert_eq!(rt; (a.seen_length(), b.seen_length()), (1, 1));
     assert_eq!(rt; add(&rt, &turn, &mut a), Ok(2));
     assert_eq!(rt; add(&rt, &turn, &mut b), Ok(3));
+    assert_eq!(rt; a.seen_length(), 2);
+    add_and_join(&rt, &turn, &mut a, passes, 100);
+    assert_eq!(rt; a.seen_length(), 803);
     turn.join(&mut a, b);
-    assert_eq!(rt; a.seen_length(), 3);
     let callers = turn.take(&rt, &mut a);
-    assert_eq!(rt; callers.numbers.as_slice(), [1, 0, 1].as_slice());
-    assert_eq!(rt; turn.look(&mut a, &callers), 3);
+    assert!(rt; callers.numbers.as_slice().starts_with(&[1, 0, 1]));
+    assert!(rt; each_stands(&callers.numbers, 2, 10, 100));
+    assert_eq!(rt; turn.look(&mut a, &callers), 803);
     turn.give(&mut a, callers);
-    Ok(())
-}
-
-#[test]
-fn passes_side_by_side(rt: HostRuntime) -> Result<(), Fail> {
-    let callers = Callers {
-        numbers: List::new(rt.alloc()),
-    };
-    let (turn, mut root) = Turn::start(rt.alloc(), callers).or(Err("a turn"))?;
-    let mut passes = split_many(rt.alloc(), &turn, &mut root, 8).or(Err("passes"))?;
-    add_side_by_side(&rt, &turn, passes.as_mut_slice(), 100);
-    join_all(&turn, &mut root, passes);
-    assert_eq!(rt; root.seen_length(), 800);
-    let callers = turn.take(&rt, &mut root);
-    assert!(rt; each_stands(&callers.numbers, 1, 9, 100));
-    assert_eq!(rt; turn.look(&mut root, &callers), 800);
-    turn.give(&mut root, callers);
     Ok(())
 }
