@@ -1,3 +1,5 @@
+//! The classes of bytes, and runs of the bytes of one.
+
 ghost use Rattle.std.specs.Prelude.{◌≡◌};
 ghost use Rattle.kn_lex.specs.Bytes.{is_gap, is_white, is_letter, begins_name, continues_name, continues_label, is_octal_digit, is_short_sign, is_long_sign};
 ghost use Rattle.kn_base.specs.Decimal.{is_digit};

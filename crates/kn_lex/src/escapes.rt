@@ -1,3 +1,5 @@
+//! The value of a literal.
+
 ghost use Rattle.std.specs.Prelude.{◌≡◌, ◌≤◌, ◌<◌, length, drop, slice_index, IfOk};
 ghost use Rattle.std.specs.List.{prefix_len};
 ghost use Rattle.kn_lex.specs.Bytes.{is_white};

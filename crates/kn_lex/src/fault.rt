@@ -1,3 +1,5 @@
+//! The lexical faults and their numbers.
+
 ghost use Rattle.std.specs.Prelude.{◌≡◌};
 ghost use Rattle.kn_lex.specs.Faults.{fault_number};
 

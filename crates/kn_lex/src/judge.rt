@@ -1,3 +1,5 @@
+//! The fault that a place in a text shows.
+
 ghost use Rattle.std.specs.Prelude.{◌≡◌, ◌+◌, ◌<◌, ◌≤◌, ◌^◌, true, false, nat_lt, ◌==◌, None, length, take, drop, IfSome, IfOk, IfErr, OnOk};
 ghost use Rattle.kn_base.specs.Decimal.{digits_value};
 ghost use Rattle.kn_lex.specs.Faults.{begins_fraction, begins_match, number_max, goes_on};

@@ -1,3 +1,5 @@
+//! The tokens of a text, piece by piece.
+
 ghost use Rattle.std.specs.Prelude.{◌≡◌, ◌+◌, ◌≤◌, ◌<◌, ◌^◌, ◌++◌, ◌∷◌, [], if◌then◌else◌, List, length, map, OnOk, IfOk, IfErr};
 ghost use Rattle.kn_lex.specs.Cutting.{token_of, Seen, Cuts};
 ghost use Rattle.kn_lex.specs.Faults.{IsFaultless};

@@ -1,3 +1,5 @@
+//! Pieces of a text, and the places before and behind them.
+
 ghost use Rattle.std.specs.Prelude.{◌≡◌, length};
 ghost use Rattle.kn_lex.specs.Cutting.{is_token, is_comment_label, ends_line, context_after, is_line_start, place_after, start};
 ghost use Rattle.kn_lex.specs.Scanning.{is_number};

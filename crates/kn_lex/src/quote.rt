@@ -1,3 +1,5 @@
+//! Where a literal ends.
+
 ghost use Rattle.std.specs.Prelude.{◌≡◌, ◌≤◌, length, IfSome};
 ghost use Rattle.kn_lex.specs.Scanning.{quote_step, quote_len};
 

@@ -1,3 +1,5 @@
+//! Which piece begins at a place, and how long it is.
+
 ghost use Rattle.std.specs.Prelude.{◌≡◌, ◌≤◌, length, IfSome, if◌then◌else◌};
 ghost use Rattle.std.specs.List.{prefix_len};
 ghost use Rattle.kn_base.specs.Decimal.{is_digit};
