@@ -4,38 +4,71 @@ use Rattle.std.specs.Prelude.{not, ◌||◌, ◌&&◌, ◌==◌, nat_lt, nat_le}
 use Rattle.std.proofs.Math.Nat.{le-mul_of_pos_right, pow-le-pow_right}
 use Rattle.std.proofs.Math.Numerals.{one-add}
 use Rattle.std.proofs.lemmas.Bool.{lt-ltb, ne_eqb}
+use Rattle.std.proofs.lemmas.Bool.Decides.{nat_tests}
 use Rattle.std.proofs.lemmas.List.{at_drop_more, at_drop_all}
 use Rattle.std.specs.List.{prefix_len, list_all}
 use Rattle.kn_base.specs.Decimal.{digits_value, is_digit}
 use Rattle.kn_base.proofs.Digits.{digit_read_at}
-use Rattle.kn_lex.specs.Bytes.{is_gap, is_white, continues_label, begins_name}
+use Rattle.kn_lex.specs.Bytes.{is_gap, is_white, continues_label, begins_name, begins_with}
 use Rattle.kn_lex.specs.Spelling.{is_blank, is_continuation}
+use Rattle.kn_lex.specs.Between.{is_line_end}
 use Rattle.kn_lex.specs.Faults.{goes_on, number_max, begins_match}
 use Rattle.kn_lex.specs.Cutting.{ends_line}
-use Rattle.kn_lex.specs.Scanning.{white_len, line_len, colon_len, label_len, body_len, sign_len, quote_len, more_len, quote_step, len_after, zero_place, stuck_fault, plain_piece, word_piece, with_sort}
+use Rattle.kn_lex.specs.Scanning.{white_len, line_len, colon_len, label_len, body_len, sign_len, quote_len, more_len, quote_step, len_after, stuck_fault, plain_piece, word_piece, with_sort}
 use Rattle.kn_lex.specs.declared.quote.Quote.{Quote}
 use Rattle.kn_lex.specs.declared.quote.Quote.TheVariants.{Opening}
 use Rattle.kn_lex.specs.declared.token.Sort.TheVariants.{Number, Text, Sign}
 use Rattle.kn_lex.specs.declared.piece.Piece.TheVariants.{White, Comment, Token}
 use Rattle.kn_lex.specs.declared.fault.LexFault.TheVariants.{NotText, BadString, BadToken, Float, Regex}
 
-pub white_len_at : (xs : List ℕ) (i : ℕ) → i < length xs
-    → white_len (drop i xs) ≡ (if get_or xs i 0 == 10 then 1 else if is_gap (get_or xs i 0) then 1 + white_len (drop (i + 1) xs) else 0)
+-- a byte of a kind stands in front behind a place exactly where it stands at the place
+pub begins_at : (p : ℕ → Bool) (xs : List ℕ) (i : ℕ) → i < length xs → begins_with p (drop i xs) ≡ p (get_or xs i 0)
+begins_at p xs i h = at_drop_more (begins_with p) xs i 0 h
+
+pub begins_end : (p : ℕ → Bool) (xs : List ℕ) (i : ℕ) → length xs ≤ i → begins_with p (drop i xs) ≡ false
+begins_end p xs i h = at_drop_all (begins_with p) xs i h
+
+-- what ends a run tells how the bytes go on
+
+pub white_by_run : (xs : List ℕ)
+    → white_len xs ≡ (if begins_with (λ c. c == 10) (drop (prefix_len is_gap xs) xs) then prefix_len is_gap xs + 1 else prefix_len is_gap xs)
 unfolding white_len
-white_len_at xs i h = at_drop_more white_len xs i 0 h
+white_by_run [] = refl
+white_by_run (c ∷ cs) = by (is_gap c) refl (white_by_run cs)
+  where
+    by : (g : Bool) → is_gap c ≡ g
+        → white_len cs ≡ (if begins_with (λ d. d == 10) (drop (prefix_len is_gap cs) cs) then prefix_len is_gap cs + 1 else prefix_len is_gap cs)
+        → (if c == 10 then 1 else if g then 1 + white_len cs else 0)
+        ≡ (if begins_with (λ d. d == 10) (drop (cond g (1 + prefix_len is_gap cs) 0) (c ∷ cs)) then cond g (1 + prefix_len is_gap cs) 0 + 1 else cond g (1 + prefix_len is_gap cs) 0)
+    by false g rest = refl
+    by true g rest =
+        let line : (c == 10) ≡ false = grind (arith, nat_tests) in
+        rw (line, one-add (prefix_len is_gap cs), rest) (ends (begins_with (λ d. d == 10) (drop (prefix_len is_gap cs) cs)))
+      where
+        ends : (b : Bool) → 1 + (if b then prefix_len is_gap cs + 1 else prefix_len is_gap cs)
+            ≡ (if b then suc (prefix_len is_gap cs) + 1 else suc (prefix_len is_gap cs))
+        ends true = omega arith
+        ends false = omega arith
 
-pub white_len_end : (xs : List ℕ) (i : ℕ) → length xs ≤ i → white_len (drop i xs) ≡ 0
-unfolding white_len
-white_len_end xs i h = at_drop_all white_len xs i h
-
-pub colon_len_at : (xs : List ℕ) (i : ℕ) → i < length xs
-    → colon_len (drop i xs) ≡ (if get_or xs i 0 == 58 then Some 1 else if continues_label (get_or xs i 0) then more_len 1 (colon_len (drop (i + 1) xs)) else None)
+pub colon_by_run : (xs : List ℕ)
+    → colon_len xs ≡ (if begins_with (λ c. c == 58) (drop (prefix_len continues_label xs) xs) then Some (prefix_len continues_label xs + 1) else None)
 unfolding colon_len
-colon_len_at xs i h = at_drop_more colon_len xs i 0 h
-
-pub colon_len_end : (xs : List ℕ) (i : ℕ) → length xs ≤ i → colon_len (drop i xs) ≡ None
-unfolding colon_len
-colon_len_end xs i h = at_drop_all colon_len xs i h
+colon_by_run [] = refl
+colon_by_run (c ∷ cs) = by (continues_label c) refl (colon_by_run cs)
+  where
+    by : (g : Bool) → continues_label c ≡ g
+        → colon_len cs ≡ (if begins_with (λ d. d == 58) (drop (prefix_len continues_label cs) cs) then Some (prefix_len continues_label cs + 1) else None)
+        → (if c == 58 then Some 1 else if g then more_len 1 (colon_len cs) else None)
+        ≡ (if begins_with (λ d. d == 58) (drop (cond g (1 + prefix_len continues_label cs) 0) (c ∷ cs)) then Some (cond g (1 + prefix_len continues_label cs) 0 + 1) else None)
+    by false g rest = refl
+    by true g rest =
+        let colon : (c == 58) ≡ false = grind (arith, nat_tests) in
+        rw (colon, one-add (prefix_len continues_label cs), rest) (ends (begins_with (λ d. d == 58) (drop (prefix_len continues_label cs) cs)))
+      where
+        ends : (b : Bool) → more_len 1 (if b then Some (prefix_len continues_label cs + 1) else None)
+            ≡ (if b then Some (suc (prefix_len continues_label cs) + 1) else None)
+        ends true = ap Some (omega arith)
+        ends false = refl
 
 pub body_len_at : (xs : List ℕ) (i : ℕ) → i < length xs
     → body_len (drop i xs) ≡ (if get_or xs i 0 == 10 && not (is_continuation (drop (i + 1) xs)) then 0 else 1 + body_len (drop (i + 1) xs))
@@ -81,21 +114,26 @@ is_blank-cons c cs = by (c == 10)
     by true = refl
     by false = rw (one-add n) refl
 
-pub is_blank_at : (xs : List ℕ) (i : ℕ) → i < length xs
-    → is_blank (drop i xs) ≡ (if get_or xs i 0 == 10 then true else is_white (get_or xs i 0) && is_blank (drop (i + 1) xs))
-is_blank_at xs i h = at_drop_more is_blank xs i 0 h ∙ is_blank-cons (get_or xs i 0) (drop (i + 1) xs)
+pub blank_by_run : (xs : List ℕ) → is_blank xs ≡ is_line_end (drop (prefix_len is_gap xs) xs)
+blank_by_run [] = refl
+blank_by_run (c ∷ cs) = is_blank-cons c cs ∙ by (is_gap c) refl (blank_by_run cs)
+  where
+    by : (g : Bool) → is_gap c ≡ g → is_blank cs ≡ is_line_end (drop (prefix_len is_gap cs) cs)
+        → (if c == 10 then true else (g || c == 10) && is_blank cs) ≡ is_line_end (drop (cond g (1 + prefix_len is_gap cs) 0) (c ∷ cs))
+    by false g rest = ends (c == 10)
+      where
+        ends : (b : Bool) → (if b then true else b && is_blank cs) ≡ b
+        ends true = refl
+        ends false = refl
+    by true g rest =
+        let line : (c == 10) ≡ false = grind (arith, nat_tests) in
+        rw (line, one-add (prefix_len is_gap cs)) rest
 
-pub is_blank_end : (xs : List ℕ) (i : ℕ) → length xs ≤ i → is_blank (drop i xs) ≡ true
-is_blank_end xs i h = at_drop_all is_blank xs i h
+pub line_end_at : (xs : List ℕ) (i : ℕ) → i < length xs → is_line_end (drop i xs) ≡ (get_or xs i 0 == 10)
+line_end_at xs i h = at_drop_more is_line_end xs i 0 h
 
-pub zero_place_at : (xs : List ℕ) (i : ℕ) → i < length xs
-    → zero_place (drop i xs) ≡ (if get_or xs i 0 == 0 then Some 0 else more_len 1 (zero_place (drop (i + 1) xs)))
-unfolding zero_place
-zero_place_at xs i h = at_drop_more zero_place xs i 0 h
-
-pub zero_place_end : (xs : List ℕ) (i : ℕ) → length xs ≤ i → zero_place (drop i xs) ≡ None
-unfolding zero_place
-zero_place_end xs i h = at_drop_all zero_place xs i h
+pub line_end_end : (xs : List ℕ) (i : ℕ) → length xs ≤ i → is_line_end (drop i xs) ≡ true
+line_end_end xs i h = at_drop_all is_line_end xs i h
 
 pub ends_line_by_last : (bytes : List ℕ) → 0 < length bytes → ends_line bytes ≡ (get_or bytes (length bytes - 1) 0 == 10)
 ends_line_by_last [] h = absurd (omega arith)
@@ -163,9 +201,3 @@ pub plain_piece_sign : (first : Bool) (rest : List ℕ) → 0 < length rest → 
 unfolding plain_piece
 plain_piece_sign first [] h w n b d q = absurd (omega arith)
 plain_piece_sign first (byte ∷ bytes) h w n b d q = rw (w, ne_eqb _ _ n, b, d, ne_eqb _ _ q) refl
-
-pub colon_len_step : (xs : List ℕ) (i : ℕ) → i < length xs → (get_or xs i 0 ≡ 58 → ⊥) → continues_label (get_or xs i 0) ≡ true
-    → colon_len xs ≡ more_len i (colon_len (drop i xs)) → colon_len xs ≡ more_len (i + 1) (colon_len (drop (i + 1) xs))
-colon_len_step xs i h n on e =
-    let at : colon_len (drop i xs) ≡ more_len 1 (colon_len (drop (i + 1) xs)) = colon_len_at xs i h ∙ rw (ne_eqb _ _ n, on) refl in
-    e ∙ ap (more_len i) at ∙ more_len_twice i 1 (colon_len (drop (i + 1) xs))

@@ -7,10 +7,10 @@ use Rattle.std.proofs.lemmas.Bool.{ne_eqb, false≢true}
 use Rattle.std.proofs.lemmas.List.{take_at}
 use Rattle.std.proofs.lemmas.Bool.Decides.{nat_tests}
 use Rattle.std.proofs.lemmas.Grind.{common_steps}
-use Rattle.kn_lex.specs.Bytes.{is_white, is_octal_digit}
+use Rattle.kn_lex.specs.Bytes.{is_white, is_octal_digit, begins_with}
 use Rattle.kn_lex.specs.Spelling.{Item, plain as plain_item, escaped, joined as joined_item, is_item, items_bytes, IsLiteral}
 use Rattle.kn_lex.specs.Literal.{escape, with_front, value_behind, octal_value, begins_octal, begins_low, inside, literal_value}
-use Rattle.kn_lex.specs.Escapes.{EscapeTable, BeginsOctal, BeginsLow, BeginsOther, begins_with, octal}
+use Rattle.kn_lex.specs.Escapes.{EscapeTable, BeginsOctal, BeginsLow, BeginsOther, octal}
 use Rattle.kn_lex.proofs.Spelled.{both, same_byte}
 use Rattle.kn_lex.proofs.Values.{skipped}
 use Rattle.kn_lex.proofs.Literals.{plain_bytes, escaped_bytes}

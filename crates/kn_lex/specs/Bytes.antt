@@ -1,7 +1,9 @@
 -- The classes of bytes that RFC 2704, section 4, spells its tokens with.
-use Rattle.std.specs.Prelude.{ℕ, Bool, ◌||◌, ◌&&◌, ◌==◌, nat_le, codes}
+use Rattle.std.specs.Prelude.{ℕ, Bool, false, List, [], ◌∷◌, ◌||◌, ◌&&◌, ◌==◌, nat_le, codes}
 use Rattle.std.specs.List.{list_any}
 use Rattle.kn_base.specs.Decimal.{is_digit}
+use Rattle.kn_lex.specs.declared.bytes.Class.{Class}
+use Rattle.kn_lex.specs.declared.bytes.Class.TheVariants.{Gap, White, Digit, Name, Label}
 
 -- white space that ends no line: a space, a tab or, by keynoted's own choice, a carriage return
 abbrev pub is_gap : ℕ → Bool
@@ -39,3 +41,16 @@ is_long_sign byte next =
     (byte == next && list_any (λ sign. byte == sign) (codes "&|="))
     || (next == 61 && list_any (λ sign. byte == sign) (codes "!<>"))
     || (byte == 45 && next == 62)
+
+-- the bytes of a class
+abbrev pub has_class : Class → ℕ → Bool
+has_class Gap = is_gap
+has_class White = is_white
+has_class Digit = is_digit
+has_class Name = continues_name
+has_class Label = continues_label
+
+-- a byte of this kind stands in front
+abbrev pub begins_with : (ℕ → Bool) → List ℕ → Bool
+begins_with is_kind [] = false
+begins_with is_kind (byte ∷ rest) = is_kind byte

@@ -1,12 +1,7 @@
 -- The table of escapes, row by row. The table is keynoted's own.
-use Rattle.std.specs.Prelude.{◌≡◌, ◌≢◌, ℕ, ◌+◌, ◌*◌, ◌≤◌, Bool, true, false, ◌==◌, List, [], ◌∷◌, ◌++◌, codes}
+use Rattle.std.specs.Prelude.{◌≡◌, ◌≢◌, ℕ, ◌+◌, ◌*◌, ◌≤◌, true, false, ◌==◌, List, [], ◌∷◌, ◌++◌, codes}
 use Rattle.std.specs.List.{list_all, list_any}
-use Rattle.kn_lex.specs.Bytes.{is_white, is_octal_digit}
-
--- a byte of this kind stands in front
-abbrev pub begins_with : (ℕ → Bool) → List ℕ → Bool
-begins_with is_kind [] = false
-begins_with is_kind (byte ∷ rest) = is_kind byte
+use Rattle.kn_lex.specs.Bytes.{is_white, is_octal_digit, begins_with}
 
 -- the number of three octal digits
 abbrev pub octal : ℕ → ℕ → ℕ → ℕ

@@ -1,7 +1,8 @@
 //! The classes of bytes, and runs of the bytes of one.
 
-ghost use Rattle.std.specs.Prelude.{◌≡◌};
-ghost use Rattle.kn_lex.specs.Bytes.{is_gap, is_white, is_letter, begins_name, continues_name, continues_label, is_octal_digit, is_short_sign, is_long_sign};
+ghost use Rattle.std.specs.Prelude.{◌≡◌, ◌≤◌, ◌<◌, ◌==◌, true, length, drop};
+ghost use Rattle.std.specs.List.{prefix_len};
+ghost use Rattle.kn_lex.specs.Bytes.{is_gap, is_white, is_letter, begins_name, continues_name, continues_label, is_octal_digit, is_short_sign, is_long_sign, has_class, begins_with};
 ghost use Rattle.kn_base.specs.Decimal.{is_digit};
 
 pub(crate) fn is_gap(byte: u8) -> bool
@@ -89,4 +90,54 @@ pub(crate) fn is_long_sign(byte: u8, next: u8) -> bool
         (b'-', b'>') => true,
         _ => false,
     }
+}
+
+/// The classes whose runs are counted.
+#[derive(Debug, Clone, Copy)]
+pub(crate) enum Class {
+    /// White space that ends no line.
+    Gap,
+    White,
+    Digit,
+    /// What a name goes on with.
+    Name,
+    /// What a label goes on with, before its colon.
+    Label,
+}
+
+#[inline(always)]
+fn has_class(class: Class, byte: u8) -> bool
+    ensures { result ≡ has_class class byte }
+{
+    match class {
+        Class::Gap => is_gap(byte),
+        Class::White => is_white(byte),
+        Class::Digit => is_digit(byte),
+        Class::Name => continues_name(byte),
+        Class::Label => continues_label(byte),
+    }
+}
+
+/// How many bytes of a class stand here in a row.
+#[inline(always)]
+pub(crate) fn run_len(class: Class, bytes: &[u8]) -> usize
+    ensures len { result ≡ prefix_len (has_class class) bytes.now }
+    ensures within { result ≤ length bytes.now }
+{
+    for (i, byte) in bytes.iter().enumerate() {
+        if !has_class(class, *byte) {
+            return i;
+        }
+    }
+    bytes.len()
+}
+
+/// Whether this byte stands at a place.
+#[inline(always)]
+#[tactic(auto, using(crate::proofs::Scans::begins_at, crate::proofs::Scans::begins_end))]
+pub(crate) fn has_at(bytes: &[u8], at: usize, byte: u8) -> bool
+    ensures here { result ≡ begins_with (λ other. other == byte) (drop at bytes.now) }
+    ensures within { result ≡ true → at < length bytes.now }
+{
+    at < bytes.len() && bytes[at] == byte
 }

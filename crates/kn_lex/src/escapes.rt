@@ -1,11 +1,9 @@
 //! The value of a literal.
 
 ghost use Rattle.std.specs.Prelude.{◌≡◌, ◌≤◌, ◌<◌, length, drop, slice_index, IfOk};
-ghost use Rattle.std.specs.List.{prefix_len};
-ghost use Rattle.kn_lex.specs.Bytes.{is_white};
 ghost use Rattle.kn_lex.specs.Literal.{octal_value, begins_octal, begins_low, escape, with_front, value_behind, inside, literal_value};
 
-use crate::bytes::{is_octal_digit, is_white};
+use crate::bytes::{Class, is_octal_digit, run_len};
 use crate::token::{Sort, Token};
 use kn_base::{NoMemory, Octets};
 use std::alloc::Global;
@@ -43,18 +41,6 @@ fn begins_low(rest: &[u8]) -> bool
         && !is_octal_digit(byte_at(rest, 2))
 }
 
-fn white_run(rest: &[u8]) -> usize
-    ensures len { result ≡ prefix_len is_white rest.now }
-    ensures within { result ≤ length rest.now }
-{
-    for (i, byte) in rest.iter().enumerate() {
-        if !is_white(*byte) {
-            return i;
-        }
-    }
-    rest.len()
-}
-
 /// What stands behind a backslash: the byte that it gives, and how many bytes it takes.
 fn escape(rest: &[u8]) -> (Option<u8>, usize)
     ensures value { result ≡ escape rest.now }
@@ -68,7 +54,7 @@ fn escape(rest: &[u8]) -> (Option<u8>, usize)
         b'r' => (Some(b'\r'), 1),
         b't' => (Some(b'\t'), 1),
         b'f' => (Some(12), 1),
-        b'\n' | b'\r' => (None, 1 + white_run(rest.split_at(1).1)),
+        b'\n' | b'\r' => (None, 1 + run_len(Class::White, rest.split_at(1).1)),
         _ if begins_octal(rest) => (Some(octal_value(rest) as u8), 3),
         _ if begins_low(rest) => (Some(byte_at(rest, 1).saturating_sub(b'0')), 2),
         _ => (Some(byte), 1),

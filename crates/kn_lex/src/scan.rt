@@ -1,35 +1,28 @@
 //! Which piece begins at a place, and how long it is.
 
 ghost use Rattle.std.specs.Prelude.{◌≡◌, ◌≤◌, length, IfSome, if◌then◌else◌};
-ghost use Rattle.std.specs.List.{prefix_len};
-ghost use Rattle.kn_base.specs.Decimal.{is_digit};
-ghost use Rattle.kn_lex.specs.Bytes.{continues_name};
 ghost use Rattle.kn_lex.specs.Spelling.{is_blank, is_continuation};
 ghost use Rattle.kn_lex.specs.Scanning.{white_len, line_len, label_len, colon_len, body_len, sign_len, with_sort, word_piece, plain_piece, piece_at};
 
 use crate::bytes::{
-    begins_name, continues_label, continues_name, is_digit, is_gap, is_letter, is_long_sign,
-    is_short_sign, is_white,
+    Class, begins_name, has_at, is_digit, is_letter, is_long_sign, is_short_sign, is_white, run_len,
 };
 use crate::piece::{Context, Piece};
 use crate::quote::quote_len;
 use crate::token::Sort;
 use memchr::memchr;
 
-#[tactic(auto, using(crate::proofs::Scans::white_len_at, crate::proofs::Scans::white_len_end))]
+#[tactic(auto, using(crate::proofs::Scans::white_by_run))]
 fn white_len(rest: &[u8]) -> usize
     ensures len { result ≡ white_len rest.now }
     ensures within { result ≤ length rest.now }
 {
-    for (i, byte) in rest.iter().enumerate() {
-        if *byte == b'\n' {
-            return i + 1;
-        }
-        if !is_gap(*byte) {
-            return i;
-        }
+    let len = run_len(Class::Gap, rest);
+    if has_at(rest, len, b'\n') {
+        len + 1
+    } else {
+        len
     }
-    rest.len()
 }
 
 /// The bytes of the line that begins here, without its newline.
@@ -43,44 +36,17 @@ pub fn line_len(rest: &[u8]) -> usize
     }
 }
 
-fn name_len(rest: &[u8]) -> usize
-    ensures len { result ≡ prefix_len continues_name rest.now }
-    ensures within { result ≤ length rest.now }
-{
-    for (i, byte) in rest.iter().enumerate() {
-        if !continues_name(*byte) {
-            return i;
-        }
-    }
-    rest.len()
-}
-
-fn digits_len(rest: &[u8]) -> usize
-    ensures len { result ≡ prefix_len is_digit rest.now }
-    ensures within { result ≤ length rest.now }
-{
-    for (i, byte) in rest.iter().enumerate() {
-        if !is_digit(*byte) {
-            return i;
-        }
-    }
-    rest.len()
-}
-
-#[tactic(auto, using(crate::proofs::Scans::colon_len_at, crate::proofs::Scans::colon_len_end, crate::proofs::Scans::more_len_twice, crate::proofs::Scans::more_len_none))]
+#[tactic(auto, using(crate::proofs::Scans::colon_by_run))]
 fn colon_len(rest: &[u8]) -> Option<usize>
     ensures len { result ≡ colon_len rest.now }
     ensures within { IfSome result (λ len. len ≤ length rest.now) }
 {
-    for (i, byte) in rest.iter().enumerate() {
-        if *byte == b':' {
-            return Some(i + 1);
-        }
-        if !continues_label(*byte) {
-            return None;
-        }
+    let len = run_len(Class::Label, rest);
+    if has_at(rest, len, b':') {
+        Some(len + 1)
+    } else {
+        None
     }
-    None
 }
 
 fn label_len(rest: &[u8]) -> Option<usize>
@@ -95,19 +61,12 @@ fn label_len(rest: &[u8]) -> Option<usize>
 }
 
 /// Whether a blank line begins here.
-#[tactic(auto, using(crate::proofs::Scans::is_blank_at, crate::proofs::Scans::is_blank_end))]
+#[tactic(auto, using(crate::proofs::Scans::blank_by_run, crate::proofs::Scans::line_end_at, crate::proofs::Scans::line_end_end))]
 pub fn is_blank(rest: &[u8]) -> bool
     ensures { result ≡ is_blank rest.now }
 {
-    for byte in rest {
-        if *byte == b'\n' {
-            return true;
-        }
-        if !is_white(*byte) {
-            return false;
-        }
-    }
-    true
+    let len = run_len(Class::Gap, rest);
+    len == rest.len() || rest[len] == b'\n'
 }
 
 /// Whether a line begins here that goes on with the body of a comment.
@@ -158,7 +117,7 @@ fn word_piece(first: bool, rest: &[u8]) -> (Piece, usize)
             return (Piece::Token(Sort::Label), len);
         }
     }
-    (Piece::Token(Sort::Name), name_len(rest))
+    (Piece::Token(Sort::Name), run_len(Class::Name, rest))
 }
 
 fn with_sort(sort: Sort, len: Option<usize>) -> Option<(Piece, usize)>
@@ -187,7 +146,7 @@ fn plain_piece(first: bool, rest: &[u8]) -> Option<(Piece, usize)>
     } else if begins_name(byte) {
         Some(word_piece(first, rest))
     } else if is_digit(byte) {
-        Some((Piece::Token(Sort::Number), digits_len(rest)))
+        Some((Piece::Token(Sort::Number), run_len(Class::Digit, rest)))
     } else if byte == b'"' {
         with_sort(Sort::Text, quote_len(rest))
     } else {

@@ -11,7 +11,7 @@ returns-then-begins_name-clause-piece c =
 
 pub returns-then-is_digit-clause-piece : goal.returns-then-is_digit-clause-piece
 returns-then-is_digit-clause-piece c =
-    rw c.digits_len.ensures.len (sym (plain_piece_digits _ _ (search rules) (cc) c.if-byte-eq35.false (cc) (cc)))
+    rw c.run_len.ensures.len (sym (plain_piece_digits _ _ (search rules) (cc) c.if-byte-eq35.false (cc) (cc)))
 
 pub returns-else-byte-eq34-clause-piece : goal.returns-else-byte-eq34-clause-piece
 returns-else-byte-eq34-clause-piece c =
