@@ -1,6 +1,6 @@
 -- The piece that the scanner finds is the one piece that begins there.
-use Rattle.std.proofs.Common.{◌≡◌, ℕ, zero, suc, true, false, Bool, ◌<◌, ◌≤◌, List, [], ◌∷◌, ◌++◌, Option, Some, None, length, take, drop, arith, refl, sym, ◌∙◌, ap, subst, if◌then◌else◌}
-use Rattle.std.specs.Prelude.{not, ◌||◌, ◌&&◌, ◌==◌, codes}
+use Rattle.std.proofs.Common.{◌≡◌, ℕ, zero, suc, true, false, Bool, ◌<◌, ◌≤◌, List, [], ◌∷◌, ◌++◌, Option, Some, None, length, take, drop, get_or, arith, refl, sym, ◌∙◌, ap, subst, if◌then◌else◌}
+use Rattle.std.specs.Prelude.{not, ◌||◌, ◌==◌, codes}
 use Rattle.std.specs.List.{prefix_len, list_all, list_any}
 use Rattle.std.proofs.Math.Numerals.{one-add}
 use Rattle.std.proofs.lemmas.List.{take-append-drop, length-take-le}
@@ -8,10 +8,12 @@ use Rattle.std.proofs.lemmas.List.Sums.{prefix_len-le-length}
 use Rattle.std.proofs.lemmas.Bool.{false≢true}
 use Rattle.std.proofs.lemmas.Bool.Decides.{nat_tests}
 use Rattle.kn_base.specs.Decimal.{is_digit}
-use Rattle.kn_lex.specs.Bytes.{is_white, is_letter, begins_name, continues_name, continues_label, is_short_sign, is_long_sign}
+use Rattle.kn_lex.specs.Bytes.{is_white, is_letter, begins_name, continues_name, continues_label, is_short_sign, is_lone_sign, is_long_sign, kind_of}
 use Rattle.kn_lex.specs.Spelling.{is_run, is_white_space, is_comment, is_label, is_label_tail, is_sign, IsLiteral, SpellsPlain, SpellsBody, Spells, items_bytes}
 use Rattle.kn_lex.specs.Cutting.{IsPiece, BeginsNone}
-use Rattle.kn_lex.specs.Scanning.{colon_len, label_len, body_len, sign_len, quote_len, more_len, plain_piece, word_piece, with_sort, piece_at}
+use Rattle.kn_lex.specs.Scanning.{white_len, line_len, colon_len, label_len, body_len, sign_len, quote_len, more_len, plain_piece, word_piece, with_sort, piece_at}
+use Rattle.kn_lex.specs.declared.bytes.Kind.{Kind}
+use Rattle.kn_lex.specs.declared.bytes.Kind.TheVariants.{Space, Hash, Word, Numeral, Quote, Lone, Other}
 use Rattle.kn_lex.specs.declared.quote.Quote.TheVariants.{Opening}
 use Rattle.kn_lex.specs.declared.token.Sort.TheVariants.{Label, Body, Name, Number, Text, Sign}
 use Rattle.kn_lex.specs.declared.piece.Piece.{Piece}
@@ -49,20 +51,58 @@ any_passes p c (x ∷ xs) e h = let parts = both (p x) (list_all p xs) h in by (
 short_sign_byte : (c : ℕ) → is_short_sign c ≡ true → not (begins_no_sign c) ≡ true
 short_sign_byte c e = any_passes (λ d. not (begins_no_sign d)) c (codes "(){},;!<>=+-*/%^.$@") e refl
 
-either : {P : Type 0} (a b : Bool) → (a || b) ≡ true → (a ≡ true → P) → (b ≡ true → P) → P
-either true b e first second = first refl
-either false b e first second = second e
+long_begins : (c d : ℕ) → is_long_sign c d ≡ true → list_any (λ sign. c == sign) (codes "&|=!<>-") ≡ true
+long_begins c d e = grind (arith, nat_tests)
 
 long_sign_byte : (c d : ℕ) → is_long_sign c d ≡ true → not (begins_no_sign c) ≡ true
-long_sign_byte c d e =
-    let p : ℕ → Bool = λ x. not (begins_no_sign x) in
-    let twice : Bool = list_any (λ sign. c == sign) (codes "&|=") in
-    let equal : Bool = list_any (λ sign. c == sign) (codes "!<>") in
-    either ((c == d && twice) || (d == 61 && equal)) (c == 45 && d == 62) e
-    (λ h. either (c == d && twice) (d == 61 && equal) h
-    (λ k. any_passes p c (codes "&|=") (both (c == d) twice k).1 refl)
-    (λ k. any_passes p c (codes "!<>") (both (d == 61) equal k).1 refl))
-    (λ k. ap p (same_byte c 45 (both (c == 45) (d == 62) k).0))
+long_sign_byte c d e = any_passes (λ x. not (begins_no_sign x)) c (codes "&|=!<>-") (long_begins c d e) refl
+
+-- a lone byte is a sign of one byte
+lone_len : (c : ℕ) (cs : List ℕ) → is_lone_sign c ≡ true → sign_len (c ∷ cs) ≡ Some 1
+lone_len c [] e = let short = any_passes is_short_sign c (codes "(){},;+*/%^.$@") e refl in rw short refl
+lone_len c (d ∷ ds) e = by (is_long_sign c d) refl
+  where
+    by : (b : Bool) → is_long_sign c d ≡ b → sign_len (c ∷ d ∷ ds) ≡ Some 1
+    by false b = let short = any_passes is_short_sign c (codes "(){},;+*/%^.$@") e refl in rw (b, short) refl
+    by true b =
+        let none = any_passes (λ x. not (list_any (λ sign. x == sign) (codes "&|=!<>-"))) c (codes "(){},;+*/%^.$@") e refl in
+        absurd (false≢true (rw (long_begins c d b) at none))
+
+-- what begins with each kind of byte
+abbrev pub by_kind : Kind → Bool → List ℕ → Option (Piece × ℕ)
+by_kind Space first rest = Some (White, white_len rest)
+by_kind Hash first rest = Some (Comment, line_len rest)
+by_kind Word first rest = word_piece (if first then label_len rest else None) rest
+by_kind Numeral first rest = Some (Token Number, prefix_len is_digit rest)
+by_kind Quote first rest = with_sort Text (quote_len Opening rest)
+by_kind Lone first rest = Some (Token Sign, 1)
+by_kind Other first rest = with_sort Sign (sign_len rest)
+
+pub plain_piece_by_kind : (first : Bool) (rest : List ℕ) → 0 < length rest → plain_piece first rest ≡ by_kind (kind_of (get_or rest 0 0)) first rest
+unfolding plain_piece
+plain_piece_by_kind first [] h = absurd (omega arith)
+plain_piece_by_kind first (c ∷ cs) h = by (is_white c) (c == 35) (begins_name c) (is_digit c) (c == 34) (is_lone_sign c) refl
+  where
+    rest : List ℕ
+    rest = c ∷ cs
+
+    by : (w o n d q l : Bool) → is_lone_sign c ≡ l → (if w then Some (White, white_len rest)
+        else if o then Some (Comment, line_len rest)
+        else if n then word_piece (if first then label_len rest else None) rest
+        else if d then Some (Token Number, prefix_len is_digit rest)
+        else if q then with_sort Text (quote_len Opening rest)
+        else with_sort Sign (sign_len rest))
+        ≡ by_kind (if w then Space else if o then Hash else if n then Word else if d then Numeral else if q then Quote else if l then Lone else Other) first rest
+    by true o n d q l e = refl
+    by false true n d q l e = refl
+    by false false true d q l e = refl
+    by false false false true q l e = refl
+    by false false false false true l e = refl
+    by false false false false false true e = ap (with_sort Sign) (lone_len c cs e)
+    by false false false false false false e = refl
+
+pub plain_piece_of : (first : Bool) (rest : List ℕ) (kind : Kind) → 0 < length rest → kind_of (get_or rest 0 0) ≡ kind → plain_piece first rest ≡ by_kind kind first rest
+plain_piece_of first rest kind h e = plain_piece_by_kind first rest h ∙ ap (λ k. by_kind k first rest) e
 
 sign_tests : (c : ℕ) → not (begins_no_sign c) ≡ true
     → (is_white c ≡ false) × ((c == 35) ≡ false) × (begins_name c ≡ false) × (is_digit c ≡ false) × ((c == 34) ≡ false)

@@ -3,22 +3,21 @@ use Rattle.std.proofs.Common.{◌≡◌, ℕ, true, false, Bool, ◌+◌, ◌-�
 use Rattle.std.specs.Prelude.{not, ◌||◌, ◌&&◌, ◌==◌, nat_lt, nat_le}
 use Rattle.std.proofs.Math.Nat.{le-mul_of_pos_right, pow-le-pow_right}
 use Rattle.std.proofs.Math.Numerals.{one-add}
-use Rattle.std.proofs.lemmas.Bool.{lt-ltb, ne_eqb}
+use Rattle.std.proofs.lemmas.Bool.{lt-ltb}
 use Rattle.std.proofs.lemmas.Bool.Decides.{nat_tests}
-use Rattle.std.proofs.lemmas.List.{at_drop_more, at_drop_all}
+use Rattle.std.proofs.lemmas.List.{at_drop_more, at_drop_all, drop-drop}
 use Rattle.std.specs.List.{prefix_len, list_all}
-use Rattle.kn_base.specs.Decimal.{digits_value, is_digit}
+use Rattle.kn_base.specs.Decimal.{digits_value}
 use Rattle.kn_base.proofs.Digits.{digit_read_at}
-use Rattle.kn_lex.specs.Bytes.{is_gap, is_white, continues_label, begins_name, begins_with}
+use Rattle.kn_lex.specs.Bytes.{is_gap, is_white, is_quoted, continues_label, begins_with}
 use Rattle.kn_lex.specs.Spelling.{is_blank, is_continuation}
 use Rattle.kn_lex.specs.Between.{is_line_end}
 use Rattle.kn_lex.specs.Faults.{goes_on, number_max, begins_match}
 use Rattle.kn_lex.specs.Cutting.{ends_line}
-use Rattle.kn_lex.specs.Scanning.{white_len, line_len, colon_len, label_len, body_len, sign_len, quote_len, more_len, quote_step, len_after, stuck_fault, plain_piece, word_piece, with_sort}
+use Rattle.kn_lex.specs.Scanning.{white_len, line_len, colon_len, body_len, quote_len, more_len, quote_step, len_after, stuck_fault, plain_piece}
 use Rattle.kn_lex.specs.declared.quote.Quote.{Quote}
-use Rattle.kn_lex.specs.declared.quote.Quote.TheVariants.{Opening}
-use Rattle.kn_lex.specs.declared.token.Sort.TheVariants.{Number, Text, Sign}
-use Rattle.kn_lex.specs.declared.piece.Piece.TheVariants.{White, Comment, Token}
+use Rattle.kn_lex.specs.declared.quote.Step.TheVariants.{Go}
+use Rattle.kn_lex.specs.declared.quote.Quote.TheVariants.{Opening, Plain}
 use Rattle.kn_lex.specs.declared.fault.LexFault.TheVariants.{NotText, BadString, BadToken, Float, Regex}
 
 -- a byte of a kind stands in front behind a place exactly where it stands at the place
@@ -79,6 +78,50 @@ pub body_len_end : (xs : List ℕ) (i : ℕ) → length xs ≤ i → body_len (d
 unfolding body_len
 body_len_end xs i h = at_drop_all body_len xs i h
 
+pub line_end_at : (xs : List ℕ) (i : ℕ) → i < length xs → is_line_end (drop i xs) ≡ (get_or xs i 0 == 10)
+line_end_at xs i h = at_drop_more is_line_end xs i 0 h
+
+pub line_end_end : (xs : List ℕ) (i : ℕ) → length xs ≤ i → is_line_end (drop i xs) ≡ true
+line_end_end xs i h = at_drop_all is_line_end xs i h
+
+body_line : (ys : List ℕ) → body_len ys ≡ line_len ys + body_len (drop (line_len ys) ys)
+unfolding body_len
+body_line [] = refl
+body_line (c ∷ cs) = by (c == 10) refl (body_line cs)
+  where
+    by : (b : Bool) → (c == 10) ≡ b → body_len cs ≡ line_len cs + body_len (drop (line_len cs) cs)
+        → cond (b && not (is_continuation cs)) 0 (1 + body_len cs)
+        ≡ cond (not b) (1 + line_len cs) 0 + body_len (drop (cond (not b) (1 + line_len cs) 0) (c ∷ cs))
+    by true b rest = rw b (omega arith)
+    by false b rest = rw (one-add (line_len cs)) (omega (arith, rest))
+
+-- the body of a comment goes on to the end of each of its lines
+pub body_by_line : (xs : List ℕ) (i n : ℕ) → line_len (drop i xs) ≡ n → body_len xs ≡ i + body_len (drop i xs)
+    → body_len xs ≡ (i + n) + body_len (drop (i + n) xs)
+body_by_line xs i n e whole =
+    let line = body_line (drop i xs) ∙ ap (λ k. k + body_len (drop k (drop i xs))) e ∙ ap (λ ys. n + body_len ys) (drop-drop n i xs) in
+    omega (arith, whole, line)
+
+line_ends : (ys : List ℕ) → is_line_end (drop (line_len ys) ys) ≡ true
+line_ends [] = refl
+line_ends (c ∷ cs) = by (c == 10) refl (line_ends cs)
+  where
+    by : (b : Bool) → (c == 10) ≡ b → is_line_end (drop (line_len cs) cs) ≡ true → is_line_end (drop (cond (not b) (1 + line_len cs) 0) (c ∷ cs)) ≡ true
+    by true b rest = b
+    by false b rest = rw (one-add (line_len cs)) rest
+
+-- behind a line it goes on with a continuation line alone
+pub body_at_line : (xs : List ℕ) (i n : ℕ) → line_len (drop i xs) ≡ n → i + n < length xs
+    → body_len (drop (i + n) xs) ≡ (if is_continuation (drop (i + n + 1) xs) then 1 + body_len (drop (i + n + 1) xs) else 0)
+body_at_line xs i n e h =
+    let newline : (get_or xs (i + n) 0 == 10) ≡ true = sym (line_end_at xs (i + n) h) ∙ ap is_line_end (sym (drop-drop n i xs))
+    ∙ ap (λ k. is_line_end (drop k (drop i xs))) (sym e) ∙ line_ends (drop i xs) in
+    body_len_at xs (i + n) h ∙ rw newline (by (is_continuation (drop (i + n + 1) xs)))
+  where
+    by : (b : Bool) → (if not b then 0 else 1 + body_len (drop (i + n + 1) xs)) ≡ (if b then 1 + body_len (drop (i + n + 1) xs) else 0)
+    by true = refl
+    by false = refl
+
 pub quote_len_at : (quote : Quote) (xs : List ℕ) (i : ℕ) → i < length xs
     → quote_len quote (drop i xs) ≡ len_after (quote_step quote (get_or xs i 0)) (λ next. quote_len next (drop (i + 1) xs))
 unfolding quote_len
@@ -94,6 +137,40 @@ more_len_twice a b (Some n) = ap (λ k. Some k) (omega arith)
 
 pub more_len_none : (a : ℕ) (n : Option ℕ) → n ≡ None → more_len a n ≡ None
 more_len_none a n e = ap (more_len a) e
+
+pub more_len_zero : (n : Option ℕ) → more_len 0 n ≡ n
+more_len_zero None = refl
+more_len_zero (Some n) = ap (λ k. Some k) (omega arith)
+
+-- what stands for itself leaves a literal as it is
+pub quoted_run : (xs : List ℕ) → quote_len Plain xs ≡ more_len (prefix_len is_quoted xs) (quote_len Plain (drop (prefix_len is_quoted xs) xs))
+unfolding quote_len
+quoted_run [] = refl
+quoted_run (c ∷ cs) = by (is_quoted c) refl (quoted_run cs)
+  where
+    by : (q : Bool) → is_quoted c ≡ q
+        → quote_len Plain cs ≡ more_len (prefix_len is_quoted cs) (quote_len Plain (drop (prefix_len is_quoted cs) cs))
+        → quote_len Plain (c ∷ cs) ≡ more_len (cond q (1 + prefix_len is_quoted cs) 0) (quote_len Plain (drop (cond q (1 + prefix_len is_quoted cs) 0) (c ∷ cs)))
+    by false q rest = sym (more_len_zero (quote_len Plain (c ∷ cs)))
+    by true q rest =
+        let close : (c == 34) ≡ false = grind (arith, nat_tests) in
+        let escape : (c == 92) ≡ false = grind (arith, nat_tests) in
+        let line : (c == 10 || c == 13) ≡ false = grind (arith, nat_tests) in
+        rw (close, escape, line, one-add (prefix_len is_quoted cs)) (
+        ap (more_len 1) rest ∙ more_len_twice 1 (prefix_len is_quoted cs) _ ∙ ap (λ k. more_len k (quote_len Plain (drop (prefix_len is_quoted cs) cs))) (one-add (prefix_len is_quoted cs))
+        )
+
+-- one step of a literal, and what leaves it as it is behind it
+pub quote_on : (xs : List ℕ) (quote next : Quote) (i n : ℕ) → i < length xs → quote_step quote (get_or xs i 0) ≡ Go next
+    → quote_len next (drop (i + 1) xs) ≡ more_len n (quote_len next (drop n (drop (i + 1) xs)))
+    → quote_len Opening xs ≡ more_len i (quote_len quote (drop i xs))
+    → quote_len Opening xs ≡ more_len (i + 1 + n) (quote_len next (drop (i + 1 + n) xs))
+quote_on xs quote next i n h step stay whole =
+    whole
+    ∙ ap (more_len i) (quote_len_at quote xs i h ∙ ap (λ s. len_after s (λ next. quote_len next (drop (i + 1) xs))) step ∙ ap (more_len 1) stay)
+    ∙ ap (more_len i) (more_len_twice 1 n _) ∙ more_len_twice i (1 + n) _
+    ∙ ap (λ k. more_len k (quote_len next (drop n (drop (i + 1) xs)))) (omega arith)
+    ∙ ap (λ ys. more_len (i + 1 + n) (quote_len next ys)) (drop-drop n (i + 1) xs)
 
 pub goes_on_at : (commented : Bool) (xs : List ℕ) (i : ℕ) → i < length xs
     → goes_on commented (drop i xs) ≡ goes_on commented (get_or xs i 0 ∷ drop (i + 1) xs)
@@ -129,12 +206,6 @@ blank_by_run (c ∷ cs) = is_blank-cons c cs ∙ by (is_gap c) refl (blank_by_ru
         let line : (c == 10) ≡ false = grind (arith, nat_tests) in
         rw (line, one-add (prefix_len is_gap cs)) rest
 
-pub line_end_at : (xs : List ℕ) (i : ℕ) → i < length xs → is_line_end (drop i xs) ≡ (get_or xs i 0 == 10)
-line_end_at xs i h = at_drop_more is_line_end xs i 0 h
-
-pub line_end_end : (xs : List ℕ) (i : ℕ) → length xs ≤ i → is_line_end (drop i xs) ≡ true
-line_end_end xs i h = at_drop_all is_line_end xs i h
-
 pub ends_line_by_last : (bytes : List ℕ) → 0 < length bytes → ends_line bytes ≡ (get_or bytes (length bytes - 1) 0 == 10)
 ends_line_by_last [] h = absurd (omega arith)
 ends_line_by_last (a ∷ []) h = refl
@@ -153,17 +224,6 @@ unfolding stuck_fault
 stuck_fault_at at [] h = absurd (omega arith)
 stuck_fault_at at (byte ∷ bytes) h = refl
 
-pub plain_piece_at : (first : Bool) (rest : List ℕ) → 0 < length rest
-    → plain_piece first rest ≡ (if is_white (get_or rest 0 0) then Some (White, white_len rest)
-    else if get_or rest 0 0 == 35 then Some (Comment, line_len rest)
-    else if begins_name (get_or rest 0 0) then word_piece (if first then label_len rest else None) rest
-    else if is_digit (get_or rest 0 0) then Some (Token Number, prefix_len is_digit rest)
-    else if get_or rest 0 0 == 34 then with_sort Text (quote_len Opening rest)
-    else with_sort Sign (sign_len rest))
-unfolding plain_piece
-plain_piece_at first [] h = absurd (omega arith)
-plain_piece_at first (byte ∷ bytes) h = refl
-
 pub plain_piece_end : (first : Bool) (rest : List ℕ) → length rest ≡ 0 → plain_piece first rest ≡ None
 unfolding plain_piece
 plain_piece_end first [] h = refl
@@ -180,24 +240,3 @@ too_large digits i value within e over =
     let le : value * 10 + (get_or digits i 0 - 48) ≤ (value * 10 + (get_or digits i 0 - 48)) * 10 ^ k = le-mul_of_pos_right _ (omega arith) in
     let above : number_max < digits_value digits = omega (arith, read, le, over) in
     lt-ltb _ _ above
-
-pub plain_piece_word : (first : Bool) (rest : List ℕ) → 0 < length rest → is_white (get_or rest 0 0) ≡ false
-    → (get_or rest 0 0 ≡ 35 → ⊥) → begins_name (get_or rest 0 0) ≡ true
-    → plain_piece first rest ≡ word_piece (if first then label_len rest else None) rest
-unfolding plain_piece
-plain_piece_word first [] h w n b = absurd (omega arith)
-plain_piece_word first (byte ∷ bytes) h w n b = rw (w, ne_eqb _ _ n, b) refl
-
-pub plain_piece_digits : (first : Bool) (rest : List ℕ) → 0 < length rest → is_white (get_or rest 0 0) ≡ false
-    → (get_or rest 0 0 ≡ 35 → ⊥) → begins_name (get_or rest 0 0) ≡ false → is_digit (get_or rest 0 0) ≡ true
-    → plain_piece first rest ≡ Some (Token Number, prefix_len is_digit rest)
-unfolding plain_piece
-plain_piece_digits first [] h w n b d = absurd (omega arith)
-plain_piece_digits first (byte ∷ bytes) h w n b d = rw (w, ne_eqb _ _ n, b, d) refl
-
-pub plain_piece_sign : (first : Bool) (rest : List ℕ) → 0 < length rest → is_white (get_or rest 0 0) ≡ false
-    → (get_or rest 0 0 ≡ 35 → ⊥) → begins_name (get_or rest 0 0) ≡ false → is_digit (get_or rest 0 0) ≡ false
-    → (get_or rest 0 0 ≡ 34 → ⊥) → plain_piece first rest ≡ with_sort Sign (sign_len rest)
-unfolding plain_piece
-plain_piece_sign first [] h w n b d q = absurd (omega arith)
-plain_piece_sign first (byte ∷ bytes) h w n b d q = rw (w, ne_eqb _ _ n, b, d, ne_eqb _ _ q) refl

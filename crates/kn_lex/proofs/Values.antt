@@ -1,9 +1,13 @@
 -- The value of a literal, item by item.
-use Rattle.std.proofs.Common.{append-nil, eq-eqb, ◌≡◌, ℕ, zero, suc, ◌+◌, ◌<◌, ◌≤◌, List, [], ◌∷◌, ◌++◌, length, drop, get_or, arith, refl, sym, ◌∙◌, ap}
+use Rattle.std.proofs.Common.{append-nil, eq-eqb, ◌≡◌, ℕ, zero, suc, ◌+◌, ◌<◌, ◌≤◌, Bool, true, false, cond, List, [], ◌∷◌, ◌++◌, None, length, drop, get_or, arith, refl, sym, ◌∙◌, ap}
+use Rattle.std.specs.Prelude.{not, ◌==◌}
+use Rattle.std.specs.List.{prefix_len}
 use Rattle.std.proofs.lemmas.Bool.{ne_eqb}
 use Rattle.std.proofs.lemmas.List.{drop_all}
 use Rattle.std.proofs.Math.Numerals.{add-one}
+use Rattle.memchr.specs.Find.{IsFirstByte, is_byte}
 use Rattle.kn_lex.specs.Literal.{escape, with_front, value_behind}
+use Rattle.kn_lex.proofs.Firsts.{run_by_first}
 
 -- what belongs to an escape gives nothing more
 pub skipped : (k : ℕ) (xs : List ℕ) → value_behind k xs ≡ value_behind 0 (drop k xs)
@@ -33,3 +37,17 @@ value_end xs at h = ap (value_behind 0) (drop_all at xs h)
 pub value_whole : (value xs : List ℕ) (at : ℕ) → length xs ≤ at → value ++ value_behind 0 (drop at xs) ≡ value_behind 0 xs
     → value ≡ value_behind 0 xs
 value_whole value xs at h e = sym (append-nil value) ∙ ap (λ zs. value ++ zs) (sym (value_end xs at h)) ∙ e
+
+none_escaped : (ys : List ℕ) → prefix_len (λ byte. not (byte == 92)) ys ≡ length ys → value_behind 0 ys ≡ ys
+unfolding value_behind
+none_escaped [] e = refl
+none_escaped (y ∷ ys) e = cases (y == 92) refl e (none_escaped ys)
+  where
+    cases : (b : Bool) → (y == 92) ≡ b → cond (not b) (1 + prefix_len (λ byte. not (byte == 92)) ys) 0 ≡ suc (length ys)
+        → (prefix_len (λ byte. not (byte == 92)) ys ≡ length ys → value_behind 0 ys ≡ ys) → value_behind 0 (y ∷ ys) ≡ y ∷ ys
+    cases true b e rest = absurd (omega (arith, e))
+    cases false b e rest = rw b (ap (λ zs. y ∷ zs) (rest (omega (arith, e))))
+
+-- without a backslash the value is what stands there
+pub value_same : (xs : List ℕ) → IsFirstByte (is_byte 92) xs None → value_behind 0 xs ≡ xs
+value_same xs none = none_escaped xs (run_by_first (is_byte 92) xs None none)

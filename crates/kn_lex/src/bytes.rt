@@ -2,7 +2,7 @@
 
 ghost use Rattle.std.specs.Prelude.{◌≡◌, ◌≤◌, ◌<◌, ◌==◌, true, length, drop};
 ghost use Rattle.std.specs.List.{prefix_len};
-ghost use Rattle.kn_lex.specs.Bytes.{is_gap, is_white, is_letter, begins_name, continues_name, continues_label, is_octal_digit, is_short_sign, is_long_sign, has_class, begins_with};
+ghost use Rattle.kn_lex.specs.Bytes.{is_gap, is_white, is_letter, begins_name, continues_name, continues_label, is_octal_digit, is_short_sign, is_long_sign, has_class, begins_with, kind_of};
 ghost use Rattle.kn_base.specs.Decimal.{is_digit};
 
 pub(crate) fn is_gap(byte: u8) -> bool
@@ -103,6 +103,8 @@ pub(crate) enum Class {
     Name,
     /// What a label goes on with, before its colon.
     Label,
+    /// What stands for itself in a literal.
+    Quoted,
 }
 
 #[inline(always)]
@@ -115,6 +117,7 @@ fn has_class(class: Class, byte: u8) -> bool
         Class::Digit => is_digit(byte),
         Class::Name => continues_name(byte),
         Class::Label => continues_label(byte),
+        Class::Quoted => !matches!(byte, b'"' | b'\\' | b'\n' | b'\r'),
     }
 }
 
@@ -140,4 +143,46 @@ pub(crate) fn has_at(bytes: &[u8], at: usize, byte: u8) -> bool
     ensures within { result ≡ true → at < length bytes.now }
 {
     at < bytes.len() && bytes[at] == byte
+}
+
+/// What begins with a byte.
+#[derive(Debug, Clone, Copy)]
+pub(crate) enum Kind {
+    Space,
+    Hash,
+    Word,
+    Numeral,
+    Quote,
+    /// A sign of one byte with which none of two begins.
+    Lone,
+    /// Another sign, or nothing.
+    Other,
+}
+
+#[inline(always)]
+pub(crate) fn kind_of(byte: u8) -> Kind
+    ensures { result ≡ kind_of byte }
+{
+    match byte {
+        b' ' | b'\t' | b'\r' | b'\n' => Kind::Space,
+        b'#' => Kind::Hash,
+        b'A'..=b'Z' | b'a'..=b'z' | b'_' => Kind::Word,
+        b'0'..=b'9' => Kind::Numeral,
+        b'"' => Kind::Quote,
+        b'('
+        | b')'
+        | b'{'
+        | b'}'
+        | b','
+        | b';'
+        | b'+'
+        | b'*'
+        | b'/'
+        | b'%'
+        | b'^'
+        | b'.'
+        | b'$'
+        | b'@' => Kind::Lone,
+        _ => Kind::Other,
+    }
 }

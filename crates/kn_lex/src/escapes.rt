@@ -6,6 +6,7 @@ ghost use Rattle.kn_lex.specs.Literal.{octal_value, begins_octal, begins_low, es
 use crate::bytes::{Class, is_octal_digit, run_len};
 use crate::token::{Sort, Token};
 use kn_base::{NoMemory, Octets};
+use memchr::memchr;
 use std::alloc::Global;
 
 fn byte_at(rest: &[u8], i: usize) -> u8
@@ -90,6 +91,9 @@ pub fn literal(alloc: Global, token: &Token<'_>) -> Result<Octets, NoMemory>
     ensures { IfOk result (λ value. value ≡ literal_value token.now.text.now) }
 {
     let inside = inside(token.text);
+    let Some(_) = memchr(b'\\', inside) else {
+        return Octets::from_slice(alloc, inside);
+    };
     let mut value = Octets::new(alloc);
     let mut at: usize = 0;
     while at < inside.len() {

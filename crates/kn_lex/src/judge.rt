@@ -7,7 +7,7 @@ ghost use Rattle.kn_lex.specs.Scanning.{stuck_fault, number_fault, zero_place, p
 
 use crate::bytes::{is_digit, is_white};
 use crate::fault::LexFault;
-use crate::piece::{Context, Piece, Place, is_line_start, is_number};
+use crate::piece::{Context, Piece, Place, is_number};
 use crate::scan::{is_blank, piece_at};
 use crate::token::Sort;
 use memchr::memchr;
@@ -128,13 +128,17 @@ fn piece_fault(at: u32, piece: Piece, bytes: &[u8], rest: &[u8], has_zero: bool)
 
 /// Refuses a blank line between tokens, and tells whether only white space and comments are left, so
 /// far as that is known: `settled` tells it at the piece before, and no text is looked through twice.
+#[inline(always)]
 fn check_blank(place: Place, at: u32, rest: &[u8], settled: bool) -> Result<bool, LexFault>
     requires { settled ≡ true → goes_on false rest.now ≡ false }
     ensures ok { OnOk result (is_bad_blank place rest.now ≡ false) }
     ensures known { IfOk result (λ over. over ≡ true → goes_on false rest.now ≡ false) }
     ensures err { IfErr result (λ fault. (fault ≡ LexFault.Blank at) × (is_bad_blank place rest.now ≡ true)) }
 {
-    if settled || !is_line_start(place.context) || !place.told || !is_blank(rest) {
+    let Context::LineStart = place.context else {
+        return Ok(settled);
+    };
+    if settled || !place.told || !is_blank(rest) {
         return Ok(settled);
     }
     if goes_on(rest) {

@@ -1,7 +1,9 @@
 //! Where a literal ends.
 
-ghost use Rattle.std.specs.Prelude.{◌≡◌, ◌≤◌, length, IfSome};
-ghost use Rattle.kn_lex.specs.Scanning.{quote_step, quote_len};
+ghost use Rattle.std.specs.Prelude.{◌≡◌, ◌≤◌, length, drop, IfSome};
+ghost use Rattle.kn_lex.specs.Scanning.{quote_step, quote_len, more_len};
+
+use crate::bytes::{Class, run_len};
 
 /// Where in a literal a byte stands.
 #[derive(Debug, Clone, Copy)]
@@ -48,6 +50,19 @@ pub fn quote_step(quote: Quote, byte: u8) -> Step
     }
 }
 
+/// How many bytes in a row leave a literal where it stands.
+#[inline(always)]
+#[tactic(auto, using(crate::proofs::Scans::quoted_run, crate::proofs::Scans::more_len_zero))]
+fn stay_len(quote: Quote, rest: &[u8]) -> usize
+    ensures len { quote_len quote rest.now ≡ more_len result (quote_len quote (drop result rest.now)) }
+    ensures within { result ≤ length rest.now }
+{
+    match quote {
+        Quote::Plain => run_len(Class::Quoted, rest),
+        _ => 0,
+    }
+}
+
 /// The bytes of the literal that begins here, or None where it isn't closed.
 #[tactic(auto, using(crate::proofs::Scans::quote_len_at, crate::proofs::Scans::quote_len_end, crate::proofs::Scans::more_len_twice, crate::proofs::Scans::more_len_none))]
 pub(crate) fn quote_len(rest: &[u8]) -> Option<usize>
@@ -55,12 +70,15 @@ pub(crate) fn quote_len(rest: &[u8]) -> Option<usize>
     ensures within { IfSome result (λ len. len ≤ length rest.now) }
 {
     let mut quote = Quote::Opening;
-    for (i, byte) in rest.iter().enumerate() {
-        match quote_step(quote, *byte) {
+    let mut at: usize = 0;
+    while at < rest.len() {
+        match quote_step(quote, rest[at]) {
             Step::Fail => return None,
-            Step::Close => return Some(i + 1),
+            Step::Close => return Some(at + 1),
             Step::Go(next) => quote = next,
         }
+        at += 1;
+        at += stay_len(quote, rest.split_at(at).1);
     }
     None
 }

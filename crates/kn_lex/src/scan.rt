@@ -4,9 +4,7 @@ ghost use Rattle.std.specs.Prelude.{◌≡◌, ◌≤◌, length, IfSome, if◌t
 ghost use Rattle.kn_lex.specs.Spelling.{is_blank, is_continuation};
 ghost use Rattle.kn_lex.specs.Scanning.{white_len, line_len, label_len, colon_len, body_len, sign_len, with_sort, word_piece, plain_piece, piece_at};
 
-use crate::bytes::{
-    Class, begins_name, has_at, is_digit, is_letter, is_long_sign, is_short_sign, is_white, run_len,
-};
+use crate::bytes::{Class, Kind, has_at, is_letter, is_long_sign, is_short_sign, kind_of, run_len};
 use crate::piece::{Context, Piece};
 use crate::quote::quote_len;
 use crate::token::Sort;
@@ -79,17 +77,23 @@ pub fn is_continuation(rest: &[u8]) -> bool
     }
 }
 
-#[tactic(auto, using(crate::proofs::Scans::body_len_at, crate::proofs::Scans::body_len_end))]
+#[tactic(auto, using(crate::proofs::Scans::body_by_line, crate::proofs::Scans::body_at_line, crate::proofs::Scans::body_len_end))]
 fn body_len(rest: &[u8]) -> usize
     ensures len { result ≡ body_len rest.now }
     ensures within { result ≤ length rest.now }
 {
-    for (i, byte) in rest.iter().enumerate() {
-        if *byte == b'\n' && !is_continuation(rest.split_at(i + 1).1) {
-            return i;
+    let mut at: usize = 0;
+    while at < rest.len() {
+        at += line_len(rest.split_at(at).1);
+        if at >= rest.len() {
+            return at;
         }
+        if !is_continuation(rest.split_at(at + 1).1) {
+            return at;
+        }
+        at += 1;
     }
-    rest.len()
+    at
 }
 
 #[inline(always)]
@@ -130,7 +134,7 @@ fn with_sort(sort: Sort, len: Option<usize>) -> Option<(Piece, usize)>
 }
 
 #[inline(always)]
-#[tactic(auto, using(crate::proofs::Scans::plain_piece_at, crate::proofs::Scans::plain_piece_end))]
+#[tactic(auto, using(crate::proofs::Pieces::plain_piece_by_kind, crate::proofs::Scans::plain_piece_end))]
 fn plain_piece(first: bool, rest: &[u8]) -> Option<(Piece, usize)>
     ensures piece { result ≡ plain_piece first rest.now }
     ensures within { IfSome result (λ p. p.1 ≤ length rest.now) }
@@ -138,19 +142,14 @@ fn plain_piece(first: bool, rest: &[u8]) -> Option<(Piece, usize)>
     if rest.is_empty() {
         return None;
     }
-    let byte = rest[0];
-    if is_white(byte) {
-        Some((Piece::White, white_len(rest)))
-    } else if byte == b'#' {
-        Some((Piece::Comment, line_len(rest)))
-    } else if begins_name(byte) {
-        Some(word_piece(first, rest))
-    } else if is_digit(byte) {
-        Some((Piece::Token(Sort::Number), run_len(Class::Digit, rest)))
-    } else if byte == b'"' {
-        with_sort(Sort::Text, quote_len(rest))
-    } else {
-        with_sort(Sort::Sign, sign_len(rest))
+    match kind_of(rest[0]) {
+        Kind::Space => Some((Piece::White, white_len(rest))),
+        Kind::Hash => Some((Piece::Comment, line_len(rest))),
+        Kind::Word => Some(word_piece(first, rest)),
+        Kind::Numeral => Some((Piece::Token(Sort::Number), run_len(Class::Digit, rest))),
+        Kind::Quote => with_sort(Sort::Text, quote_len(rest)),
+        Kind::Lone => Some((Piece::Token(Sort::Sign), 1)),
+        Kind::Other => with_sort(Sort::Sign, sign_len(rest)),
     }
 }
 

@@ -1,18 +1,18 @@
-use Rattle.std.proofs.Common.{rules, sym, ◌∙◌}
-use Rattle.kn_lex.proofs.Scans.{plain_piece_end, plain_piece_word, plain_piece_digits, plain_piece_sign}
+use Rattle.std.proofs.Common.{rules, sym, ◌∙◌, ap, Some}
+use Rattle.kn_lex.specs.declared.bytes.Kind.TheVariants.{Hash, Numeral, Quote}
+use Rattle.kn_lex.specs.declared.piece.Piece.TheVariants.{Comment, Token}
+use Rattle.kn_lex.specs.declared.token.Sort.TheVariants.{Number}
+use Rattle.kn_lex.proofs.Pieces.{plain_piece_of}
 use Rattle.kn_lex.proofs.scan.plain_piece.Goals as goal
 
-pub returns-then-is_empty-clause-piece : goal.returns-then-is_empty-clause-piece
-returns-then-is_empty-clause-piece c = sym (plain_piece_end _ _ (search rules))
+pub returns-in-Hash-clause-piece : goal.returns-in-Hash-clause-piece
+returns-in-Hash-clause-piece c =
+    ap (λ n. Some (Comment, n)) c.line_len.ensures.len ∙ sym (plain_piece_of _ _ Hash (search rules) (sym c.kind_of.ensures ∙ c.in-Hash.is))
 
-pub returns-then-begins_name-clause-piece : goal.returns-then-begins_name-clause-piece
-returns-then-begins_name-clause-piece c =
-    c.word_piece.ensures.piece ∙ sym (plain_piece_word _ _ (search rules) (cc) c.if-byte-eq35.false (cc))
+pub returns-in-Numeral-clause-piece : goal.returns-in-Numeral-clause-piece
+returns-in-Numeral-clause-piece c =
+    ap (λ n. Some (Token Number, n)) c.run_len.ensures.len ∙ sym (plain_piece_of _ _ Numeral (search rules) (sym c.kind_of.ensures ∙ c.in-Numeral.is))
 
-pub returns-then-is_digit-clause-piece : goal.returns-then-is_digit-clause-piece
-returns-then-is_digit-clause-piece c =
-    rw c.run_len.ensures.len (sym (plain_piece_digits _ _ (search rules) (cc) c.if-byte-eq35.false (cc) (cc)))
-
-pub returns-else-byte-eq34-clause-piece : goal.returns-else-byte-eq34-clause-piece
-returns-else-byte-eq34-clause-piece c =
-    c.with_sort-else-byte-eq34.ensures ∙ rw c.sign_len.ensures.len (sym (plain_piece_sign _ _ (search rules) (cc) c.if-byte-eq35.false (cc) (cc) c.if-byte-eq34.false))
+pub returns-in-Quote-clause-piece : goal.returns-in-Quote-clause-piece
+returns-in-Quote-clause-piece c =
+    c.with_sort.ensures ∙ rw c.quote_len.ensures.len (sym (plain_piece_of _ _ Quote (search rules) (sym c.kind_of.ensures ∙ c.in-Quote.is)))
