@@ -14,3 +14,4 @@ pub mod Scans
 pub mod Spelled
 pub mod Facts
 pub mod Told
+pub mod Finished

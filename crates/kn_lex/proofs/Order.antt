@@ -203,7 +203,7 @@ empty_piece LineStart (Token Sign) s = absurd (false≢true s)
 empty_piece WithinLine (Token Sign) s = absurd (false≢true s)
 empty_piece CommentBody (Token Sign) s = absurd s
 
-next_begins : (whole : List ℕ) (place : Place) (at : ℕ) (piece : Piece) (n : ℕ) (bytes : List ℕ) → is_line_start place.context ≡ begins_line whole at
+pub next_begins : (whole : List ℕ) (place : Place) (at : ℕ) (piece : Piece) (n : ℕ) (bytes : List ℕ) → is_line_start place.context ≡ begins_line whole at
     → Spells place.context piece bytes → take n (drop at whole) ≡ bytes → length bytes ≡ n
     → is_line_start (context_after piece bytes) ≡ begins_line whole (at + n)
 next_begins whole place at piece n [] here s e size =

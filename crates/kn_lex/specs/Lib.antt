@@ -7,5 +7,6 @@ pub mod Scanning
 pub mod Seeing
 pub mod TokenFacts
 pub mod Between
+pub mod Finished
 pub mod Computed
 pub mod Escapes

@@ -5,6 +5,7 @@ ghost use Rattle.kn_lex.specs.Cutting.{Seen, Cuts};
 ghost use Rattle.kn_lex.specs.Faults.{IsFaultless, IsFirstLexicalFault};
 ghost use Rattle.kn_lex.specs.TokenFacts.{IsTokenOf, StandInOrder, begins_line};
 ghost use Rattle.kn_lex.specs.Between.{StandApart};
+ghost use Rattle.kn_lex.specs.Finished.{AreTokensOf};
 ghost use Rattle.kn_lex.specs.Computed.{tokens_or_fault};
 ghost use Rattle.kn_lex.specs.Spelling.{IsLiteral};
 ghost use Rattle.kn_lex.specs.Literal.{value_behind, inside, literal_value};
@@ -43,6 +44,12 @@ pub fn between_tokens()
 pub fn tokens_are_computed()
     ensures tokens { (text : List ℕ) (tokens : List Seen) → (tokens_or_fault text ≡ Ok tokens) ↔ (Cuts text tokens × IsFaultless text) }
     ensures fault { (text : List ℕ) (fault : LexFault) → (tokens_or_fault text ≡ Err fault) ↔ IsFirstLexicalFault text fault }
+{}
+
+/// The tokens that cut a text are whole, stand in order with white space and comments alone around them, and bodies
+/// stand exactly where they are due.
+pub fn finished_list()
+    ensures { (text : List ℕ) (tokens : List Seen) → Cuts text tokens → AreTokensOf text tokens }
 {}
 
 /// A text has at most as many tokens as bytes.
