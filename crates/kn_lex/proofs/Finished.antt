@@ -101,7 +101,7 @@ body_none (c ∷ cs) none = by (c == 10 && not (is_continuation cs)) none
 
 -- what is due behind a piece, and before it
 
-abbrev Balanced : List ℕ → Option ℕ → List Seen → Type 0
+abbrev pub Balanced : List ℕ → Option ℕ → List Seen → Type 0
 Balanced whole before tokens = before ∷ map (body_due whole) tokens ≡ map body_here tokens ++ None ∷ []
 
 none_more : (whole : List ℕ) (tokens : List Seen) (before : Option ℕ) → before ≡ None → Balanced whole before tokens → Balanced whole None tokens
@@ -113,12 +113,12 @@ cons_more whole before behind token tokens here there rest =
     ap (λ (o : Option ℕ). o ∷ body_due whole token ∷ map (body_due whole) tokens) here
     ∙ ap (λ (os : List (Option ℕ)). body_here token ∷ os) (ap (λ (o : Option ℕ). o ∷ map (body_due whole) tokens) there ∙ rest)
 
-label_due : (comment empty : Bool) (k : ℕ) → (if comment && not empty then Some k else None) ≡ (if comment then (if empty then None else Some k) else None)
+pub label_due : (comment empty : Bool) (k : ℕ) → (if comment && not empty then Some k else None) ≡ (if comment then (if empty then None else Some k) else None)
 label_due true true k = refl
 label_due true false k = refl
 label_due false empty k = refl
 
-due_if : (comment : Bool) (k : ℕ) (text : List ℕ) → (if comment then (if is_body_empty text then None else Some k) else None) ≡ due (if comment then CommentBody else WithinLine) k text
+pub due_if : (comment : Bool) (k : ℕ) (text : List ℕ) → (if comment then (if is_body_empty text then None else Some k) else None) ≡ due (if comment then CommentBody else WithinLine) k text
 due_if true k text = refl
 due_if false k text = refl
 

@@ -15,3 +15,4 @@ pub mod Spelled
 pub mod Facts
 pub mod Told
 pub mod Finished
+pub mod Rebuilt

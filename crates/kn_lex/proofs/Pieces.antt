@@ -199,7 +199,7 @@ abbrev pub Covers : Piece → ℕ → Option (Piece × ℕ) → Type 0
 Covers other m None = ⊥
 Covers other m (Some p) = (m ≤ p.1) × (m ≡ p.1 → other ≡ p.0)
 
-white_first : (c : ℕ) (bytes : List ℕ) → is_white_space (c ∷ bytes) ≡ true → is_white c ≡ true
+pub white_first : (c : ℕ) (bytes : List ℕ) → is_white_space (c ∷ bytes) ≡ true → is_white c ≡ true
 white_first c [] e = e
 white_first c (d ∷ ds) e = gap_white c (both _ _ e).0
 

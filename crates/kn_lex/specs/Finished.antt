@@ -1,5 +1,5 @@
 -- Which lists of tokens cut a text, said of the finished list.
-use Rattle.std.specs.Prelude.{◌≡◌, ℕ, ◌+◌, ◌<◌, Bool, true, false, not, ◌&&◌, ◌==◌, List, [], ◌∷◌, ◌++◌, All, map, length, take, drop, Option, Some, None, if◌then◌else◌}
+use Rattle.std.specs.Prelude.{◌≡◌, ℕ, ◌+◌, ◌<◌, Bool, true, not, ◌&&◌, ◌==◌, List, [], ◌∷◌, ◌++◌, All, map, length, take, drop, Option, Some, None, if◌then◌else◌}
 use Rattle.kn_lex.specs.Spelling.{is_continuation}
 use Rattle.kn_lex.specs.Cutting.{Seen, IsPiece, is_comment_label}
 use Rattle.kn_lex.specs.Seeing.{is_label_sort}

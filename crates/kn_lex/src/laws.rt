@@ -46,10 +46,10 @@ pub fn tokens_are_computed()
     ensures fault { (text : List ℕ) (fault : LexFault) → (tokens_or_fault text ≡ Err fault) ↔ IsFirstLexicalFault text fault }
 {}
 
-/// The tokens that cut a text are whole, stand in order with white space and comments alone around them, and bodies
-/// stand exactly where they are due.
+/// A list of tokens cuts a text exactly where each is whole, they stand in order with white space and comments alone
+/// around them, and the bodies of comments stand where they are due.
 pub fn finished_list()
-    ensures { (text : List ℕ) (tokens : List Seen) → Cuts text tokens → AreTokensOf text tokens }
+    ensures { (text : List ℕ) (tokens : List Seen) → Cuts text tokens ↔ AreTokensOf text tokens }
 {}
 
 /// A text has at most as many tokens as bytes.

@@ -1,5 +1,6 @@
 use Rattle.kn_lex.proofs.Finished.{tokens_finished}
+use Rattle.kn_lex.proofs.Rebuilt.{finished_tokens}
 use Rattle.kn_lex.proofs.laws.finished_list.Goals as goal
 
 pub returns : goal.returns
-returns c = tokens_finished
+returns c text tokens = (tokens_finished text tokens, finished_tokens text tokens)
