@@ -144,25 +144,52 @@ fn written(net: &MemNet, door: u32, i: usize) -> &[u8] {
     }
 }
 
-/// Serves three connections over these rooms, and sees what the run told, what was written to the first two links of door 0
-/// and to the first one of door 1, and how many calls failed.
+/// What a run that serves three connections has to leave.
+#[derive(Debug, Drop)]
+struct Due<'a> {
+    status: u8,
+    /// Its line.
+    line: &'a [u8],
+    /// What is written to the first link of door 0.
+    first: &'a [u8],
+    /// What is written to the second link of door 0.
+    second: &'a [u8],
+    /// What is written to the first link of door 1.
+    other: &'a [u8],
+    /// The calls that fail.
+    faults: u64,
+}
+
+/// Serves three connections over these rooms, and sees that the run leaves what is due.
 fn serves<R: Abort + Threads + Wait + Sync>(
     rt: &R,
     alloc: Global,
     rooms: List<MemRoom>,
     failing: u32,
     gate: &Meeting,
-    expected: (u8, &[u8], [&[u8]; 3], u64),
+    due: &Due<'_>,
 ) -> Result<(), Fail> {
     let (status, left) = serve_rooms(rt, alloc, rooms, failing, gate)?;
-    assert_eq!(rt; status, expected.0);
+    assert_eq!(rt; status, due.status);
     assert_eq!(rt; left.files.asked().len(), 2);
-    assert_eq!(rt; left.out.written(), expected.1);
-    assert_eq!(rt; written(&left.net, 0, 0), expected.2[0]);
-    assert_eq!(rt; written(&left.net, 0, 1), expected.2[1]);
-    assert_eq!(rt; written(&left.net, 1, 0), expected.2[2]);
-    assert_eq!(rt; left.net.faults(), expected.3);
+    assert_eq!(rt; left.out.written(), due.line);
+    assert_eq!(rt; written(&left.net, 0, 0), due.first);
+    assert_eq!(rt; written(&left.net, 0, 1), due.second);
+    assert_eq!(rt; written(&left.net, 1, 0), due.other);
+    assert_eq!(rt; left.net.faults(), due.faults);
     Ok(())
+}
+
+/// What a run has to leave where a door fails.
+fn failed<'a>(first: &'a [u8], second: &'a [u8], other: &'a [u8], faults: u64) -> Due<'a> {
+    Due {
+        status: 7,
+        line: b"error listener\n",
+        first,
+        second,
+        other,
+        faults,
+    }
 }
 
 #[test]
@@ -172,9 +199,15 @@ fn connections_are_served_side_by_side(rt: HostRuntime) -> Result<(), Fail> {
     let second = one_link(alloc, link(alloc, OPENS_AND_ADDS, 0)?)?;
     let meeting = Meeting::new(true);
     let rooms = two_rooms(alloc, first, second)?;
-    let due: [&[u8]; 3] = [ANSWERS, b"OK 1 2\n", ADDED];
-    let expected = (0, b"served 3 version 2\n".as_slice(), due, 0);
-    serves(&rt, alloc, rooms, 0, &meeting, expected)?;
+    let due = Due {
+        status: 0,
+        line: b"served 3 version 2\n",
+        first: ANSWERS,
+        second: b"OK 1 2\n",
+        other: ADDED,
+        faults: 0,
+    };
+    serves(&rt, alloc, rooms, 0, &meeting, &due)?;
     assert!(rt; !meeting.was_missed());
     Ok(())
 }
@@ -183,28 +216,27 @@ fn connections_are_served_side_by_side(rt: HostRuntime) -> Result<(), Fail> {
 fn each_failed_door_is_told(rt: HostRuntime) -> Result<(), Fail> {
     let alloc = rt.alloc();
     let gate = Meeting::new(false);
-    let line: &[u8] = b"error listener\n";
     // the address can't be bound
-    let due: [&[u8]; 3] = [b"none", b"none", b"none"];
-    serves(&rt, alloc, List::new(alloc), 1, &gate, (7, line, due, 1))?;
+    let due = failed(b"none", b"none", b"none", 1);
+    serves(&rt, alloc, List::new(alloc), 1, &gate, &due)?;
     // a door that fails ends its worker alone
     let first = two_links(alloc, link(alloc, ASKS, 0)?, link(alloc, b"OPEN\n", 0)?, 0)?;
     let rooms = two_rooms(alloc, first, no_links(alloc, 1)?)?;
-    let due: [&[u8]; 3] = [ANSWERS, b"OK 1 1\n", b"none"];
-    serves(&rt, alloc, rooms, 0, &gate, (7, line, due, 1))?;
+    let due = failed(ANSWERS, b"OK 1 1\n", b"none", 1);
+    serves(&rt, alloc, rooms, 0, &gate, &due)?;
     // a door fails at its second call
     let own = link(alloc, b"BYE\n", 0)?;
     let next = link(alloc, b"OPEN\n", 0)?;
     let first = two_links(alloc, own, next, 2)?;
     let second = one_link(alloc, link(alloc, OPENS_AND_ADDS, 0)?)?;
     let rooms = two_rooms(alloc, first, second)?;
-    let due: [&[u8]; 3] = [b"OK\n", b"none", ADDED];
-    serves(&rt, alloc, rooms, 0, &gate, (7, line, due, 1))?;
+    let due = failed(b"OK\n", b"none", ADDED, 1);
+    serves(&rt, alloc, rooms, 0, &gate, &due)?;
     // door 0 has one link fewer than its quota, and door 1 has none
     let first = one_link(alloc, link(alloc, b"OPEN\n", 0)?)?;
     let rooms = two_rooms(alloc, first, no_links(alloc, 0)?)?;
-    let due: [&[u8]; 3] = [b"OK 1 1\n", b"none", b"none"];
-    serves(&rt, alloc, rooms, 0, &gate, (7, line, due, 2))
+    let due = failed(b"OK 1 1\n", b"none", b"none", 2);
+    serves(&rt, alloc, rooms, 0, &gate, &due)
 }
 
 /// What is written to a link on which a credential is added, whose call of this number fails, and to the next one of its door.
