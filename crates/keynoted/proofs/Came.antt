@@ -5,7 +5,7 @@ use Rattle.kn_outside.specs.Seen.{FilesSeen, LinkSeen}
 use Rattle.kn_outside.specs.Faults.{Rose}
 use Rattle.kn_outside.specs.Asked.{HasAsked, HasFailed}
 use Rattle.kn_outside.specs.Printing.{Writes}
-use Rattle.kn_assert.specs.declared.fault.ReadFault.{ReadFault}
+use Rattle.kn_fields.specs.declared.fault.ReadFault.{ReadFault}
 use Rattle.kn_auth.specs.declared.key_file.KeyFile.{KeyFile}
 use Rattle.kn_auth.proofs.Whole.{file_or_line}
 use Rattle.kn_files.specs.Pieces.{pieces_of}

@@ -4,7 +4,7 @@ use Rattle.std.specs.Prelude.{ℕ, ◌≡◌, true, false, List, [], ◌∷◌, 
 use Rattle.kn_outside.specs.Seen.{FilesSeen, LinkSeen}
 use Rattle.kn_outside.specs.Asked.{HasAsked, HasFailed}
 use Rattle.kn_outside.specs.Printing.{Writes}
-use Rattle.kn_assert.specs.declared.fault.ReadFault.{ReadFault}
+use Rattle.kn_fields.specs.declared.fault.ReadFault.{ReadFault}
 use Rattle.kn_files.specs.Pieces.{pieces_of}
 use Rattle.kn_check.specs.declared.reject.Reject.{Reject}
 use Rattle.kn_reply.specs.declared.refusal.LimitWord.{LimitWord}

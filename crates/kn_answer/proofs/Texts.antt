@@ -7,7 +7,7 @@ use Rattle.std.specs.Result.{result_ok}
 use Rattle.kn_trees.specs.declared.assertion.Assertion.{Assertion}
 use Rattle.kn_trees.specs.declared.formula.Formula.{Formula}
 use Rattle.kn_trees.specs.Formulas.{IsReadable}
-use Rattle.kn_assert.specs.declared.fault.ReadFault.{ReadFault}
+use Rattle.kn_fields.specs.declared.fault.ReadFault.{ReadFault}
 use Rattle.kn_assert.specs.Reading.{assertion_of, reading_of, IsSound}
 use Rattle.kn_assert.proofs.Answered.{ReadingTold, SoundTold}
 use Rattle.kn_meaning.specs.Equations.{Part}

@@ -1,18 +1,20 @@
 -- What the reader answers, from what its fields are.
-use Rattle.std.proofs.Common.{◌≡◌, ℕ, ◌+◌, ◌-◌, ◌<◌, ◌≤◌, ◌⊎◌, inl, inr, Bool, true, false, ◌&&◌, Option, Some, None, Result, Ok, Err, List, [], ◌∷◌, length, map, take, drop, arith, refl, sym, ◌∙◌, ap, subst}
-use Rattle.std.specs.Prelude.{◌↔◌, IfOk, IfErr, IfSome, MatchOption, nat_lt, nat_le, nat_eq, codes, if◌then◌else◌}
+use Rattle.std.proofs.Common.{◌≡◌, ℕ, ◌+◌, ◌-◌, ◌<◌, ◌≤◌, ◌⊎◌, inl, inr, Bool, true, false, ◌||◌, ◌==◌, Option, Some, None, Result, Ok, Err, List, [], ◌∷◌, length, map, take, drop, arith, refl, sym, ◌∙◌, ap, subst}
+use Rattle.std.specs.Prelude.{◌↔◌, IfOk, IfErr, IfSome, MatchOption, nat_lt, nat_eq, codes, if◌then◌else◌}
 use Rattle.std.specs.List.{list_any, position_or_len, before_first, after_first, ends_with}
 use Rattle.std.proofs.lemmas.Bool.Decides.{Decides-ltb, nat_tests}
 use Rattle.std.proofs.lemmas.Grind.{common_steps}
 use Rattle.std.proofs.lemmas.List.{length-append, length-map, length-drop, length-take-le}
 use Rattle.std.specs.Result.{result_err, result_ok}
+use Rattle.kn_base.specs.declared.limits.TheConstants.{ASSERTION_BYTES, PRINCIPAL_BYTES}
 use Rattle.kn_env.specs.declared.constant.Constant.{Constant as Set}
 use Rattle.kn_lex.specs.Cutting.{Seen}
-use Rattle.kn_fields.specs.Fields.{Field, field_with}
+use Rattle.kn_fields.specs.Fields.{Field, fields_of, field_with, signed_to}
 use Rattle.kn_fields.specs.Faults.{IsWellFielded, IsFirstFault, HasCause, constants_in}
 use Rattle.kn_fields.specs.Computed.{fields_or_fault}
-use Rattle.kn_fields.specs.declared.fault.FieldFault.{FieldFault}
-use Rattle.kn_fields.specs.declared.fault.FieldFault.TheVariants.{TooLong, Lexical, BadField, FieldTwice, FieldOrder, NoAuthorizer, Version, Constant, NoMemory as NoFieldMemory}
+use Rattle.kn_fields.specs.Numbers.{fault_place}
+use Rattle.kn_fields.specs.declared.fault.ReadFault.{ReadFault}
+use Rattle.kn_fields.specs.declared.fault.ReadFault.TheVariants.{TooLong, NoMemory}
 use Rattle.kn_trees.specs.declared.assertion.Assertion.{Assertion}
 use Rattle.kn_trees.specs.declared.program.Program.{Program}
 use Rattle.kn_trees.specs.Kinds.{is_well_kinded}
@@ -20,12 +22,9 @@ use Rattle.kn_trees.specs.Levels.{program_depth}
 use Rattle.kn_program.specs.Conditions.{IsConditions}
 use Rattle.kn_program.proofs.Depths.{stated_shallow}
 use Rattle.kn_principal.specs.Principals.{lower_case, is_colon, normal_rest, with_algorithm, normal_form}
-use Rattle.kn_assert.specs.Parts.{text_by, normal_in, principal_of}
-use Rattle.kn_assert.specs.Faults.{fault_place}
-use Rattle.kn_assert.specs.Reading.{of_fields, reading_with, reading_by, reading_of, assertion_of, fault_of, IsSound}
+use Rattle.kn_assert.specs.Parts.{Gives, text_by, normal_in, principal_of}
+use Rattle.kn_assert.specs.Reading.{and_then, nothing, stated_by, assembled, reading_with, reading_of, assertion_of, fault_of}
 use Rattle.kn_assert.specs.Spelled.{IsShallow, IsReading, IsFirstReadFault}
-use Rattle.kn_assert.specs.declared.fault.ReadFault.{ReadFault}
-use Rattle.kn_assert.specs.declared.fault.ReadFault.TheVariants.{NoMemory}
 
 -- a normal form is as long as its text
 
@@ -60,29 +59,23 @@ normal_length text = by (list_any is_colon text) refl
         let whole = with_length (map lower_case (take at text)) (drop (at + 1) text) in
         omega (arith, below, front, rest, whole)
 
-both : (a b : Bool) → (a && b) ≡ true → (a ≡ true) × (b ≡ true)
-both true b h = (refl, h)
-both false b h = absurd (cc)
-
 -- a principal has 1 to 4,096 bytes
-normal_sized : (o : Option (List ℕ)) (a : List ℕ) → normal_in o ≡ Some a → (0 < length a) × (length a ≤ 4096)
+normal_sized : (o : Option (List ℕ)) (a : List ℕ) → normal_in o ≡ Some a → (0 < length a) × (length a ≤ PRINCIPAL_BYTES)
 normal_sized None a e = absurd (cc)
-normal_sized (Some text) a e = by (nat_lt 0 (length text) && nat_le (length text) 4096) refl e
+normal_sized (Some text) a e = by (length text == 0) (nat_lt 4096 (length text)) refl refl e
   where
-    by : (b : Bool) → (nat_lt 0 (length text) && nat_le (length text) 4096) ≡ b → (if b then Some (normal_form text) else None) ≡ Some a
-        → (0 < length a) × (length a ≤ 4096)
-    by false t h = absurd (cc)
-    by true t h =
-        let parts = both (nat_lt 0 (length text)) (nat_le (length text) 4096) t in
-        let first = parts.0 in
-        let second = parts.1 in
-        let some : 0 < length text = (Decides-ltb 0 (length text)).0 first in
+    by : (p q : Bool) → (length text == 0) ≡ p → nat_lt 4096 (length text) ≡ q → (if p || q then None else Some (normal_form text)) ≡ Some a
+        → (0 < length a) × (length a ≤ PRINCIPAL_BYTES)
+    by true q none long h = absurd (cc)
+    by false true none long h = absurd (cc)
+    by false false none long h =
+        let some : 0 < length text = grind (arith, nat_tests) in
         let short : length text ≤ 4096 = grind (arith, nat_tests) in
         let same : normal_form text ≡ a = cc in
         let size : length a ≡ length text = ap (λ (l : List ℕ). length l) (sym same) ∙ normal_length text in
         (omega (arith, some, size), omega (arith, short, size))
 
-pub principal_sized : (constants : List Set) (token : Seen) (a : List ℕ) → principal_of constants token ≡ Some a → (0 < length a) × (length a ≤ 4096)
+pub principal_sized : (constants : List Set) (token : Seen) (a : List ℕ) → principal_of constants token ≡ Some a → (0 < length a) × (length a ≤ PRINCIPAL_BYTES)
 unfolding principal_of
 principal_sized constants token a e = normal_sized (text_by constants token.sort token.text) a e
 
@@ -96,27 +89,37 @@ pub spelled_kinds : (field : Option Field) (o : Option Program) → MatchOption 
 spelled_kinds None o h = subst (λ (o : Option Program). IfSome o (λ program. is_well_kinded program ≡ true)) (sym h) tt
 spelled_kinds (Some field) o h = stated_kinds field.tokens o h.1
 
-pub well_short : (text : List ℕ) → IsWellFielded text → length text ≤ 16384
-well_short text well = by (nat_lt 16384 (length text)) refl
+well_short : (text : List ℕ) → IsWellFielded text → length text ≤ ASSERTION_BYTES
+well_short text well = by (nat_lt ASSERTION_BYTES (length text)) refl
   where
-    by : (b : Bool) → nat_lt 16384 (length text) ≡ b → length text ≤ 16384
+    by : (b : Bool) → nat_lt ASSERTION_BYTES (length text) ≡ b → length text ≤ ASSERTION_BYTES
     by false e = grind (arith, nat_tests)
-    by true e = absurd (well (TooLong (length text)) ((Decides-ltb 16384 (length text)).0 e, refl))
+    by true e = absurd (well (TooLong (length text)) (inl ((Decides-ltb ASSERTION_BYTES (length text)).0 e, refl)))
 
--- what was read is what is computed
+-- what is read of the text with these tokens and constants
+pub reading_here : (text : List ℕ) (tokens : List Seen) (constants : List Set) (signed : ℕ) → fields_or_fault text ≡ Ok tokens → constants ≡ constants_in (field_with 6 tokens)
+    → signed ≡ signed_to text tokens → reading_of text ≡ and_then (stated_by constants nothing (fields_of tokens)) (λ s. assembled constants signed s s.authorizer)
+unfolding reading_of reading_with
+reading_here text tokens constants signed e c n =
+    ap (λ r. and_then r (reading_with text)) e
+    ∙ ap (λ (k : List Set). and_then (stated_by k nothing (fields_of tokens)) (λ s. assembled k (signed_to text tokens) s s.authorizer)) (sym c)
+    ∙ ap (λ (m : ℕ). and_then (stated_by constants nothing (fields_of tokens)) (λ s. assembled constants m s s.authorizer)) (sym n)
 
-pub reading_here : (text : List ℕ) (tokens : List Seen) (constants : List Set) (read : Result Assertion ReadFault) → fields_or_fault text ≡ Ok tokens
-    → constants ≡ constants_in (field_with 6 tokens) → read ≡ reading_with text tokens constants → reading_of text ≡ read
+pub fields_fault : (text : List ℕ) (fault : ReadFault) → (fields_or_fault text ≡ Err fault) ↔ IsFirstFault text fault → HasCause text fault → (fault ≡ NoMemory) ⊎ (reading_of text ≡ Err fault)
 unfolding reading_of
-reading_here text tokens constants read e c r = ap (reading_by text) e ∙ ap (reading_with text tokens) (sym c) ∙ sym r
+fields_fault text fault told (inl none) = inl none
+fields_fault text fault told (inr first) = inr (ap (λ r. and_then r (reading_with text)) (told.1 first))
 
-pub ok_told : (text : List ℕ) (r : Result Assertion ReadFault) → reading_of text ≡ r → IfOk r (λ assertion. assertion_of text ≡ Some assertion)
+-- what is given is what the text spells or shows
+
+pub ok_told : (text : List ℕ) (r : Result Assertion ReadFault) → Gives r (reading_of text) → IfOk r (λ assertion. assertion_of text ≡ Some assertion)
 ok_told text (Ok assertion) e = ap result_ok e
 ok_told text (Err fault) e = tt
 
-pub err_told : (text : List ℕ) (r : Result Assertion ReadFault) → reading_of text ≡ r → IfErr r (λ fault. (fault ≡ NoMemory) ⊎ (fault_of text ≡ Some fault))
+pub err_told : (text : List ℕ) (r : Result Assertion ReadFault) → Gives r (reading_of text) → IfErr r (λ fault. (fault ≡ NoMemory) ⊎ (fault_of text ≡ Some fault))
 err_told text (Ok assertion) e = tt
-err_told text (Err fault) e = inr (ap result_err e)
+err_told text (Err fault) (inl none) = inl none
+err_told text (Err fault) (inr e) = inr (ap result_err e)
 
 abbrev pub ReadingTold : Type 0
 ReadingTold = (text : List ℕ) (assertion : Assertion) → (reading_of text ≡ Ok assertion) ↔ IsReading text assertion
@@ -124,32 +127,23 @@ ReadingTold = (text : List ℕ) (assertion : Assertion) → (reading_of text ≡
 abbrev pub FirstTold : Type 0
 FirstTold = (text : List ℕ) (fault : ReadFault) → (reading_of text ≡ Err fault) ↔ IsFirstReadFault text fault
 
-pub reading_told : ReadingTold → (text : List ℕ) (r : Result Assertion ReadFault) → reading_of text ≡ r → IfOk r (λ assertion. IsReading text assertion)
+pub reading_told : ReadingTold → (text : List ℕ) (r : Result Assertion ReadFault) → Gives r (reading_of text) → IfOk r (λ assertion. IsReading text assertion)
 reading_told told text (Ok assertion) e = (told text assertion).0 e
 reading_told told text (Err fault) e = tt
 
-pub first_told : FirstTold → (text : List ℕ) (r : Result Assertion ReadFault) → reading_of text ≡ r
-    → IfErr r (λ fault. (fault ≡ NoMemory) ⊎ IsFirstReadFault text fault)
+pub first_told : FirstTold → (text : List ℕ) (r : Result Assertion ReadFault) → Gives r (reading_of text) → IfErr r (λ fault. (fault ≡ NoMemory) ⊎ IsFirstReadFault text fault)
 first_told told text (Ok assertion) e = tt
-first_told told text (Err fault) e = inr ((told text fault).0 e)
+first_told told text (Err fault) (inl none) = inl none
+first_told told text (Err fault) (inr e) = inr ((told text fault).0 e)
 
-abbrev pub SoundTold : Type 0
-SoundTold = (text : List ℕ) (assertion : Assertion) → IsReading text assertion → IsSound (length text) assertion
+-- whatever there is of the text is answered, if there is memory
+pub each_told : (text : List ℕ) (r read : Result Assertion ReadFault) → Gives r (reading_of text) → reading_of text ≡ read → (r ≡ read) ⊎ (r ≡ Err NoMemory)
+each_told text (Ok assertion) read e is = inl (sym e ∙ is)
+each_told text (Err fault) read (inl none) is = inr (ap Err none)
+each_told text (Err fault) read (inr e) is = inl (sym e ∙ is)
 
-pub sound_told : ReadingTold → SoundTold → (text : List ℕ) (r : Result Assertion ReadFault) → reading_of text ≡ r → IfOk r (λ assertion. IsSound (length text) assertion)
-sound_told told law text (Ok assertion) e = law text assertion ((told text assertion).0 e)
-sound_told told law text (Err fault) e = tt
-
-abbrev pub PlaceTold : Type 0
-PlaceTold = (text : List ℕ) (fault : ReadFault) → IsFirstReadFault text fault → fault_place fault ≤ length text
-
-pub place_refused : PlaceTold → (text : List ℕ) (fault : ReadFault) → (fault ≡ NoMemory) ⊎ IsFirstReadFault text fault → fault_place fault ≤ length text
-place_refused law text fault (inl none) = let same = ap fault_place none in omega arith
-place_refused law text fault (inr first) = law text fault first
-
-pub place_told : FirstTold → PlaceTold → (text : List ℕ) (r : Result Assertion ReadFault) → reading_of text ≡ r → IfErr r (λ fault. fault_place fault ≤ length text)
-place_told told law text (Ok assertion) e = tt
-place_told told law text (Err fault) e = law text fault ((told text fault).0 e)
+pub reading_short : (text : List ℕ) (assertion : Assertion) → IsReading text assertion → length text ≤ ASSERTION_BYTES
+reading_short text assertion h = well_short text h.well_fielded
 
 -- a program that is spelled has at most 1,700 levels
 spelled_shallow : (field : Option Field) (conditions : Option Program) → MatchOption field (conditions ≡ None) (λ field. IsShallow field × IsConditions field.tokens conditions)
@@ -157,61 +151,10 @@ spelled_shallow : (field : Option Field) (conditions : Option Program) → Match
 spelled_shallow None conditions h = subst (λ (conditions : Option Program). IfSome conditions (λ program. program_depth program ≤ 1700)) (sym h) tt
 spelled_shallow (Some field) conditions h = stated_shallow field.tokens conditions h.1 h.0
 
-pub shallow_told : ReadingTold → (text : List ℕ) (r : Result Assertion ReadFault) → reading_of text ≡ r
-    → IfOk r (λ assertion. IfSome assertion.conditions (λ program. program_depth program ≤ 1700))
-shallow_told told text (Ok assertion) e = let reading = (told text assertion).0 e in spelled_shallow (field_with 3 reading.tokens) assertion.conditions reading.spelled.conditions
-shallow_told told text (Err fault) e = tt
+pub reading_shallow : (text : List ℕ) (assertion : Assertion) → IsReading text assertion → IfSome assertion.conditions (λ program. program_depth program ≤ 1700)
+reading_shallow text assertion h = spelled_shallow (field_with 3 h.tokens) assertion.conditions h.spelled.conditions
 
-pub short_told : (text : List ℕ) (r : Result Assertion ReadFault) → length text ≤ 16384 → IfOk r (λ assertion. length text ≤ 16384)
-short_told text (Ok assertion) le = le
-short_told text (Err fault) le = tt
-
--- the fault of the fields
-
-fields_cause : (text : List ℕ) (fault : FieldFault) → HasCause text fault → (fault ≡ NoFieldMemory) ⊎ IsFirstFault text fault
-fields_cause text (TooLong len) h = inr h
-fields_cause text (Lexical fault) h = inr h
-fields_cause text (BadField at) h = inr h
-fields_cause text (FieldTwice at) h = inr h
-fields_cause text (FieldOrder at) h = inr h
-fields_cause text NoAuthorizer h = inr h
-fields_cause text (Version at) h = inr h
-fields_cause text (Constant at) h = inr h
-fields_cause text NoFieldMemory h = inl refl
-
-pub fields_fault : ((text : List ℕ) (fault : FieldFault) → (fields_or_fault text ≡ Err fault) ↔ IsFirstFault text fault) → (text : List ℕ) (fault : FieldFault) (read : ReadFault)
-    → HasCause text fault → read ≡ of_fields fault → (read ≡ NoMemory) ⊎ (reading_of text ≡ Err read)
-unfolding reading_of
-fields_fault told text fault read h e =
-    elim (fields_cause text fault h) [
-      | inl none ↦ inl (e ∙ ap of_fields none)
-      | inr first ↦ inr (ap (reading_by text) ((told text fault).1 first) ∙ ap Err (sym e))
-    ]
-
-pub fault_told : (text : List ℕ) (read : ReadFault) → (read ≡ NoMemory) ⊎ (reading_of text ≡ Err read) → (read ≡ NoMemory) ⊎ (fault_of text ≡ Some read)
-fault_told text read (inl none) = inl none
-fault_told text read (inr e) = inr (ap result_err e)
-
-pub fault_first : FirstTold → (text : List ℕ) (read : ReadFault) → (read ≡ NoMemory) ⊎ (reading_of text ≡ Err read) → (read ≡ NoMemory) ⊎ IsFirstReadFault text read
-fault_first told text read (inl none) = inl none
-fault_first told text read (inr e) = inr ((told text read).0 e)
-
--- whatever there is of the text is answered, if there is memory
-
-pub each_told : ReadingTold → (text : List ℕ) (r : Result Assertion ReadFault) → reading_of text ≡ r → (assertion : Assertion) → IsReading text assertion
-    → (r ≡ Ok assertion) ⊎ (r ≡ Err NoMemory)
-each_told told text r e assertion h = inl (sym e ∙ (told text assertion).1 h)
-
-pub each_fault_told : FirstTold → (text : List ℕ) (r : Result Assertion ReadFault) → reading_of text ≡ r → (fault : ReadFault) → IsFirstReadFault text fault
-    → (r ≡ Err fault) ⊎ (r ≡ Err NoMemory)
-each_fault_told told text r e fault h = inl (sym e ∙ (told text fault).1 h)
-
-pub each_refused : ReadingTold → (text : List ℕ) (read : ReadFault) (r : Result Assertion ReadFault) → r ≡ Err read → (read ≡ NoMemory) ⊎ (reading_of text ≡ Err read)
-    → (assertion : Assertion) → IsReading text assertion → (r ≡ Ok assertion) ⊎ (r ≡ Err NoMemory)
-each_refused told text read r is (inl none) assertion h = inr (is ∙ ap Err none)
-each_refused told text read r is (inr e) assertion h = each_told told text r (e ∙ sym is) assertion h
-
-pub each_fault_refused : FirstTold → (text : List ℕ) (read : ReadFault) (r : Result Assertion ReadFault) → r ≡ Err read → (read ≡ NoMemory) ⊎ (reading_of text ≡ Err read)
-    → (fault : ReadFault) → IsFirstReadFault text fault → (r ≡ Err fault) ⊎ (r ≡ Err NoMemory)
-each_fault_refused told text read r is (inl none) fault h = inr (is ∙ ap Err none)
-each_fault_refused told text read r is (inr e) fault h = each_fault_told told text r (e ∙ sym is) fault h
+pub place_told : (text : List ℕ) → ((fault : ReadFault) → IsFirstReadFault text fault → fault_place fault ≤ length text) → (fault : ReadFault) → (fault ≡ NoMemory) ⊎ IsFirstReadFault text fault
+    → fault_place fault ≤ length text
+place_told text law fault (inl none) = let same = ap fault_place none in omega arith
+place_told text law fault (inr first) = law fault first

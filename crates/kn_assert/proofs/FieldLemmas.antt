@@ -1,23 +1,19 @@
--- What a field states, by the place where its tokens stand.
-use Rattle.std.proofs.Common.{◌≡◌, ℕ, suc, ◌+◌, ◌-◌, ◌<◌, ◌≤◌, Bool, true, false, inl, inr, Option, Some, None, Result, Err, List, [], ◌∷◌, length, take, drop, arith, refl, sym, ◌∙◌, ap, drop-cons}
-use Rattle.std.specs.Prelude.{slice_get, if◌then◌else◌}
-use Rattle.std.proofs.lemmas.Option.{slice_get_cases, slice_get_within, get_or_from_slice_get}
-use Rattle.std.proofs.lemmas.List.{length-drop, length-take-le}
+-- The one token of a field, and what is stated label by label.
+use Rattle.std.proofs.Common.{◌≡◌, ℕ, ◌+◌, ◌-◌, ◌<◌, ◌≤◌, ◌⊎◌, Bool, true, false, inl, inr, Option, Some, None, Result, Ok, Err, List, [], ◌∷◌, length, drop, arith, refl, sym, ◌∙◌, ap}
+use Rattle.std.specs.Prelude.{slice_get, option_and_then, take_while, if◌then◌else◌}
+use Rattle.std.specs.List.{prefix_len}
+use Rattle.std.proofs.lemmas.Option.{slice_get_cases}
+use Rattle.std.proofs.lemmas.List.{drop_all}
 use Rattle.kn_env.specs.declared.constant.Constant.{Constant as Set}
 use Rattle.kn_lex.specs.Cutting.{Seen}
-use Rattle.kn_fields.specs.Fields.{field_with, between, PartIs}
-use Rattle.kn_fields.specs.Scanning.{goes_deep}
-use Rattle.kn_fields.specs.declared.part.Part.{Part}
-use Rattle.kn_assert.specs.Parts.{only_of, authorizer_by, authorizer_of, signature_by, signature_of}
-use Rattle.kn_assert.specs.Reading.{shallow, authorizer_in, signature_in}
-use Rattle.kn_assert.specs.declared.fault.ReadFault.{ReadFault}
-use Rattle.kn_assert.specs.declared.fault.ReadFault.TheVariants.{TooDeep}
-
-pub between_length : (xs : List Seen) (i to : ℕ) → i ≤ to → to ≤ length xs → length (between i to xs) ≡ to - i
-unfolding between
-between_length xs i to le fits =
-    let size : length (drop i xs) ≡ length xs - i = length-drop i xs in
-    length-take-le (to - i) (drop i xs) (omega (arith, size, le, fits))
+use Rattle.kn_fields.specs.Fields.{is_label, field_number, field_of, Field, fields_of, between}
+use Rattle.kn_fields.specs.declared.fault.ReadFault.{ReadFault}
+use Rattle.kn_fields.specs.declared.fault.ReadFault.TheVariants.{NoMemory}
+use Rattle.kn_fields.proofs.Between.{drop_here, between_here, between_none, between_length}
+use Rattle.kn_fields.proofs.Parts.{goes_on, own_tokens, fields_from}
+use Rattle.kn_assert.specs.Parts.{only_of, Gives}
+use Rattle.kn_assert.specs.Reading.{and_then, nothing, with_field, stated_by}
+use Rattle.kn_assert.specs.declared.stated.Stated.{Stated}
 
 -- the one token
 
@@ -31,49 +27,67 @@ only_none xs i to le fits h =
     let size = between_length xs i to le fits in
     not_one (between i to xs) (λ e. h (omega (arith, size, e, le)))
 
-front_one : (t : Seen) (ts : List Seen) (n : ℕ) → n ≡ 1 → take n (t ∷ ts) ≡ t ∷ []
-front_one t ts n e = ap (λ (k : ℕ). take k (t ∷ ts)) e
-
 pub only_some : (xs : List Seen) (i to : ℕ) → to ≡ i + 1 → to ≤ length xs → slice_get xs i ≡ only_of (between i to xs)
-unfolding between
 only_some xs i to e fits =
     elim (slice_get_cases xs i).1 [
       | inl h ↦
-          let below : i < length xs = slice_get_within xs i h.0 h.2 in
-          let here : drop i xs ≡ h.0 ∷ drop (suc i) xs = drop-cons xs i h.0 below ∙ ap (λ (x : Seen). x ∷ drop (suc i) xs) (get_or_from_slice_get xs i h.0 h.0 h.2) in
-          let one : take (to - i) (drop i xs) ≡ h.0 ∷ [] = ap (take (to - i)) here ∙ front_one h.0 (drop (suc i) xs) (to - i) (omega (arith, e)) in
-          h.2 ∙ sym (ap only_of one)
+          let rest : between (i + 1) to xs ≡ [] = between_none xs (i + 1) to (omega (arith, e)) in
+          h.2 ∙ sym (ap only_of (between_here xs i to h.0 h.2 (omega (arith, e)) ∙ ap (λ (ts : List Seen). h.0 ∷ ts) rest))
       | inr h ↦ absurd (omega (arith, h.0, e, fits))
     ]
 
--- what is read of a field, by its part
+-- label by label
 
-shallow_is : {X : Type 0} (n : ℕ) (xs : List Seen) (part : Part) (h : PartIs n xs (Some part)) (read : List Seen → Result X ReadFault) (b : Bool)
-    → b ≡ goes_deep 0 0 (between (part.label + 1) part.end xs)
-    → shallow n h.0.tokens (read h.0.tokens) ≡ (if b then Err (TooDeep n) else read (between (part.label + 1) part.end xs))
-shallow_is n xs part h read b deep =
-    ap (λ (ts : List Seen). shallow n ts (read ts)) h.2.own
-    ∙ ap (λ (d : Bool). if d then Err (TooDeep n) else read (between (part.label + 1) part.end xs)) (sym deep)
+stated_front : (constants : List Set) (s : Stated) (t : Seen) (ts : List Seen)
+    → stated_by constants s (fields_of (t ∷ ts)) ≡ and_then (with_field constants s (field_of t) (take_while goes_on ts)) (λ next. stated_by constants next (fields_of ts))
+unfolding stated_by fields_of field_of
+stated_front constants s t ts = by (is_label t) refl
+  where
+    by : (b : Bool) → is_label t ≡ b → stated_by constants s (if b then record { label = t; tokens = take_while goes_on ts } ∷ fields_of ts else fields_of ts)
+        ≡ and_then (with_field constants s (if b then field_number t.text else None) (take_while goes_on ts)) (λ next. stated_by constants next (fields_of ts))
+    by true e = ap (λ (l : Bool). and_then (with_field constants s (if l then field_number t.text else None) (take_while goes_on ts)) (λ next. stated_by constants next (fields_of ts))) e
+    by false e = refl
 
-pub authorizer_deep : (constants : List Set) (xs : List Seen) (part : Part) → PartIs 1 xs (Some part)
-    → true ≡ goes_deep 0 0 (between (part.label + 1) part.end xs) → Err (TooDeep 1) ≡ authorizer_in constants (field_with 1 xs)
-authorizer_deep constants xs part h deep =
-    sym (ap (authorizer_in constants) h.1 ∙ shallow_is 1 xs part h (authorizer_of constants) true deep)
+-- the field whose label stands at a place comes first of those from there on
+stated_next : (constants : List Set) (s : Stated) (xs : List Seen) (label end : ℕ) → label < length xs → end ≡ label + 1 + prefix_len goes_on (drop (label + 1) xs)
+    → stated_by constants s (fields_of (drop label xs))
+    ≡ and_then (with_field constants s (option_and_then field_of (slice_get xs label)) (between (label + 1) end xs)) (λ next. stated_by constants next (fields_of (drop end xs)))
+stated_next constants s xs label end below is =
+    elim (slice_get_cases xs label).1 [
+      | inl h ↦
+          ap (λ (ts : List Seen). stated_by constants s (fields_of ts)) (drop_here xs label h.0 h.2) ∙ stated_front constants s h.0 (drop (label + 1) xs)
+          ∙ ap (λ (ts : List Seen). and_then (with_field constants s (field_of h.0) ts) (λ next. stated_by constants next (fields_of (drop (label + 1) xs)))) (own_tokens xs (label + 1) end is)
+          ∙ ap (λ (fs : List Field). and_then (with_field constants s (field_of h.0) (between (label + 1) end xs)) (λ next. stated_by constants next fs)) (fields_from xs (label + 1) end is)
+          ∙ ap (λ (o : Option Seen). and_then (with_field constants s (option_and_then field_of o) (between (label + 1) end xs)) (λ next. stated_by constants next (fields_of (drop end xs)))) (sym h.2)
+      | inr h ↦ absurd (omega (arith, h.0, below))
+    ]
 
-pub authorizer_here : (constants : List Set) (xs : List Seen) (part : Part) (only : Option Seen) → PartIs 1 xs (Some part)
-    → false ≡ goes_deep 0 0 (between (part.label + 1) part.end xs) → only ≡ only_of (between (part.label + 1) part.end xs)
-    → authorizer_by constants only ≡ authorizer_in constants (field_with 1 xs)
-unfolding authorizer_of
-authorizer_here constants xs part only h deep is =
-    ap (authorizer_by constants) is ∙ sym (ap (authorizer_in constants) h.1 ∙ shallow_is 1 xs part h (authorizer_of constants) false deep)
+-- what is left decides, where this is stated up to a place
+abbrev pub IsLeft : List Set → List Seen → Stated → ℕ → Type 0
+IsLeft constants xs s label = stated_by constants nothing (fields_of xs) ≡ stated_by constants s (fields_of (drop label xs))
 
-pub signature_deep : (xs : List Seen) (part : Part) → PartIs 7 xs (Some part)
-    → true ≡ goes_deep 0 0 (between (part.label + 1) part.end xs) → Err (TooDeep 7) ≡ signature_in (field_with 7 xs)
-signature_deep xs part h deep = sym (ap signature_in h.1 ∙ shallow_is 7 xs part h signature_of true deep)
+pub left_first : (constants : List Set) (xs : List Seen) (label : ℕ) → label ≡ 0 + prefix_len goes_on (drop 0 xs) → IsLeft constants xs nothing label
+left_first constants xs label is = ap (stated_by constants nothing) (fields_from xs 0 label is)
 
-pub signature_here : (xs : List Seen) (part : Part) (only : Option Seen) → PartIs 7 xs (Some part)
-    → false ≡ goes_deep 0 0 (between (part.label + 1) part.end xs) → only ≡ only_of (between (part.label + 1) part.end xs)
-    → signature_by only ≡ signature_in (field_with 7 xs)
-unfolding signature_of
-signature_here xs part only h deep is =
-    ap signature_by is ∙ sym (ap signature_in h.1 ∙ shallow_is 7 xs part h signature_of false deep)
+pub left_next : (constants : List Set) (xs : List Seen) (s next : Stated) (label end : ℕ) → IsLeft constants xs s label → label < length xs
+    → end ≡ label + 1 + prefix_len goes_on (drop (label + 1) xs)
+    → with_field constants s (option_and_then field_of (slice_get xs label)) (between (label + 1) end xs) ≡ Ok next → IsLeft constants xs next end
+left_next constants xs s next label end so below is read =
+    so ∙ stated_next constants s xs label end below is ∙ ap (λ (r : Result Stated ReadFault). and_then r (λ next. stated_by constants next (fields_of (drop end xs)))) read
+
+-- the fault of a first step is that of the whole
+pub fault_passed : {X Y : Type 0} (fault : ReadFault) (read : Result X ReadFault) (go : X → Result Y ReadFault) (whole : Result Y ReadFault) → whole ≡ and_then read go
+    → (fault ≡ NoMemory) ⊎ (read ≡ Err fault) → (fault ≡ NoMemory) ⊎ (whole ≡ Err fault)
+fault_passed fault read go whole is (inl none) = inl none
+fault_passed fault read go whole is (inr e) = inr (is ∙ ap (λ r. and_then r go) e)
+
+pub left_fault : (constants : List Set) (xs : List Seen) (s : Stated) (fault : ReadFault) (label end : ℕ) → IsLeft constants xs s label → label < length xs
+    → end ≡ label + 1 + prefix_len goes_on (drop (label + 1) xs)
+    → (fault ≡ NoMemory) ⊎ (with_field constants s (option_and_then field_of (slice_get xs label)) (between (label + 1) end xs) ≡ Err fault)
+    → (fault ≡ NoMemory) ⊎ (stated_by constants nothing (fields_of xs) ≡ Err fault)
+left_fault constants xs s fault label end so below is h = fault_passed fault _ _ _ (so ∙ stated_next constants s xs label end below is) h
+
+pub left_last : (constants : List Set) (xs : List Seen) (s : Stated) (label : ℕ) → IsLeft constants xs s label → length xs ≤ label
+    → stated_by constants nothing (fields_of xs) ≡ Ok s
+unfolding stated_by fields_of
+left_last constants xs s label so over = so ∙ ap (λ (ts : List Seen). stated_by constants s (fields_of ts)) (drop_all label xs over)

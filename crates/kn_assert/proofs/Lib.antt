@@ -1,7 +1,6 @@
 pub mod FieldLemmas
 pub mod Agreement
-pub mod Orders
-pub mod Stated
+pub mod Showing
 pub mod Readings
 pub mod Answered
 pub mod Places

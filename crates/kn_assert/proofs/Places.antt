@@ -15,15 +15,12 @@ use Rattle.kn_lex.specs.declared.fault.LexFault.TheVariants as L
 use Rattle.kn_lex.specs.declared.piece.Piece.{Piece}
 use Rattle.kn_lex.specs.declared.piece.Place.{Place}
 use Rattle.kn_fields.specs.Fields.{is_label, field_number, field_of, is_this, is_label_of, Field, fields_of, field_with}
-use Rattle.kn_fields.specs.Faults.{HasFirst, DepartsAt, IsFirstFault, IsWellFielded}
-use Rattle.kn_fields.specs.declared.fault.FieldFault.{FieldFault}
-use Rattle.kn_fields.specs.declared.fault.FieldFault.TheVariants as F
+use Rattle.kn_fields.specs.Numbers.{fault_place}
+use Rattle.kn_fields.specs.Faults.{HasFirst, DepartsAt, Shows, of_lexical, HasFault, IsWellFielded}
 use Rattle.kn_env.specs.declared.constant.Constant.{Constant as Set}
-use Rattle.kn_assert.specs.Faults.{fault_place}
-use Rattle.kn_assert.specs.Reading.{of_lexical, of_fields}
 use Rattle.kn_assert.specs.Spelled.{FieldShows, AuthorizerShows, ConditionsShows, LicenseesShows, SignatureShows, IsFirstShown, IsFirstReadFault}
-use Rattle.kn_assert.specs.declared.fault.ReadFault.{ReadFault}
-use Rattle.kn_assert.specs.declared.fault.ReadFault.TheVariants.{TooDeep, Syntax, Kind, Threshold, Name}
+use Rattle.kn_fields.specs.declared.fault.ReadFault.{ReadFault}
+use Rattle.kn_fields.specs.declared.fault.ReadFault.TheVariants.{BadField, FieldTwice, FieldOrder, NoAuthorizer, Version, Constant, TooDeep, Syntax, Kind, Threshold, Name}
 
 -- lexical faults
 
@@ -102,7 +99,7 @@ each_field P (token ∷ tokens) all =
     elim (is_label token) as (λ b. AllByRecursion (HasTokens P) (if b then record { label = token; tokens = take_while (λ other. not (is_label other)) tokens } ∷ fields_of tokens else fields_of tokens))
     [ true ↦ ((all.0, each_front P (λ other. not (is_label other)) tokens all.1), rest) | false ↦ rest ]
 
-found_each : {X : Type 0} (P : X → Type 0) (test : X → Bool) (xs : List X) (x : X) → find test xs ≡ Some x → AllByRecursion P xs → P x
+pub found_each : {X : Type 0} (P : X → Type 0) (test : X → Bool) (xs : List X) (x : X) → find test xs ≡ Some x → AllByRecursion P xs → P x
 found_each P test [] x found all = cc
 found_each P test (y ∷ xs) x found all = by (test y) (λ e. found_each P test xs x e all.1) found
   where
@@ -140,27 +137,27 @@ TokensTold = (text : List ℕ) (tokens : List Seen) → Cuts text tokens → IsF
 pub tokens_each : TokensTold → (text : List ℕ) (tokens : List Seen) → Cuts text tokens → IsFaultless text → AllByRecursion (IsTokenOf text) tokens
 tokens_each told text tokens cut faultless = by_recursion (IsTokenOf text) tokens (told text tokens cut faultless)
 
-fields_within : TokensTold → (text : List ℕ) (fault : FieldFault) → IsFirstFault text fault → fault_place (of_fields fault) ≤ length text
-fields_within told text (F.TooLong len) first = let is = first.has.1 in omega arith
-fields_within told text (F.Lexical fault) first = let inside = lexical_within text fault first.has.has in let same = same_place fault in omega arith
-fields_within told text (F.BadField at) first = let h = first.has in first_within _ text h.tokens at h.shown (tokens_each told text h.tokens h.cut h.faultless)
-fields_within told text (F.FieldTwice at) first = let h = first.has in first_within _ text h.tokens at h.shown (tokens_each told text h.tokens h.cut h.faultless)
-fields_within told text (F.FieldOrder at) first =
-    let h = first.has in
-    let all = tokens_each told text h.tokens h.cut h.faultless in
-    ⊎_elim (λ late. first_within _ text h.tokens at late all) (λ behind. first_within _ text h.tokens at behind.1 all) h.shown
-fields_within told text F.NoAuthorizer first = omega arith
-fields_within told text (F.Version at) first =
-    let h = first.has in
-    let all = one_field (IsTokenOf text) 4 h.tokens h.shown.0 h.shown.1 (tokens_each told text h.tokens h.cut h.faultless) in
-    let inside = token_within text h.shown.0.label all.0 in
-    let is = h.shown.2.1 in
+shown_within_text : (text : List ℕ) (tokens : List Seen) (fault : ReadFault) → Shows tokens fault → AllByRecursion (IsTokenOf text) tokens → fault_place fault ≤ length text
+shown_within_text text tokens (BadField at) h all = first_within _ text tokens at h all
+shown_within_text text tokens (FieldTwice at) h all = first_within _ text tokens at h all
+shown_within_text text tokens (FieldOrder at) h all = ⊎_elim (λ late. first_within _ text tokens at late all) (λ behind. first_within _ text tokens at behind.1 all) h
+shown_within_text text tokens NoAuthorizer h all = omega arith
+shown_within_text text tokens (Version at) h all =
+    let own = one_field (IsTokenOf text) 4 tokens h.0 h.1 all in
+    let inside = token_within text h.0.label own.0 in
+    let is = h.2.1 in
     omega arith
-fields_within told text (F.Constant at) first =
-    let h = first.has in
-    let all = one_field (IsTokenOf text) 6 h.tokens h.shown.0 h.shown.1 (tokens_each told text h.tokens h.cut h.faultless) in
-    departs_within text h.shown.0 at h.shown.2 all
-fields_within told text F.NoMemory first = omega arith
+shown_within_text text tokens (Constant at) h all = departs_within text h.0 at h.2 (one_field (IsTokenOf text) 6 tokens h.0 h.1 all)
+shown_within_text text tokens _ h all = absurd h
+
+fields_within : TokensTold → (text : List ℕ) (fault : ReadFault) → HasFault text fault → fault_place fault ≤ length text
+fields_within told text fault (inl h) = let same = ap fault_place h.1 in omega arith
+fields_within told text fault (inr (inl h)) =
+    let inside = lexical_within text h.0 h.1.has in
+    let is = same_place h.0 in
+    let same = ap fault_place h.2 in
+    omega arith
+fields_within told text fault (inr (inr h)) = shown_within_text text h.tokens fault h.shown (tokens_each told text h.tokens h.cut h.faultless)
 
 -- labels
 
@@ -209,7 +206,7 @@ label_within text label n is named =
     by true e = e
     by false e = cc
 
-found_passes : (test : Field → Bool) (fields : List Field) (x : Field) → find test fields ≡ Some x → test x ≡ true
+pub found_passes : (test : Field → Bool) (fields : List Field) (x : Field) → find test fields ≡ Some x → test x ≡ true
 found_passes test [] x e = cc
 found_passes test (y ∷ fields) x e = step (test y) (λ other. found_passes test fields x other) refl e
   where
@@ -277,9 +274,9 @@ FaultlessOrNot = (text : List ℕ) → ((tokens : List Seen) × Cuts text tokens
 
 -- a text whose fields are right has no lexical fault
 pub well_faultless : FaultlessOrNot → (text : List ℕ) → IsWellFielded text → IsFaultless text
-well_faultless either text well = ⊎_elim (λ h. h.2) (λ h. absurd (well (F.Lexical h.0) h.1)) (either text)
+well_faultless either text well = ⊎_elim (λ h. h.2) (λ h. absurd (well (of_lexical h.0) (inr (inl (h.0, h.1, refl))))) (either text)
 
 pub place_within : TokensTold → FaultlessOrNot → (text : List ℕ) (fault : ReadFault) → IsFirstReadFault text fault → fault_place fault ≤ length text
-place_within told either text fault (inl h) = let inside = fields_within told text h.0 h.1 in let same = ap fault_place h.2 in omega arith
+place_within told either text fault (inl h) = fields_within told text fault h.has
 place_within told either text fault (inr h) =
     stated_within text _ h.tokens fault h.shown (tokens_each told text h.tokens h.cut (well_faultless either text h.well_fielded))

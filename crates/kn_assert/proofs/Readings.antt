@@ -1,42 +1,38 @@
 -- What is computed of a text is the assertion that it spells, or its first fault.
-use Rattle.std.proofs.Common.{◌≡◌, ℕ, ◌<◌, ◌⊎◌, inl, inr, Bool, true, false, Option, Some, None, Result, Ok, Err, List, [], ◌∷◌, ◌++◌, arith, refl, sym, ◌∙◌, ap, subst, eqb-true}
+use Rattle.std.proofs.Common.{◌≡◌, ℕ, ◌<◌, ◌⊎◌, inl, inr, Bool, true, false, Option, Some, None, Result, Ok, Err, List, [], ◌∷◌, ◌++◌, cond, arith, refl, sym, ◌∙◌, ap, subst, eqb-true}
 use Rattle.std.specs.Prelude.{◌↔◌, ◌==◌, MatchOption, find, if◌then◌else◌}
-use Rattle.std.specs.Result.{result_err}
-use Rattle.std.specs.Option.{option_or}
+use Rattle.std.specs.List.{AllByRecursion}
 use Rattle.kn_env.specs.declared.constant.Constant.{Constant as Set}
 use Rattle.kn_lex.specs.Cutting.{Seen, Cuts}
 use Rattle.kn_lex.specs.Literal.{literal_value}
 use Rattle.kn_lex.specs.declared.token.Sort.TheVariants.{Text}
-use Rattle.kn_lex.specs.declared.fault.LexFault.TheVariants.{NotText as NotTextAt, BadString as BadStringAt, BadToken as BadTokenAt, Float as FloatAt, Regex as RegexAt, Number as NumberAt, Blank as BlankAt, NoMemory as NoLexMemory}
 use Rattle.kn_fields.specs.Fields.{Field, is_this, is_label_of, field_of, fields_of, field_with, signed_to}
-use Rattle.kn_fields.specs.Faults.{IsWellFielded, IsFirstFault, HasField, constants_in}
+use Rattle.kn_fields.specs.Faults.{IsWellFielded, fault_order, HasFault, IsFirstFault, HasField, constants_in}
 use Rattle.kn_fields.specs.Computed.{fields_or_fault}
-use Rattle.kn_fields.specs.declared.fault.FieldFault.{FieldFault}
-use Rattle.kn_fields.specs.declared.fault.FieldFault.TheVariants.{TooLong as LongText, Lexical, BadField as BadFieldAt, FieldTwice as FieldTwiceAt, FieldOrder as FieldOrderAt, NoAuthorizer as NoAuthorizerField, Version as VersionAt, Constant as ConstantAt, NoMemory as NoFieldMemory}
+use Rattle.kn_fields.specs.Depth.{IsTooDeep}
+use Rattle.kn_fields.specs.declared.fault.ReadFault.{ReadFault}
+use Rattle.kn_fields.specs.declared.fault.ReadFault.TheVariants.{NoAuthorizer, NoMemory}
+use Rattle.kn_fields.proofs.Shown.{lexical_between}
 use Rattle.kn_trees.specs.declared.assertion.Assertion.{Assertion}
 use Rattle.kn_trees.specs.declared.formula.Formula.{Formula}
 use Rattle.kn_trees.specs.declared.program.Program.{Program}
 use Rattle.kn_formula.specs.Licensing.{AreLicensees, licensees_of}
 use Rattle.kn_program.specs.Conditions.{IsConditions, program_of}
 use Rattle.kn_assert.specs.Parts.{principal_of, authorizer_of, conditions_by, licensees_by, signature_of}
-use Rattle.kn_assert.specs.Reading.{of_fields, authorizer_in, conditions_in, licensees_in, signature_in, fault_by, first_of, faults_of, unless, assembled, reading_with, reading_by, reading_of}
-use Rattle.kn_assert.specs.Spelled.{IsOne, IsShallow, Spells, IsReading, FieldShows, fault_order, IsFirstShown, IsFirstReadFault}
-use Rattle.kn_assert.specs.declared.fault.ReadFault.{ReadFault}
-use Rattle.kn_assert.specs.declared.fault.ReadFault.TheVariants.{NoAuthorizer, NoMemory}
-use Rattle.kn_assert.specs.declared.order.Faults.{Faults}
-use Rattle.kn_assert.proofs.Stated.{PartsTold, shallow_read, shallow_ok, Least, authorizer_spelled, spelled_authorizer, signature_spelled, spelled_signature, licensees_spelled, conditions_spelled, authorizer_shown, authorizer_least, conditions_shown, conditions_least, licensees_shown, licensees_least, signature_shown, signature_least}
+use Rattle.kn_assert.specs.Reading.{authorizer_in, conditions_in, licensees_in, signature_in, and_then, nothing, with_field, stated_by, assembled, reading_with, reading_of}
+use Rattle.kn_assert.specs.Spelled.{IsOne, IsShallow, Spells, IsReading, FieldShows, IsFirstShown, IsFirstReadFault}
+use Rattle.kn_assert.specs.declared.stated.Stated.{Stated}
+use Rattle.kn_assert.proofs.Places.{found_each, found_passes}
+use Rattle.kn_assert.proofs.Showing.{PartsTold, ok_err, same_fault, shallow_read, shallow_ok, Least, authorizer_spelled, spelled_authorizer, signature_spelled, spelled_signature, licensees_spelled, conditions_spelled, authorizer_shown, authorizer_least, conditions_shown, conditions_least, licensees_shown, licensees_least, signature_shown, signature_least}
 
 -- what the laws of the fields say
 pub record FieldsTold : Type 0 where
   pub tokens : (text : List ℕ) (tokens : List Seen) → (fields_or_fault text ≡ Ok tokens) ↔ (Cuts text tokens × IsWellFielded text)
-  pub fault : (text : List ℕ) (fault : FieldFault) → (fields_or_fault text ≡ Err fault) ↔ IsFirstFault text fault
+  pub fault : (text : List ℕ) (fault : ReadFault) → (fields_or_fault text ≡ Err fault) ↔ IsFirstFault text fault
   pub parts : PartsTold
   pub one : (text : List ℕ) (tokens : List Seen) → Cuts text tokens → IsWellFielded text → (before : List Field) (field : Field) (behind : List Field)
       → fields_of tokens ≡ before ++ field ∷ behind → (number : ℕ) → field_of field.label ≡ Some number → field_with number tokens ≡ Some field
   pub authorizer : (text : List ℕ) (tokens : List Seen) → Cuts text tokens → IsWellFielded text → field_with 1 tokens ≡ None → ⊥
-
-ok_err : {X P : Type 0} (x : X) (fault : ReadFault) → Ok x ≡ Err fault → P
-ok_err x fault e = absurd (cc)
 
 same_ok : {X : Type 0} (x y : X) (r : Result X ReadFault) → r ≡ Ok x → r ≡ Ok y → x ≡ y
 same_ok x y r e f = cc
@@ -47,184 +43,252 @@ some_same x y e = cc
 none_some : {X P : Type 0} (x : X) → None ≡ Some x → P
 none_some x e = absurd (cc)
 
--- what is read of the parts
+-- what is read of a field is what its tokens spell
 
-record ArePresent (constants : List Set) (signed : ℕ) (a : Result (List ℕ) ReadFault) (l : Result (Option Formula) ReadFault)
-    (k : Result (Option Program) ReadFault) (s : Result (Option (List ℕ)) ReadFault) (assertion : Assertion) : Type 0 where
-  authorizer_is : a ≡ Ok assertion.authorizer
-  licensees_is : l ≡ Ok assertion.licensees
-  conditions_is : k ≡ Ok assertion.conditions
-  signature_is : s ≡ Ok assertion.signature
-  constants_are : assertion.constants ≡ constants
-  signed_is : assertion.signed_to ≡ signed
+authorizer_is : PartsTold → (constants : List Set) (tokens : List Seen) (a : List ℕ)
+    → (authorizer_in constants tokens ≡ Ok a) ↔ ((IsTooDeep tokens → ⊥) × IsOne tokens (λ token. principal_of constants token ≡ Some a))
+authorizer_is told constants tokens a = (
+  λ e. let own = shallow_ok told 1 tokens (authorizer_of constants tokens) a e in (own.0, authorizer_spelled constants tokens a own.1),
+  λ h. shallow_read told 1 tokens (authorizer_of constants tokens) h.0 ∙ spelled_authorizer constants tokens a h.1,
+)
 
-assembled_ok : (constants : List Set) (signed : ℕ) (a : Result (List ℕ) ReadFault) (l : Result (Option Formula) ReadFault)
-    (k : Result (Option Program) ReadFault) (s : Result (Option (List ℕ)) ReadFault) (assertion : Assertion)
-    → assembled constants signed a l k s ≡ Ok assertion → ArePresent constants signed a l k s assertion
-assembled_ok constants signed (Err f) l k s assertion e = ok_err assertion f (sym e)
-assembled_ok constants signed (Ok a) (Err f) k s assertion e = ok_err assertion f (sym e)
-assembled_ok constants signed (Ok a) (Ok l) (Err f) s assertion e = ok_err assertion f (sym e)
-assembled_ok constants signed (Ok a) (Ok l) (Ok k) (Err f) assertion e = ok_err assertion f (sym e)
-assembled_ok constants signed (Ok a) (Ok l) (Ok k) (Ok s) assertion e =
-    let made : Assertion = record { authorizer = a; constants = constants; licensees = l; conditions = k; signature = s; signed_to = signed } in
-    let same : made ≡ assertion = same_ok made assertion _ refl e in
+licensees_is : PartsTold → (constants : List Set) (tokens : List Seen) (l : Option Formula)
+    → (licensees_in constants tokens ≡ Ok l) ↔ ((IsTooDeep tokens → ⊥) × AreLicensees constants tokens l)
+licensees_is told constants tokens l = (
+  λ e.
+      let own = shallow_ok told 5 tokens (licensees_by (licensees_of constants tokens)) l e in
+      (own.0, (told.states constants tokens l).0 (licensees_spelled (licensees_of constants tokens) l own.1)),
+  λ h. shallow_read told 5 tokens (licensees_by (licensees_of constants tokens)) h.0 ∙ ap licensees_by ((told.states constants tokens l).1 h.1),
+)
+
+conditions_is : PartsTold → (tokens : List Seen) (k : Option Program) → (conditions_in tokens ≡ Ok k) ↔ ((IsTooDeep tokens → ⊥) × IsConditions tokens k)
+conditions_is told tokens k = (
+  λ e.
+      let own = shallow_ok told 3 tokens (conditions_by (program_of tokens)) k e in
+      (own.0, (told.states_program tokens k).0 (conditions_spelled (program_of tokens) k own.1)),
+  λ h. shallow_read told 3 tokens (conditions_by (program_of tokens)) h.0 ∙ ap conditions_by ((told.states_program tokens k).1 h.1),
+)
+
+signature_is : PartsTold → (tokens : List Seen) (s : Option (List ℕ))
+    → (signature_in tokens ≡ Ok s) ↔ ((IsTooDeep tokens → ⊥) × IsOne tokens (λ token. (token.sort ≡ Text) × (s ≡ Some (literal_value token.text))))
+signature_is told tokens s = (
+  λ e. let own = shallow_ok told 7 tokens (signature_of tokens) s e in (own.0, signature_spelled tokens s own.1),
+  λ h. shallow_read told 7 tokens (signature_of tokens) h.0 ∙ spelled_signature tokens s h.1,
+)
+
+-- what is stated with one field
+
+then_ok : {X : Type 0} (r : Result X ReadFault) (go : X → Stated) (t : Stated) → and_then r (λ x. Ok (go x)) ≡ Ok t → (x : X) × (r ≡ Ok x) × (go x ≡ t)
+then_ok (Ok x) go t e = (x, refl, same_ok (go x) t _ refl e)
+then_ok (Err f) go t e = ok_err t f (sym e)
+
+then_err : {X : Type 0} (r : Result X ReadFault) (go : X → Stated) (f : ReadFault) → and_then r (λ x. Ok (go x)) ≡ Err f → r ≡ Err f
+then_err (Ok x) go f e = ok_err (go x) f e
+then_err (Err g) go f e = ap Err (same_fault g f _ refl e)
+
+then_least : {X : Type 0} (r : Result X ReadFault) (go : X → Stated) (g : ReadFault) → Least r g → Least (and_then r (λ x. Ok (go x))) g
+unfolding Least
+then_least (Ok x) go g h = h
+then_least (Err f) go g h = h
+
+abbrev IsAuthorizer : List Set → Field → Option (List ℕ) → Type 0
+IsAuthorizer constants field o = (a : List ℕ) × (o ≡ Some a) × (authorizer_in constants field.tokens ≡ Ok a)
+
+abbrev IsProgram : Field → Option Program → Type 0
+IsProgram field o = conditions_in field.tokens ≡ Ok o
+
+abbrev IsFormula : List Set → Field → Option Formula → Type 0
+IsFormula constants field o = licensees_in constants field.tokens ≡ Ok o
+
+abbrev IsSignature : Field → Option (List ℕ) → Type 0
+IsSignature field o = signature_in field.tokens ≡ Ok o
+
+-- what is stated behind a field, if there is one: what it states, and else what was stated before
+abbrev Behind : (X : Type 0) → (Field → X → Type 0) → Option Field → X → X → Type 0
+Behind X Is o before after = MatchOption o (after ≡ before) (λ field. Is field after)
+
+-- this is stated behind the fields of each number, each of which may be missing
+record AreStated (constants : List Set) (own : ℕ → Option Field) (s t : Stated) : Type 0 where
+  authorizer : Behind (Option (List ℕ)) (IsAuthorizer constants) (own 1) s.authorizer t.authorizer
+  conditions : Behind (Option Program) IsProgram (own 3) s.conditions t.conditions
+  licensees : Behind (Option Formula) (IsFormula constants) (own 5) s.licensees t.licensees
+  signature : Behind (Option (List ℕ)) IsSignature (own 7) s.signature t.signature
+
+unchanged : (constants : List Set) (own : ℕ → Option Field) (s t : Stated) → own 1 ≡ None → own 3 ≡ None → own 5 ≡ None → own 7 ≡ None → s ≡ t → AreStated constants own s t
+unchanged constants own s t a k l z same =
     record {
-      authorizer_is = ap (λ (x : Assertion). Ok x.authorizer) same;
-      licensees_is = ap (λ (x : Assertion). Ok x.licensees) same;
-      conditions_is = ap (λ (x : Assertion). Ok x.conditions) same;
-      signature_is = ap (λ (x : Assertion). Ok x.signature) same;
-      constants_are = sym (ap (λ (x : Assertion). x.constants) same);
-      signed_is = sym (ap (λ (x : Assertion). x.signed_to) same);
+      authorizer = rw a (sym (ap (λ (x : Stated). x.authorizer) same));
+      conditions = rw k (sym (ap (λ (x : Stated). x.conditions) same));
+      licensees = rw l (sym (ap (λ (x : Stated). x.licensees) same));
+      signature = rw z (sym (ap (λ (x : Stated). x.signature) same));
     }
 
-ok_assembled : (constants : List Set) (signed : ℕ) (a : Result (List ℕ) ReadFault) (l : Result (Option Formula) ReadFault)
-    (k : Result (Option Program) ReadFault) (s : Result (Option (List ℕ)) ReadFault) (assertion : Assertion)
-    → ArePresent constants signed a l k s assertion → assembled constants signed a l k s ≡ Ok assertion
-ok_assembled constants signed a l k s assertion h =
-    ap (λ (r : Result (List ℕ) ReadFault). assembled constants signed r l k s) h.authorizer_is
-    ∙ ap (λ (r : Result (Option Formula) ReadFault). assembled constants signed (Ok assertion.authorizer) r k s) h.licensees_is
-    ∙ ap (λ (r : Result (Option Program) ReadFault). assembled constants signed (Ok assertion.authorizer) (Ok assertion.licensees) r s) h.conditions_is
-    ∙ ap (λ (r : Result (Option (List ℕ)) ReadFault). assembled constants signed (Ok assertion.authorizer) (Ok assertion.licensees) (Ok assertion.conditions) r) h.signature_is
-    ∙ ap (λ (c : List Set). assembled c signed (Ok assertion.authorizer) (Ok assertion.licensees) (Ok assertion.conditions) (Ok assertion.signature)) (sym h.constants_are)
-    ∙ ap (λ (n : ℕ). assembled assertion.constants n (Ok assertion.authorizer) (Ok assertion.licensees) (Ok assertion.conditions) (Ok assertion.signature)) (sym h.signed_is)
+-- the field, if it is the one of a number
+abbrev only_of_number : Option ℕ → Field → ℕ → Option Field
+only_of_number o field n = cond (is_this n o) (Some field) None
 
--- what the parts state is what their fields spell
-
-authorizer_to : PartsTold → (constants : List Set) (tokens : List Seen) (a : List ℕ) → authorizer_in constants (field_with 1 tokens) ≡ Ok a
-    → HasField 1 tokens (λ field. IsShallow field × IsOne field.tokens (λ token. principal_of constants token ≡ Some a))
-authorizer_to depth constants tokens a e = by (field_with 1 tokens) refl e
+one_stated : (constants : List Set) (s t : Stated) (field : Field) (o : Option ℕ) → with_field constants s o field.tokens ≡ Ok t → AreStated constants (only_of_number o field) s t
+one_stated constants s t field None e = unchanged constants _ s t refl refl refl refl (same_ok s t _ refl e)
+one_stated constants s t field (Some n) e = by (n == 1) (n == 3) (n == 5) (n == 7) refl refl refl refl e
   where
-    by : (o : Option Field) → field_with 1 tokens ≡ o → authorizer_in constants o ≡ Ok a
-        → HasField 1 tokens (λ field. IsShallow field × IsOne field.tokens (λ token. principal_of constants token ≡ Some a))
-    by None o h = ok_err a NoAuthorizer (sym h)
-    by (Some field) o h =
-        let own = shallow_ok depth 1 field.tokens (authorizer_of constants field.tokens) a h in
-        (field, o, (own.0, authorizer_spelled constants field.tokens a own.1))
+    at : (m : ℕ) → (n == m) ≡ true → AreStated constants (only_of_number (Some m) field) s t → AreStated constants (only_of_number (Some n) field) s t
+    at m is h = subst (λ (k : ℕ). AreStated constants (only_of_number (Some k) field) s t) (sym (eqb-true n m is)) h
 
-to_authorizer : PartsTold → (constants : List Set) (tokens : List Seen) (a : List ℕ)
-    → HasField 1 tokens (λ field. IsShallow field × IsOne field.tokens (λ token. principal_of constants token ≡ Some a))
-    → authorizer_in constants (field_with 1 tokens) ≡ Ok a
-to_authorizer depth constants tokens a h =
-    ap (authorizer_in constants) h.1 ∙ shallow_read depth 1 h.0.tokens (authorizer_of constants h.0.tokens) h.2.0 ∙ spelled_authorizer constants h.0.tokens a h.2.1
+    by : (a b c d : Bool) → (n == 1) ≡ a → (n == 3) ≡ b → (n == 5) ≡ c → (n == 7) ≡ d
+        → (if a then and_then (authorizer_in constants field.tokens) (λ x. Ok (record { authorizer = Some x; licensees = s.licensees; conditions = s.conditions; signature = s.signature }))
+        else if b then and_then (conditions_in field.tokens) (λ x. Ok (record { authorizer = s.authorizer; licensees = s.licensees; conditions = x; signature = s.signature }))
+        else if c then and_then (licensees_in constants field.tokens) (λ x. Ok (record { authorizer = s.authorizer; licensees = x; conditions = s.conditions; signature = s.signature }))
+        else if d then and_then (signature_in field.tokens) (λ x. Ok (record { authorizer = s.authorizer; licensees = s.licensees; conditions = s.conditions; signature = x }))
+        else Ok s) ≡ Ok t → AreStated constants (only_of_number (Some n) field) s t
+    by true b c d p q u z h =
+        let r = then_ok (authorizer_in constants field.tokens) _ t h in
+        at 1 p (record {
+          authorizer = (r.0, sym (ap (λ (x : Stated). x.authorizer) r.2), r.1);
+          conditions = sym (ap (λ (x : Stated). x.conditions) r.2);
+          licensees = sym (ap (λ (x : Stated). x.licensees) r.2);
+          signature = sym (ap (λ (x : Stated). x.signature) r.2);
+        })
+    by false true c d p q u z h =
+        let r = then_ok (conditions_in field.tokens) _ t h in
+        at 3 q (record {
+          authorizer = sym (ap (λ (x : Stated). x.authorizer) r.2);
+          conditions = r.1 ∙ ap (λ (x : Stated). Ok x.conditions) r.2;
+          licensees = sym (ap (λ (x : Stated). x.licensees) r.2);
+          signature = sym (ap (λ (x : Stated). x.signature) r.2);
+        })
+    by false false true d p q u z h =
+        let r = then_ok (licensees_in constants field.tokens) _ t h in
+        at 5 u (record {
+          authorizer = sym (ap (λ (x : Stated). x.authorizer) r.2);
+          conditions = sym (ap (λ (x : Stated). x.conditions) r.2);
+          licensees = r.1 ∙ ap (λ (x : Stated). Ok x.licensees) r.2;
+          signature = sym (ap (λ (x : Stated). x.signature) r.2);
+        })
+    by false false false true p q u z h =
+        let r = then_ok (signature_in field.tokens) _ t h in
+        at 7 z (record {
+          authorizer = sym (ap (λ (x : Stated). x.authorizer) r.2);
+          conditions = sym (ap (λ (x : Stated). x.conditions) r.2);
+          licensees = sym (ap (λ (x : Stated). x.licensees) r.2);
+          signature = r.1 ∙ ap (λ (x : Stated). Ok x.signature) r.2;
+        })
+    by false false false false p q u z h =
+        unchanged constants _ s t (rw p refl) (rw q refl) (rw u refl) (rw z refl) (same_ok s t _ refl h)
 
-licensees_to : PartsTold → (constants : List Set) (o : Option Field) (l : Option Formula) → licensees_in constants o ≡ Ok l
-    → MatchOption o (l ≡ None) (λ field. IsShallow field × AreLicensees constants field.tokens l)
-licensees_to depth constants None l e = sym (same_ok None l _ refl e)
-licensees_to depth constants (Some field) l e =
-    let own = shallow_ok depth 5 field.tokens (licensees_by (licensees_of constants field.tokens)) l e in
-    (own.0, (depth.states constants field.tokens l).0 (licensees_spelled (licensees_of constants field.tokens) l own.1))
+-- what is stated with several fields, each of which is the one of its number
 
-to_licensees : PartsTold → (constants : List Set) (o : Option Field) (l : Option Formula)
-    → MatchOption o (l ≡ None) (λ field. IsShallow field × AreLicensees constants field.tokens l) → licensees_in constants o ≡ Ok l
-to_licensees depth constants None l h = ap Ok (sym h)
-to_licensees depth constants (Some field) l h =
-    shallow_read depth 5 field.tokens (licensees_by (licensees_of constants field.tokens)) h.0 ∙ ap licensees_by ((depth.states constants field.tokens l).1 h.1)
+abbrev first_of : List Field → ℕ → Option Field
+first_of fields n = find (λ f. is_label_of n f.label) fields
 
-conditions_to : PartsTold → (o : Option Field) (k : Option Program) → conditions_in o ≡ Ok k
-    → MatchOption o (k ≡ None) (λ field. IsShallow field × IsConditions field.tokens k)
-conditions_to depth None k e = sym (same_ok None k _ refl e)
-conditions_to depth (Some field) k e =
-    let own = shallow_ok depth 3 field.tokens (conditions_by (program_of field.tokens)) k e in
-    (own.0, (depth.states_program field.tokens k).0 (conditions_spelled (program_of field.tokens) k own.1))
-
-to_conditions : PartsTold → (o : Option Field) (k : Option Program)
-    → MatchOption o (k ≡ None) (λ field. IsShallow field × IsConditions field.tokens k) → conditions_in o ≡ Ok k
-to_conditions depth None k h = ap Ok (sym h)
-to_conditions depth (Some field) k h =
-    shallow_read depth 3 field.tokens (conditions_by (program_of field.tokens)) h.0 ∙ ap conditions_by ((depth.states_program field.tokens k).1 h.1)
-
-signature_to : PartsTold → (o : Option Field) (s : Option (List ℕ)) → signature_in o ≡ Ok s
-    → MatchOption o (s ≡ None) (λ field. IsShallow field × IsOne field.tokens (λ token. (token.sort ≡ Text) × (s ≡ Some (literal_value token.text))))
-signature_to depth None s e = sym (same_ok None s _ refl e)
-signature_to depth (Some field) s e =
-    let own = shallow_ok depth 7 field.tokens (signature_of field.tokens) s e in
-    (own.0, signature_spelled field.tokens s own.1)
-
-to_signature : PartsTold → (o : Option Field) (s : Option (List ℕ))
-    → MatchOption o (s ≡ None) (λ field. IsShallow field × IsOne field.tokens (λ token. (token.sort ≡ Text) × (s ≡ Some (literal_value token.text))))
-    → signature_in o ≡ Ok s
-to_signature depth None s h = ap Ok (sym h)
-to_signature depth (Some field) s h = shallow_read depth 7 field.tokens (signature_of field.tokens) h.0 ∙ spelled_signature field.tokens s h.1
-
--- the fault of a field
-
--- the computed fault has a lower number than this one, or is it
-unfoldable Below : Option ReadFault → ReadFault → Type 0
-Below None other = ⊥
-Below (Some fault) other = (fault_order fault < fault_order other) ⊎ (fault ≡ other)
-
-below_part : {X : Type 0} (r : Result X ReadFault) (other : ReadFault) → Least r other → Below (result_err r) other
-unfolding Below Least
-below_part (Ok x) other h = h
-below_part (Err fault) other h = h
-
-part_err : {X : Type 0} (r : Result X ReadFault) (f : ReadFault) → result_err r ≡ Some f → r ≡ Err f
-part_err (Ok x) f e = none_some f e
-part_err (Err g) f e = ap Err (some_same g f e)
-
--- the field is the one of its number
 abbrev IsOwn : List Seen → Field → Type 0
 IsOwn tokens field = (n : ℕ) → field_of field.label ≡ Some n → field_with n tokens ≡ Some field
-
-field_shown : PartsTold → (constants : List Set) (tokens : List Seen) (field : Field) (f : ReadFault) → IsOwn tokens field
-    → fault_by (faults_of constants tokens) (field_of field.label) ≡ Some f → FieldShows constants field f
-field_shown depth constants tokens field f own e = by (field_of field.label) refl e
-  where
-    is : (n m : ℕ) → field_of field.label ≡ Some n → (n == m) ≡ true → field_of field.label ≡ Some m
-    is n m o b = o ∙ ap Some (eqb-true n m b)
-
-    authorizer : field_of field.label ≡ Some 1 → result_err (authorizer_in constants (field_with 1 tokens)) ≡ Some f → FieldShows constants field f
-    authorizer o h = inl (o, authorizer_shown depth constants field f (sym (ap (authorizer_in constants) (own 1 o)) ∙ part_err _ f h))
-
-    conditions : field_of field.label ≡ Some 3 → result_err (conditions_in (field_with 3 tokens)) ≡ Some f → FieldShows constants field f
-    conditions o h = inr (inl (o, conditions_shown depth field f (sym (ap conditions_in (own 3 o)) ∙ part_err _ f h)))
-
-    licensees : field_of field.label ≡ Some 5 → result_err (licensees_in constants (field_with 5 tokens)) ≡ Some f → FieldShows constants field f
-    licensees o h = inr (inr (inl (o, licensees_shown depth constants field f (sym (ap (licensees_in constants) (own 5 o)) ∙ part_err _ f h))))
-
-    signature : field_of field.label ≡ Some 7 → result_err (signature_in (field_with 7 tokens)) ≡ Some f → FieldShows constants field f
-    signature o h = inr (inr (inr (o, signature_shown depth field f (sym (ap signature_in (own 7 o)) ∙ part_err _ f h))))
-
-    of : (n : ℕ) → field_of field.label ≡ Some n → (a b c d : Bool) → (n == 1) ≡ a → (n == 3) ≡ b → (n == 5) ≡ c → (n == 7) ≡ d
-        → (if a then (faults_of constants tokens).authorizer else if b then (faults_of constants tokens).conditions
-        else if c then (faults_of constants tokens).licensees else if d then (faults_of constants tokens).signature else None) ≡ Some f → FieldShows constants field f
-    of n o true b c d p q r t h = authorizer (is n 1 o p) h
-    of n o false true c d p q r t h = conditions (is n 3 o q) h
-    of n o false false true d p q r t h = licensees (is n 5 o r) h
-    of n o false false false true p q r t h = signature (is n 7 o t) h
-    of n o false false false false p q r t h = none_some f h
-
-    by : (o : Option ℕ) → field_of field.label ≡ o → fault_by (faults_of constants tokens) o ≡ Some f → FieldShows constants field f
-    by None o h = none_some f h
-    by (Some n) o h = of n o (n == 1) (n == 3) (n == 5) (n == 7) refl refl refl refl h
-
-field_least : PartsTold → (constants : List Set) (tokens : List Seen) (field : Field) (g : ReadFault) → IsOwn tokens field
-    → FieldShows constants field g → Below (fault_by (faults_of constants tokens) (field_of field.label)) g
-field_least depth constants tokens field g own (inl h) =
-    subst (λ (o : Option ℕ). Below (fault_by (faults_of constants tokens) o) g) (sym h.0)
-    (below_part (authorizer_in constants (field_with 1 tokens)) g
-    (subst (λ (o : Option Field). Least (authorizer_in constants o) g) (sym (own 1 h.0)) (authorizer_least depth constants field g h.1)))
-field_least depth constants tokens field g own (inr (inl h)) =
-    subst (λ (o : Option ℕ). Below (fault_by (faults_of constants tokens) o) g) (sym h.0)
-    (below_part (conditions_in (field_with 3 tokens)) g
-    (subst (λ (o : Option Field). Least (conditions_in o) g) (sym (own 3 h.0)) (conditions_least depth field g h.1)))
-field_least depth constants tokens field g own (inr (inr (inl h))) =
-    subst (λ (o : Option ℕ). Below (fault_by (faults_of constants tokens) o) g) (sym h.0)
-    (below_part (licensees_in constants (field_with 5 tokens)) g
-    (subst (λ (o : Option Field). Least (licensees_in constants o) g) (sym (own 5 h.0)) (licensees_least depth constants field g h.1)))
-field_least depth constants tokens field g own (inr (inr (inr h))) =
-    subst (λ (o : Option ℕ). Below (fault_by (faults_of constants tokens) o) g) (sym h.0)
-    (below_part (signature_in (field_with 7 tokens)) g
-    (subst (λ (o : Option Field). Least (signature_in o) g) (sym (own 7 h.0)) (signature_least depth field g h.1)))
-
--- the first fault of a list of fields
 
 -- each of the fields is the one of its number
 abbrev AreOwn : List Seen → List Field → Type 0
 AreOwn tokens fields = (before : List Field) (field : Field) (behind : List Field) → fields ≡ before ++ field ∷ behind → IsOwn tokens field
 
-own_behind : (tokens : List Seen) (x : Field) (fields : List Field) → AreOwn tokens (x ∷ fields) → AreOwn tokens fields
-own_behind tokens x fields own before field behind e = own (x ∷ before) field behind (ap (λ (fs : List Field). x ∷ fs) e)
+each_own : (tokens : List Seen) (fields : List Field) → AreOwn tokens fields → AllByRecursion (IsOwn tokens) fields
+each_own tokens [] own = tt
+each_own tokens (x ∷ fields) own =
+    (own [] x fields refl, each_own tokens fields (λ before field behind e. own (x ∷ before) field behind (ap (λ (fs : List Field). x ∷ fs) e)))
+
+number_of : (n : ℕ) (o : Option ℕ) → is_this n o ≡ true → o ≡ Some n
+number_of n None h = absurd (cc)
+number_of n (Some m) h = ap Some (eqb-true m n h)
+
+behind_more : (X : Type 0) (Is : Field → X → Type 0) (n : ℕ) (x : Field) (fields : List Field) (a b c : X)
+    → ((g : Field) → first_of fields n ≡ Some g → is_label_of n x.label ≡ true → g ≡ x)
+    → Behind X Is (only_of_number (field_of x.label) x n) a b → Behind X Is (first_of fields n) b c → Behind X Is (first_of (x ∷ fields) n) a c
+behind_more X Is n x fields a b c same one rest = by (is_label_of n x.label) refl one (first_of fields n) refl rest
+  where
+    by : (k : Bool) → is_label_of n x.label ≡ k → Behind X Is (cond k (Some x) None) a b → (o : Option Field) → first_of fields n ≡ o → Behind X Is o b c
+        → Behind X Is (cond k (Some x) o) a c
+    by true k one None e rest = subst (Is x) (sym rest) one
+    by true k one (Some g) e rest = subst (λ (f : Field). Is f c) (same g e k) rest
+    by false k one None e rest = rest ∙ one
+    by false k one (Some g) e rest = rest
+
+all_stated : (constants : List Set) (tokens : List Seen) (fields : List Field) (s t : Stated) → AllByRecursion (IsOwn tokens) fields → stated_by constants s fields ≡ Ok t
+    → AreStated constants (first_of fields) s t
+unfolding stated_by
+all_stated constants tokens [] s t own e = unchanged constants _ s t refl refl refl refl (same_ok s t _ refl e)
+all_stated constants tokens (x ∷ fields) s t own e =
+    by (with_field constants s (field_of x.label) x.tokens) refl e (λ next. all_stated constants tokens fields next t own.1)
+  where
+    same : (n : ℕ) (g : Field) → first_of fields n ≡ Some g → is_label_of n x.label ≡ true → g ≡ x
+    same n g found here =
+        let there = number_of n (field_of g.label) (found_passes (λ f. is_label_of n f.label) fields g found) in
+        some_same g x (sym (found_each (IsOwn tokens) (λ f. is_label_of n f.label) fields g found own.1 n there) ∙ own.0 n (number_of n (field_of x.label) here))
+
+    by : (r : Result Stated ReadFault) → with_field constants s (field_of x.label) x.tokens ≡ r → and_then r (λ next. stated_by constants next fields) ≡ Ok t
+        → ((next : Stated) → stated_by constants next fields ≡ Ok t → AreStated constants (first_of fields) next t) → AreStated constants (first_of (x ∷ fields)) s t
+    by (Err f) w h rest = ok_err t f (sym h)
+    by (Ok next) w h rest =
+        let one = one_stated constants s next x (field_of x.label) w in
+        let more = rest next h in
+        record {
+          authorizer = behind_more (Option (List ℕ)) (IsAuthorizer constants) 1 x fields s.authorizer next.authorizer t.authorizer (same 1) one.authorizer more.authorizer;
+          conditions = behind_more (Option Program) IsProgram 3 x fields s.conditions next.conditions t.conditions (same 3) one.conditions more.conditions;
+          licensees = behind_more (Option Formula) (IsFormula constants) 5 x fields s.licensees next.licensees t.licensees (same 5) one.licensees more.licensees;
+          signature = behind_more (Option (List ℕ)) IsSignature 7 x fields s.signature next.signature t.signature (same 7) one.signature more.signature;
+        }
+
+same_behind : (X : Type 0) (Is : Field → X → Type 0) (o : Option Field) (a b c : X) → ((f : Field) → Is f b → Is f c → b ≡ c) → Behind X Is o a b → Behind X Is o a c → b ≡ c
+same_behind X Is None a b c same h k = h ∙ sym k
+same_behind X Is (Some f) a b c same h k = same f h k
+
+one_statement : (constants : List Set) (own : ℕ → Option Field) (r s t : Stated) → AreStated constants own r s → AreStated constants own r t → s ≡ t
+one_statement constants own r s t h k =
+    ap (λ x. record { authorizer = x; licensees = s.licensees; conditions = s.conditions; signature = s.signature })
+    (same_behind (Option (List ℕ)) (IsAuthorizer constants) (own 1) r.authorizer s.authorizer t.authorizer (λ f (m : IsAuthorizer constants f s.authorizer) (n : IsAuthorizer constants f t.authorizer). m.1 ∙ ap Some (same_ok m.0 n.0 _ m.2 n.2) ∙ sym n.1) h.authorizer k.authorizer)
+    ∙ ap (λ x. record { authorizer = t.authorizer; licensees = x; conditions = s.conditions; signature = s.signature })
+    (same_behind (Option Formula) (IsFormula constants) (own 5) r.licensees s.licensees t.licensees (λ f m n. same_ok _ _ _ m n) h.licensees k.licensees)
+    ∙ ap (λ x. record { authorizer = t.authorizer; licensees = t.licensees; conditions = x; signature = s.signature })
+    (same_behind (Option Program) IsProgram (own 3) r.conditions s.conditions t.conditions (λ f m n. same_ok _ _ _ m n) h.conditions k.conditions)
+    ∙ ap (λ x. record { authorizer = t.authorizer; licensees = t.licensees; conditions = t.conditions; signature = x })
+    (same_behind (Option (List ℕ)) IsSignature (own 7) r.signature s.signature t.signature (λ f m n. same_ok _ _ _ m n) h.signature k.signature)
+
+-- the fault of a field
+
+field_shown : PartsTold → (constants : List Set) (s : Stated) (field : Field) (f : ReadFault) → with_field constants s (field_of field.label) field.tokens ≡ Err f
+    → FieldShows constants field f
+field_shown told constants s field f e = by (field_of field.label) refl e
+  where
+    is : (n m : ℕ) → field_of field.label ≡ Some n → (n == m) ≡ true → field_of field.label ≡ Some m
+    is n m o b = o ∙ ap Some (eqb-true n m b)
+
+    of : (n : ℕ) → field_of field.label ≡ Some n → (a b c d : Bool) → (n == 1) ≡ a → (n == 3) ≡ b → (n == 5) ≡ c → (n == 7) ≡ d
+        → (if a then and_then (authorizer_in constants field.tokens) (λ x. Ok (record { authorizer = Some x; licensees = s.licensees; conditions = s.conditions; signature = s.signature }))
+        else if b then and_then (conditions_in field.tokens) (λ x. Ok (record { authorizer = s.authorizer; licensees = s.licensees; conditions = x; signature = s.signature }))
+        else if c then and_then (licensees_in constants field.tokens) (λ x. Ok (record { authorizer = s.authorizer; licensees = x; conditions = s.conditions; signature = s.signature }))
+        else if d then and_then (signature_in field.tokens) (λ x. Ok (record { authorizer = s.authorizer; licensees = s.licensees; conditions = s.conditions; signature = x }))
+        else Ok s) ≡ Err f → FieldShows constants field f
+    of n o true b c d p q u z h = inl (is n 1 o p, authorizer_shown told constants field.tokens f (then_err (authorizer_in constants field.tokens) _ f h))
+    of n o false true c d p q u z h = inr (inl (is n 3 o q, conditions_shown told field.tokens f (then_err (conditions_in field.tokens) _ f h)))
+    of n o false false true d p q u z h = inr (inr (inl (is n 5 o u, licensees_shown told constants field.tokens f (then_err (licensees_in constants field.tokens) _ f h))))
+    of n o false false false true p q u z h = inr (inr (inr (is n 7 o z, signature_shown told field.tokens f (then_err (signature_in field.tokens) _ f h))))
+    of n o false false false false p q u z h = ok_err s f h
+
+    by : (o : Option ℕ) → field_of field.label ≡ o → with_field constants s o field.tokens ≡ Err f → FieldShows constants field f
+    by None o h = ok_err s f h
+    by (Some n) o h = of n o (n == 1) (n == 3) (n == 5) (n == 7) refl refl refl refl h
+
+field_least : PartsTold → (constants : List Set) (s : Stated) (field : Field) (g : ReadFault) → FieldShows constants field g
+    → Least (with_field constants s (field_of field.label) field.tokens) g
+field_least told constants s field g (inl h) =
+    subst (λ (o : Option ℕ). Least (with_field constants s o field.tokens) g) (sym h.0)
+    (then_least (authorizer_in constants field.tokens) _ g (authorizer_least told constants field.tokens g h.1))
+field_least told constants s field g (inr (inl h)) =
+    subst (λ (o : Option ℕ). Least (with_field constants s o field.tokens) g) (sym h.0)
+    (then_least (conditions_in field.tokens) _ g (conditions_least told field.tokens g h.1))
+field_least told constants s field g (inr (inr (inl h))) =
+    subst (λ (o : Option ℕ). Least (with_field constants s o field.tokens) g) (sym h.0)
+    (then_least (licensees_in constants field.tokens) _ g (licensees_least told constants field.tokens g h.1))
+field_least told constants s field g (inr (inr (inr h))) =
+    subst (λ (o : Option ℕ). Least (with_field constants s o field.tokens) g) (sym h.0)
+    (then_least (signature_in field.tokens) _ g (signature_least told field.tokens g h.1))
+
+-- the first fault of a list of fields
 
 nothing_before : {P : Type 0} (front : List Field) (field : Field) (rest : List Field) → [] ≡ front ++ field ∷ rest → P
 nothing_before [] field rest e = absurd (cc)
@@ -236,39 +300,35 @@ head_same x y xs ys e = cc
 tail_same : (x y : Field) (xs ys : List Field) → x ∷ xs ≡ y ∷ ys → xs ≡ ys
 tail_same x y xs ys e = cc
 
-below_none : (o : Option ReadFault) (g : ReadFault) → o ≡ None → Below o g → ⊥
-unfolding Below
-below_none o g e h = subst (λ (x : Option ReadFault). Below x g) e h
+not_least : {X : Type 0} (r : Result X ReadFault) (x : X) (g : ReadFault) → r ≡ Ok x → Least r g → ⊥
+unfolding Least
+not_least r x g e h = subst (λ y. Least y g) e h
 
-below_some : (o : Option ReadFault) (f g : ReadFault) → o ≡ Some f → Below o g → (fault_order f < fault_order g) ⊎ (f ≡ g)
-unfolding Below
-below_some o f g e h = subst (λ (x : Option ReadFault). Below x g) e h
+least_is : {X : Type 0} (r : Result X ReadFault) (f g : ReadFault) → r ≡ Err f → Least r g → (fault_order f < fault_order g) ⊎ (f ≡ g)
+unfolding Least
+least_is r f g e h = subst (λ y. Least y g) e h
 
-first_shown : PartsTold → (constants : List Set) (tokens : List Seen) (fields : List Field) (f : ReadFault) → AreOwn tokens fields
-    → first_of (faults_of constants tokens) fields ≡ Some f → IsFirstShown constants fields f
-unfolding first_of
-first_shown depth constants tokens [] f own e = none_some f e
-first_shown depth constants tokens (x ∷ fields) f own e =
-    by (fault_by (faults_of constants tokens) (field_of x.label)) refl e (first_shown depth constants tokens fields f (own_behind tokens x fields own))
+first_shown : PartsTold → (constants : List Set) (s : Stated) (fields : List Field) (f : ReadFault) → stated_by constants s fields ≡ Err f → IsFirstShown constants fields f
+unfolding stated_by
+first_shown told constants s [] f e = ok_err s f e
+first_shown told constants s (x ∷ fields) f e =
+    by (with_field constants s (field_of x.label) x.tokens) refl e (λ next. first_shown told constants next fields f)
   where
-    mine : IsOwn tokens x
-    mine = own [] x fields refl
-
-    by : (o : Option ReadFault) → fault_by (faults_of constants tokens) (field_of x.label) ≡ o → option_or o (first_of (faults_of constants tokens) fields) ≡ Some f
-        → (first_of (faults_of constants tokens) fields ≡ Some f → IsFirstShown constants fields f) → IsFirstShown constants (x ∷ fields) f
-    by (Some g) o h rest =
-        let same : g ≡ f = some_same g f h in
+    by : (r : Result Stated ReadFault) → with_field constants s (field_of x.label) x.tokens ≡ r → and_then r (λ next. stated_by constants next fields) ≡ Err f
+        → ((next : Stated) → stated_by constants next fields ≡ Err f → IsFirstShown constants fields f) → IsFirstShown constants (x ∷ fields) f
+    by (Err g) o h rest =
+        let here : with_field constants s (field_of x.label) x.tokens ≡ Err f = o ∙ h in
         record {
           before = [];
           field = x;
           behind = fields;
           split = refl;
-          shown = field_shown depth constants tokens x f mine (o ∙ ap Some same);
-          least = λ other s. below_some _ f other (o ∙ ap Some same) (field_least depth constants tokens x other mine s);
-          first = λ front earlier rest k other s. nothing_before front earlier rest k;
+          shown = field_shown told constants s x f here;
+          least = λ other k. least_is _ f other here (field_least told constants s x other k);
+          first = λ front earlier more k other m. nothing_before front earlier more k;
         }
-    by None o h rest =
-        let r : IsFirstShown constants fields f = rest h in
+    by (Ok next) o h rest =
+        let r : IsFirstShown constants fields f = rest next h in
         record {
           before = x ∷ r.before;
           field = r.field;
@@ -276,274 +336,198 @@ first_shown depth constants tokens (x ∷ fields) f own e =
           split = ap (λ (fs : List Field). x ∷ fs) r.split;
           shown = r.shown;
           least = r.least;
-          first = λ front earlier more k other s. passed r front earlier more k other s;
+          first = λ front earlier more k other m. passed r front earlier more k other m;
         }
       where
         passed : (r : IsFirstShown constants fields f) (front : List Field) (earlier : Field) (more : List Field) → x ∷ r.before ≡ front ++ earlier ∷ more
             → (other : ReadFault) → FieldShows constants earlier other → ⊥
-        passed r [] earlier more k other s =
+        passed r [] earlier more k other m =
             let same : x ≡ earlier = head_same x earlier _ _ k in
-            below_none _ other o (field_least depth constants tokens x other mine (subst (λ (y : Field). FieldShows constants y other) (sym same) s))
-        passed r (y ∷ front) earlier more k other s = r.first front earlier more (tail_same x y _ _ k) other s
+            not_least _ next other o (field_least told constants s x other (subst (λ (y : Field). FieldShows constants y other) (sym same) m))
+        passed r (y ∷ front) earlier more k other m = r.first front earlier more (tail_same x y _ _ k) other m
 
-shown_here : PartsTold → (constants : List Set) (tokens : List Seen) (field : Field) (f : ReadFault) → IsOwn tokens field → FieldShows constants field f
+shown_here : PartsTold → (constants : List Set) (s : Stated) (field : Field) (f : ReadFault) → FieldShows constants field f
     → ((other : ReadFault) → FieldShows constants field other → (fault_order f < fault_order other) ⊎ (f ≡ other))
-    → fault_by (faults_of constants tokens) (field_of field.label) ≡ Some f
-shown_here depth constants tokens field f own shown least = by (fault_by (faults_of constants tokens) (field_of field.label)) refl
+    → with_field constants s (field_of field.label) field.tokens ≡ Err f
+shown_here told constants s field f shown least = by (with_field constants s (field_of field.label) field.tokens) refl
   where
-    by : (o : Option ReadFault) → fault_by (faults_of constants tokens) (field_of field.label) ≡ o → o ≡ Some f
-    by None o = absurd (below_none _ f o (field_least depth constants tokens field f own shown))
-    by (Some g) o = both (below_some _ g f o (field_least depth constants tokens field f own shown)) (least g (field_shown depth constants tokens field g own o))
+    by : (r : Result Stated ReadFault) → with_field constants s (field_of field.label) field.tokens ≡ r → r ≡ Err f
+    by (Ok next) o = absurd (not_least _ next f o (field_least told constants s field f shown))
+    by (Err g) o = ap Err (both (least_is _ g f o (field_least told constants s field f shown)) (least g (field_shown told constants s field g o)))
       where
-        both : (fault_order g < fault_order f) ⊎ (g ≡ f) → (fault_order f < fault_order g) ⊎ (f ≡ g) → Some g ≡ Some f
-        both (inr same) back = ap Some same
-        both (inl less) (inr same) = ap Some (sym same)
+        both : (fault_order g < fault_order f) ⊎ (g ≡ f) → (fault_order f < fault_order g) ⊎ (f ≡ g) → g ≡ f
+        both (inr same) back = same
+        both (inl less) (inr same) = sym same
         both (inl less) (inl more) = absurd (omega (arith, less, more))
 
-shown_first : PartsTold → (constants : List Set) (tokens : List Seen) (fields before : List Field) (field : Field) (behind : List Field) (f : ReadFault) → AreOwn tokens fields
+shown_first : PartsTold → (constants : List Set) (s : Stated) (fields before : List Field) (field : Field) (behind : List Field) (f : ReadFault)
     → fields ≡ before ++ field ∷ behind → FieldShows constants field f
     → ((other : ReadFault) → FieldShows constants field other → (fault_order f < fault_order other) ⊎ (f ≡ other))
     → ((front : List Field) (earlier : Field) (rest : List Field) → before ≡ front ++ earlier ∷ rest → (other : ReadFault) → FieldShows constants earlier other → ⊥)
-    → first_of (faults_of constants tokens) fields ≡ Some f
-unfolding first_of
-shown_first depth constants tokens [] before field behind f own split shown least first = nothing_before before field behind split
-shown_first depth constants tokens (x ∷ fields) [] field behind f own split shown least first =
-    let same : x ≡ field = head_same x field _ _ split in
-    let here : fault_by (faults_of constants tokens) (field_of x.label) ≡ Some f =
-    ap (λ (y : Field). fault_by (faults_of constants tokens) (field_of y.label)) same ∙ shown_here depth constants tokens field f (own [] field behind split) shown least in
-    ap (λ (o : Option ReadFault). option_or o (first_of (faults_of constants tokens) fields)) here
-shown_first depth constants tokens (x ∷ fields) (y ∷ before) field behind f own split shown least first =
-    let same : x ≡ y = head_same x y _ _ split in
-    ap (λ (o : Option ReadFault). option_or o (first_of (faults_of constants tokens) fields))
-    (by (fault_by (faults_of constants tokens) (field_of x.label)) refl same)
-    ∙ shown_first depth constants tokens fields before field behind f (own_behind tokens x fields own) (tail_same x y _ _ split) shown least
-    (λ front earlier rest k. first (y ∷ front) earlier rest (ap (λ (fs : List Field). y ∷ fs) k))
+    → stated_by constants s fields ≡ Err f
+unfolding stated_by
+shown_first told constants s [] before field behind f split shown least first = nothing_before before field behind split
+shown_first told constants s (x ∷ fields) [] field behind f split shown least first =
+    let same : field ≡ x = sym (head_same x field _ _ split) in
+    let here : with_field constants s (field_of x.label) x.tokens ≡ Err f =
+    subst (λ (y : Field). with_field constants s (field_of y.label) y.tokens ≡ Err f) same (shown_here told constants s field f shown least) in
+    ap (λ (r : Result Stated ReadFault). and_then r (λ next. stated_by constants next fields)) here
+shown_first told constants s (x ∷ fields) (y ∷ before) field behind f split shown least first =
+    by (with_field constants s (field_of x.label) x.tokens) refl
+    (λ next. shown_first told constants next fields before field behind f (tail_same x y _ _ split) shown least
+    (λ front earlier rest k. first (y ∷ front) earlier rest (ap (λ (fs : List Field). y ∷ fs) k)))
   where
-    by : (o : Option ReadFault) → fault_by (faults_of constants tokens) (field_of x.label) ≡ o → x ≡ y → o ≡ None
-    by None o same = refl
-    by (Some g) o same =
-        absurd (first [] y before refl g (subst (λ (z : Field). FieldShows constants z g) same (field_shown depth constants tokens x g (own [] x fields refl) o)))
-
--- where no field has a fault, each part is read
-
-number_of : (n : ℕ) (o : Option ℕ) → is_this n o ≡ true → o ≡ Some n
-number_of n None h = absurd (cc)
-number_of n (Some m) h = ap Some (eqb-true m n h)
-
-else_none : (o p : Option ReadFault) → option_or o p ≡ None → (o ≡ None) × (p ≡ None)
-else_none None p e = (refl, e)
-else_none (Some f) p e = none_some f (sym e)
-
-no_fault : (faults : Faults) (n : ℕ) (field : Field) (fields : List Field) → first_of faults fields ≡ None
-    → find (λ f. is_label_of n f.label) fields ≡ Some field → fault_by faults (Some n) ≡ None
-unfolding first_of
-no_fault faults n field [] e h = none_some field h
-no_fault faults n field (x ∷ fields) e h = by (is_label_of n x.label) refl h (λ rest. no_fault faults n field fields rest)
-  where
-    parts : (fault_by faults (field_of x.label) ≡ None) × (first_of faults fields ≡ None)
-    parts = else_none (fault_by faults (field_of x.label)) (first_of faults fields) e
-
-    by : (b : Bool) → is_label_of n x.label ≡ b → (if b then Some x else find (λ f. is_label_of n f.label) fields) ≡ Some field
-        → (first_of faults fields ≡ None → find (λ f. is_label_of n f.label) fields ≡ Some field → fault_by faults (Some n) ≡ None)
-        → fault_by faults (Some n) ≡ None
-    by true l k more = sym (ap (fault_by faults) (number_of n (field_of x.label) l)) ∙ parts.0
-    by false l k more = more parts.1 k
-
-part_none : (faults : Faults) (n : ℕ) (tokens : List Seen) (field : Field) → first_of faults (fields_of tokens) ≡ None → field_with n tokens ≡ Some field
-    → fault_by faults (Some n) ≡ None
-unfolding field_with
-part_none faults n tokens field e h = no_fault faults n field (fields_of tokens) e h
-
--- something was read
-abbrev IsGiven : (X : Type 0) → Result X ReadFault → Type 0
-IsGiven X r = (x : X) × (r ≡ Ok x)
-
-part_ok : (X : Type 0) (r : Result X ReadFault) → result_err r ≡ None → IsGiven X r
-part_ok X (Ok x) e = (x, refl)
-part_ok X (Err f) e = none_some f (sym e)
-
-not_err : (constants : List Set) (signed : ℕ) (a : Result (List ℕ) ReadFault) (l : Result (Option Formula) ReadFault)
-    (k : Result (Option Program) ReadFault) (s : Result (Option (List ℕ)) ReadFault) (f : ReadFault) → IsGiven (List ℕ) a → IsGiven (Option Formula) l
-    → IsGiven (Option Program) k → IsGiven (Option (List ℕ)) s → assembled constants signed a l k s ≡ Err f → ⊥
-not_err constants signed (Ok a) (Ok l) (Ok k) (Ok s) f ga gl gk gs e = ok_err _ f e
-not_err constants signed (Err g) l k s f ga gl gk gs e = ok_err ga.0 g (sym ga.1)
-not_err constants signed (Ok a) (Err g) k s f ga gl gk gs e = ok_err gl.0 g (sym gl.1)
-not_err constants signed (Ok a) (Ok l) (Err g) s f ga gl gk gs e = ok_err gk.0 g (sym gk.1)
-not_err constants signed (Ok a) (Ok l) (Ok k) (Err g) f ga gl gk gs e = ok_err gs.0 g (sym gs.1)
-
-all_read : FieldsTold → (text : List ℕ) (tokens : List Seen) (constants : List Set) (f : ReadFault) → Cuts text tokens → IsWellFielded text
-    → first_of (faults_of constants tokens) (fields_of tokens) ≡ None
-    → assembled constants (signed_to text tokens) (authorizer_in constants (field_with 1 tokens)) (licensees_in constants (field_with 5 tokens))
-    (conditions_in (field_with 3 tokens)) (signature_in (field_with 7 tokens)) ≡ Err f → ⊥
-all_read told text tokens constants f cut well none e =
-    not_err constants (signed_to text tokens) _ _ _ _ f (authorizer (field_with 1 tokens) refl) (licensees (field_with 5 tokens) refl)
-    (conditions (field_with 3 tokens) refl) (signature (field_with 7 tokens) refl) e
-  where
-    clean : (n : ℕ) (field : Field) → field_with n tokens ≡ Some field → fault_by (faults_of constants tokens) (Some n) ≡ None
-    clean n field h = part_none (faults_of constants tokens) n tokens field none h
-
-    authorizer : (o : Option Field) → field_with 1 tokens ≡ o → IsGiven (List ℕ) (authorizer_in constants (field_with 1 tokens))
-    authorizer None o = absurd (told.authorizer text tokens cut well o)
-    authorizer (Some field) o = part_ok (List ℕ) _ (clean 1 field o)
-
-    licensees : (o : Option Field) → field_with 5 tokens ≡ o → IsGiven (Option Formula) (licensees_in constants (field_with 5 tokens))
-    licensees None o = (None, ap (licensees_in constants) o)
-    licensees (Some field) o = part_ok (Option Formula) _ (clean 5 field o)
-
-    conditions : (o : Option Field) → field_with 3 tokens ≡ o → IsGiven (Option Program) (conditions_in (field_with 3 tokens))
-    conditions None o = (None, ap conditions_in o)
-    conditions (Some field) o = part_ok (Option Program) _ (clean 3 field o)
-
-    signature : (o : Option Field) → field_with 7 tokens ≡ o → IsGiven (Option (List ℕ)) (signature_in (field_with 7 tokens))
-    signature None o = (None, ap signature_in o)
-    signature (Some field) o = part_ok (Option (List ℕ)) _ (clean 7 field o)
-
--- where each part is read, no field has a fault
-clean_first : (faults : Faults) (fields : List Field) → faults.authorizer ≡ None → faults.conditions ≡ None → faults.licensees ≡ None → faults.signature ≡ None
-    → first_of faults fields ≡ None
-unfolding first_of
-clean_first faults [] a k l s = refl
-clean_first faults (x ∷ fields) a k l s =
-    ap (λ (o : Option ReadFault). option_or o (first_of faults fields)) (by (field_of x.label)) ∙ clean_first faults fields a k l s
-  where
-    of : (p q r t : Bool) → (if p then faults.authorizer else if q then faults.conditions else if r then faults.licensees else if t then faults.signature else None) ≡ None
-    of true q r t = a
-    of false true r t = k
-    of false false true t = l
-    of false false false true = s
-    of false false false false = refl
-
-    by : (o : Option ℕ) → fault_by faults o ≡ None
-    by None = refl
-    by (Some n) = of (n == 1) (n == 3) (n == 5) (n == 7)
+    by : (r : Result Stated ReadFault) → with_field constants s (field_of x.label) x.tokens ≡ r
+        → ((next : Stated) → stated_by constants next fields ≡ Err f) → and_then r (λ next. stated_by constants next fields) ≡ Err f
+    by (Ok next) o rest = rest next
+    by (Err g) o rest =
+        let same : x ≡ y = head_same x y _ _ split in
+        absurd (first [] y before refl g (subst (λ (z : Field). FieldShows constants z g) same (field_shown told constants s x g o)))
 
 -- the whole text
 
-spelled_of : FieldsTold → (text : List ℕ) (tokens : List Seen) (assertion : Assertion)
-    → ArePresent (constants_in (field_with 6 tokens)) (signed_to text tokens) (authorizer_in (constants_in (field_with 6 tokens)) (field_with 1 tokens))
-    (licensees_in (constants_in (field_with 6 tokens)) (field_with 5 tokens)) (conditions_in (field_with 3 tokens)) (signature_in (field_with 7 tokens)) assertion
-    → Spells text tokens assertion
-spelled_of told text tokens assertion h =
-    record {
-      authorizer = authorizer_to told.parts (constants_in (field_with 6 tokens)) tokens assertion.authorizer h.authorizer_is;
-      constants = h.constants_are;
-      licensees = licensees_to told.parts (constants_in (field_with 6 tokens)) (field_with 5 tokens) assertion.licensees h.licensees_is;
-      conditions = conditions_to told.parts (field_with 3 tokens) assertion.conditions h.conditions_is;
-      signature = signature_to told.parts (field_with 7 tokens) assertion.signature h.signature_is;
-      signed_to = h.signed_is;
-    }
+weaker : (A : Type 0) (P Q : Field → Type 0) (o : Option Field) → ((f : Field) → P f → Q f) → MatchOption o A P → MatchOption o A Q
+weaker A P Q None go h = h
+weaker A P Q (Some f) go h = go f h
 
-of_spelled : FieldsTold → (text : List ℕ) (tokens : List Seen) (assertion : Assertion) → Spells text tokens assertion
-    → ArePresent (constants_in (field_with 6 tokens)) (signed_to text tokens) (authorizer_in (constants_in (field_with 6 tokens)) (field_with 1 tokens))
-    (licensees_in (constants_in (field_with 6 tokens)) (field_with 5 tokens)) (conditions_in (field_with 3 tokens)) (signature_in (field_with 7 tokens)) assertion
+abbrev constants_of : List Seen → List Set
+constants_of tokens = constants_in (field_with 6 tokens)
+
+spelled_of : PartsTold → (text : List ℕ) (tokens : List Seen) (s : Stated) (a : List ℕ) → AreStated (constants_of tokens) (first_of (fields_of tokens)) nothing s → s.authorizer ≡ Some a
+    → Spells text tokens (record { authorizer = a; constants = constants_of tokens; licensees = s.licensees; conditions = s.conditions; signature = s.signature; signed_to = signed_to text tokens })
+unfolding field_with
+spelled_of told text tokens s a h some =
+    record {
+      authorizer = found (first_of (fields_of tokens) 1) refl h.authorizer;
+      constants = refl;
+      licensees = weaker _ _ _ (first_of (fields_of tokens) 5) (λ f e. (licensees_is told (constants_of tokens) f.tokens s.licensees).0 e) h.licensees;
+      conditions = weaker _ _ _ (first_of (fields_of tokens) 3) (λ f e. (conditions_is told f.tokens s.conditions).0 e) h.conditions;
+      signature = weaker _ _ _ (first_of (fields_of tokens) 7) (λ f e. (signature_is told f.tokens s.signature).0 e) h.signature;
+      signed_to = refl;
+    }
+  where
+    found : (o : Option Field) → first_of (fields_of tokens) 1 ≡ o → Behind (Option (List ℕ)) (IsAuthorizer (constants_of tokens)) o None s.authorizer
+        → HasField 1 tokens (λ field. IsShallow field × IsOne field.tokens (λ token. principal_of (constants_of tokens) token ≡ Some a))
+    found None o k = none_some a (sym k ∙ some)
+    found (Some f) o k =
+        let same : k.0 ≡ a = some_same k.0 a (sym k.1 ∙ some) in
+        (f, o, (authorizer_is told (constants_of tokens) f.tokens a).0 (k.2 ∙ ap Ok same))
+
+abbrev stated_of : Assertion → Stated
+stated_of assertion =
+    record { authorizer = Some assertion.authorizer; licensees = assertion.licensees; conditions = assertion.conditions; signature = assertion.signature }
+
+of_spelled : PartsTold → (text : List ℕ) (tokens : List Seen) (assertion : Assertion) → Spells text tokens assertion
+    → AreStated (constants_of tokens) (first_of (fields_of tokens)) nothing (stated_of assertion)
+unfolding field_with
 of_spelled told text tokens assertion h =
     record {
-      authorizer_is = to_authorizer told.parts (constants_in (field_with 6 tokens)) tokens assertion.authorizer h.authorizer;
-      licensees_is = to_licensees told.parts (constants_in (field_with 6 tokens)) (field_with 5 tokens) assertion.licensees h.licensees;
-      conditions_is = to_conditions told.parts (field_with 3 tokens) assertion.conditions h.conditions;
-      signature_is = to_signature told.parts (field_with 7 tokens) assertion.signature h.signature;
-      constants_are = h.constants;
-      signed_is = h.signed_to;
+      authorizer = subst (λ (o : Option Field). Behind (Option (List ℕ)) (IsAuthorizer (constants_of tokens)) o None (Some assertion.authorizer)) (sym h.authorizer.1)
+          (assertion.authorizer, refl, (authorizer_is told (constants_of tokens) h.authorizer.0.tokens assertion.authorizer).1 h.authorizer.2);
+      conditions = weaker _ _ _ (first_of (fields_of tokens) 3) (λ f e. (conditions_is told f.tokens assertion.conditions).1 e) h.conditions;
+      licensees = weaker _ _ _ (first_of (fields_of tokens) 5) (λ f e. (licensees_is told (constants_of tokens) f.tokens assertion.licensees).1 e) h.licensees;
+      signature = weaker _ _ _ (first_of (fields_of tokens) 7) (λ f e. (signature_is told f.tokens assertion.signature).1 e) h.signature;
     }
 
-pub reading_spelled : FieldsTold → (text : List ℕ) (assertion : Assertion) → reading_of text ≡ Ok assertion → IsReading text assertion
-unfolding reading_of reading_with
-reading_spelled told text assertion e = by (fields_or_fault text) refl e
-  where
-    of : (tokens : List Seen) → Cuts text tokens × IsWellFielded text → (o : Option ReadFault)
-        → unless o (assembled (constants_in (field_with 6 tokens)) (signed_to text tokens) (authorizer_in (constants_in (field_with 6 tokens)) (field_with 1 tokens))
-        (licensees_in (constants_in (field_with 6 tokens)) (field_with 5 tokens)) (conditions_in (field_with 3 tokens)) (signature_in (field_with 7 tokens))) ≡ Ok assertion
-        → IsReading text assertion
-    of tokens known (Some f) h = ok_err assertion f (sym h)
-    of tokens known None h =
-        record {
-          tokens = tokens;
-          cut = known.0;
-          well_fielded = known.1;
-          spelled = spelled_of told text tokens assertion (assembled_ok _ _ _ _ _ _ assertion h);
-        }
+-- where all is stated, no field has a fault
+no_fault : PartsTold → (constants : List Set) (tokens : List Seen) (t : Stated) (field : Field) (f : ReadFault) → AreStated constants (first_of (fields_of tokens)) nothing t
+    → IsOwn tokens field → FieldShows constants field f → ⊥
+unfolding field_with
+no_fault told constants tokens t field f h own (inl k) =
+    let read = subst (λ (o : Option Field). Behind (Option (List ℕ)) (IsAuthorizer constants) o None t.authorizer) (own 1 k.0) h.authorizer in
+    not_least (authorizer_in constants field.tokens) read.0 f read.2 (authorizer_least told constants field.tokens f k.1)
+no_fault told constants tokens t field f h own (inr (inl k)) =
+    let read = subst (λ (o : Option Field). Behind (Option Program) IsProgram o None t.conditions) (own 3 k.0) h.conditions in
+    not_least (conditions_in field.tokens) t.conditions f read (conditions_least told field.tokens f k.1)
+no_fault told constants tokens t field f h own (inr (inr (inl k))) =
+    let read = subst (λ (o : Option Field). Behind (Option Formula) (IsFormula constants) o None t.licensees) (own 5 k.0) h.licensees in
+    not_least (licensees_in constants field.tokens) t.licensees f read (licensees_least told constants field.tokens f k.1)
+no_fault told constants tokens t field f h own (inr (inr (inr k))) =
+    let read = subst (λ (o : Option Field). Behind (Option (List ℕ)) IsSignature o None t.signature) (own 7 k.0) h.signature in
+    not_least (signature_in field.tokens) t.signature f read (signature_least told field.tokens f k.1)
 
-    by : (r : Result (List Seen) FieldFault) → fields_or_fault text ≡ r → reading_by text r ≡ Ok assertion → IsReading text assertion
-    by (Err f) o h = ok_err assertion (of_fields f) (sym h)
-    by (Ok tokens) o h =
-        of tokens ((told.tokens text tokens).0 o) (first_of (faults_of (constants_in (field_with 6 tokens)) tokens) (fields_of tokens)) h
+-- what is computed of tokens is what they spell, or the first fault of what their fields state
+abbrev Tells : (text : List ℕ) → Result Assertion ReadFault → Type 0
+Tells text (Ok assertion) = IsReading text assertion
+Tells text (Err fault) = IsFirstReadFault text fault
+
+tokens_tell : FieldsTold → (text : List ℕ) (tokens : List Seen) → Cuts text tokens → IsWellFielded text → Tells text (reading_with text tokens)
+unfolding reading_with field_with
+tokens_tell told text tokens cut well = by (stated_by (constants_of tokens) nothing (fields_of tokens)) refl
+  where
+    own : AreOwn tokens (fields_of tokens)
+    own = told.one text tokens cut well
+
+    of : (s : Stated) → AreStated (constants_of tokens) (first_of (fields_of tokens)) nothing s → (o : Option (List ℕ)) → s.authorizer ≡ o
+        → Tells text (assembled (constants_of tokens) (signed_to text tokens) s o)
+    of s h (Some a) o = record { tokens = tokens; cut = cut; well_fielded = well; spelled = spelled_of told.parts text tokens s a h o }
+    of s h None o = absurd (some (field_with 1 tokens) refl h.authorizer)
+      where
+        some : (f : Option Field) → field_with 1 tokens ≡ f → Behind (Option (List ℕ)) (IsAuthorizer (constants_of tokens)) f None s.authorizer → ⊥
+        some None f k = told.authorizer text tokens cut well f
+        some (Some field) f k = none_some k.0 (sym o ∙ k.1)
+
+    by : (r : Result Stated ReadFault) → stated_by (constants_of tokens) nothing (fields_of tokens) ≡ r
+        → Tells text (and_then r (λ s. assembled (constants_of tokens) (signed_to text tokens) s s.authorizer))
+    by (Err f) e = inr (record { tokens = tokens; cut = cut; well_fielded = well; shown = first_shown told.parts (constants_of tokens) nothing (fields_of tokens) f e })
+    by (Ok s) e = of s (all_stated (constants_of tokens) tokens (fields_of tokens) nothing s (each_own tokens (fields_of tokens) own) e) s.authorizer refl
+
+text_tells : FieldsTold → (text : List ℕ) → Tells text (reading_of text)
+unfolding reading_of
+text_tells told text = by (fields_or_fault text) refl
+  where
+    by : (r : Result (List Seen) ReadFault) → fields_or_fault text ≡ r → Tells text (and_then r (reading_with text))
+    by (Err f) e = inl ((told.fault text f).0 e)
+    by (Ok tokens) e = let known = (told.tokens text tokens).0 e in tokens_tell told text tokens known.0 known.1
+
+pub reading_spelled : FieldsTold → (text : List ℕ) (assertion : Assertion) → reading_of text ≡ Ok assertion → IsReading text assertion
+reading_spelled told text assertion e = subst (Tells text) e (text_tells told text)
+
+pub reading_fault : FieldsTold → (text : List ℕ) (fault : ReadFault) → reading_of text ≡ Err fault → IsFirstReadFault text fault
+reading_fault told text fault e = subst (Tells text) e (text_tells told text)
 
 pub spelled_reading : FieldsTold → (text : List ℕ) (assertion : Assertion) → IsReading text assertion → reading_of text ≡ Ok assertion
 unfolding reading_of reading_with
 spelled_reading told text assertion h =
-    let p = of_spelled told text h.tokens assertion h.spelled in
-    let none : first_of (faults_of (constants_in (field_with 6 h.tokens)) h.tokens) (fields_of h.tokens) ≡ None =
-    clean_first (faults_of (constants_in (field_with 6 h.tokens)) h.tokens) (fields_of h.tokens)
-    (ap result_err p.authorizer_is) (ap result_err p.conditions_is) (ap result_err p.licensees_is) (ap result_err p.signature_is) in
-    ap (reading_by text) ((told.tokens text h.tokens).1 (h.cut, h.well_fielded))
-    ∙ ap (λ (o : Option ReadFault). unless o (assembled (constants_in (field_with 6 h.tokens)) (signed_to text h.tokens)
-    (authorizer_in (constants_in (field_with 6 h.tokens)) (field_with 1 h.tokens)) (licensees_in (constants_in (field_with 6 h.tokens)) (field_with 5 h.tokens))
-    (conditions_in (field_with 3 h.tokens)) (signature_in (field_with 7 h.tokens)))) none
-    ∙ ok_assembled _ _ _ _ _ _ assertion p
-
-pub reading_fault : FieldsTold → (text : List ℕ) (fault : ReadFault) → reading_of text ≡ Err fault → IsFirstReadFault text fault
-unfolding reading_of reading_with
-reading_fault told text fault e = by (fields_or_fault text) refl e
+    ap (λ (r : Result (List Seen) ReadFault). and_then r (reading_with text)) ((told.tokens text h.tokens).1 (h.cut, h.well_fielded))
+    ∙ by (stated_by (constants_of h.tokens) nothing (fields_of h.tokens)) refl
   where
-    err_same : (f g : ReadFault) (r : Result Assertion ReadFault) → r ≡ Err f → r ≡ Err g → f ≡ g
-    err_same f g r k l = cc
+    own : AreOwn h.tokens (fields_of h.tokens)
+    own = told.one text h.tokens h.cut h.well_fielded
 
-    of : (tokens : List Seen) → Cuts text tokens × IsWellFielded text → (o : Option ReadFault)
-        → first_of (faults_of (constants_in (field_with 6 tokens)) tokens) (fields_of tokens) ≡ o
-        → unless o (assembled (constants_in (field_with 6 tokens)) (signed_to text tokens) (authorizer_in (constants_in (field_with 6 tokens)) (field_with 1 tokens))
-        (licensees_in (constants_in (field_with 6 tokens)) (field_with 5 tokens)) (conditions_in (field_with 3 tokens)) (signature_in (field_with 7 tokens))) ≡ Err fault
-        → IsFirstReadFault text fault
-    of tokens known (Some f) o h =
-        inr (record {
-          tokens = tokens;
-          cut = known.0;
-          well_fielded = known.1;
-          shown = first_shown told.parts (constants_in (field_with 6 tokens)) tokens (fields_of tokens) fault (told.one text tokens known.0 known.1) (o ∙ ap Some (err_same f fault _ refl h));
-        })
-    of tokens known None o h = absurd (all_read told text tokens (constants_in (field_with 6 tokens)) fault known.0 known.1 o h)
+    stated : AreStated (constants_of h.tokens) (first_of (fields_of h.tokens)) nothing (stated_of assertion)
+    stated = of_spelled told.parts text h.tokens assertion h.spelled
 
-    by : (r : Result (List Seen) FieldFault) → fields_or_fault text ≡ r → reading_by text r ≡ Err fault → IsFirstReadFault text fault
-    by (Err f) o h = inl (f, (told.fault text f).0 o, sym (err_same (of_fields f) fault _ refl h))
-    by (Ok tokens) o h =
-        of tokens ((told.tokens text tokens).0 o) (first_of (faults_of (constants_in (field_with 6 tokens)) tokens) (fields_of tokens)) refl h
+    by : (r : Result Stated ReadFault) → stated_by (constants_of h.tokens) nothing (fields_of h.tokens) ≡ r
+        → and_then r (λ s. assembled (constants_of h.tokens) (signed_to text h.tokens) s s.authorizer) ≡ Ok assertion
+    by (Err f) e =
+        let shown = first_shown told.parts (constants_of h.tokens) nothing (fields_of h.tokens) f e in
+        absurd (no_fault told.parts (constants_of h.tokens) h.tokens (stated_of assertion) shown.field f stated (own shown.before shown.field shown.behind shown.split) shown.shown)
+    by (Ok s) e =
+        let same = one_statement (constants_of h.tokens) _ nothing s (stated_of assertion) (all_stated (constants_of h.tokens) h.tokens (fields_of h.tokens) nothing s (each_own h.tokens (fields_of h.tokens) own) e) stated in
+        ap (λ (t : Stated). assembled (constants_of h.tokens) (signed_to text h.tokens) t t.authorizer) same
+        ∙ ap (λ (k : List Set). assembled k (signed_to text h.tokens) (stated_of assertion) (Some assertion.authorizer)) (sym h.spelled.constants)
+        ∙ ap (λ (n : ℕ). assembled assertion.constants n (stated_of assertion) (Some assertion.authorizer)) (sym h.spelled.signed_to)
 
 pub fault_reading : FieldsTold → (text : List ℕ) (fault : ReadFault) → IsFirstReadFault text fault → reading_of text ≡ Err fault
 unfolding reading_of reading_with
-fault_reading told text fault (inl h) = ap (reading_by text) ((told.fault text h.0).1 h.1) ∙ ap Err (sym h.2)
+fault_reading told text fault (inl h) = ap (λ (r : Result (List Seen) ReadFault). and_then r (reading_with text)) ((told.fault text fault).1 h)
 fault_reading told text fault (inr h) =
-    let found : first_of (faults_of (constants_in (field_with 6 h.tokens)) h.tokens) (fields_of h.tokens) ≡ Some fault =
-    shown_first told.parts (constants_in (field_with 6 h.tokens)) h.tokens (fields_of h.tokens) h.shown.before h.shown.field h.shown.behind fault
-    (told.one text h.tokens h.cut h.well_fielded) h.shown.split h.shown.shown h.shown.least h.shown.first in
-    ap (reading_by text) ((told.tokens text h.tokens).1 (h.cut, h.well_fielded))
-    ∙ ap (λ (o : Option ReadFault). unless o (assembled (constants_in (field_with 6 h.tokens)) (signed_to text h.tokens)
-    (authorizer_in (constants_in (field_with 6 h.tokens)) (field_with 1 h.tokens)) (licensees_in (constants_in (field_with 6 h.tokens)) (field_with 5 h.tokens))
-    (conditions_in (field_with 3 h.tokens)) (signature_in (field_with 7 h.tokens)))) found
+    ap (λ (r : Result (List Seen) ReadFault). and_then r (reading_with text)) ((told.tokens text h.tokens).1 (h.cut, h.well_fielded))
+    ∙ ap (λ (r : Result Stated ReadFault). and_then r (λ s. assembled (constants_of h.tokens) (signed_to text h.tokens) s s.authorizer))
+    (shown_first told.parts (constants_of h.tokens) nothing (fields_of h.tokens) h.shown.before h.shown.field h.shown.behind fault h.shown.split h.shown.shown h.shown.least h.shown.first)
 
 -- want of memory is no text's fault
-
-of_fields_memory : (text : List ℕ) (f : FieldFault) → IsFirstFault text f → NoMemory ≡ of_fields f → ⊥
-of_fields_memory text (LongText len) h e = absurd (cc)
-of_fields_memory text (Lexical (NotTextAt at)) h e = absurd (cc)
-of_fields_memory text (Lexical (BadStringAt at)) h e = absurd (cc)
-of_fields_memory text (Lexical (BadTokenAt at)) h e = absurd (cc)
-of_fields_memory text (Lexical (FloatAt at)) h e = absurd (cc)
-of_fields_memory text (Lexical (RegexAt at)) h e = absurd (cc)
-of_fields_memory text (Lexical (NumberAt at)) h e = absurd (cc)
-of_fields_memory text (Lexical (BlankAt at)) h e = absurd (cc)
-of_fields_memory text (Lexical NoLexMemory) h e = h.has.has.shown
-of_fields_memory text (BadFieldAt at) h e = absurd (cc)
-of_fields_memory text (FieldTwiceAt at) h e = absurd (cc)
-of_fields_memory text (FieldOrderAt at) h e = absurd (cc)
-of_fields_memory text NoAuthorizerField h e = absurd (cc)
-of_fields_memory text (VersionAt at) h e = absurd (cc)
-of_fields_memory text (ConstantAt at) h e = absurd (cc)
-of_fields_memory text NoFieldMemory h e = h.has
-
 no_memory : (text : List ℕ) → IsFirstReadFault text NoMemory → ⊥
-no_memory text (inl h) = of_fields_memory text h.0 h.1 h.2
+no_memory text (inl h) = of h.has
+  where
+    of : HasFault text NoMemory → ⊥
+    of (inl k) = absurd (let same = k.1 in cc)
+    of (inr (inl k)) = let above = (lexical_between text k.0 k.1).0 in let same = ap fault_order k.2 in omega (arith, above, same)
+    of (inr (inr k)) = k.shown
 no_memory text (inr h) = by h.shown.shown
   where
-    by : FieldShows (constants_in (field_with 6 h.tokens)) h.shown.field NoMemory → ⊥
+    by : FieldShows (constants_of h.tokens) h.shown.field NoMemory → ⊥
     by (inl k) = k.1
     by (inr (inl k)) = k.1
     by (inr (inr (inl k))) = k.1

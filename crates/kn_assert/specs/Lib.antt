@@ -1,4 +1,3 @@
-pub mod Faults
 pub mod Parts
 pub mod Reading
 pub mod Spelled

@@ -1,7 +1,7 @@
 -- What the fields of an assertion state, each by its own tokens (RFC 2704, section 4). What isn't said there is
 -- keynoted's own choice: that an Authorizer is one principal and a Signature one literal, which principals there
 -- are, and the faults.
-use Rattle.std.specs.Prelude.{ℕ, Bool, ◌&&◌, ◌||◌, nat_lt, nat_le, List, [], ◌∷◌, length, Option, Some, None, Result, Ok, Err, ok_or, if◌then◌else◌}
+use Rattle.std.specs.Prelude.{ℕ, ◌≡◌, ◌⊎◌, Bool, ◌||◌, List, [], ◌∷◌, Option, Some, None, Result, Ok, Err, ok_or, if◌then◌else◌}
 use Rattle.kn_env.specs.declared.constant.Constant.{Constant}
 use Rattle.kn_lex.specs.Cutting.{Seen}
 use Rattle.kn_lex.specs.Literal.{literal_value}
@@ -10,26 +10,30 @@ use Rattle.kn_lex.specs.declared.token.Sort.TheVariants.{Name as NameSort, Text}
 use Rattle.kn_fields.specs.Constants.{is_name_sort, is_text_sort}
 use Rattle.kn_trees.specs.declared.formula.Formula.{Formula}
 use Rattle.kn_trees.specs.declared.program.Program.{Program}
-use Rattle.kn_formula.specs.Trees.{principal_text}
+use Rattle.kn_formula.specs.Trees.{principal_text, is_bad_text, normal_text}
 use Rattle.kn_formula.specs.declared.written.Principal.TheVariants.{Literal as Quoted, Name as Unquoted}
 use Rattle.kn_formula.specs.declared.fault.FormulaFault.{FormulaFault}
 use Rattle.kn_formula.specs.declared.fault.FormulaFault.TheVariants.{Syntax as NoFormula, Threshold as WrongThreshold, Name as NoName, NoMemory as NoFormulaMemory}
 use Rattle.kn_program.specs.declared.fault.ProgramFault.{ProgramFault}
 use Rattle.kn_program.specs.declared.fault.ProgramFault.TheVariants.{Syntax as NoProgram, Kind as WrongKind, NoMemory as NoProgramMemory}
-use Rattle.kn_principal.specs.Principals.{normal_form}
-use Rattle.kn_assert.specs.declared.fault.ReadFault.{ReadFault}
-use Rattle.kn_assert.specs.declared.fault.ReadFault.TheVariants.{Syntax, Kind, Threshold, Name, NoMemory}
+use Rattle.kn_fields.specs.declared.fault.ReadFault.{ReadFault}
+use Rattle.kn_fields.specs.declared.fault.ReadFault.TheVariants.{Syntax, Kind, Threshold, Name, NoMemory}
+
+-- this is given, or there was no memory for it
+abbrev pub Gives : {X : Type 0} → Result X ReadFault → Result X ReadFault → Type 0
+Gives (Ok x) read = read ≡ Ok x
+Gives (Err fault) read = (fault ≡ NoMemory) ⊎ (read ≡ Err fault)
 
 abbrev pub text_by : List Constant → Sort → List ℕ → Option (List ℕ)
 text_by constants NameSort bytes = principal_text constants (Unquoted bytes)
 text_by constants Text bytes = principal_text constants (Quoted (literal_value bytes))
 text_by constants sort bytes = None
 
+-- the principal of a text in normal form, unless it is a bad text for one
 abbrev pub normal_in : Option (List ℕ) → Option (List ℕ)
-normal_in None = None
-normal_in (Some text) = if nat_lt 0 (length text) && nat_le (length text) 4096 then Some (normal_form text) else None
+normal_in text = if is_bad_text text then None else Some (normal_text text)
 
--- the principal that a token states, in normal form: its text has 1 to 4,096 bytes
+-- the principal that a token states, in normal form
 unfoldable pub principal_of : List Constant → Seen → Option (List ℕ)
 principal_of constants token = normal_in (text_by constants token.sort token.text)
 

@@ -1,22 +1,19 @@
 -- Which assertion a text spells, and which of its faults is the first one, in the words of the format (RFC 2704,
 -- section 4; the faults and their order are keynoted's own).
-use Rattle.std.specs.Prelude.{ℕ, ◌≡◌, ◌<◌, ◌⊎◌, true, List, [], ◌∷◌, ◌++◌, Some, None, MatchOption, unwrap_or}
+use Rattle.std.specs.Prelude.{ℕ, ◌≡◌, ◌<◌, ◌⊎◌, true, List, [], ◌∷◌, ◌++◌, Some, None, MatchOption}
 use Rattle.kn_env.specs.declared.constant.Constant.{Constant as Set}
 use Rattle.kn_lex.specs.Cutting.{Seen, Cuts}
 use Rattle.kn_lex.specs.Literal.{literal_value}
 use Rattle.kn_lex.specs.declared.token.Sort.TheVariants.{Text}
 use Rattle.kn_fields.specs.Fields.{Field, field_of, fields_of, field_with, signed_to}
-use Rattle.kn_fields.specs.Faults.{IsWellFielded, IsFirstFault, HasField, constants_in}
+use Rattle.kn_fields.specs.Faults.{IsWellFielded, fault_order, IsFirstFault, HasField, constants_in}
 use Rattle.kn_fields.specs.Depth.{IsTooDeep}
-use Rattle.kn_fields.specs.declared.fault.FieldFault.{FieldFault}
 use Rattle.kn_trees.specs.declared.assertion.Assertion.{Assertion}
 use Rattle.kn_formula.specs.Licensing.{AreLicensees, HasNoForm, HasBadThreshold, HasBadName}
 use Rattle.kn_program.specs.Conditions.{IsConditions, HasNoProgram, HasBadKinds}
 use Rattle.kn_assert.specs.Parts.{principal_of, is_principal_token}
-use Rattle.kn_assert.specs.Faults.{fault_number}
-use Rattle.kn_assert.specs.Reading.{of_fields}
-use Rattle.kn_assert.specs.declared.fault.ReadFault.{ReadFault}
-use Rattle.kn_assert.specs.declared.fault.ReadFault.TheVariants.{TooDeep, Syntax, Kind, Threshold, Name}
+use Rattle.kn_fields.specs.declared.fault.ReadFault.{ReadFault}
+use Rattle.kn_fields.specs.declared.fault.ReadFault.TheVariants.{TooDeep, Syntax, Kind, Threshold, Name}
 
 -- these tokens are one token, which is so
 abbrev pub IsOne : List Seen → (Seen → Type 0) → Type 0
@@ -82,9 +79,6 @@ FieldShows constants field fault =
     ⊎ (((field_of field.label ≡ Some 5) × LicenseesShows constants field.tokens fault)
     ⊎ ((field_of field.label ≡ Some 7) × SignatureShows field.tokens fault)))
 
-abbrev pub fault_order : ReadFault → ℕ
-fault_order fault = unwrap_or (fault_number fault) 0
-
 -- of the fields in their order in the text the first that has a fault has this one, and those that it has too
 -- have greater numbers
 pub record IsFirstShown (constants : List Set) (fields : List Field) (fault : ReadFault) : Type 0 where
@@ -106,5 +100,4 @@ pub record IsFirstStated (text : List ℕ) (fault : ReadFault) : Type 0 where
 
 -- the first fault of the text: one of its fields themselves, or else of what they state
 abbrev pub IsFirstReadFault : List ℕ → ReadFault → Type 0
-IsFirstReadFault text fault =
-    ((other : FieldFault) × IsFirstFault text other × (fault ≡ of_fields other)) ⊎ IsFirstStated text fault
+IsFirstReadFault text fault = IsFirstFault text fault ⊎ IsFirstStated text fault

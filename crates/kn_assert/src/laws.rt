@@ -7,11 +7,11 @@ ghost use Rattle.kn_env.specs.declared.constant.Constant.{Constant};
 ghost use Rattle.kn_lex.specs.Spelling.{is_name};
 ghost use Rattle.kn_formula.specs.Trees.{constant_value as constant_text};
 ghost use Rattle.kn_trees.specs.declared.assertion.Assertion.{Assertion};
-ghost use Rattle.kn_assert.specs.Faults.{fault_place};
+ghost use Rattle.kn_fields.specs.Numbers.{fault_place};
 ghost use Rattle.kn_assert.specs.Reading.{reading_of, IsSound};
 ghost use Rattle.kn_assert.specs.Spelled.{IsReading, IsFirstReadFault};
-ghost use Rattle.kn_assert.specs.declared.fault.ReadFault.{ReadFault};
-ghost use Rattle.kn_assert.specs.declared.fault.ReadFault.TheVariants.{NoMemory};
+ghost use Rattle.kn_fields.specs.declared.fault.ReadFault.{ReadFault};
+ghost use Rattle.kn_fields.specs.declared.fault.ReadFault.TheVariants.{NoMemory};
 
 /// What is computed of a text is the assertion that it spells, or else its first fault, which is never want
 /// of memory.

@@ -2,14 +2,13 @@
 //! form of principals.
 #![tactic(auto)]
 
-mod fault;
 pub mod laws;
-mod order;
 mod parts;
 mod reader;
+mod stated;
 
-pub use fault::ReadFault;
 pub use kn_env::Constant;
+pub use kn_fields::ReadFault;
 pub use kn_files::split_file;
 pub use kn_principal::{PrincipalFault, normal, same};
 pub use kn_trees::{

@@ -1,22 +1,18 @@
 //! What each field of an assertion states.
-ghost use Rattle.std.specs.Prelude.{◌≡◌, ◌+◌, ◌≤◌, ◌<◌, Some, length, find, ok_or, IfOk, IfSome};
+ghost use Rattle.std.specs.Prelude.{◌≡◌, ◌+◌, ◌≤◌, ◌<◌, true, false, length, find, ok_or, OnOk, IfErr, MatchResult, None, Some};
 ghost use Rattle.std.specs.Option.{option_copied, option_map};
 ghost use Rattle.std.specs.Str.{bytes_eq};
 ghost use Rattle.kn_lex.specs.Seeing.{seen};
-ghost use Rattle.kn_fields.specs.Depth.{IsTooDeep};
-ghost use Rattle.kn_fields.specs.Fields.{between, field_with, PartIs};
+ghost use Rattle.kn_fields.specs.Fields.{between};
 ghost use Rattle.kn_fields.specs.Scanning.{goes_deep};
 ghost use Rattle.kn_formula.specs.Trees.{constant_value, principal_text};
 ghost use Rattle.kn_formula.specs.declared.written.Principal.TheVariants.{Name as Unquoted};
-ghost use Rattle.kn_formula.specs.Licensing.{licensees_of};
-ghost use Rattle.kn_program.specs.Conditions.{program_of};
-ghost use Rattle.kn_assert.specs.Parts.{normal_in, only_of, authorizer_by, conditions_by, licensees_by, signature_by};
+ghost use Rattle.kn_assert.specs.Parts.{normal_in, only_of, authorizer_by, signature_by, Gives};
 ghost use Rattle.kn_assert.specs.Reading.{authorizer_in, conditions_in, licensees_in, signature_in};
 
-use crate::fault::ReadFault;
-use kn_base::{List, NoMemory, Octets};
+use kn_base::{List, Octets};
 use kn_env::Constant;
-use kn_fields::{Fields, Part};
+use kn_fields::{AUTHORIZER, CONDITIONS, Fields, LICENSEES, Part, ReadFault, SIGNATURE, goes_deep};
 use kn_formula::FormulaFault;
 use kn_lex::{Sort, Token, Tokens, literal};
 use kn_principal::{PrincipalFault, normal};
@@ -24,21 +20,18 @@ use kn_program::ProgramFault;
 use kn_trees::{Formula, Program};
 use std::alloc::Global;
 
-const AUTHORIZER: u8 = 1;
-
-const CONDITIONS: u8 = 3;
-
-const LICENSEES: u8 = 5;
-
-const SIGNATURE: u8 = 7;
-
-/// Whether the field that stands here goes too deep.
-fn is_deep(fields: &Fields<'_>, number: u8, part: Part) -> bool
-    requires { PartIs number fields.now.tokens (Some part) }
-    ensures { result ≡ goes_deep 0 0 (between (part.label + 1) part.end fields.now.tokens) }
+/// Refuses a field that goes too deep.
+fn check_depth(tokens: &Tokens<'_>, part: Part, field: u8) -> Result<(), ReadFault>
+    requires before { part.label < part.end }
+    requires within { part.end ≤ length tokens.now }
+    ensures ok { OnOk result (goes_deep 0 0 (between (part.label + 1) part.end tokens.now) ≡ false) }
+    ensures err { IfErr result (λ fault. (goes_deep 0 0 (between (part.label + 1) part.end tokens.now) ≡ true) × (fault ≡ ReadFault.TooDeep field)) }
 {
-    kn_fields::laws::depth_is_computed();
-    fields.is_too_deep(number)
+    if goes_deep(tokens, part.label + 1, part.end) {
+        Err(ReadFault::TooDeep { field })
+    } else {
+        Ok(())
+    }
 }
 
 /// The one token of a field, where it has one alone.
@@ -53,15 +46,15 @@ fn only<'a, 'b>(tokens: &'b Tokens<'a>, part: Part) -> Option<&'b Token<'a>>
     tokens.get(part.label + 1)
 }
 
-/// The principal of a text in normal form, or None where it has no byte or too many.
-fn principal_in(alloc: Global, text: &[u8]) -> Result<Option<Octets>, NoMemory>
-    ensures { IfOk result (λ principal. principal ≡ normal_in (Some text.now)) }
+/// The principal of an Authorizer's text in normal form.
+fn principal_in(alloc: Global, text: &[u8]) -> Result<Octets, ReadFault>
+    ensures { Gives result (ok_or (normal_in (Some text.now)) (ReadFault.Name 1)) }
 {
     match normal(alloc, text) {
-        Ok(principal) => Ok(Some(principal)),
-        Err(PrincipalFault::Empty) => Ok(None),
-        Err(PrincipalFault::TooLong { .. }) => Ok(None),
-        Err(PrincipalFault::NoMemory) => Err(NoMemory),
+        Ok(principal) => Ok(principal),
+        Err(PrincipalFault::NoMemory) => Err(ReadFault::NoMemory),
+        Err(PrincipalFault::Empty) => Err(ReadFault::Name { field: AUTHORIZER }),
+        Err(PrincipalFault::TooLong { .. }) => Err(ReadFault::Name { field: AUTHORIZER }),
     }
 }
 
@@ -90,23 +83,14 @@ fn principal_named(
     alloc: Global,
     constants: &List<Constant>,
     name: &[u8],
-) -> Result<Option<Octets>, NoMemory>
-    ensures { IfOk result (λ principal. principal ≡ normal_in (principal_text constants.now (Unquoted name.now))) }
+) -> Result<Octets, ReadFault>
+    ensures { Gives result (ok_or (normal_in (principal_text constants.now (Unquoted name.now))) (ReadFault.Name 1)) }
 {
     if name == b"POLICY".as_slice() {
         return principal_in(alloc, name);
     }
     match constant_value(constants, name) {
         Some(value) => principal_in(alloc, value),
-        None => Ok(None),
-    }
-}
-
-fn named(principal: Option<Octets>) -> Result<Octets, ReadFault>
-    ensures { result ≡ ok_or principal (ReadFault.Name 1) }
-{
-    match principal {
-        Some(principal) => Ok(principal),
         None => Err(ReadFault::Name { field: AUTHORIZER }),
     }
 }
@@ -117,137 +101,102 @@ fn authorizer_by(
     alloc: Global,
     constants: &List<Constant>,
     token: &Token<'_>,
-) -> Result<Result<Octets, ReadFault>, NoMemory>
-    ensures { IfOk result (λ read. read ≡ authorizer_by constants.now (Some (seen token.now))) }
+) -> Result<Octets, ReadFault>
+    ensures { Gives result (authorizer_by constants.now (Some (seen token.now))) }
 {
     match token.sort {
-        Sort::Name => Ok(named(principal_named(alloc, constants, token.text)?)),
+        Sort::Name => principal_named(alloc, constants, token.text),
         Sort::Text => {
             let text = literal(alloc, token)?;
-            Ok(named(principal_in(alloc, text.as_slice())?))
+            principal_in(alloc, text.as_slice())
         }
-        _ => Ok(Err(ReadFault::Syntax { field: AUTHORIZER })),
+        _ => Err(ReadFault::Syntax { field: AUTHORIZER }),
     }
 }
 
-/// The principal of the Authorizer field in normal form, or the fault of this field.
+/// The principal of an Authorizer field in normal form.
+#[tactic(auto, unfolding(crate::specs::Parts::authorizer_of))]
 pub(crate) fn authorizer(
     alloc: Global,
     fields: &Fields<'_>,
-) -> Result<Result<Octets, ReadFault>, NoMemory>
-    ensures { IfOk result (λ read. read ≡ authorizer_in fields.now.constants (field_with 1 fields.now.tokens)) }
+    part: Part,
+) -> Result<Octets, ReadFault>
+    requires before { part.label < part.end }
+    requires within { part.end ≤ length fields.now.tokens }
+    ensures { Gives result (authorizer_in fields.now.constants (between (part.label + 1) part.end fields.now.tokens)) }
 {
-    let Some(part) = fields.part(AUTHORIZER) else {
-        return Ok(Err(ReadFault::NoAuthorizer));
-    };
-    if is_deep(fields, AUTHORIZER, part) {
-        return Ok(Err(ReadFault::TooDeep { field: AUTHORIZER }));
-    }
+    check_depth(&fields.tokens, part, AUTHORIZER)?;
     match only(&fields.tokens, part) {
         Some(token) => authorizer_by(alloc, &fields.constants, token),
-        None => Ok(Err(ReadFault::Syntax { field: AUTHORIZER })),
+        None => Err(ReadFault::Syntax { field: AUTHORIZER }),
     }
 }
 
-/// The program of a field that doesn't go too deep.
-fn program(
-    alloc: Global,
-    fields: &Fields<'_>,
-    part: Part,
-) -> Result<Result<Option<Program>, ReadFault>, NoMemory>
-    requires part { PartIs 3 fields.now.tokens (Some part) }
-    requires shallow { IsTooDeep (between (part.label + 1) part.end fields.now.tokens) → ⊥ }
-    ensures { IfOk result (λ read. read ≡ conditions_by (program_of (between (part.label + 1) part.end fields.now.tokens))) }
-{
-    match kn_program::conditions(alloc, &fields.tokens, part) {
-        Ok(conditions) => Ok(Ok(conditions)),
-        Err(ProgramFault::Syntax) => Ok(Err(ReadFault::Syntax { field: CONDITIONS })),
-        Err(ProgramFault::Kind) => Ok(Err(ReadFault::Kind { field: CONDITIONS })),
-        Err(ProgramFault::NoMemory) => Err(NoMemory),
-    }
-}
-
-/// The program of the Conditions field, or the fault of this field.
+/// The program of a Conditions field.
 pub(crate) fn conditions(
     alloc: Global,
     fields: &Fields<'_>,
-) -> Result<Result<Option<Program>, ReadFault>, NoMemory>
-    ensures { IfOk result (λ read. read ≡ conditions_in (field_with 3 fields.now.tokens)) }
+    part: Part,
+) -> Result<Option<Program>, ReadFault>
+    requires before { part.label < part.end }
+    requires within { part.end ≤ length fields.now.tokens }
+    ensures { Gives result (conditions_in (between (part.label + 1) part.end fields.now.tokens)) }
 {
     kn_fields::laws::depth_is_computed();
-    let Some(part) = fields.part(CONDITIONS) else {
-        return Ok(Ok(None));
-    };
-    if is_deep(fields, CONDITIONS, part) {
-        return Ok(Err(ReadFault::TooDeep { field: CONDITIONS }));
-    }
-    program(alloc, fields, part)
-}
-
-/// The formula of a field that doesn't go too deep.
-fn formula(
-    alloc: Global,
-    fields: &Fields<'_>,
-    part: Part,
-) -> Result<Result<Option<Formula>, ReadFault>, NoMemory>
-    requires part { PartIs 5 fields.now.tokens (Some part) }
-    requires shallow { IsTooDeep (between (part.label + 1) part.end fields.now.tokens) → ⊥ }
-    ensures { IfOk result (λ read. read ≡ licensees_by (licensees_of fields.now.constants (between (part.label + 1) part.end fields.now.tokens))) }
-{
-    match kn_formula::licensees(alloc, &fields.tokens, part, &fields.constants) {
-        Ok(licensees) => Ok(Ok(licensees)),
-        Err(FormulaFault::Syntax) => Ok(Err(ReadFault::Syntax { field: LICENSEES })),
-        Err(FormulaFault::Threshold) => Ok(Err(ReadFault::Threshold { field: LICENSEES })),
-        Err(FormulaFault::Name) => Ok(Err(ReadFault::Name { field: LICENSEES })),
-        Err(FormulaFault::NoMemory) => Err(NoMemory),
+    check_depth(&fields.tokens, part, CONDITIONS)?;
+    match kn_program::conditions(alloc, &fields.tokens, part) {
+        Ok(conditions) => Ok(conditions),
+        Err(ProgramFault::Syntax) => Err(ReadFault::Syntax { field: CONDITIONS }),
+        Err(ProgramFault::Kind) => Err(ReadFault::Kind { field: CONDITIONS }),
+        Err(ProgramFault::NoMemory) => Err(ReadFault::NoMemory),
     }
 }
 
-/// The formula of the Licensees field, or the fault of this field.
+/// The formula of a Licensees field.
 pub(crate) fn licensees(
     alloc: Global,
     fields: &Fields<'_>,
-) -> Result<Result<Option<Formula>, ReadFault>, NoMemory>
-    ensures { IfOk result (λ read. read ≡ licensees_in fields.now.constants (field_with 5 fields.now.tokens)) }
+    part: Part,
+) -> Result<Option<Formula>, ReadFault>
+    requires before { part.label < part.end }
+    requires within { part.end ≤ length fields.now.tokens }
+    ensures { Gives result (licensees_in fields.now.constants (between (part.label + 1) part.end fields.now.tokens)) }
 {
     kn_fields::laws::depth_is_computed();
-    let Some(part) = fields.part(LICENSEES) else {
-        return Ok(Ok(None));
-    };
-    if is_deep(fields, LICENSEES, part) {
-        return Ok(Err(ReadFault::TooDeep { field: LICENSEES }));
+    check_depth(&fields.tokens, part, LICENSEES)?;
+    match kn_formula::licensees(alloc, &fields.tokens, part, &fields.constants) {
+        Ok(licensees) => Ok(licensees),
+        Err(FormulaFault::Syntax) => Err(ReadFault::Syntax { field: LICENSEES }),
+        Err(FormulaFault::Threshold) => Err(ReadFault::Threshold { field: LICENSEES }),
+        Err(FormulaFault::Name) => Err(ReadFault::Name { field: LICENSEES }),
+        Err(FormulaFault::NoMemory) => Err(ReadFault::NoMemory),
     }
-    formula(alloc, fields, part)
 }
 
 /// The signature that one token states.
-fn signature_by(
-    alloc: Global,
-    token: &Token<'_>,
-) -> Result<Result<Option<Octets>, ReadFault>, NoMemory>
-    ensures { IfOk result (λ read. read ≡ signature_by (Some (seen token.now))) }
+fn signature_by(alloc: Global, token: &Token<'_>) -> Result<Option<Octets>, ReadFault>
+    ensures { Gives result (signature_by (Some (seen token.now))) }
 {
     match token.sort {
-        Sort::Text => Ok(Ok(Some(literal(alloc, token)?))),
-        _ => Ok(Err(ReadFault::Syntax { field: SIGNATURE })),
+        Sort::Text => Ok(Some(literal(alloc, token)?)),
+        _ => Err(ReadFault::Syntax { field: SIGNATURE }),
     }
 }
 
-/// The value of the Signature field, or the fault of this field.
+/// The value of a Signature field.
+#[tactic(auto, unfolding(crate::specs::Parts::signature_of))]
 pub(crate) fn signature(
     alloc: Global,
     fields: &Fields<'_>,
-) -> Result<Result<Option<Octets>, ReadFault>, NoMemory>
-    ensures { IfOk result (λ read. read ≡ signature_in (field_with 7 fields.now.tokens)) }
+    part: Part,
+) -> Result<Option<Octets>, ReadFault>
+    requires before { part.label < part.end }
+    requires within { part.end ≤ length fields.now.tokens }
+    ensures { Gives result (signature_in (between (part.label + 1) part.end fields.now.tokens)) }
 {
-    let Some(part) = fields.part(SIGNATURE) else {
-        return Ok(Ok(None));
-    };
-    if is_deep(fields, SIGNATURE, part) {
-        return Ok(Err(ReadFault::TooDeep { field: SIGNATURE }));
-    }
+    check_depth(&fields.tokens, part, SIGNATURE)?;
     match only(&fields.tokens, part) {
         Some(token) => signature_by(alloc, token),
-        None => Ok(Err(ReadFault::Syntax { field: SIGNATURE })),
+        None => Err(ReadFault::Syntax { field: SIGNATURE }),
     }
 }

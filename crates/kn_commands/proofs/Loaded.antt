@@ -8,9 +8,9 @@ use Rattle.atomic_table.specs.Seated.{TableId}
 use Rattle.kn_base.specs.declared.span.Span.{Span}
 use Rattle.kn_files.specs.Pieces.{spans_of, bytes_at, pieces_of}
 use Rattle.kn_trees.specs.declared.assertion.Assertion.{Assertion}
-use Rattle.kn_assert.specs.declared.fault.ReadFault.{ReadFault}
-use Rattle.kn_assert.specs.declared.fault.ReadFault.TheVariants as R
-use Rattle.kn_assert.specs.Faults.{fault_number}
+use Rattle.kn_fields.specs.declared.fault.ReadFault.{ReadFault}
+use Rattle.kn_fields.specs.declared.fault.ReadFault.TheVariants as R
+use Rattle.kn_fields.specs.Numbers.{fault_number}
 use Rattle.kn_assert.specs.Reading.{assertion_of, fault_of}
 use Rattle.kn_store.specs.declared.update.Change.TheVariants.{Add}
 use Rattle.kn_store.specs.declared.update.Numbered.{Numbered}

@@ -1,6 +1,6 @@
 //! Loading a policy file: its assertions, added in their order to a new registry by its root pass.
 ghost use Rattle.std.specs.Prelude.{◌≡◌, ◌≢◌, ◌+◌, ◌≤◌, ◌∷◌, ◌++◌, [], length, All, OnOk, IfOk, IfErr, MatchOption, Some, ℕ, List as Of};
-ghost use Rattle.kn_assert.specs.Faults.{fault_number};
+ghost use Rattle.kn_fields.specs.Numbers.{fault_number};
 ghost use Rattle.kn_files.specs.Pieces.{pieces_of, spans_of, bytes_at, IsWithin};
 ghost use Rattle.kn_store.specs.declared.fault.StoreFault.TheVariants as F;
 ghost use Rattle.kn_commands.specs.Loaded.{IsUnsplitRoot, IsLoaded, IsLimitStop, StopsLoading};

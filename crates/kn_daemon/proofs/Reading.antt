@@ -3,8 +3,8 @@ use Rattle.std.proofs.Common.{◌≡◌, ℕ, List, Option, Some, Result, Ok, Er
 use Rattle.std.specs.Result.{result_err, result_ok}
 use Rattle.kn_trees.specs.declared.assertion.Assertion.{Assertion}
 use Rattle.kn_assert.specs.Reading.{reading_of, assertion_of, fault_of}
-use Rattle.kn_assert.specs.Faults.{fault_number, fault_place}
-use Rattle.kn_assert.specs.declared.fault.ReadFault.{ReadFault}
+use Rattle.kn_fields.specs.Numbers.{fault_number, fault_place}
+use Rattle.kn_fields.specs.declared.fault.ReadFault.{ReadFault}
 use Rattle.kn_reply.specs.declared.refusal.Refusal.{Refusal}
 use Rattle.kn_reply.specs.declared.refusal.Refusal.TheVariants as R
 use Rattle.kn_daemon.specs.Daemon.{refusal_of_reading}

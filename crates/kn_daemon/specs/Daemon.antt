@@ -7,8 +7,8 @@ use Rattle.kn_env.specs.Environment.{Asked}
 use Rattle.kn_env.specs.Values.{values_of}
 use Rattle.kn_trees.specs.declared.assertion.Assertion.{Assertion}
 use Rattle.kn_assert.specs.Reading.{reading_of, assertion_of}
-use Rattle.kn_assert.specs.Faults.{fault_number, fault_place}
-use Rattle.kn_assert.specs.declared.fault.ReadFault.{ReadFault}
+use Rattle.kn_fields.specs.Numbers.{fault_number, fault_place}
+use Rattle.kn_fields.specs.declared.fault.ReadFault.{ReadFault}
 use Rattle.kn_proof.specs.declared.named.Id.{Id}
 use Rattle.kn_proof.specs.declared.named.Id.TheVariants.{Shared, Private}
 use Rattle.kn_proof.specs.declared.named.NamedRow.{NamedRow}

@@ -46,21 +46,26 @@ with_passed n xs i t o e is h = e ∙ ap (field_with n) (drop_here xs i t (sym i
 pub with_over : (n : ℕ) (xs : List Seen) (i : ℕ) (o : Option Field) → o ≡ field_with n (drop i xs) → length xs ≤ i → o ≡ None
 with_over n xs i o e le = e ∙ ap (field_with n) (drop_all i xs le) ∙ with_nothing n
 
+-- up to the next label go the tokens of a field
+pub own_tokens : (xs : List Seen) (from end : ℕ) → end ≡ from + prefix_len goes_on (drop from xs) → take_while goes_on (drop from xs) ≡ between from end xs
+unfolding between
+own_tokens xs from end last =
+    let count : end - from ≡ prefix_len goes_on (drop from xs) = omega (arith, last) in
+    ap (λ (k : ℕ). take k (drop from xs)) (sym count)
+
 pub with_found : (n : ℕ) (xs : List Seen) (i end : ℕ) (t : Seen) → field_with n xs ≡ field_with n (drop i xs) → Some t ≡ slice_get xs i → true ≡ is_label_of n t
     → end ≡ i + 1 + prefix_len goes_on (drop (i + 1) xs) → PartIs n xs (Some (record { label = i; end = end }))
-unfolding between
 with_found n xs i end t e is h last =
     let below : i < length xs = slice_get_within xs i t (sym is) in
     let size : length (drop (i + 1) xs) ≡ length xs - (i + 1) = length-drop (i + 1) xs in
-    let short : prefix_len goes_on (drop (i + 1) xs) ≤ length (drop (i + 1) xs) = prefix_len-le-length goes_on (drop (i + 1) xs) in
-    let count : end - (i + 1) ≡ prefix_len goes_on (drop (i + 1) xs) = omega (arith, last) in (
+    let short : prefix_len goes_on (drop (i + 1) xs) ≤ length (drop (i + 1) xs) = prefix_len-le-length goes_on (drop (i + 1) xs) in (
       record { label = t; tokens = take_while goes_on (drop (i + 1) xs) },
       e ∙ ap (field_with n) (drop_here xs i t (sym is)) ∙ with_here n t (drop (i + 1) xs) h,
       record {
         label = sym is;
         before = omega (arith, last);
         within = omega (arith, last, size, short, below);
-        own = ap (λ (k : ℕ). take k (drop (i + 1) xs)) (sym count);
+        own = own_tokens xs (i + 1) end last;
       },
     )
 
@@ -78,11 +83,13 @@ fields_skipped (t ∷ ts) = by (is_label t) refl (fields_skipped ts)
     by false e rest = rw (one-add k) rest
 
 -- the tokens up to the next label begin no field
+pub fields_from : (xs : List Seen) (i at : ℕ) → at ≡ i + prefix_len goes_on (drop i xs) → fields_of (drop i xs) ≡ fields_of (drop at xs)
+fields_from xs i at is = fields_skipped (drop i xs) ∙ ap fields_of (drop-drop (prefix_len goes_on (drop i xs)) i xs ∙ ap (λ (k : ℕ). drop k xs) (sym is))
+
 pub with_skipped : (n : ℕ) (xs : List Seen) (i at : ℕ) (o : Option Field) → o ≡ field_with n (drop i xs) → at ≡ i + prefix_len goes_on (drop i xs)
     → o ≡ field_with n (drop at xs)
 unfolding field_with
-with_skipped n xs i at o e is =
-    e ∙ ap (find (λ field. is_label_of n field.label)) (fields_skipped (drop i xs) ∙ ap fields_of (drop-drop (prefix_len goes_on (drop i xs)) i xs ∙ ap (λ (k : ℕ). drop k xs) (sym is)))
+with_skipped n xs i at o e is = e ∙ ap (find (λ field. is_label_of n field.label)) (fields_from xs i at is)
 
 pub next_within : (xs : List Seen) (i at : ℕ) → i ≤ length xs → at ≡ i + prefix_len goes_on (drop i xs) → (i ≤ at) × (at ≤ length xs)
 next_within xs i at le is =

@@ -1,23 +1,23 @@
 -- The first fault that is computed is the first one that the text has.
 use Rattle.std.proofs.Common.{◌≡◌, ℕ, ◌<◌, ◌≤◌, ◌⊎◌, inl, inr, Bool, true, false, Option, Some, None, List, [], arith, length, refl, sym, ◌∙◌, ap, subst}
-use Rattle.std.specs.Prelude.{◌+◌, slice_get, if◌then◌else◌, nat_lt}
+use Rattle.std.specs.Prelude.{◌+◌, slice_get, if◌then◌else◌}
 use Rattle.std.proofs.lemmas.Option.{none-some}
-use Rattle.std.proofs.lemmas.Bool.Decides.{Decides-ltb, nat_tests}
+use Rattle.kn_base.specs.declared.limits.TheConstants.{ASSERTION_BYTES}
 use Rattle.kn_lex.specs.Cutting.{Seen, Cuts}
 use Rattle.kn_lex.specs.Faults.{IsFaultless, IsFirstLexicalFault}
 use Rattle.kn_lex.specs.Seeing.{HasCause as HasLexicalCause}
 use Rattle.kn_lex.specs.declared.fault.LexFault.{LexFault}
-use Rattle.kn_lex.specs.declared.fault.LexFault.TheVariants.{NotText, BadString, BadToken, Float, Regex, Number, Blank, NoMemory as NoLexMemory}
+use Rattle.kn_lex.specs.declared.fault.LexFault.TheVariants as L
 use Rattle.kn_fields.specs.Fields.{Field, field_with, between, PartIs}
 use Rattle.kn_fields.specs.Constants.{IsConstantList}
 use Rattle.kn_fields.specs.Turns.{turn_behind, departs}
-use Rattle.kn_fields.specs.Faults.{is_bad_field, is_second, is_late_version, is_behind_signature, is_version, DepartsAt, Shows, TokensShow, HasFault, fault_order, IsFirstFault, IsWellFielded, HasCause}
-use Rattle.kn_fields.specs.Scanning.{start_of, first_place, else_place, order_place, version_by, version_place, end_place, departure, constant_by, constant_place, fault_at, fault_without, fault_in, of_lexical, StandsRight}
+use Rattle.kn_fields.specs.Faults.{is_bad_field, is_second, is_late_version, is_behind_signature, is_version, DepartsAt, Shows, TokensShow, of_lexical, HasFault, fault_order, IsFirstFault, IsWellFielded, HasCause}
+use Rattle.kn_fields.specs.Scanning.{start_of, first_place, else_place, order_place, version_by, version_place, end_place, departure, constant_by, constant_place, fault_at, fault_without, fault_in, StandsRight}
 use Rattle.kn_fields.specs.declared.constants.Turn.{Turn}
 use Rattle.kn_fields.specs.declared.constants.Turn.TheVariants.{Setting, Equals, Value}
 use Rattle.kn_fields.specs.declared.part.Part.{Part}
-use Rattle.kn_fields.specs.declared.fault.FieldFault.{FieldFault}
-use Rattle.kn_fields.specs.declared.fault.FieldFault.TheVariants.{TooLong, Lexical, BadField, FieldTwice, FieldOrder, NoAuthorizer, Version, Constant, NoMemory}
+use Rattle.kn_fields.specs.declared.fault.ReadFault.{ReadFault}
+use Rattle.kn_fields.specs.declared.fault.ReadFault.TheVariants.{TooLong, BadField, FieldTwice, FieldOrder, NoAuthorizer, Version, Constant}
 use Rattle.kn_fields.proofs.Places.{some_same, none_shown, first_shown, none_place, shown_place}
 use Rattle.kn_fields.proofs.Lists.{begins_list, whole_list, list_due, none_departs, departure_from, departure_to}
 
@@ -121,19 +121,19 @@ shown_constant tokens at h = ap constant_by h.1 ∙ shown_departs h.0 at h.2
 
 -- what is computed is shown
 
-at_shown : (tokens : List Seen) (fault : ℕ → FieldFault) (o : Option ℕ) (others : Option FieldFault) (f : FieldFault)
+at_shown : (tokens : List Seen) (fault : ℕ → ReadFault) (o : Option ℕ) (others : Option ReadFault) (f : ReadFault)
     → ((at : ℕ) → o ≡ Some at → Shows tokens (fault at)) → (others ≡ Some f → Shows tokens f) → fault_at fault o others ≡ Some f → Shows tokens f
 unfolding fault_at
 at_shown tokens fault None others f here rest h = rest h
 at_shown tokens fault (Some at) others f here rest h = subst (Shows tokens) (some_same _ _ h) (here at refl)
 
-without_shown : (tokens : List Seen) (others : Option FieldFault) (f : FieldFault) (o : Option Field) → field_with 1 tokens ≡ o
+without_shown : (tokens : List Seen) (others : Option ReadFault) (f : ReadFault) (o : Option Field) → field_with 1 tokens ≡ o
     → (others ≡ Some f → Shows tokens f) → fault_without NoAuthorizer o others ≡ Some f → Shows tokens f
 unfolding fault_without
 without_shown tokens others f None e rest h = subst (Shows tokens) (some_same _ _ h) e
 without_shown tokens others f (Some field) e rest h = rest h
 
-pub fault_shown : (tokens : List Seen) (f : FieldFault) → fault_in tokens ≡ Some f → Shows tokens f
+pub fault_shown : (tokens : List Seen) (f : ReadFault) → fault_in tokens ≡ Some f → Shows tokens f
 unfolding fault_in
 fault_shown tokens f =
     at_shown tokens BadField _ _ f (first_shown is_bad_field tokens)
@@ -144,34 +144,32 @@ fault_shown tokens f =
     (at_shown tokens Constant _ _ f (constant_shown tokens) (λ h. absurd (none-some _ h)))))))
 
 -- the fault comes in the order behind this one, or is it
-unfoldable pub Least : Option FieldFault → FieldFault → Type 0
+unfoldable pub Least : Option ReadFault → ReadFault → Type 0
 Least None other = ⊥
 Least (Some fault) other = (fault_order fault < fault_order other) ⊎ (fault ≡ other)
 
-later : (fault : ℕ → FieldFault) (o : Option ℕ) (others : Option FieldFault) (other : FieldFault)
+later : (fault : ℕ → ReadFault) (o : Option ℕ) (others : Option ReadFault) (other : ReadFault)
     → ((at : ℕ) → fault_order (fault at) < fault_order other) → Least others other → Least (fault_at fault o others) other
 unfolding Least fault_at
 later fault None others other before rest = rest
 later fault (Some at) others other before rest = inl (before at)
 
-later_without : (o : Option Field) (others : Option FieldFault) (other : FieldFault)
+later_without : (o : Option Field) (others : Option ReadFault) (other : ReadFault)
     → fault_order NoAuthorizer < fault_order other → Least others other → Least (fault_without NoAuthorizer o others) other
 unfolding Least fault_without
 later_without None others other before rest = inl before
 later_without (Some field) others other before rest = rest
 
-this : (fault : ℕ → FieldFault) (o : Option ℕ) (others : Option FieldFault) (at : ℕ) → o ≡ Some at → Least (fault_at fault o others) (fault at)
+this : (fault : ℕ → ReadFault) (o : Option ℕ) (others : Option ReadFault) (at : ℕ) → o ≡ Some at → Least (fault_at fault o others) (fault at)
 unfolding Least fault_at
 this fault o others at e = subst (λ (x : Option ℕ). Least (fault_at fault x others) (fault at)) (sym e) (inr refl)
 
-this_without : (o : Option Field) (others : Option FieldFault) → o ≡ None → Least (fault_without NoAuthorizer o others) NoAuthorizer
+this_without : (o : Option Field) (others : Option ReadFault) → o ≡ None → Least (fault_without NoAuthorizer o others) NoAuthorizer
 unfolding Least fault_without
 this_without o others e = subst (λ (x : Option Field). Least (fault_without NoAuthorizer x others) NoAuthorizer) (sym e) (inr refl)
 
-pub shown_least : (tokens : List Seen) (other : FieldFault) → Shows tokens other → Least (fault_in tokens) other
+pub shown_least : (tokens : List Seen) (other : ReadFault) → Shows tokens other → Least (fault_in tokens) other
 unfolding fault_in
-shown_least tokens (TooLong len) s = absurd s
-shown_least tokens (Lexical fault) s = absurd s
 shown_least tokens (BadField at) s = this BadField _ _ at (shown_place is_bad_field tokens at s)
 shown_least tokens (FieldTwice at) s = later BadField _ _ (FieldTwice at) (λ k. omega arith) (this FieldTwice _ _ at (shown_place is_second tokens at s))
 shown_least tokens (FieldOrder at) s =
@@ -185,119 +183,76 @@ shown_least tokens (Version at) s =
 shown_least tokens (Constant at) s =
     later BadField _ _ (Constant at) (λ k. omega arith) (later FieldTwice _ _ (Constant at) (λ k. omega arith) (later FieldOrder _ _ (Constant at) (λ k. omega arith)
     (later_without _ _ (Constant at) (omega arith) (later Version _ _ (Constant at) (λ k. omega arith) (this Constant _ _ at (shown_constant tokens at s))))))
-shown_least tokens NoMemory s = absurd s
+shown_least tokens _ s = absurd s
 
 -- a text whose tokens are known has the faults that they show
 
-raise : (text : List ℕ) (tokens : List Seen) → Cuts text tokens → IsFaultless text → (fault : FieldFault) → Shows tokens fault → HasFault text fault
-raise text tokens c n (TooLong len) s = absurd s
-raise text tokens c n (Lexical fault) s = absurd s
-raise text tokens c n (BadField at) s = record { tokens = tokens; cut = c; faultless = n; shown = s }
-raise text tokens c n (FieldTwice at) s = record { tokens = tokens; cut = c; faultless = n; shown = s }
-raise text tokens c n (FieldOrder at) s = record { tokens = tokens; cut = c; faultless = n; shown = s }
-raise text tokens c n NoAuthorizer s = record { tokens = tokens; cut = c; faultless = n; shown = s }
-raise text tokens c n (Version at) s = record { tokens = tokens; cut = c; faultless = n; shown = s }
-raise text tokens c n (Constant at) s = record { tokens = tokens; cut = c; faultless = n; shown = s }
-raise text tokens c n NoMemory s = absurd s
-
-same_tokens : OneList → (text : List ℕ) (tokens : List Seen) → Cuts text tokens → (fault : FieldFault) → TokensShow text fault → Shows tokens fault
+same_tokens : OneList → (text : List ℕ) (tokens : List Seen) → Cuts text tokens → (fault : ReadFault) → TokensShow text fault → Shows tokens fault
 same_tokens one text tokens c fault h = subst (λ (ts : List Seen). Shows ts fault) (one text h.tokens tokens h.cut c) h.shown
 
-lower : OneList → (text : List ℕ) (tokens : List Seen) → length text ≤ 16384 → Cuts text tokens → IsFaultless text → (fault : FieldFault) → HasFault text fault
+lower : OneList → (text : List ℕ) (tokens : List Seen) → length text ≤ ASSERTION_BYTES → Cuts text tokens → IsFaultless text → (fault : ReadFault) → HasFault text fault
     → Shows tokens fault
-lower one text tokens le c n (TooLong len) h = let long = h.0 in omega (arith, long, le)
-lower one text tokens le c n (Lexical fault) h = n fault h.has
-lower one text tokens le c n (BadField at) h = same_tokens one text tokens c (BadField at) h
-lower one text tokens le c n (FieldTwice at) h = same_tokens one text tokens c (FieldTwice at) h
-lower one text tokens le c n (FieldOrder at) h = same_tokens one text tokens c (FieldOrder at) h
-lower one text tokens le c n NoAuthorizer h = same_tokens one text tokens c NoAuthorizer h
-lower one text tokens le c n (Version at) h = same_tokens one text tokens c (Version at) h
-lower one text tokens le c n (Constant at) h = same_tokens one text tokens c (Constant at) h
-lower one text tokens le c n NoMemory h = absurd h
+lower one text tokens le c n fault (inl h) = let long = h.0 in absurd (omega (arith, long, le))
+lower one text tokens le c n fault (inr (inl h)) = absurd (n h.0 h.1.has)
+lower one text tokens le c n fault (inr (inr h)) = same_tokens one text tokens c fault h
 
-pub has_cause : (text : List ℕ) (fault : FieldFault) → IsFirstFault text fault → HasCause text fault
-has_cause text (TooLong len) h = h
-has_cause text (Lexical fault) h = h
-has_cause text (BadField at) h = h
-has_cause text (FieldTwice at) h = h
-has_cause text (FieldOrder at) h = h
-has_cause text NoAuthorizer h = h
-has_cause text (Version at) h = h
-has_cause text (Constant at) h = h
-has_cause text NoMemory h = tt
-
-pub first_fault : OneList → (text : List ℕ) (tokens : List Seen) → length text ≤ 16384 → Cuts text tokens → IsFaultless text
-    → (fault : FieldFault) → fault_in tokens ≡ Some fault → IsFirstFault text fault
+pub first_fault : OneList → (text : List ℕ) (tokens : List Seen) → length text ≤ ASSERTION_BYTES → Cuts text tokens → IsFaultless text
+    → (fault : ReadFault) → fault_in tokens ≡ Some fault → IsFirstFault text fault
 unfolding Least
 first_fault one text tokens le c n fault e =
     record {
-      has = raise text tokens c n fault (fault_shown tokens fault e);
-      least = λ other h. subst (λ (o : Option FieldFault). Least o other) e (shown_least tokens other (lower one text tokens le c n other h));
+      has = inr (inr (record { tokens = tokens; cut = c; faultless = n; shown = fault_shown tokens fault e }));
+      least = λ other h. subst (λ (o : Option ReadFault). Least o other) e (shown_least tokens other (lower one text tokens le c n other h));
     }
 
-pub no_fault : OneList → (text : List ℕ) (tokens : List Seen) → length text ≤ 16384 → Cuts text tokens → IsFaultless text → fault_in tokens ≡ None → IsWellFielded text
+pub no_fault : OneList → (text : List ℕ) (tokens : List Seen) → length text ≤ ASSERTION_BYTES → Cuts text tokens → IsFaultless text → fault_in tokens ≡ None → IsWellFielded text
 unfolding Least
-no_fault one text tokens le c n e fault h = subst (λ (o : Option FieldFault). Least o fault) e (shown_least tokens fault (lower one text tokens le c n fault h))
+no_fault one text tokens le c n e fault h = subst (λ (o : Option ReadFault). Least o fault) e (shown_least tokens fault (lower one text tokens le c n fault h))
 
 -- the faults that come before those of the tokens
 
-pub too_long : (text : List ℕ) → 16384 < length text → IsFirstFault text (TooLong (length text))
-too_long text long = record { has = (long, refl); least = least }
+-- lexical faults have numbers from 1 to 7, and those that tokens show from 9 on
+pub lexical_between : (text : List ℕ) (cause : LexFault) → IsFirstLexicalFault text cause → (0 < fault_order (of_lexical cause)) × (fault_order (of_lexical cause) < 8)
+lexical_between text (L.NotText at) h = (omega arith, omega arith)
+lexical_between text (L.BadString at) h = (omega arith, omega arith)
+lexical_between text (L.BadToken at) h = (omega arith, omega arith)
+lexical_between text (L.Float at) h = (omega arith, omega arith)
+lexical_between text (L.Regex at) h = (omega arith, omega arith)
+lexical_between text (L.Number at) h = (omega arith, omega arith)
+lexical_between text (L.Blank at) h = (omega arith, omega arith)
+lexical_between text L.NoMemory h = absurd h.has.shown
+
+shown_above : (tokens : List Seen) (fault : ReadFault) → Shows tokens fault → 8 < fault_order fault
+shown_above tokens (BadField at) s = omega arith
+shown_above tokens (FieldTwice at) s = omega arith
+shown_above tokens (FieldOrder at) s = omega arith
+shown_above tokens NoAuthorizer s = omega arith
+shown_above tokens (Version at) s = omega arith
+shown_above tokens (Constant at) s = omega arith
+shown_above tokens _ s = absurd s
+
+pub too_long : (text : List ℕ) → ASSERTION_BYTES < length text → IsFirstFault text (TooLong (length text))
+too_long text long = record { has = inl (long, refl); least = least }
   where
-    least : (other : FieldFault) → HasFault text other → (0 < fault_order other) ⊎ (TooLong (length text) ≡ other)
-    least (TooLong len) h = inr (ap TooLong (sym h.1))
-    least (Lexical fault) h = inl (omega arith)
-    least (BadField at) h = inl (omega arith)
-    least (FieldTwice at) h = inl (omega arith)
-    least (FieldOrder at) h = inl (omega arith)
-    least NoAuthorizer h = inl (omega arith)
-    least (Version at) h = inl (omega arith)
-    least (Constant at) h = inl (omega arith)
-    least NoMemory h = absurd h
+    least : (other : ReadFault) → HasFault text other → (0 < fault_order other) ⊎ (TooLong (length text) ≡ other)
+    least other (inl h) = inr (sym h.1)
+    least other (inr (inl h)) = let first = (lexical_between text h.0 h.1).0 in let same = ap fault_order h.2 in inl (omega (arith, first, same))
+    least other (inr (inr h)) = let above = shown_above h.tokens other h.shown in inl (omega (arith, above))
 
-pub first_lexical : OneFault → (text : List ℕ) (fault : LexFault) → length text ≤ 16384 → IsFirstLexicalFault text fault → IsFirstFault text (Lexical fault)
-first_lexical one text fault le first = record { has = first; least = least }
+pub first_lexical : OneFault → (text : List ℕ) (cause : LexFault) → length text ≤ ASSERTION_BYTES → IsFirstLexicalFault text cause → IsFirstFault text (of_lexical cause)
+first_lexical one text cause le first = record { has = inr (inl (cause, first, refl)); least = least }
   where
-    least : (other : FieldFault) → HasFault text other → (1 < fault_order other) ⊎ (Lexical fault ≡ other)
-    least (TooLong len) h = let long = h.0 in absurd (omega (arith, long, le))
-    least (Lexical another) h = inr (ap Lexical (one text fault another first h))
-    least (BadField at) h = inl (omega arith)
-    least (FieldTwice at) h = inl (omega arith)
-    least (FieldOrder at) h = inl (omega arith)
-    least NoAuthorizer h = inl (omega arith)
-    least (Version at) h = inl (omega arith)
-    least (Constant at) h = inl (omega arith)
-    least NoMemory h = absurd h
+    least : (other : ReadFault) → HasFault text other → (fault_order (of_lexical cause) < fault_order other) ⊎ (of_lexical cause ≡ other)
+    least other (inl h) = let long = h.0 in absurd (omega (arith, long, le))
+    least other (inr (inl h)) = inr (ap of_lexical (one text cause h.0 first h.1) ∙ sym h.2)
+    least other (inr (inr h)) =
+        let below = (lexical_between text cause first).1 in
+        let above = shown_above h.tokens other h.shown in
+        inl (omega (arith, below, above))
 
-pub lexical_cause : OneFault → (text : List ℕ) (fault : LexFault) → length text ≤ 16384 → HasLexicalCause text fault → HasCause text (of_lexical fault)
-lexical_cause one text (NotText at) le h = first_lexical one text (NotText at) le h
-lexical_cause one text (BadString at) le h = first_lexical one text (BadString at) le h
-lexical_cause one text (BadToken at) le h = first_lexical one text (BadToken at) le h
-lexical_cause one text (Float at) le h = first_lexical one text (Float at) le h
-lexical_cause one text (Regex at) le h = first_lexical one text (Regex at) le h
-lexical_cause one text (Number at) le h = first_lexical one text (Number at) le h
-lexical_cause one text (Blank at) le h = first_lexical one text (Blank at) le h
-lexical_cause one text NoLexMemory le h = tt
-
--- every text has a first fault or none
-pub every_text : OneList → OneFault → (text : List ℕ)
-    → (((tokens : List Seen) × Cuts text tokens × IsFaultless text) ⊎ ((fault : LexFault) × IsFirstLexicalFault text fault))
-    → IsWellFielded text ⊎ ((fault : FieldFault) × IsFirstFault text fault)
-every_text one_list one_fault text known = size (nat_lt 16384 (length text)) refl
-  where
-    tokens_by : length text ≤ 16384 → (tokens : List Seen) → Cuts text tokens → IsFaultless text → (o : Option FieldFault) → fault_in tokens ≡ o
-        → IsWellFielded text ⊎ ((fault : FieldFault) × IsFirstFault text fault)
-    tokens_by le tokens c n None e = inl (no_fault one_list text tokens le c n e)
-    tokens_by le tokens c n (Some fault) e = inr (fault, first_fault one_list text tokens le c n fault e)
-
-    short : length text ≤ 16384 → (((tokens : List Seen) × Cuts text tokens × IsFaultless text) ⊎ ((fault : LexFault) × IsFirstLexicalFault text fault))
-        → IsWellFielded text ⊎ ((fault : FieldFault) × IsFirstFault text fault)
-    short le (inl h) = tokens_by le h.0 h.1 h.2 (fault_in h.0) refl
-    short le (inr h) = inr (Lexical h.0, first_lexical one_fault text h.0 le h.1)
-
-    size : (b : Bool) → nat_lt 16384 (length text) ≡ b → IsWellFielded text ⊎ ((fault : FieldFault) × IsFirstFault text fault)
-    size true b = inr (TooLong (length text), too_long text ((Decides-ltb 16384 (length text)).0 b))
-    size false b = short (grind (arith, nat_tests)) known
+pub lexical_cause : OneFault → (text : List ℕ) (cause : LexFault) → length text ≤ ASSERTION_BYTES → HasLexicalCause text cause → HasCause text (of_lexical cause)
+lexical_cause one text L.NoMemory le h = inl refl
+lexical_cause one text cause le h = inr (first_lexical one text cause le h)
 
 -- where no constant is at fault, their list departs nowhere
 pub sound_list : (tokens : List Seen) (field : Field) → field_with 6 tokens ≡ Some field → constant_place tokens ≡ None → first_place departs [] field.tokens ≡ None
@@ -311,26 +266,26 @@ sound_list tokens field f e =
 
 -- the readers' answers are what is computed
 
-pub found : (fault : ℕ → FieldFault) (o : Option ℕ) (others : Option FieldFault) (at : ℕ) → Some at ≡ o → Some (fault at) ≡ fault_at fault o others
+pub found : (fault : ℕ → ReadFault) (o : Option ℕ) (others : Option ReadFault) (at : ℕ) → Some at ≡ o → Some (fault at) ≡ fault_at fault o others
 unfolding fault_at
 found fault o others at e = ap (λ (x : Option ℕ). fault_at fault x others) e
 
-pub passed : (fault : ℕ → FieldFault) (o : Option ℕ) (others : Option FieldFault) → None ≡ o → others ≡ fault_at fault o others
+pub passed : (fault : ℕ → ReadFault) (o : Option ℕ) (others : Option ReadFault) → None ≡ o → others ≡ fault_at fault o others
 unfolding fault_at
 passed fault o others e = ap (λ (x : Option ℕ). fault_at fault x others) e
 
 -- where no token is wrong by those before it the other faults are left
-pub right_passed : (tokens : List Seen) (others : Option FieldFault) → StandsRight tokens
+pub right_passed : (tokens : List Seen) (others : Option ReadFault) → StandsRight tokens
     → others ≡ fault_at BadField (first_place is_bad_field [] tokens) (fault_at FieldTwice (first_place is_second [] tokens) (fault_at FieldOrder (order_place tokens) others))
 right_passed tokens others h =
     passed FieldOrder (order_place tokens) others (sym h.order) ∙ passed FieldTwice (first_place is_second [] tokens) _ (sym h.second)
     ∙ passed BadField (first_place is_bad_field [] tokens) _ (sym h.field)
 
-pub found_without : (fault : FieldFault) (o : Option Field) (others : Option FieldFault) → o ≡ None → Some fault ≡ fault_without fault o others
+pub found_without : (fault : ReadFault) (o : Option Field) (others : Option ReadFault) → o ≡ None → Some fault ≡ fault_without fault o others
 unfolding fault_without
 found_without fault o others e = sym (ap (λ (x : Option Field). fault_without fault x others) e)
 
-pub passed_without : (fault : FieldFault) (o : Option Field) (others : Option FieldFault) (field : Field) → o ≡ Some field → others ≡ fault_without fault o others
+pub passed_without : (fault : ReadFault) (o : Option Field) (others : Option ReadFault) (field : Field) → o ≡ Some field → others ≡ fault_without fault o others
 unfolding fault_without
 passed_without fault o others field e = sym (ap (λ (x : Option Field). fault_without fault x others) e)
 
@@ -368,9 +323,9 @@ no_constant_fault tokens e = by (constant_place tokens) refl
   where
     by : (o : Option ℕ) → constant_place tokens ≡ o → o ≡ None
     by None h = refl
-    by (Some at) h = absurd (subst (λ (x : Option FieldFault). Least x (Constant at)) e (shown_least tokens (Constant at) (constant_shown tokens at h)))
+    by (Some at) h = absurd (subst (λ (x : Option ReadFault). Least x (Constant at)) e (shown_least tokens (Constant at) (constant_shown tokens at h)))
 
-pub one_first : (text : List ℕ) (fault other : FieldFault) → IsFirstFault text fault → IsFirstFault text other → fault ≡ other
+pub one_first : (text : List ℕ) (fault other : ReadFault) → IsFirstFault text fault → IsFirstFault text other → fault ≡ other
 one_first text fault other h k = by (h.least other k.has) (k.least fault h.has)
   where
     by : (fault_order fault < fault_order other) ⊎ (fault ≡ other) → (fault_order other < fault_order fault) ⊎ (other ≡ fault) → fault ≡ other

@@ -4,17 +4,18 @@ use Rattle.std.specs.Prelude.{◌↔◌, nat_lt, find, take_while, not}
 use Rattle.std.specs.List.{list_any}
 use Rattle.std.proofs.lemmas.Bool.{false≢true}
 use Rattle.std.proofs.lemmas.Bool.Decides.{Decides-ltb, nat_tests}
+use Rattle.kn_base.specs.declared.limits.TheConstants.{ASSERTION_BYTES}
 use Rattle.kn_lex.specs.Cutting.{Seen, Cuts}
 use Rattle.kn_lex.specs.Faults.{IsFaultless, IsFirstLexicalFault}
 use Rattle.kn_lex.specs.Computed.{tokens_or_fault}
 use Rattle.kn_lex.specs.declared.fault.LexFault.{LexFault}
 use Rattle.kn_fields.specs.Fields.{is_label, field_of, is_this, is_label_of, Field, fields_of, field_with}
-use Rattle.kn_fields.specs.Faults.{is_second, is_repeat, HasNone, IsFirstFault, IsWellFielded}
+use Rattle.kn_fields.specs.Faults.{is_second, is_repeat, HasNone, of_lexical, IsFirstFault, IsWellFielded}
 use Rattle.kn_fields.specs.Constants.{IsConstantList}
 use Rattle.kn_fields.specs.Scanning.{fault_in, first_place, departure}
 use Rattle.kn_fields.specs.Computed.{tokens_by, tokens_behind, fields_or_fault}
-use Rattle.kn_fields.specs.declared.fault.FieldFault.{FieldFault}
-use Rattle.kn_fields.specs.declared.fault.FieldFault.TheVariants.{TooLong, Lexical, FieldTwice, NoAuthorizer, Constant}
+use Rattle.kn_fields.specs.declared.fault.ReadFault.{ReadFault}
+use Rattle.kn_fields.specs.declared.fault.ReadFault.TheVariants.{TooLong, FieldTwice, NoAuthorizer, Constant}
 use Rattle.kn_fields.proofs.Places.{none_shown, first_shown}
 use Rattle.kn_fields.proofs.Shown.{OneList, OneFault, no_fault, first_fault, too_long, first_lexical, one_first, departs_shown, no_departure}
 
@@ -26,29 +27,37 @@ abbrev pub FaultTold : Type 0
 FaultTold = (text : List ℕ) (fault : LexFault) → (tokens_or_fault text ≡ Err fault) ↔ IsFirstLexicalFault text fault
 
 -- the answer is the text's
-abbrev Tells : List ℕ → Result (List Seen) FieldFault → Type 0
+abbrev Tells : List ℕ → Result (List Seen) ReadFault → Type 0
 Tells text (Ok tokens) = Cuts text tokens × IsWellFielded text
 Tells text (Err fault) = IsFirstFault text fault
 
 told : OneList → OneFault → TokensTold → FaultTold → (text : List ℕ) → Tells text (fields_or_fault text)
 unfolding fields_or_fault
-told one_list one_fault tokens_told fault_told text = by (nat_lt 16384 (length text)) refl (tokens_or_fault text) refl
+told one_list one_fault tokens_told fault_told text = by (nat_lt ASSERTION_BYTES (length text)) refl (tokens_or_fault text) refl
   where
-    fielded : length text ≤ 16384 → (tokens : List Seen) → Cuts text tokens → IsFaultless text → (o : Option FieldFault) → fault_in tokens ≡ o
+    fielded : length text ≤ ASSERTION_BYTES → (tokens : List Seen) → Cuts text tokens → IsFaultless text → (o : Option ReadFault) → fault_in tokens ≡ o
         → Tells text (tokens_by tokens o)
     fielded le tokens c n None e = (c, no_fault one_list text tokens le c n e)
     fielded le tokens c n (Some fault) e = first_fault one_list text tokens le c n fault e
 
-    by : (b : Bool) → nat_lt 16384 (length text) ≡ b → (r : Result (List Seen) LexFault) → tokens_or_fault text ≡ r
+    by : (b : Bool) → nat_lt ASSERTION_BYTES (length text) ≡ b → (r : Result (List Seen) LexFault) → tokens_or_fault text ≡ r
         → Tells text (if b then Err (TooLong (length text)) else tokens_behind r)
-    by true b r e = too_long text ((Decides-ltb 16384 (length text)).0 b)
+    by true b r e = too_long text ((Decides-ltb ASSERTION_BYTES (length text)).0 b)
     by false b (Ok tokens) e =
-        let le : length text ≤ 16384 = grind (arith, nat_tests) in
+        let le : length text ≤ ASSERTION_BYTES = grind (arith, nat_tests) in
         let h = (tokens_told text tokens).0 e in
         fielded le tokens h.0 h.1 (fault_in tokens) refl
     by false b (Err fault) e =
-        let le : length text ≤ 16384 = grind (arith, nat_tests) in
+        let le : length text ≤ ASSERTION_BYTES = grind (arith, nat_tests) in
         first_lexical one_fault text fault le ((fault_told text fault).0 e)
+
+-- every text has a first fault or none
+pub every_text : OneList → OneFault → TokensTold → FaultTold → (text : List ℕ) → IsWellFielded text ⊎ ((fault : ReadFault) × IsFirstFault text fault)
+every_text one_list one_fault tokens_told fault_told text = by (fields_or_fault text) (told one_list one_fault tokens_told fault_told text)
+  where
+    by : (r : Result (List Seen) ReadFault) → Tells text r → IsWellFielded text ⊎ ((fault : ReadFault) × IsFirstFault text fault)
+    by (Ok tokens) own = inl own.1
+    by (Err fault) own = inr (fault, own)
 
 pub fields_told : OneList → OneFault → TokensTold → FaultTold → (text : List ℕ) (tokens : List Seen)
     → (fields_or_fault text ≡ Ok tokens) ↔ (Cuts text tokens × IsWellFielded text)
@@ -58,7 +67,7 @@ fields_told one_list one_fault tokens_told fault_told text tokens =
     back : Cuts text tokens × IsWellFielded text → fields_or_fault text ≡ Ok tokens
     back h = by (fields_or_fault text) refl
       where
-        by : (r : Result (List Seen) FieldFault) → fields_or_fault text ≡ r → r ≡ Ok tokens
+        by : (r : Result (List Seen) ReadFault) → fields_or_fault text ≡ r → r ≡ Ok tokens
         by (Ok list) e =
             let own : Tells text (Ok list) = subst (Tells text) e (told one_list one_fault tokens_told fault_told text) in
             ap Ok (one_list text list tokens own.0 h.0)
@@ -66,7 +75,7 @@ fields_told one_list one_fault tokens_told fault_told text tokens =
             let own : Tells text (Err fault) = subst (Tells text) e (told one_list one_fault tokens_told fault_told text) in
             absurd (h.1 fault own.has)
 
-pub first_told : OneList → OneFault → TokensTold → FaultTold → (text : List ℕ) (fault : FieldFault)
+pub first_told : OneList → OneFault → TokensTold → FaultTold → (text : List ℕ) (fault : ReadFault)
     → (fields_or_fault text ≡ Err fault) ↔ IsFirstFault text fault
 first_told one_list one_fault tokens_told fault_told text fault =
     (λ e. subst (Tells text) e (told one_list one_fault tokens_told fault_told text), back)
@@ -74,7 +83,7 @@ first_told one_list one_fault tokens_told fault_told text fault =
     back : IsFirstFault text fault → fields_or_fault text ≡ Err fault
     back h = by (fields_or_fault text) refl
       where
-        by : (r : Result (List Seen) FieldFault) → fields_or_fault text ≡ r → r ≡ Err fault
+        by : (r : Result (List Seen) ReadFault) → fields_or_fault text ≡ r → r ≡ Err fault
         by (Ok list) e =
             let own : Tells text (Ok list) = subst (Tells text) e (told one_list one_fault tokens_told fault_told text) in
             absurd (own.1 fault h.has)
@@ -177,7 +186,7 @@ one_of_number text tokens c faultless well before field behind e n numbered =
     none : (o : Option ℕ) → first_place is_second [] tokens ≡ o → HasNone is_second tokens
     none None k = none_shown is_second tokens k
     none (Some at) k =
-        absurd (well (FieldTwice at) (record { tokens = tokens; cut = c; faultless = faultless; shown = first_shown is_second tokens at k }))
+        absurd (well (FieldTwice at) (inr (inr (record { tokens = tokens; cut = c; faultless = faultless; shown = first_shown is_second tokens at k }))))
 
 -- a text without faults of its fields has no lexical fault either
 
@@ -185,7 +194,7 @@ abbrev pub EveryText : Type 0
 EveryText = (text : List ℕ) → ((tokens : List Seen) × Cuts text tokens × IsFaultless text) ⊎ ((fault : LexFault) × IsFirstLexicalFault text fault)
 
 well_lexed : EveryText → (text : List ℕ) → IsWellFielded text → IsFaultless text
-well_lexed some text well = elim (some text) [ inl h ↦ h.2 | inr h ↦ absurd (well (Lexical h.0) h.1) ]
+well_lexed some text well = elim (some text) [ inl h ↦ h.2 | inr h ↦ absurd (well (of_lexical h.0) (inr (inl (h.0, h.1, refl)))) ]
 
 pub one_in_text : EveryText → (text : List ℕ) (tokens : List Seen) → Cuts text tokens → IsWellFielded text
     → (before : List Field) (field : Field) (behind : List Field) → fields_of tokens ≡ before ++ field ∷ behind
@@ -195,7 +204,7 @@ one_in_text some text tokens c well before field behind e n numbered =
 
 pub some_authorizer : EveryText → (text : List ℕ) (tokens : List Seen) → Cuts text tokens → IsWellFielded text → field_with 1 tokens ≡ None → ⊥
 some_authorizer some text tokens c well none =
-    well NoAuthorizer (record { tokens = tokens; cut = c; faultless = well_lexed some text well; shown = none })
+    well NoAuthorizer (inr (inr (record { tokens = tokens; cut = c; faultless = well_lexed some text well; shown = none })))
 
 -- the tokens of the Local-Constants field are a list of constants
 pub listed : EveryText → (text : List ℕ) (tokens : List Seen) → Cuts text tokens → IsWellFielded text → (field : Field) → field_with 6 tokens ≡ Some field → IsConstantList field.tokens
@@ -204,4 +213,4 @@ listed some text tokens c well field found = by (departure field.tokens (Some fi
     by : (o : Option ℕ) → departure field.tokens (Some field.label.span.start) ≡ o → IsConstantList field.tokens
     by None e = no_departure field e
     by (Some at) e =
-        absurd (well (Constant at) (record { tokens = tokens; cut = c; faultless = well_lexed some text well; shown = (field, found, departs_shown field at e) }))
+        absurd (well (Constant at) (inr (inr (record { tokens = tokens; cut = c; faultless = well_lexed some text well; shown = (field, found, departs_shown field at e) }))))

@@ -2,6 +2,7 @@
 use Rattle.std.specs.Prelude.{◌≡◌, ℕ, ◌+◌, ◌-◌, ◌<◌, ◌⊎◌, Bool, true, ◌&&◌, ◌||◌, List, ◌++◌, All, fold, length, codes, if◌then◌else◌}
 use Rattle.std.specs.List.{filter}
 use Rattle.std.specs.Str.{bytes_eq}
+use Rattle.kn_base.specs.declared.limits.TheConstants.{OPEN_BRACKETS, PREFIX_SIGNS}
 use Rattle.kn_lex.specs.Cutting.{Seen}
 use Rattle.kn_fields.specs.Constants.{is_sign_sort}
 
@@ -26,26 +27,26 @@ depth_behind depth token = if is_opening token then depth + 1 else if is_closing
 unfoldable pub run_behind : ℕ → Seen → ℕ
 run_behind run token = if is_prefix token then run + 1 else 0
 
--- behind some of these tokens more than 64 brackets are open, or more than 8 prefix signs stand in a row
+-- behind some of these tokens more brackets are open than may be, or more prefix signs stand in a row
 pub record IsTooDeep (tokens : List Seen) : Type 0 where
   pub front : List Seen
   pub rest : List Seen
   pub split : tokens ≡ front ++ rest
-  pub deep : (64 < fold depth_behind 0 front) ⊎ (8 < fold run_behind 0 front)
+  pub deep : (OPEN_BRACKETS < fold depth_behind 0 front) ⊎ (PREFIX_SIGNS < fold run_behind 0 front)
 
--- some of these tokens in a row have more than 64 opening brackets more than closing ones
+-- some of these tokens in a row have so many opening brackets more than closing ones
 pub record HasOpenBrackets (tokens : List Seen) : Type 0 where
   pub before : List Seen
   pub stretch : List Seen
   pub behind : List Seen
   pub split : tokens ≡ before ++ stretch ++ behind
-  pub unclosed : length (filter is_closing stretch) + 64 < length (filter is_opening stretch)
+  pub unclosed : length (filter is_closing stretch) + OPEN_BRACKETS < length (filter is_opening stretch)
 
--- more than 8 of these tokens in a row are prefix signs
+-- more of these tokens in a row are prefix signs than may be
 pub record HasPrefixRun (tokens : List Seen) : Type 0 where
   pub before : List Seen
   pub run : List Seen
   pub behind : List Seen
   pub split : tokens ≡ before ++ run ++ behind
-  pub long : 8 < length run
+  pub long : PREFIX_SIGNS < length run
   pub signs : All (λ token. is_prefix token ≡ true) run

@@ -1,18 +1,22 @@
 -- The faults of a text by its fields, each with its place, in the one order in which they are answered. The
 -- faults and their order are keynoted's own.
-use Rattle.std.specs.Prelude.{◌≡◌, ℕ, ◌<◌, ◌==◌, ◌⊎◌, Bool, true, false, ◌&&◌, ◌||◌, is_none, List, [], ◌∷◌, ◌++◌, length, codes, Option, Some, None}
+use Rattle.std.specs.Prelude.{◌≡◌, ℕ, ◌<◌, ◌==◌, ◌⊎◌, Bool, true, false, ◌&&◌, ◌||◌, is_none, List, [], ◌∷◌, ◌++◌, length, codes, Option, Some, None, unwrap_or}
 use Rattle.std.specs.List.{list_any}
 use Rattle.std.specs.Str.{bytes_eq}
+use Rattle.kn_base.specs.declared.limits.TheConstants.{ASSERTION_BYTES}
 use Rattle.kn_env.specs.declared.constant.Constant.{Constant as Set}
 use Rattle.kn_lex.specs.Cutting.{Seen, Cuts}
 use Rattle.kn_lex.specs.Faults.{IsFaultless, IsFirstLexicalFault}
 use Rattle.kn_lex.specs.Literal.{literal_value}
+use Rattle.kn_lex.specs.declared.fault.LexFault.{LexFault}
+use Rattle.kn_lex.specs.declared.fault.LexFault.TheVariants as L
 use Rattle.kn_lex.specs.declared.token.Sort.{Sort}
-use Rattle.kn_lex.specs.declared.token.Sort.TheVariants.{Number, Text}
+use Rattle.kn_lex.specs.declared.token.Sort.TheVariants as S
 use Rattle.kn_fields.specs.Fields.{is_label, field_of, is_label_of, Field, field_with}
 use Rattle.kn_fields.specs.Constants.{constants_of, IsConstantList, BeginsConstantList, HasDeparture}
-use Rattle.kn_fields.specs.declared.fault.FieldFault.{FieldFault}
-use Rattle.kn_fields.specs.declared.fault.FieldFault.TheVariants.{TooLong, Lexical, BadField, FieldTwice, FieldOrder, NoAuthorizer, Version, Constant, NoMemory}
+use Rattle.kn_fields.specs.Numbers.{fault_number}
+use Rattle.kn_fields.specs.declared.fault.ReadFault.{ReadFault}
+use Rattle.kn_fields.specs.declared.fault.ReadFault.TheVariants.{NotText, BadString, BadToken, Float, Regex, Number, Blank, TooLong, BadField, FieldTwice, FieldOrder, NoAuthorizer, Version, Constant, NoMemory}
 
 -- no token is bad behind those before it
 abbrev pub HasNone : (List Seen → Seen → Bool) → List Seen → Type 0
@@ -54,8 +58,8 @@ abbrev pub is_two : List ℕ → Bool
 is_two text = bytes_eq text (codes "2")
 
 abbrev pub is_two_by : Sort → List ℕ → Bool
-is_two_by Number text = is_two text
-is_two_by Text text = is_two (literal_value text)
+is_two_by S.Number text = is_two text
+is_two_by S.Text text = is_two (literal_value text)
 is_two_by sort text = false
 
 -- one number spelled `2`, or one literal of value `2`
@@ -75,9 +79,7 @@ abbrev pub HasField : ℕ → List Seen → (Field → Type 0) → Type 0
 HasField number tokens IsSo = (field : Field) × (field_with number tokens ≡ Some field) × IsSo field
 
 -- the tokens show this fault
-abbrev pub Shows : List Seen → FieldFault → Type 0
-Shows tokens (TooLong len) = ⊥
-Shows tokens (Lexical fault) = ⊥
+abbrev pub Shows : List Seen → ReadFault → Type 0
 Shows tokens (BadField at) = HasFirst is_bad_field tokens at
 Shows tokens (FieldTwice at) = HasFirst is_second tokens at
 Shows tokens (FieldOrder at) =
@@ -85,48 +87,50 @@ Shows tokens (FieldOrder at) =
 Shows tokens NoAuthorizer = field_with 1 tokens ≡ None
 Shows tokens (Version at) = HasField 4 tokens (λ field. (is_version field.tokens ≡ false) × (at ≡ field.label.span.start))
 Shows tokens (Constant at) = HasField 6 tokens (λ field. DepartsAt field at)
-Shows tokens NoMemory = ⊥
+Shows tokens _ = ⊥
 
 -- the text has no lexical fault, and its tokens show this one
-pub record TokensShow (text : List ℕ) (fault : FieldFault) : Type 0 where
+pub record TokensShow (text : List ℕ) (fault : ReadFault) : Type 0 where
   pub tokens : List Seen
   pub cut : Cuts text tokens
   pub faultless : IsFaultless text
   pub shown : Shows tokens fault
 
--- the text has this fault
-abbrev pub HasFault : List ℕ → FieldFault → Type 0
-HasFault text (TooLong len) = (16384 < length text) × (len ≡ length text)
-HasFault text (Lexical fault) = IsFirstLexicalFault text fault
-HasFault text NoMemory = ⊥
-HasFault text fault = TokensShow text fault
+-- a fault of the tokens themselves as one of the text
+abbrev pub of_lexical : LexFault → ReadFault
+of_lexical (L.NotText at) = NotText at
+of_lexical (L.BadString at) = BadString at
+of_lexical (L.BadToken at) = BadToken at
+of_lexical (L.Float at) = Float at
+of_lexical (L.Regex at) = Regex at
+of_lexical (L.Number at) = Number at
+of_lexical (L.Blank at) = Blank at
+of_lexical L.NoMemory = NoMemory
 
--- the one order of faults
-abbrev pub fault_order : FieldFault → ℕ
+-- the text has this fault: it is too long, or it is its first lexical one, or its tokens show it
+abbrev pub HasFault : List ℕ → ReadFault → Type 0
+HasFault text fault =
+    ((ASSERTION_BYTES < length text) × (fault ≡ TooLong (length text)))
+    ⊎ (((cause : LexFault) × IsFirstLexicalFault text cause × (fault ≡ of_lexical cause)) ⊎ TokensShow text fault)
+
+-- the one order of faults: that of their numbers, but that a text that is too long is read no further
+abbrev pub fault_order : ReadFault → ℕ
 fault_order (TooLong len) = 0
-fault_order (Lexical fault) = 1
-fault_order (BadField at) = 2
-fault_order (FieldTwice at) = 3
-fault_order (FieldOrder at) = 4
-fault_order NoAuthorizer = 5
-fault_order (Version at) = 6
-fault_order (Constant at) = 7
-fault_order NoMemory = 8
+fault_order fault = unwrap_or (fault_number fault) 0
 
 -- the text has this fault, and any other one comes later in the order
-pub record IsFirstFault (text : List ℕ) (fault : FieldFault) : Type 0 where
+pub record IsFirstFault (text : List ℕ) (fault : ReadFault) : Type 0 where
   pub has : HasFault text fault
-  pub least : (other : FieldFault) → HasFault text other → (fault_order fault < fault_order other) ⊎ (fault ≡ other)
+  pub least : (other : ReadFault) → HasFault text other → (fault_order fault < fault_order other) ⊎ (fault ≡ other)
 
 -- the text has none of these faults
 abbrev pub IsWellFielded : List ℕ → Type 0
-IsWellFielded text = (fault : FieldFault) → HasFault text fault → ⊥
+IsWellFielded text = (fault : ReadFault) → HasFault text fault → ⊥
 
 abbrev pub constants_in : Option Field → List Set
 constants_in None = []
 constants_in (Some field) = constants_of field.tokens
 
 -- the fault is the first of the text, or there is no memory
-abbrev pub HasCause : List ℕ → FieldFault → Type 0
-HasCause text NoMemory = Unit {0}
-HasCause text fault = IsFirstFault text fault
+abbrev pub HasCause : List ℕ → ReadFault → Type 0
+HasCause text fault = (fault ≡ NoMemory) ⊎ IsFirstFault text fault

@@ -1,8 +1,7 @@
 -- What the private readers give: the first fault, computed.
 use Rattle.std.specs.Prelude.{◌≡◌, ℕ, Bool, List, [], ◌∷◌, ◌++◌, Option, Some, None, if◌then◌else◌, ◌||◌, nat_lt, false}
+use Rattle.kn_base.specs.declared.limits.TheConstants.{OPEN_BRACKETS, PREFIX_SIGNS}
 use Rattle.kn_lex.specs.Cutting.{Seen}
-use Rattle.kn_lex.specs.declared.fault.LexFault.{LexFault}
-use Rattle.kn_lex.specs.declared.fault.LexFault.TheVariants.{NoMemory as NoLexMemory}
 use Rattle.kn_fields.specs.Fields.{Field, field_with}
 use Rattle.kn_fields.specs.Turns.{turn_behind, departs}
 use Rattle.kn_fields.specs.Depth.{depth_behind, run_behind}
@@ -11,8 +10,8 @@ use Rattle.kn_fields.specs.declared.constants.Turn.{Turn}
 use Rattle.kn_fields.specs.declared.constants.Turn.TheVariants.{Setting}
 use Rattle.kn_fields.specs.declared.labels.Wrong.{Wrong}
 use Rattle.kn_fields.specs.declared.labels.Wrong.TheVariants.{NoField, Second, LateVersion, BehindSignature}
-use Rattle.kn_fields.specs.declared.fault.FieldFault.{FieldFault}
-use Rattle.kn_fields.specs.declared.fault.FieldFault.TheVariants.{Lexical, BadField, FieldTwice, FieldOrder, NoAuthorizer, Version, Constant, NoMemory}
+use Rattle.kn_fields.specs.declared.fault.ReadFault.{ReadFault}
+use Rattle.kn_fields.specs.declared.fault.ReadFault.TheVariants.{BadField, FieldTwice, FieldOrder, NoAuthorizer, Version, Constant}
 
 -- the place of the first bad token among these, which stand behind others
 unfoldable pub first_place : (List Seen → Seen → Bool) → List Seen → List Seen → Option ℕ
@@ -65,16 +64,16 @@ constant_by (Some field) = departure field.tokens (Some field.label.span.start)
 unfoldable pub constant_place : List Seen → Option ℕ
 constant_place tokens = constant_by (field_with 6 tokens)
 
-unfoldable pub fault_at : (ℕ → FieldFault) → Option ℕ → Option FieldFault → Option FieldFault
+unfoldable pub fault_at : (ℕ → ReadFault) → Option ℕ → Option ReadFault → Option ReadFault
 fault_at fault None others = others
 fault_at fault (Some at) others = Some (fault at)
 
-unfoldable pub fault_without : FieldFault → Option Field → Option FieldFault → Option FieldFault
+unfoldable pub fault_without : ReadFault → Option Field → Option ReadFault → Option ReadFault
 fault_without fault None others = Some fault
 fault_without fault (Some field) others = others
 
 -- the first fault that the tokens show
-unfoldable pub fault_in : List Seen → Option FieldFault
+unfoldable pub fault_in : List Seen → Option ReadFault
 fault_in tokens =
     fault_at BadField (first_place is_bad_field [] tokens)
     (fault_at FieldTwice (first_place is_second [] tokens)
@@ -83,13 +82,8 @@ fault_in tokens =
     (fault_at Version (version_place tokens)
     (fault_at Constant (constant_place tokens) None)))))
 
--- what is told of a text whose tokens couldn't be had
-abbrev pub of_lexical : LexFault → FieldFault
-of_lexical NoLexMemory = NoMemory
-of_lexical fault = Lexical fault
-
 abbrev pub is_past : ℕ → ℕ → Bool
-is_past depth run = nat_lt 64 depth || nat_lt 8 run
+is_past depth run = nat_lt OPEN_BRACKETS depth || nat_lt PREFIX_SIGNS run
 
 -- the tokens go too deep, where so many brackets are open and so many signs stand before them
 unfoldable pub goes_deep : ℕ → ℕ → List Seen → Bool

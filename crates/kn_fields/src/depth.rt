@@ -1,3 +1,4 @@
+//! How deep the tokens of a field go.
 ghost use Rattle.std.specs.Prelude.{◌≡◌, [], ◌∷◌, ◌+◌, ◌<◌, ◌≤◌, ◌^◌, length};
 ghost use Rattle.kn_lex.specs.Seeing.{seen};
 ghost use Rattle.kn_fields.specs.Constants.{is_sign_sort};
@@ -69,7 +70,7 @@ fn is_past(depth: u32, run: u32) -> bool
 }
 
 /// Whether the tokens from one place up to another go too deep.
-pub(crate) fn goes_deep(tokens: &Tokens<'_>, from: u32, to: u32) -> bool
+pub fn goes_deep(tokens: &Tokens<'_>, from: u32, to: u32) -> bool
     requires ordered { from ≤ to }
     requires within { to ≤ length tokens.now }
     ensures { result ≡ goes_deep 0 0 (between from to tokens.now) }

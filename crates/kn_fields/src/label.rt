@@ -1,22 +1,23 @@
+//! Which field a label names.
 ghost use Rattle.std.specs.Prelude.{◌≡◌};
 ghost use Rattle.kn_lex.specs.Seeing.{seen};
 ghost use Rattle.kn_fields.specs.Fields.{field_number, is_label, field_of, is_label_of};
 
 use kn_lex::{Sort, Token};
 
-pub(crate) const AUTHORIZER: u8 = 1;
+pub const AUTHORIZER: u8 = 1;
 
 pub(crate) const COMMENT: u8 = 2;
 
-pub(crate) const CONDITIONS: u8 = 3;
+pub const CONDITIONS: u8 = 3;
 
 pub(crate) const VERSION: u8 = 4;
 
-pub(crate) const LICENSEES: u8 = 5;
+pub const LICENSEES: u8 = 5;
 
 pub(crate) const LOCAL_CONSTANTS: u8 = 6;
 
-pub(crate) const SIGNATURE: u8 = 7;
+pub const SIGNATURE: u8 = 7;
 
 /// The number of the field that a label names.
 fn field_number(label: &[u8]) -> Option<u8>

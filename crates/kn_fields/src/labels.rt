@@ -1,3 +1,4 @@
+//! Labels and lines that are wrong by the tokens before them.
 ghost use Rattle.std.specs.Prelude.{◌≡◌, ◌≤◌, ◌||◌, ◌==◌, None, false, [], length};
 ghost use Rattle.std.specs.List.{list_any};
 ghost use Rattle.kn_lex.specs.Seeing.{seen};

@@ -9,23 +9,24 @@ ghost use Rattle.kn_fields.specs.Faults.{IsWellFielded, IsFirstFault};
 ghost use Rattle.kn_fields.specs.Depth.{IsTooDeep, HasOpenBrackets, HasPrefixRun};
 ghost use Rattle.kn_fields.specs.Scanning.{goes_deep};
 ghost use Rattle.kn_fields.specs.Computed.{fields_or_fault};
-ghost use Rattle.kn_fields.specs.declared.fault.FieldFault.{FieldFault};
+ghost use Rattle.kn_fields.specs.declared.fault.ReadFault.{ReadFault};
 
 /// Every text has either none of the faults of its fields or a first one, never both, and at most one first
 /// one.
 pub fn no_fault_or_first_fault()
-    ensures some { (text : List ℕ) → IsWellFielded text ⊎ ((fault : FieldFault) × IsFirstFault text fault) }
-    ensures not_both { (text : List ℕ) (fault : FieldFault) → IsWellFielded text → IsFirstFault text fault → ⊥ }
-    ensures one_fault { (text : List ℕ) (fault other : FieldFault) → IsFirstFault text fault → IsFirstFault text other → fault ≡ other }
+    ensures some { (text : List ℕ) → IsWellFielded text ⊎ ((fault : ReadFault) × IsFirstFault text fault) }
+    ensures not_both { (text : List ℕ) (fault : ReadFault) → IsWellFielded text → IsFirstFault text fault → ⊥ }
+    ensures one_fault { (text : List ℕ) (fault other : ReadFault) → IsFirstFault text fault → IsFirstFault text other → fault ≡ other }
 {
     kn_lex::laws::tokens_or_first_fault();
+    kn_lex::laws::tokens_are_computed();
 }
 
 /// What is computed of a text is the list of its tokens where it has none of the faults, and else its first
 /// fault.
 pub fn fields_are_computed()
     ensures tokens { (text : List ℕ) (tokens : List Seen) → (fields_or_fault text ≡ Ok tokens) ↔ (Cuts text tokens × IsWellFielded text) }
-    ensures fault { (text : List ℕ) (fault : FieldFault) → (fields_or_fault text ≡ Err fault) ↔ IsFirstFault text fault }
+    ensures fault { (text : List ℕ) (fault : ReadFault) → (fields_or_fault text ≡ Err fault) ↔ IsFirstFault text fault }
 {
     kn_lex::laws::tokens_or_first_fault();
     kn_lex::laws::tokens_are_computed();

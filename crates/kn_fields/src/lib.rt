@@ -12,7 +12,9 @@ mod part;
 mod reader;
 mod version;
 
-pub use fault::FieldFault;
+pub use depth::goes_deep;
+pub use fault::ReadFault;
+pub use label::{AUTHORIZER, CONDITIONS, LICENSEES, SIGNATURE};
 pub use outline::Fields;
 pub use part::Part;
 pub use reader::fields;

@@ -1,3 +1,4 @@
+//! The fields of a text.
 ghost use Rattle.std.specs.Prelude.{◌≡◌, true, false, slice_get, option_and_then};
 ghost use Rattle.kn_fields.specs.Depth.{IsTooDeep};
 ghost use Rattle.kn_fields.specs.Faults.{HasField};

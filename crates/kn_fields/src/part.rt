@@ -1,3 +1,4 @@
+//! Where a field stands among the tokens.
 ghost use Rattle.std.specs.Prelude.{◌≡◌, slice_get};
 ghost use Rattle.kn_fields.specs.Fields.{PartIs};
 ghost use Rattle.kn_fields.specs.Scanning.{start_of};

@@ -1,12 +1,14 @@
+//! Cutting a text into its fields, or finding its first fault.
 ghost use Rattle.std.specs.Prelude.{◌≡◌, ◌≤◌, ℕ, Some, List, length, MatchOption, IfOk, IfErr, OnOk};
+ghost use Rattle.kn_base.specs.declared.limits.TheConstants.{ASSERTION_BYTES};
 ghost use Rattle.kn_lex.specs.Cutting.{Cuts};
 ghost use Rattle.kn_lex.specs.Faults.{IsFaultless};
 ghost use Rattle.kn_fields.specs.Fields.{field_with, signed_to};
 ghost use Rattle.kn_fields.specs.Faults.{IsWellFielded, HasCause, constants_in};
-ghost use Rattle.kn_fields.specs.Scanning.{of_lexical, StandsRight, fault_in};
+ghost use Rattle.kn_fields.specs.Scanning.{StandsRight, fault_in};
 
 use crate::constants::{constant_place, constants};
-use crate::fault::FieldFault;
+use crate::fault::ReadFault;
 use crate::label::{AUTHORIZER, SIGNATURE};
 use crate::labels::{Wrong, has_wrong, order_place, wrong_place};
 use crate::outline::Fields;
@@ -14,68 +16,57 @@ use crate::part::{label_start, part_of};
 use crate::version::version_place;
 use kn_base::NoMemory;
 use kn_base::limits::ASSERTION_BYTES;
-use kn_lex::{LexFault, Tokens, laws, tokens};
+use kn_lex::{Tokens, laws, tokens};
 use std::alloc::Global;
 
-fn of_lexical(fault: LexFault) -> FieldFault
-    ensures { result ≡ of_lexical fault }
-{
-    match fault {
-        LexFault::NoMemory => FieldFault::NoMemory,
-        other => FieldFault::Lexical(other),
-    }
-}
-
-fn read_tokens<'a>(alloc: Global, text: &'a [u8]) -> Result<Tokens<'a>, FieldFault>
+/// The tokens of a text that is short enough and has no lexical fault.
+fn read_tokens<'a>(alloc: Global, text: &'a [u8]) -> Result<Tokens<'a>, ReadFault>
     ensures ok { IfOk result (λ tokens. Cuts text.now tokens) }
     ensures faultless { OnOk result (IsFaultless text.now) }
-    ensures within { OnOk result (length text.now ≤ 16384) }
+    ensures within { OnOk result (length text.now ≤ ASSERTION_BYTES) }
     ensures err { IfErr result (λ fault. HasCause text.now fault) }
 {
     laws::tokens_or_first_fault();
     if text.len() > ASSERTION_BYTES {
-        return Err(FieldFault::TooLong { len: text.len() });
+        return Err(ReadFault::TooLong { len: text.len() });
     }
-    match tokens(alloc, text) {
-        Ok(tokens) => Ok(tokens),
-        Err(fault) => Err(of_lexical(fault)),
-    }
+    Ok(tokens(alloc, text)?)
 }
 
 /// The first fault by what stands where among the tokens.
-fn wrong_fault(tokens: &Tokens<'_>) -> Option<FieldFault>
+fn wrong_fault(tokens: &Tokens<'_>) -> Option<ReadFault>
     ensures { MatchOption result (StandsRight tokens.now) (λ fault. fault_in tokens.now ≡ Some fault) }
 {
     if !has_wrong(tokens) {
         return None;
     }
     if let Some(at) = wrong_place(Wrong::NoField, tokens) {
-        return Some(FieldFault::BadField { at });
+        return Some(ReadFault::BadField { at });
     }
     if let Some(at) = wrong_place(Wrong::Second, tokens) {
-        return Some(FieldFault::FieldTwice { at });
+        return Some(ReadFault::FieldTwice { at });
     }
     match order_place(tokens) {
-        Some(at) => Some(FieldFault::FieldOrder { at }),
+        Some(at) => Some(ReadFault::FieldOrder { at }),
         None => None,
     }
 }
 
 /// The first fault that tokens show, if there is one.
-fn fault_in(alloc: Global, tokens: &Tokens<'_>) -> Result<Option<FieldFault>, NoMemory>
+fn fault_in(alloc: Global, tokens: &Tokens<'_>) -> Result<Option<ReadFault>, NoMemory>
     ensures { IfOk result (λ fault. fault ≡ fault_in tokens.now) }
 {
     if let Some(fault) = wrong_fault(tokens) {
         return Ok(Some(fault));
     }
     let Some(_authorizer) = part_of(tokens, AUTHORIZER) else {
-        return Ok(Some(FieldFault::NoAuthorizer));
+        return Ok(Some(ReadFault::NoAuthorizer));
     };
     if let Some(at) = version_place(alloc, tokens)? {
-        return Ok(Some(FieldFault::Version { at }));
+        return Ok(Some(ReadFault::Version { at }));
     }
     match constant_place(tokens) {
-        Some(at) => Ok(Some(FieldFault::Constant { at })),
+        Some(at) => Ok(Some(ReadFault::Constant { at })),
         None => Ok(None),
     }
 }
@@ -92,7 +83,7 @@ fn signed_to(tokens: &Tokens<'_>, end: u32) -> u32
 
 /// The fields of an assertion's text, or its first fault up to those of its local constants (RFC 2704,
 /// section 4; the faults and their order are keynoted's own).
-pub fn fields<'a>(alloc: Global, text: &'a [u8]) -> Result<Fields<'a>, FieldFault>
+pub fn fields<'a>(alloc: Global, text: &'a [u8]) -> Result<Fields<'a>, ReadFault>
     ensures tokens { IfOk result (λ fields. Cuts text.now fields.tokens) }
     ensures constants { IfOk result (λ fields. fields.constants ≡ constants_in (field_with 6 fields.tokens)) }
     ensures signed_to { IfOk result (λ fields. fields.signed_to ≡ signed_to text.now fields.tokens) }
@@ -100,19 +91,11 @@ pub fn fields<'a>(alloc: Global, text: &'a [u8]) -> Result<Fields<'a>, FieldFaul
     ensures fault { IfErr result (λ fault. HasCause text.now fault) }
 {
     laws::tokens_or_first_fault();
-    let tokens = match read_tokens(alloc, text) {
-        Ok(tokens) => tokens,
-        Err(fault) => return Err(fault),
-    };
-    match fault_in(alloc, &tokens) {
-        Ok(None) => {}
-        Ok(Some(fault)) => return Err(fault),
-        Err(_) => return Err(FieldFault::NoMemory),
+    let tokens = read_tokens(alloc, text)?;
+    if let Some(fault) = fault_in(alloc, &tokens)? {
+        return Err(fault);
     }
-    let constants = match constants(alloc, &tokens) {
-        Ok(constants) => constants,
-        Err(_) => return Err(FieldFault::NoMemory),
-    };
+    let constants = constants(alloc, &tokens)?;
     let signed_to = signed_to(&tokens, text.len() as u32);
     Ok(Fields {
         tokens,

@@ -1,3 +1,4 @@
+//! The field KeyNote-Version.
 ghost use Rattle.std.specs.Prelude.{◌≡◌, ◌+◌, ◌<◌, ◌≤◌, length, IfOk};
 ghost use Rattle.kn_fields.specs.Fields.{between};
 ghost use Rattle.kn_fields.specs.Faults.{is_two, is_two_by, is_version};

@@ -88,14 +88,12 @@ literal_of body are = ap (value_behind 0) (literal_inside body) ∙ plain_value 
 
 -- the value of a literal may name a principal
 pub record IsNaming (bytes : List ℕ) : Type 0 where
-  pub named : (nat_lt 0 (length (literal_value bytes)) && nat_le (length (literal_value bytes)) 4096) ≡ true
   pub not_bad : (length (literal_value bytes) == 0 || nat_lt 4096 (length (literal_value bytes))) ≡ false
 
 pub literal_names : (body : List ℕ) → ArePlain body → 0 < length body → length body ≤ 4096 → IsNaming (quoted body)
 literal_names body are some short =
     let size : length (literal_value (quoted body)) ≡ length body = ap length (literal_of body are) in
     record {
-      named = rw size (and_from (nat_lt 0 (length body)) (nat_le (length body) 4096) (lt-ltb 0 (length body) some) (le-leb (length body) 4096 short));
       not_bad = rw size (or_from (length body == 0) (nat_lt 4096 (length body)) (ne_eqb (length body) 0 (λ e. omega arith)) (le-ltb 4096 (length body) short));
     }
 

@@ -2,7 +2,8 @@
 use Rattle.std.proofs.Common.{◌≡◌, ℕ, zero, suc, true, false, Bool, ◌+◌, ◌*◌, ◌^◌, ◌<◌, ◌≤◌, ◌==◌, ◌&&◌, ◌||◌, if◌then◌else◌, List, [], ◌∷◌, ◌++◌, Option, Some, None, Result, Ok, Err, length, refl, sym, ◌∙◌, ap, subst, append_assoc, codes, arith}
 use Rattle.std.specs.List.{list_all}
 use Rattle.std.specs.Prelude.{pos, map, nat_lt, nat_le, is_ok, is_some, IsSome, ok_or, decimal, flat_map}
-use Rattle.std.specs.Result.{result_err, result_ok}
+use Rattle.std.specs.Option.{option_map_or}
+use Rattle.std.specs.Result.{result_ok}
 use Rattle.kn_lex.specs.Cutting.{Seen, start}
 use Rattle.kn_lex.specs.Literal.{literal_value}
 use Rattle.kn_lex.specs.Computed.{tokens_or_fault}
@@ -45,49 +46,23 @@ use Rattle.kn_program.specs.Reading.{read_program, tail_at, list_at, tests_at, n
 use Rattle.kn_program.specs.Conditions as conditions
 use Rattle.kn_program.specs.Conditions.{program_of}
 use Rattle.kn_assert.specs.Parts.{principal_of, authorizer_of, licensees_by, conditions_by}
-use Rattle.kn_assert.specs.Reading.{authorizer_in, licensees_in, conditions_in, signature_in, fault_by, first_of, unless, assembled, reading_with, reading_by, reading_of, assertion_of}
-use Rattle.kn_assert.specs.declared.fault.ReadFault.{ReadFault}
-use Rattle.kn_assert.specs.declared.fault.ReadFault.TheVariants.{Name as BadName}
-use Rattle.kn_assert.specs.declared.order.Faults.{Faults}
+use Rattle.kn_assert.specs.Reading.{authorizer_in, licensees_in, conditions_in, and_then, stated_by, reading_with, reading_of, assertion_of}
+use Rattle.kn_fields.specs.declared.fault.ReadFault.{ReadFault}
+use Rattle.kn_fields.specs.declared.fault.ReadFault.TheVariants.{Name as BadName}
+use Rattle.kn_assert.specs.declared.stated.Stated.{Stated}
 use Rattle.kn_generate.proofs.Scans.{bytes_of, tokens_at, AreCuts, text_tokens}
 use Rattle.kn_generate.proofs.Literals.{quoted, IsNaming}
 use Rattle.kn_generate.proofs.CutLemmas.{IsDigit, credential_cuts, policy_cuts, Cuts}
 
--- none of the fields is at fault
-pub no_faults : Faults
-no_faults = record { authorizer = None; conditions = None; licensees = None; signature = None }
+-- the tokens of the field of a number
+abbrev pub of_field : ℕ → List Seen → List Seen
+of_field number tokens = option_map_or (λ field. field.tokens) (field_with number tokens) []
 
-still_none : (b : Bool) (o : Option ReadFault) → o ≡ None → (if b then None else o) ≡ None
-still_none true o e = refl
-still_none false o e = e
-
-none_by : (o : Option ℕ) → fault_by no_faults o ≡ None
-unfolding no_faults
-none_by None = refl
-none_by (Some n) = still_none (n == 1) _ (still_none (n == 3) _ (still_none (n == 5) _ (still_none (n == 7) _ refl)))
-
--- then none of any fields is the first with a fault
-pub none_first : (fields : List Field) → first_of no_faults fields ≡ None
-unfolding first_of
-none_first [] = refl
-none_first (field ∷ fields) = rw (none_by (field_of field.label)) (none_first fields)
-
-put_together : (fields : List Field) (constants : List Constant) (signed : ℕ) (a : Result (List ℕ) ReadFault) (l : Result (Option Formula) ReadFault) (c : Result (Option Program) ReadFault) (s : Result (Option (List ℕ)) ReadFault)
-    → is_ok a ≡ true → is_ok l ≡ true → is_ok c ≡ true → is_ok s ≡ true
-    → is_some (result_ok (unless (first_of (record { authorizer = result_err a; conditions = result_err c; licensees = result_err l; signature = result_err s }) fields) (assembled constants signed a l c s))) ≡ true
-unfolding no_faults
-put_together fields constants signed (Ok a) (Ok l) (Ok c) (Ok s) ea el ec es = rw (none_first fields) refl
-put_together fields constants signed (Err a) l c s ea el ec es = cc
-put_together fields constants signed (Ok a) (Err l) c s ea el ec es = cc
-put_together fields constants signed (Ok a) (Ok l) (Err c) s ea el ec es = cc
-put_together fields constants signed (Ok a) (Ok l) (Ok c) (Err s) ea el ec es = cc
-
--- a text reads whose fields do
-pub fields_read : (text : List ℕ) (tokens : List Seen) (constants : List Constant) → is_ok (authorizer_in constants (field_with 1 tokens)) ≡ true → is_ok (licensees_in constants (field_with 5 tokens)) ≡ true
-    → is_ok (conditions_in (field_with 3 tokens)) ≡ true → is_ok (signature_in (field_with 7 tokens)) ≡ true → is_some (result_ok (reading_with text tokens constants)) ≡ true
-unfolding reading_with
-fields_read text tokens constants a l c s =
-    put_together (fields_of tokens) constants (signed_to text tokens) (authorizer_in constants (field_with 1 tokens)) (licensees_in constants (field_with 5 tokens)) (conditions_in (field_with 3 tokens)) (signature_in (field_with 7 tokens)) a l c s
+-- a field that is read leaves what the others state
+field_read : {X : Type 0} (r : Result X ReadFault) (make : X → Stated) (rest : Stated → Result Stated ReadFault) (last : Stated → Result Assertion ReadFault) → is_ok r ≡ true
+    → ((x : X) → is_some (result_ok (and_then (rest (make x)) last)) ≡ true) → is_some (result_ok (and_then (and_then (and_then r (λ x. Ok (make x))) rest) last)) ≡ true
+field_read (Ok x) make rest last e h = h x
+field_read (Err fault) make rest last e h = cc
 
 -- the fields of a short text whose tokens show no fault
 pub fields_told : (text : List ℕ) (tokens : List Seen) → nat_lt 16384 (length text) ≡ false → tokens_or_fault text ≡ Ok tokens → fault_in tokens ≡ None → fields_or_fault text ≡ Ok tokens
@@ -95,11 +70,11 @@ unfolding fields_or_fault
 fields_told text tokens short cut none = rw (short, cut, none) refl
 
 pub text_reads : (text : List ℕ) (tokens : List Seen) → nat_lt 16384 (length text) ≡ false → tokens_or_fault text ≡ Ok tokens → fault_in tokens ≡ None
-    → is_some (result_ok (reading_with text tokens (constants_in (field_with 6 tokens)))) ≡ true → IsSome (assertion_of text)
+    → is_some (result_ok (reading_with text tokens)) ≡ true → IsSome (assertion_of text)
 unfolding reading_of
 text_reads text tokens short cut none reads = rw (fields_told text tokens short cut none) reads
 
-named_ok : (b : Bool) (x : List ℕ) → b ≡ true → is_ok (ok_or (if b then Some x else None) (BadName 1)) ≡ true
+named_ok : (b : Bool) (x : List ℕ) → b ≡ false → is_ok (ok_or (if b then None else Some x) (BadName 1)) ≡ true
 named_ok b x e = rw e refl
 
 -- the words of a formula, and what they spell
@@ -195,54 +170,58 @@ module _ (i a b c d e : List ℕ) (t : ℕ) where
   unfolding fault_in first_place fault_at fault_without version_place constant_place departure field_with fields_of field_of
   no_fault = refl
 
-  signature_ok : is_ok (signature_in (field_with 7 (tokens_at start 0 cuts))) ≡ true
-  unfolding field_with fields_of field_of
-  signature_ok = refl
-
-  authorizer_ok : IsNaming (quoted (112 ∷ i)) → is_ok (authorizer_in (constants_in (field_with 6 (tokens_at start 0 cuts))) (field_with 1 (tokens_at start 0 cuts))) ≡ true
+  authorizer_ok : IsNaming (quoted (112 ∷ i)) → is_ok (authorizer_in (constants_in (field_with 6 (tokens_at start 0 cuts))) (of_field 1 (tokens_at start 0 cuts))) ≡ true
   unfolding field_with fields_of field_of goes_deep depth_behind run_behind authorizer_of principal_of
   authorizer_ok naming =
-      named_ok (nat_lt 0 (length (literal_value (quoted (112 ∷ i)))) && nat_le (length (literal_value (quoted (112 ∷ i)))) 4096) (normal_form (literal_value (quoted (112 ∷ i)))) naming.named
+      named_ok (is_bad (literal_value (quoted (112 ∷ i)))) (normal_form (literal_value (quoted (112 ∷ i)))) naming.not_bad
 
   licensees_ok : IsNaming (quoted (112 ∷ a)) → IsNaming (quoted (112 ∷ b)) → IsNaming (quoted (112 ∷ c)) → IsNaming (quoted (112 ∷ d))
-      → is_ok (licensees_in (constants_in (field_with 6 (tokens_at start 0 cuts))) (field_with 5 (tokens_at start 0 cuts))) ≡ true
+      → is_ok (licensees_in (constants_in (field_with 6 (tokens_at start 0 cuts))) (of_field 5 (tokens_at start 0 cuts))) ≡ true
   unfolding field_with fields_of field_of goes_deep depth_behind run_behind licensees_of L.words_of
   licensees_ok na nb nc nd =
       formula_ok (literal_value (quoted (112 ∷ a))) (literal_value (quoted (112 ∷ b))) (literal_value (quoted (112 ∷ c))) (literal_value (quoted (112 ∷ d))) na.not_bad nb.not_bad nc.not_bad nd.not_bad
 
-  conditions_ok : IsDigit t → is_ok (conditions_in (field_with 3 (tokens_at start 0 cuts))) ≡ true
+  conditions_ok : IsDigit t → is_ok (conditions_in (of_field 3 (tokens_at start 0 cuts))) ≡ true
   unfolding field_with fields_of field_of goes_deep depth_behind run_behind program_of W.words_of truth_of
   conditions_ok digit =
       subst (λ (o : Option ℕ). is_ok (conditions_by (conditions.judged_read (read_program (program_words (number_word o) (literal_value (quoted (118 ∷ e))) (literal_value (codes "\"v1\"")))))) ≡ true)
       (sym digit.valued) (program_ok digit.value (literal_value (quoted (118 ∷ e))) (literal_value (codes "\"v1\"")))
 
+  fields_read : (text : List ℕ) → IsDigit t → IsNaming (quoted (112 ∷ i)) → IsNaming (quoted (112 ∷ a)) → IsNaming (quoted (112 ∷ b)) → IsNaming (quoted (112 ∷ c)) → IsNaming (quoted (112 ∷ d))
+      → is_some (result_ok (reading_with text (tokens_at start 0 cuts))) ≡ true
+  unfolding reading_with stated_by field_with fields_of field_of
+  fields_read text digit ni na nb nc nd =
+      field_read (authorizer_in (constants_in (field_with 6 (tokens_at start 0 cuts))) (of_field 1 (tokens_at start 0 cuts))) _ _ _ (authorizer_ok ni)
+      (λ x. field_read (licensees_in (constants_in (field_with 6 (tokens_at start 0 cuts))) (of_field 5 (tokens_at start 0 cuts))) _ _ _ (licensees_ok na nb nc nd)
+      (λ y. field_read (conditions_in (of_field 3 (tokens_at start 0 cuts))) _ _ _ (conditions_ok digit) (λ z. refl)))
+
   -- a credential reads, where its literals name principals
   pub credential_reads : (text : List ℕ) → text ≡ bytes_of cuts → AreCuts start cuts → nat_lt 16384 (length text) ≡ false → length cuts ≤ length text → IsDigit t
       → IsNaming (quoted (112 ∷ i)) → IsNaming (quoted (112 ∷ a)) → IsNaming (quoted (112 ∷ b)) → IsNaming (quoted (112 ∷ c)) → IsNaming (quoted (112 ∷ d)) → IsSome (assertion_of text)
   credential_reads text is are short enough digit ni na nb nc nd =
-      text_reads text (tokens_at start 0 cuts) short (text_tokens text cuts is are enough) no_fault
-      (fields_read text (tokens_at start 0 cuts) (constants_in (field_with 6 (tokens_at start 0 cuts))) (authorizer_ok ni) (licensees_ok na nb nc nd) (conditions_ok digit) signature_ok)
+      text_reads text (tokens_at start 0 cuts) short (text_tokens text cuts is are enough) no_fault (fields_read text digit ni na nb nc nd)
 
 policy_fault : fault_in (tokens_at start 0 policy_cuts) ≡ None
 unfolding fault_in first_place fault_at fault_without version_place constant_place departure field_with fields_of field_of
 policy_fault = refl
 
-policy_others : (is_ok (conditions_in (field_with 3 (tokens_at start 0 policy_cuts))) ≡ true) × (is_ok (signature_in (field_with 7 (tokens_at start 0 policy_cuts))) ≡ true)
-unfolding field_with fields_of field_of
-policy_others = (refl, refl)
-
-policy_authorizer : IsNaming (quoted (codes "POLICY")) → is_ok (authorizer_in (constants_in (field_with 6 (tokens_at start 0 policy_cuts))) (field_with 1 (tokens_at start 0 policy_cuts))) ≡ true
+policy_authorizer : IsNaming (quoted (codes "POLICY")) → is_ok (authorizer_in (constants_in (field_with 6 (tokens_at start 0 policy_cuts))) (of_field 1 (tokens_at start 0 policy_cuts))) ≡ true
 unfolding field_with fields_of field_of goes_deep depth_behind run_behind authorizer_of principal_of
 policy_authorizer naming =
-    named_ok (nat_lt 0 (length (literal_value (quoted (codes "POLICY")))) && nat_le (length (literal_value (quoted (codes "POLICY")))) 4096) (normal_form (literal_value (quoted (codes "POLICY")))) naming.named
+    named_ok (is_bad (literal_value (quoted (codes "POLICY")))) (normal_form (literal_value (quoted (codes "POLICY")))) naming.not_bad
 
-policy_licensees : IsNaming (quoted (codes "p0")) → is_ok (licensees_in (constants_in (field_with 6 (tokens_at start 0 policy_cuts))) (field_with 5 (tokens_at start 0 policy_cuts))) ≡ true
+policy_licensees : IsNaming (quoted (codes "p0")) → is_ok (licensees_in (constants_in (field_with 6 (tokens_at start 0 policy_cuts))) (of_field 5 (tokens_at start 0 policy_cuts))) ≡ true
 unfolding field_with fields_of field_of goes_deep depth_behind run_behind licensees_of L.words_of
 policy_licensees naming = one_ok (literal_value (quoted (codes "p0"))) naming.not_bad
+
+policy_fields : (text : List ℕ) → IsNaming (quoted (codes "POLICY")) → IsNaming (quoted (codes "p0")) → is_some (result_ok (reading_with text (tokens_at start 0 policy_cuts))) ≡ true
+unfolding reading_with stated_by field_with fields_of field_of
+policy_fields text policy first =
+    field_read (authorizer_in (constants_in (field_with 6 (tokens_at start 0 policy_cuts))) (of_field 1 (tokens_at start 0 policy_cuts))) _ _ _ (policy_authorizer policy)
+    (λ x. field_read (licensees_in (constants_in (field_with 6 (tokens_at start 0 policy_cuts))) (of_field 5 (tokens_at start 0 policy_cuts))) _ _ _ (policy_licensees first) (λ y. refl))
 
 -- the policy's credential reads
 pub policy_reads : (text : List ℕ) → text ≡ bytes_of policy_cuts → AreCuts start policy_cuts → nat_lt 16384 (length text) ≡ false → length policy_cuts ≤ length text
     → IsNaming (quoted (codes "POLICY")) → IsNaming (quoted (codes "p0")) → IsSome (assertion_of text)
 policy_reads text is are short enough policy first =
-    text_reads text (tokens_at start 0 policy_cuts) short (text_tokens text policy_cuts is are enough) policy_fault
-    (fields_read text (tokens_at start 0 policy_cuts) (constants_in (field_with 6 (tokens_at start 0 policy_cuts))) (policy_authorizer policy) (policy_licensees first) policy_others.0 policy_others.1)
+    text_reads text (tokens_at start 0 policy_cuts) short (text_tokens text policy_cuts is are enough) policy_fault (policy_fields text policy first)

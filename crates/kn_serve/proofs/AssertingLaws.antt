@@ -8,8 +8,8 @@ use Rattle.kn_outside.specs.Seen.{LinkSeen}
 use Rattle.kn_outside.specs.Printing.{Prints}
 use Rattle.kn_trees.specs.declared.assertion.Assertion.{Assertion}
 use Rattle.kn_assert.specs.Reading.{assertion_of, fault_of}
-use Rattle.kn_assert.specs.declared.fault.ReadFault.{ReadFault}
-use Rattle.kn_assert.specs.declared.fault.ReadFault.TheVariants as A
+use Rattle.kn_fields.specs.declared.fault.ReadFault.{ReadFault}
+use Rattle.kn_fields.specs.declared.fault.ReadFault.TheVariants as A
 use Rattle.kn_session.specs.declared.fault.SessionFault.{SessionFault}
 use Rattle.kn_session.specs.declared.fault.SessionFault.TheVariants as S
 use Rattle.kn_session.specs.Sessions.{Session, OpenSessions, session_in, fault_in, private_fault, add_private}

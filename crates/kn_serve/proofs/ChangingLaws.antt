@@ -6,9 +6,9 @@ use Rattle.std.specs.Option.{unwrap_or, option_or}
 use Rattle.std.proofs.lemmas.Bool.Decides.{nat_tests}
 use Rattle.std.specs.Result.{result_err, result_ok}
 use Rattle.kn_assert.specs.Reading.{reading_of, assertion_of, fault_of}
-use Rattle.kn_assert.specs.Faults.{fault_number, fault_place}
-use Rattle.kn_assert.specs.declared.fault.ReadFault.{ReadFault}
-use Rattle.kn_assert.specs.declared.fault.ReadFault.TheVariants as RF
+use Rattle.kn_fields.specs.Numbers.{fault_number, fault_place}
+use Rattle.kn_fields.specs.declared.fault.ReadFault.{ReadFault}
+use Rattle.kn_fields.specs.declared.fault.ReadFault.TheVariants as RF
 use Rattle.kn_trees.specs.declared.assertion.Assertion.{Assertion}
 use Rattle.kn_auth.specs.declared.fault.AuthFault.{AuthFault}
 use Rattle.kn_auth.specs.declared.fault.AuthFault.TheVariants.{Unsigned, Algorithm, Key, Mac, NotListed}

@@ -1,7 +1,7 @@
 -- One request of a connection answered (keynoted's own).
 use Rattle.std.specs.Prelude.{ℕ, ◌≡◌, ◌<◌, ◌^◌, ⊤, Bool, true, false, List, Option, Some, None, option_to_list, option_map, Result, Ok, Err}
-use Rattle.kn_assert.specs.declared.fault.ReadFault.{ReadFault}
-use Rattle.kn_assert.specs.Faults.{fault_number, fault_place}
+use Rattle.kn_fields.specs.declared.fault.ReadFault.{ReadFault}
+use Rattle.kn_fields.specs.Numbers.{fault_number, fault_place}
 use Rattle.kn_env.specs.declared.values.ValuesFault.{ValuesFault}
 use Rattle.kn_env.specs.declared.values.ValuesFault.TheVariants as V
 use Rattle.kn_outside.specs.Seen.{LinkSeen}

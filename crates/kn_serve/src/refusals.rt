@@ -1,6 +1,6 @@
 //! How faults of the parts are told.
 ghost use Rattle.std.specs.Prelude.{◌≡◌, ◌<◌, ◌^◌};
-ghost use Rattle.kn_assert.specs.Faults.{fault_place};
+ghost use Rattle.kn_fields.specs.Numbers.{fault_place};
 ghost use Rattle.kn_outside.specs.Printing.{Prints, is_whole};
 ghost use Rattle.kn_reply.specs.Replies.{reply_text};
 ghost use Rattle.kn_daemon.specs.Daemon.{refusal_of_fault, refusal_of_session, refusal_of_store};

@@ -3,7 +3,7 @@ use Rattle.std.proofs.Common.{◌≡◌, ℕ, ◌+◌, ◌⊎◌, inl, inr, ⊎_
 use Rattle.std.specs.Prelude.{Result, Ok, Err, IsSome}
 use Rattle.std.specs.Result.{result_err, result_ok}
 use Rattle.kn_trees.specs.declared.assertion.Assertion.{Assertion}
-use Rattle.kn_assert.specs.declared.fault.ReadFault.{ReadFault}
+use Rattle.kn_fields.specs.declared.fault.ReadFault.{ReadFault}
 use Rattle.kn_assert.specs.Reading.{reading_of, assertion_of, fault_of}
 use Rattle.kn_store.specs.declared.fault.StoreFault.{StoreFault}
 use Rattle.kn_store.specs.Loading.{refusal_behind, IsAddedBehind, IsLoadable, IsNextText, IsFaultyAt, IsFullAt}

@@ -1,6 +1,6 @@
 -- Laws of histories and of loading.
 use Rattle.std.specs.Prelude.{ℕ, ◌≡◌, ◌==◌, ◌⊎◌, ◌↔◌, true, not, List, [], ◌∷◌, ◌++◌, map, filter, Some, slice_get}
-use Rattle.kn_assert.specs.declared.fault.ReadFault.{ReadFault}
+use Rattle.kn_fields.specs.declared.fault.ReadFault.{ReadFault}
 use Rattle.kn_store.specs.declared.update.Change.TheVariants.{Add, Remove}
 use Rattle.kn_store.specs.declared.update.Numbered.{Numbered}
 use Rattle.kn_store.specs.declared.update.Update.{Update}

@@ -1,6 +1,6 @@
 -- Loading a policy file (keynoted's own): caller 0 adds its texts in their order to an empty history.
 use Rattle.std.specs.Prelude.{ℕ, ◌≡◌, ◌+◌, List, ◌∷◌, ◌++◌, length, Option, Some, None, IsSome}
-use Rattle.kn_assert.specs.declared.fault.ReadFault.{ReadFault}
+use Rattle.kn_fields.specs.declared.fault.ReadFault.{ReadFault}
 use Rattle.kn_assert.specs.Reading.{assertion_of, fault_of}
 use Rattle.kn_store.specs.declared.update.Change.TheVariants.{Add}
 use Rattle.kn_store.specs.declared.fault.StoreFault.{StoreFault}

@@ -5,7 +5,7 @@ use Rattle.std.specs.Prelude.{is_some, All}
 use Rattle.std.specs.Result.{result_ok}
 use Rattle.kn_meaning.specs.Equations.{Statement}
 use Rattle.kn_assert.specs.Reading.{reading_of, assertion_of}
-use Rattle.kn_assert.specs.declared.fault.ReadFault.{ReadFault}
+use Rattle.kn_fields.specs.declared.fault.ReadFault.{ReadFault}
 use Rattle.kn_trees.specs.declared.assertion.Assertion.{Assertion}
 use Rattle.kn_proof.specs.declared.named.NamedRow.{NamedRow}
 use Rattle.kn_proof.specs.declared.named.Id.TheVariants.{Shared}

@@ -1,7 +1,6 @@
 -- What the texts of the worked examples state.
 use Rattle.std.proofs.Common.{◌≡◌, ℕ, true, false, Bool, ◌==◌, if◌then◌else◌, List, [], ◌∷◌, Option, Some, None, Result, Ok, refl, ap, ◌∙◌, codes, length, arith}
 use Rattle.std.specs.Prelude.{nat_lt}
-use Rattle.std.specs.Result.{result_err}
 use Rattle.kn_lex.specs.Cutting.{Seen, start}
 use Rattle.kn_lex.specs.Literal.{value_behind}
 use Rattle.kn_lex.specs.Computed.{tokens_or_fault}
@@ -29,44 +28,24 @@ use Rattle.kn_formula.specs.Reading.{read_words, ors_at, ands_at, one_at, forms_
 use Rattle.kn_formula.specs.Licensing as licensing
 use Rattle.kn_formula.specs.Licensing.{licensees_of}
 use Rattle.kn_assert.specs.Parts.{principal_of, authorizer_of, licensees_by}
-use Rattle.kn_assert.specs.Reading.{authorizer_in, licensees_in, conditions_in, signature_in, fault_by, first_of, unless, assembled, reading_with, reading_of}
-use Rattle.kn_assert.specs.declared.fault.ReadFault.{ReadFault}
-use Rattle.kn_assert.specs.declared.order.Faults.{Faults}
+use Rattle.kn_assert.specs.Reading.{authorizer_in, licensees_in, and_then, stated_by, reading_with, reading_of}
+use Rattle.kn_fields.specs.declared.fault.ReadFault.{ReadFault}
+use Rattle.kn_assert.specs.declared.stated.Stated.{Stated}
 use Rattle.kn_generate.proofs.Scans.{tokens_at, AreCuts, text_tokens}
-use Rattle.kn_generate.proofs.Readings.{fields_told, one_spells}
+use Rattle.kn_generate.proofs.Readings.{of_field, fields_told, one_spells}
 use Rattle.kn_worked.specs.Texts.{policy_text, policy_assertion, credential_text, credential_assertion}
 
 abbrev Cuts : Type 0
 Cuts = List (Piece × List ℕ)
 
-no_faults : Faults
-no_faults = record { authorizer = None; conditions = None; licensees = None; signature = None }
-
-still_none : (b : Bool) (o : Option ReadFault) → o ≡ None → (if b then None else o) ≡ None
-still_none true o e = refl
-still_none false o e = e
-
-none_by : (o : Option ℕ) → fault_by no_faults o ≡ None
-unfolding no_faults
-none_by None = refl
-none_by (Some n) = still_none (n == 1) _ (still_none (n == 3) _ (still_none (n == 5) _ (still_none (n == 7) _ refl)))
-
-none_first : (fields : List Field) → first_of no_faults fields ≡ None
-unfolding first_of
-none_first [] = refl
-none_first (field ∷ fields) = rw (none_by (field_of field.label)) (none_first fields)
-
--- the assertion where each field states what it should
-put_together : (fields : List Field) (constants : List Constant) (signed : ℕ) (a : Result (List ℕ) ReadFault) (l : Result (Option Formula) ReadFault) (c : Result (Option Program) ReadFault) (s : Result (Option (List ℕ)) ReadFault)
-    (authorizer : List ℕ) (licensees : Option Formula) (conditions : Option Program) (signature : Option (List ℕ)) → a ≡ Ok authorizer → l ≡ Ok licensees → c ≡ Ok conditions → s ≡ Ok signature
-    → unless (first_of (record { authorizer = result_err a; conditions = result_err c; licensees = result_err l; signature = result_err s }) fields) (assembled constants signed a l c s)
-    ≡ Ok (record { authorizer = authorizer; constants = constants; licensees = licensees; conditions = conditions; signature = signature; signed_to = signed })
-unfolding no_faults
-put_together fields constants signed a l c s authorizer licensees conditions signature ea el ec es = rw (ea, el, ec, es, none_first fields) refl
+-- a field that is read leaves what the others state
+field_read : {X : Type 0} (r : Result X ReadFault) (x : X) (make : X → Stated) (rest : Stated → Result Stated ReadFault) (last : Stated → Result Assertion ReadFault) → r ≡ Ok x
+    → and_then (and_then (and_then r (λ x. Ok (make x))) rest) last ≡ and_then (rest (make x)) last
+field_read r x make rest last e = ap (λ r. and_then (and_then (and_then r (λ x. Ok (make x))) rest) last) e
 
 -- a text of these tokens, whose fields state these parts
 reads : (text : List ℕ) (tokens : List Seen) (assertion : Assertion) → nat_lt 16384 (length text) ≡ false → tokens_or_fault text ≡ Ok tokens → fault_in tokens ≡ None
-    → reading_with text tokens (constants_in (field_with 6 tokens)) ≡ Ok assertion → reading_of text ≡ Ok assertion
+    → reading_with text tokens ≡ Ok assertion → reading_of text ≡ Ok assertion
 unfolding reading_of
 reads text tokens assertion short cut none is = rw (fields_told text tokens short cut none) is
 
@@ -130,35 +109,34 @@ no_faults_in : (fault_in policy_tokens ≡ None) × (fault_in credential_tokens 
 unfolding fault_in first_place fault_at fault_without version_place constant_place departure field_with fields_of field_of
 no_faults_in = (refl, refl)
 
-authorizers : (authorizer_in [] (field_with 1 policy_tokens) ≡ Ok (codes "POLICY")) × (authorizer_in [] (field_with 1 credential_tokens) ≡ Ok (codes "alice"))
+authorizers : (authorizer_in [] (of_field 1 policy_tokens) ≡ Ok (codes "POLICY")) × (authorizer_in [] (of_field 1 credential_tokens) ≡ Ok (codes "alice"))
 unfolding field_with fields_of field_of goes_deep depth_behind run_behind authorizer_of principal_of value_behind
 authorizers = (refl, refl)
-
-others : (conditions_in (field_with 3 policy_tokens) ≡ Ok None) × (signature_in (field_with 7 policy_tokens) ≡ Ok None)
-    × (conditions_in (field_with 3 credential_tokens) ≡ Ok None) × (signature_in (field_with 7 credential_tokens) ≡ Ok None)
-unfolding field_with fields_of field_of
-others = (refl, refl, refl, refl)
 
 formula_ok : (v : List ℕ) → has_bad_name [] (Who (Literal v)) ≡ false → licensees_by (licensing.judged_read [] (read_words (L.literal v ∷ []))) ≡ Ok (Some (formula_of [] (Who (Literal v))))
 formula_ok v good = rw (one_spells v, bad_threshold_who (Literal v), good) refl
 
-licensed : (licensees_in [] (field_with 5 policy_tokens) ≡ Ok (Some (formula_of [] (Who (Literal (codes "alice")))))) × (licensees_in [] (field_with 5 credential_tokens) ≡ Ok (Some (formula_of [] (Who (Literal (codes "bob"))))))
+licensed : (licensees_in [] (of_field 5 policy_tokens) ≡ Ok (Some (formula_of [] (Who (Literal (codes "alice")))))) × (licensees_in [] (of_field 5 credential_tokens) ≡ Ok (Some (formula_of [] (Who (Literal (codes "bob"))))))
 unfolding field_with fields_of field_of goes_deep depth_behind run_behind licensees_of L.words_of value_behind
 licensed = (formula_ok (codes "alice") (bad_name_who [] (Literal (codes "alice"))), formula_ok (codes "bob") (bad_name_who [] (Literal (codes "bob"))))
 
-licensees : (licensees_in [] (field_with 5 policy_tokens) ≡ Ok (Some (Licensee (codes "alice")))) × (licensees_in [] (field_with 5 credential_tokens) ≡ Ok (Some (Licensee (codes "bob"))))
+licensees : (licensees_in [] (of_field 5 policy_tokens) ≡ Ok (Some (Licensee (codes "alice")))) × (licensees_in [] (of_field 5 credential_tokens) ≡ Ok (Some (Licensee (codes "bob"))))
 licensees = (
   licensed.0 ∙ ap (λ (f : Formula). Ok (Some f)) (formula_who [] (Literal (codes "alice"))),
   licensed.1 ∙ ap (λ (f : Formula). Ok (Some f)) (formula_who [] (Literal (codes "bob"))),
 )
 
-policy_parts : reading_with policy_text policy_tokens (constants_in (field_with 6 policy_tokens)) ≡ Ok policy_assertion
-unfolding reading_with field_with fields_of field_of
-policy_parts = put_together (fields_of policy_tokens) [] 40 _ _ _ _ (codes "POLICY") (Some (Licensee (codes "alice"))) None None authorizers.0 licensees.0 others.0 others.1
+policy_parts : reading_with policy_text policy_tokens ≡ Ok policy_assertion
+unfolding reading_with stated_by field_with fields_of field_of
+policy_parts =
+    field_read (authorizer_in [] (of_field 1 policy_tokens)) (codes "POLICY") _ _ _ authorizers.0
+    ∙ field_read (licensees_in [] (of_field 5 policy_tokens)) (Some (Licensee (codes "alice"))) _ _ _ licensees.0
 
-credential_parts : reading_with credential_text credential_tokens (constants_in (field_with 6 credential_tokens)) ≡ Ok credential_assertion
-unfolding reading_with field_with fields_of field_of
-credential_parts = put_together (fields_of credential_tokens) [] 37 _ _ _ _ (codes "alice") (Some (Licensee (codes "bob"))) None None authorizers.1 licensees.1 others.2 others.3
+credential_parts : reading_with credential_text credential_tokens ≡ Ok credential_assertion
+unfolding reading_with stated_by field_with fields_of field_of
+credential_parts =
+    field_read (authorizer_in [] (of_field 1 credential_tokens)) (codes "alice") _ _ _ authorizers.1
+    ∙ field_read (licensees_in [] (of_field 5 credential_tokens)) (Some (Licensee (codes "bob"))) _ _ _ licensees.1
 
 pub policy_reading : reading_of policy_text ≡ Ok policy_assertion
 policy_reading = reads policy_text policy_tokens policy_assertion refl (text_tokens policy_text policy_cuts refl policy_cut (omega arith)) no_faults_in.0 policy_parts

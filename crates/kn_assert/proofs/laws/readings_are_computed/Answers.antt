@@ -1,8 +1,8 @@
 use Rattle.kn_assert.proofs.Readings.{FieldsTold, reading_spelled, spelled_reading, reading_fault, fault_reading, never_memory}
 use Rattle.kn_assert.proofs.laws.readings_are_computed.Goals as goal
 
-pub returns-clause-reading : goal.returns-clause-reading
-returns-clause-reading c text assertion =
+pub returns : goal.returns
+returns c =
     let told : FieldsTold = record {
       tokens = c.fields_are_computed.ensures.tokens;
       fault = c.fields_are_computed.ensures.fault;
@@ -17,40 +17,8 @@ returns-clause-reading c text assertion =
       one = c.one_field_of_each_number.ensures.one;
       authorizer = c.one_field_of_each_number.ensures.authorizer;
     } in
-    (reading_spelled told text assertion, spelled_reading told text assertion)
-
-pub returns-clause-fault : goal.returns-clause-fault
-returns-clause-fault c text fault =
-    let told : FieldsTold = record {
-      tokens = c.fields_are_computed.ensures.tokens;
-      fault = c.fields_are_computed.ensures.fault;
-      parts = record {
-        deep = c.depth_is_computed.ensures.deep;
-        not_deep = c.depth_is_computed.ensures.not_deep;
-        states = c.licensees_found.ensures.formula;
-        shows = c.licensees_found.ensures.fault;
-        states_program = c.program_found.ensures.program;
-        shows_program = c.program_found.ensures.fault;
-      };
-      one = c.one_field_of_each_number.ensures.one;
-      authorizer = c.one_field_of_each_number.ensures.authorizer;
-    } in
-    (reading_fault told text fault, fault_reading told text fault)
-
-pub returns-clause-not_memory : goal.returns-clause-not_memory
-returns-clause-not_memory c text e =
-    let told : FieldsTold = record {
-      tokens = c.fields_are_computed.ensures.tokens;
-      fault = c.fields_are_computed.ensures.fault;
-      parts = record {
-        deep = c.depth_is_computed.ensures.deep;
-        not_deep = c.depth_is_computed.ensures.not_deep;
-        states = c.licensees_found.ensures.formula;
-        shows = c.licensees_found.ensures.fault;
-        states_program = c.program_found.ensures.program;
-        shows_program = c.program_found.ensures.fault;
-      };
-      one = c.one_field_of_each_number.ensures.one;
-      authorizer = c.one_field_of_each_number.ensures.authorizer;
-    } in
-    never_memory told text e
+    record {
+      reading = λ text assertion. (reading_spelled told text assertion, spelled_reading told text assertion);
+      fault = λ text fault. (reading_fault told text fault, fault_reading told text fault);
+      not_memory = λ text e. never_memory told text e;
+    }

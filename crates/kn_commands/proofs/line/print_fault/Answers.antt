@@ -1,7 +1,7 @@
 use Rattle.std.proofs.Common.{◌≡◌, ◌∙◌, ap, codes}
 use Rattle.std.specs.Prelude.{decimal}
 use Rattle.std.specs.Option.{unwrap_or}
-use Rattle.kn_assert.specs.Faults.{fault_number, fault_place}
+use Rattle.kn_fields.specs.Numbers.{fault_number, fault_place}
 use Rattle.kn_commands.specs.Stopping.{policy_fault_line}
 use Rattle.kn_commands.proofs.Told.{parts_of, fault_parts, told}
 use Rattle.kn_commands.proofs.line.print_fault.Goals as goal

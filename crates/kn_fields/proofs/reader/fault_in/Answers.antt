@@ -1,6 +1,6 @@
 use Rattle.std.proofs.Common.{sym, ◌∙◌}
 use Rattle.kn_fields.specs.Scanning.{fault_in}
-use Rattle.kn_fields.specs.declared.fault.FieldFault.TheVariants.{NoAuthorizer, Version, Constant}
+use Rattle.kn_fields.specs.declared.fault.ReadFault.TheVariants.{NoAuthorizer, Version, Constant}
 use Rattle.kn_fields.proofs.Shown.{found, passed, found_without, passed_without, right_passed}
 use Rattle.kn_fields.proofs.reader.fault_in.Goals as goal
 

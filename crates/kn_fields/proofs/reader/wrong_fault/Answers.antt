@@ -1,6 +1,6 @@
 use Rattle.std.proofs.Common.{sym, ◌∙◌}
 use Rattle.kn_fields.specs.Scanning.{fault_in}
-use Rattle.kn_fields.specs.declared.fault.FieldFault.TheVariants.{BadField, FieldTwice, FieldOrder}
+use Rattle.kn_fields.specs.declared.fault.ReadFault.TheVariants.{BadField, FieldTwice, FieldOrder}
 use Rattle.kn_fields.specs.declared.labels.Wrong.TheVariants.{NoField, Second, LateVersion, BehindSignature}
 use Rattle.kn_fields.proofs.Shown.{found, passed}
 use Rattle.kn_fields.proofs.reader.wrong_fault.Goals as goal

@@ -8,7 +8,7 @@ use Rattle.kn_lex.specs.Literal.{literal_value}
 use Rattle.kn_lex.specs.declared.token.Sort.{Sort}
 use Rattle.kn_lex.specs.declared.token.Sort.TheVariants.{Label, Body, Name as NameSort, Number as NumberSort, Text, Sign}
 use Rattle.kn_fields.specs.Constants.{is_text_sort}
-use Rattle.kn_fields.specs.Fields.{Field}
+use Rattle.kn_fields.specs.Faults.{fault_order}
 use Rattle.kn_fields.specs.Depth.{IsTooDeep}
 use Rattle.kn_fields.specs.Scanning.{goes_deep}
 use Rattle.kn_trees.specs.declared.formula.Formula.{Formula}
@@ -21,9 +21,9 @@ use Rattle.kn_program.specs.declared.fault.ProgramFault.{ProgramFault}
 use Rattle.kn_program.specs.declared.fault.ProgramFault.TheVariants.{Syntax as NoProgram, Kind as WrongKind, NoMemory as NoProgramMemory}
 use Rattle.kn_assert.specs.Parts.{is_principal_token, principal_of, normal_in, text_by, only_of, authorizer_by, authorizer_of, program_fault, conditions_by, formula_fault, licensees_by, signature_by, signature_of}
 use Rattle.kn_assert.specs.Reading.{shallow, authorizer_in, conditions_in, licensees_in, signature_in}
-use Rattle.kn_assert.specs.Spelled.{IsOne, AuthorizerShows, ConditionsShows, LicenseesShows, SignatureShows, fault_order}
-use Rattle.kn_assert.specs.declared.fault.ReadFault.{ReadFault}
-use Rattle.kn_assert.specs.declared.fault.ReadFault.TheVariants.{TooDeep, Syntax, Kind, Threshold, Name}
+use Rattle.kn_assert.specs.Spelled.{IsOne, AuthorizerShows, ConditionsShows, LicenseesShows, SignatureShows}
+use Rattle.kn_fields.specs.declared.fault.ReadFault.{ReadFault}
+use Rattle.kn_fields.specs.declared.fault.ReadFault.TheVariants.{TooDeep, Syntax, Kind, Threshold, Name}
 
 -- what the laws below say: the test of depth is what it is to go too deep, and what is found of a formula or of a program is
 -- what the tokens state or show
@@ -56,7 +56,7 @@ shallow_deep depth n tokens read h = by (goes_deep 0 0 tokens) refl
     by true e = refl
     by false e = absurd (depth.not_deep tokens e h)
 
-ok_err : {X P : Type 0} (x : X) (fault : ReadFault) → Ok x ≡ Err fault → P
+pub ok_err : {X P : Type 0} (x : X) (fault : ReadFault) → Ok x ≡ Err fault → P
 ok_err x fault e = absurd (cc)
 
 pub same_fault : {X : Type 0} (fault other : ReadFault) (r : Result X ReadFault) → r ≡ Err fault → r ≡ Err other → fault ≡ other
@@ -217,15 +217,15 @@ not_principal constants tokens f (Some token) o e = by (is_principal_token token
             let t : token ≡ one.0 = cc in
             false≢true (sym b ∙ ap is_principal_token t ∙ one.2)
 
-pub authorizer_shown : PartsTold → (constants : List Set) (field : Field) (f : ReadFault) → authorizer_in constants (Some field) ≡ Err f
-    → AuthorizerShows constants field.tokens f
+pub authorizer_shown : PartsTold → (constants : List Set) (tokens : List Seen) (f : ReadFault) → authorizer_in constants tokens ≡ Err f
+    → AuthorizerShows constants tokens f
 unfolding authorizer_of
-authorizer_shown depth constants field f e =
-    elim (depth_known depth field.tokens) [
+authorizer_shown depth constants tokens f e =
+    elim (depth_known depth tokens) [
       | inl h ↦
-          subst (AuthorizerShows constants field.tokens) (same_fault (TooDeep 1) f _ (shallow_deep depth 1 field.tokens (authorizer_of constants field.tokens) h) e) (refl, h)
+          subst (AuthorizerShows constants tokens) (same_fault (TooDeep 1) f _ (shallow_deep depth 1 tokens (authorizer_of constants tokens) h) e) (refl, h)
       | inr h ↦
-          not_principal constants field.tokens f (only_of field.tokens) refl (sym (shallow_read depth 1 field.tokens (authorizer_of constants field.tokens) h) ∙ e)
+          not_principal constants tokens f (only_of tokens) refl (sym (shallow_read depth 1 tokens (authorizer_of constants tokens) h) ∙ e)
     ]
 
 misspelled_least : (constants : List Set) (tokens : List Seen) (number : ℕ) → number ≡ 1 → (IsOne tokens (λ token. is_principal_token token ≡ true) → ⊥)
@@ -251,14 +251,14 @@ unnamed_least constants tokens number n h =
     ∙ ap (λ (o : Option (List ℕ)). ok_or o (Name 1)) h.2.1 in
     is_least _ (Name 1) (Name number) is (inr (ap Name (sym n)))
 
-pub authorizer_least : PartsTold → (constants : List Set) (field : Field) (other : ReadFault) → AuthorizerShows constants field.tokens other
-    → Least (authorizer_in constants (Some field)) other
-authorizer_least depth constants field (TooDeep number) h = least_itself depth 1 number field.tokens _ h.0 h.1
-authorizer_least depth constants field (Syntax number) h =
-    least_deep depth 1 field.tokens _ (Syntax number) (omega arith) (λ s. misspelled_least constants field.tokens number h.0 h.1)
-authorizer_least depth constants field (Name number) h =
-    least_deep depth 1 field.tokens _ (Name number) (omega arith) (λ s. unnamed_least constants field.tokens number h.0 h.1)
-authorizer_least depth constants field _ h = absurd h
+pub authorizer_least : PartsTold → (constants : List Set) (tokens : List Seen) (other : ReadFault) → AuthorizerShows constants tokens other
+    → Least (authorizer_in constants tokens) other
+authorizer_least depth constants tokens (TooDeep number) h = least_itself depth 1 number tokens _ h.0 h.1
+authorizer_least depth constants tokens (Syntax number) h =
+    least_deep depth 1 tokens _ (Syntax number) (omega arith) (λ s. misspelled_least constants tokens number h.0 h.1)
+authorizer_least depth constants tokens (Name number) h =
+    least_deep depth 1 tokens _ (Name number) (omega arith) (λ s. unnamed_least constants tokens number h.0 h.1)
+authorizer_least depth constants tokens _ h = absurd h
 
 -- Conditions
 
@@ -268,22 +268,22 @@ program_shown told tokens f (Err NoProgram) o e = subst (ConditionsShows tokens)
 program_shown told tokens f (Err WrongKind) o e = subst (ConditionsShows tokens) (same_fault (Kind 3) f (Err (Kind 3)) refl e) (refl, (told.shows_program tokens WrongKind).0 o)
 program_shown told tokens f (Err NoProgramMemory) o e = absurd ((told.shows_program tokens NoProgramMemory).0 o)
 
-pub conditions_shown : PartsTold → (field : Field) (f : ReadFault) → conditions_in (Some field) ≡ Err f → ConditionsShows field.tokens f
-conditions_shown depth field f e =
-    elim (depth_known depth field.tokens) [
+pub conditions_shown : PartsTold → (tokens : List Seen) (f : ReadFault) → conditions_in tokens ≡ Err f → ConditionsShows tokens f
+conditions_shown depth tokens f e =
+    elim (depth_known depth tokens) [
       | inl h ↦
-          subst (ConditionsShows field.tokens) (same_fault (TooDeep 3) f _ (shallow_deep depth 3 field.tokens (conditions_by (program_of field.tokens)) h) e) (refl, h)
+          subst (ConditionsShows tokens) (same_fault (TooDeep 3) f _ (shallow_deep depth 3 tokens (conditions_by (program_of tokens)) h) e) (refl, h)
       | inr h ↦
-          program_shown depth field.tokens f (program_of field.tokens) refl (sym (shallow_read depth 3 field.tokens (conditions_by (program_of field.tokens)) h) ∙ e)
+          program_shown depth tokens f (program_of tokens) refl (sym (shallow_read depth 3 tokens (conditions_by (program_of tokens)) h) ∙ e)
     ]
 
-pub conditions_least : PartsTold → (field : Field) (other : ReadFault) → ConditionsShows field.tokens other → Least (conditions_in (Some field)) other
-conditions_least depth field (TooDeep number) h = least_itself depth 3 number field.tokens _ h.0 h.1
-conditions_least depth field (Syntax number) h =
-    least_deep depth 3 field.tokens _ (Syntax number) (omega arith) (λ s. is_least _ (Syntax 3) (Syntax number) (ap conditions_by ((depth.shows_program field.tokens NoProgram).1 h.1)) (inr (ap Syntax (sym h.0))))
-conditions_least depth field (Kind number) h =
-    least_deep depth 3 field.tokens _ (Kind number) (omega arith) (λ s. is_least _ (Kind 3) (Kind number) (ap conditions_by ((depth.shows_program field.tokens WrongKind).1 h.1)) (inr (ap Kind (sym h.0))))
-conditions_least depth field _ h = absurd h
+pub conditions_least : PartsTold → (tokens : List Seen) (other : ReadFault) → ConditionsShows tokens other → Least (conditions_in tokens) other
+conditions_least depth tokens (TooDeep number) h = least_itself depth 3 number tokens _ h.0 h.1
+conditions_least depth tokens (Syntax number) h =
+    least_deep depth 3 tokens _ (Syntax number) (omega arith) (λ s. is_least _ (Syntax 3) (Syntax number) (ap conditions_by ((depth.shows_program tokens NoProgram).1 h.1)) (inr (ap Syntax (sym h.0))))
+conditions_least depth tokens (Kind number) h =
+    least_deep depth 3 tokens _ (Kind number) (omega arith) (λ s. is_least _ (Kind 3) (Kind number) (ap conditions_by ((depth.shows_program tokens WrongKind).1 h.1)) (inr (ap Kind (sym h.0))))
+conditions_least depth tokens _ h = absurd h
 
 -- Licensees
 
@@ -295,28 +295,28 @@ formula_shown told constants tokens f (Err WrongThreshold) o e = subst (Licensee
 formula_shown told constants tokens f (Err NoName) o e = subst (LicenseesShows constants tokens) (same_fault (Name 5) f (Err (Name 5)) refl e) (refl, (told.shows constants tokens NoName).0 o)
 formula_shown told constants tokens f (Err NoFormulaMemory) o e = absurd ((told.shows constants tokens NoFormulaMemory).0 o)
 
-pub licensees_shown : PartsTold → (constants : List Set) (field : Field) (f : ReadFault) → licensees_in constants (Some field) ≡ Err f
-    → LicenseesShows constants field.tokens f
-licensees_shown depth constants field f e =
-    elim (depth_known depth field.tokens) [
+pub licensees_shown : PartsTold → (constants : List Set) (tokens : List Seen) (f : ReadFault) → licensees_in constants tokens ≡ Err f
+    → LicenseesShows constants tokens f
+licensees_shown depth constants tokens f e =
+    elim (depth_known depth tokens) [
       | inl h ↦
-          subst (LicenseesShows constants field.tokens)
-          (same_fault (TooDeep 5) f _ (shallow_deep depth 5 field.tokens (licensees_by (licensees_of constants field.tokens)) h) e) (refl, h)
+          subst (LicenseesShows constants tokens)
+          (same_fault (TooDeep 5) f _ (shallow_deep depth 5 tokens (licensees_by (licensees_of constants tokens)) h) e) (refl, h)
       | inr h ↦
-          formula_shown depth constants field.tokens f (licensees_of constants field.tokens) refl
-          (sym (shallow_read depth 5 field.tokens (licensees_by (licensees_of constants field.tokens)) h) ∙ e)
+          formula_shown depth constants tokens f (licensees_of constants tokens) refl
+          (sym (shallow_read depth 5 tokens (licensees_by (licensees_of constants tokens)) h) ∙ e)
     ]
 
-pub licensees_least : PartsTold → (constants : List Set) (field : Field) (other : ReadFault) → LicenseesShows constants field.tokens other
-    → Least (licensees_in constants (Some field)) other
-licensees_least depth constants field (TooDeep number) h = least_itself depth 5 number field.tokens _ h.0 h.1
-licensees_least depth constants field (Syntax number) h =
-    least_deep depth 5 field.tokens _ (Syntax number) (omega arith) (λ s. is_least _ (Syntax 5) (Syntax number) (ap licensees_by ((depth.shows constants field.tokens NoFormula).1 h.1)) (inr (ap Syntax (sym h.0))))
-licensees_least depth constants field (Threshold number) h =
-    least_deep depth 5 field.tokens _ (Threshold number) (omega arith) (λ s. is_least _ (Threshold 5) (Threshold number) (ap licensees_by ((depth.shows constants field.tokens WrongThreshold).1 h.1)) (inr (ap Threshold (sym h.0))))
-licensees_least depth constants field (Name number) h =
-    least_deep depth 5 field.tokens _ (Name number) (omega arith) (λ s. is_least _ (Name 5) (Name number) (ap licensees_by ((depth.shows constants field.tokens NoName).1 h.1)) (inr (ap Name (sym h.0))))
-licensees_least depth constants field _ h = absurd h
+pub licensees_least : PartsTold → (constants : List Set) (tokens : List Seen) (other : ReadFault) → LicenseesShows constants tokens other
+    → Least (licensees_in constants tokens) other
+licensees_least depth constants tokens (TooDeep number) h = least_itself depth 5 number tokens _ h.0 h.1
+licensees_least depth constants tokens (Syntax number) h =
+    least_deep depth 5 tokens _ (Syntax number) (omega arith) (λ s. is_least _ (Syntax 5) (Syntax number) (ap licensees_by ((depth.shows constants tokens NoFormula).1 h.1)) (inr (ap Syntax (sym h.0))))
+licensees_least depth constants tokens (Threshold number) h =
+    least_deep depth 5 tokens _ (Threshold number) (omega arith) (λ s. is_least _ (Threshold 5) (Threshold number) (ap licensees_by ((depth.shows constants tokens WrongThreshold).1 h.1)) (inr (ap Threshold (sym h.0))))
+licensees_least depth constants tokens (Name number) h =
+    least_deep depth 5 tokens _ (Name number) (omega arith) (λ s. is_least _ (Name 5) (Name number) (ap licensees_by ((depth.shows constants tokens NoName).1 h.1)) (inr (ap Name (sym h.0))))
+licensees_least depth constants tokens _ h = absurd h
 
 -- Signature
 
@@ -338,12 +338,12 @@ not_text tokens f (Some token) o e = by (is_text_sort token.sort) refl e
             let t : token ≡ one.0 = cc in
             false≢true (sym b ∙ ap (λ (x : Seen). is_text_sort x.sort) t ∙ ap is_text_sort one.2)
 
-pub signature_shown : PartsTold → (field : Field) (f : ReadFault) → signature_in (Some field) ≡ Err f → SignatureShows field.tokens f
+pub signature_shown : PartsTold → (tokens : List Seen) (f : ReadFault) → signature_in tokens ≡ Err f → SignatureShows tokens f
 unfolding signature_of
-signature_shown depth field f e =
-    elim (depth_known depth field.tokens) [
-      | inl h ↦ subst (SignatureShows field.tokens) (same_fault (TooDeep 7) f _ (shallow_deep depth 7 field.tokens (signature_of field.tokens) h) e) (refl, h)
-      | inr h ↦ not_text field.tokens f (only_of field.tokens) refl (sym (shallow_read depth 7 field.tokens (signature_of field.tokens) h) ∙ e)
+signature_shown depth tokens f e =
+    elim (depth_known depth tokens) [
+      | inl h ↦ subst (SignatureShows tokens) (same_fault (TooDeep 7) f _ (shallow_deep depth 7 tokens (signature_of tokens) h) e) (refl, h)
+      | inr h ↦ not_text tokens f (only_of tokens) refl (sym (shallow_read depth 7 tokens (signature_of tokens) h) ∙ e)
     ]
 
 no_text_least : (tokens : List Seen) (number : ℕ) → number ≡ 7 → (IsOne tokens (λ token. token.sort ≡ Text) → ⊥) → Least (signature_of tokens) (Syntax number)
@@ -358,8 +358,8 @@ no_text_least tokens number n h = by (only_of tokens) refl
     by None o = is_least _ (Syntax 7) (Syntax number) refl (inr (ap Syntax (sym n)))
     by (Some token) o = is_least _ (Syntax 7) (Syntax number) (of token o (is_text_sort token.sort) refl) (inr (ap Syntax (sym n)))
 
-pub signature_least : PartsTold → (field : Field) (other : ReadFault) → SignatureShows field.tokens other → Least (signature_in (Some field)) other
-signature_least depth field (TooDeep number) h = least_itself depth 7 number field.tokens _ h.0 h.1
-signature_least depth field (Syntax number) h =
-    least_deep depth 7 field.tokens _ (Syntax number) (omega arith) (λ s. no_text_least field.tokens number h.0 h.1)
-signature_least depth field _ h = absurd h
+pub signature_least : PartsTold → (tokens : List Seen) (other : ReadFault) → SignatureShows tokens other → Least (signature_in tokens) other
+signature_least depth tokens (TooDeep number) h = least_itself depth 7 number tokens _ h.0 h.1
+signature_least depth tokens (Syntax number) h =
+    least_deep depth 7 tokens _ (Syntax number) (omega arith) (λ s. no_text_least tokens number h.0 h.1)
+signature_least depth tokens _ h = absurd h
