@@ -1,5 +1,5 @@
 -- The one token of a field, and what is stated label by label.
-use Rattle.std.proofs.Common.{◌≡◌, ℕ, ◌+◌, ◌-◌, ◌<◌, ◌≤◌, ◌⊎◌, Bool, true, false, inl, inr, Option, Some, None, Result, Ok, Err, List, [], ◌∷◌, length, drop, arith, refl, sym, ◌∙◌, ap}
+use Rattle.std.proofs.Common.{◌≡◌, ℕ, ◌+◌, ◌<◌, ◌≤◌, ◌⊎◌, Bool, true, false, inl, inr, Option, None, Result, Ok, Err, List, [], ◌∷◌, length, drop, arith, refl, sym, ◌∙◌, ap}
 use Rattle.std.specs.Prelude.{slice_get, option_and_then, take_while, if◌then◌else◌}
 use Rattle.std.specs.List.{prefix_len}
 use Rattle.std.proofs.lemmas.Option.{slice_get_cases}
@@ -11,7 +11,7 @@ use Rattle.kn_fields.specs.declared.fault.ReadFault.{ReadFault}
 use Rattle.kn_fields.specs.declared.fault.ReadFault.TheVariants.{NoMemory}
 use Rattle.kn_fields.proofs.Between.{drop_here, between_here, between_none, between_length}
 use Rattle.kn_fields.proofs.Parts.{goes_on, own_tokens, fields_from}
-use Rattle.kn_assert.specs.Parts.{only_of, Gives}
+use Rattle.kn_assert.specs.Parts.{only_of}
 use Rattle.kn_assert.specs.Reading.{and_then, nothing, with_field, stated_by}
 use Rattle.kn_assert.specs.declared.stated.Stated.{Stated}
 

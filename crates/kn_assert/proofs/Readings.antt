@@ -11,7 +11,7 @@ use Rattle.kn_fields.specs.Faults.{IsWellFielded, fault_order, HasFault, IsFirst
 use Rattle.kn_fields.specs.Computed.{fields_or_fault}
 use Rattle.kn_fields.specs.Depth.{IsTooDeep}
 use Rattle.kn_fields.specs.declared.fault.ReadFault.{ReadFault}
-use Rattle.kn_fields.specs.declared.fault.ReadFault.TheVariants.{NoAuthorizer, NoMemory}
+use Rattle.kn_fields.specs.declared.fault.ReadFault.TheVariants.{NoMemory}
 use Rattle.kn_fields.proofs.Shown.{lexical_between}
 use Rattle.kn_trees.specs.declared.assertion.Assertion.{Assertion}
 use Rattle.kn_trees.specs.declared.formula.Formula.{Formula}
