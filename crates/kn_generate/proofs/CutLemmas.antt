@@ -1,11 +1,11 @@
 -- How the text of a generated credential is cut.
-use Rattle.std.proofs.Common.{◌≡◌, ℕ, zero, suc, true, false, Bool, ◌+◌, ◌<◌, ◌≤◌, ◌==◌, ◌&&◌, not, take, List, [], ◌∷◌, ◌++◌, Option, Some, None, length, refl, sym, ◌∙◌, ap, append_assoc, append-nil, codes, arith}
-use Rattle.kn_lex.specs.Cutting.{Seen, start}
+use Rattle.std.proofs.Common.{◌≡◌, ℕ, zero, suc, true, false, Bool, ◌+◌, ◌<◌, ◌==◌, ◌&&◌, not, take, List, [], ◌∷◌, ◌++◌, Some, refl, ◌∙◌, ap, codes, arith}
+use Rattle.kn_lex.specs.Cutting.{start}
 use Rattle.std.specs.List.{prefix_len, list_all}
 use Rattle.kn_lex.specs.Bytes.{is_white}
 use Rattle.kn_lex.specs.Spelling.{is_blank}
 use Rattle.kn_lex.specs.Faults.{goes_on}
-use Rattle.kn_lex.specs.Scanning.{is_bad_blank, piece_at, piece_fault, plain_piece, white_len, colon_len, zero_place, stuck_fault}
+use Rattle.kn_lex.specs.Scanning.{is_bad_blank, plain_piece, white_len, colon_len, zero_place}
 use Rattle.kn_lex.specs.declared.token.Sort.TheVariants.{Label, Name, Number, Text, Sign}
 use Rattle.kn_lex.specs.declared.piece.Piece.{Piece}
 use Rattle.kn_lex.specs.declared.piece.Piece.TheVariants.{White, Token}

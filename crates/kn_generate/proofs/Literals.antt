@@ -1,16 +1,13 @@
 -- Literals whose bytes are plain: digits behind a letter.
-use Rattle.std.proofs.Common.{◌≡◌, ℕ, true, false, zero, suc, Bool, ◌+◌, ◌-◌, ◌^◌, ◌/◌, ◌%◌, ◌<◌, ◌≤◌, ◌==◌, ◌||◌, ◌&&◌, List, [], ◌∷◌, ◌++◌, Option, Some, None, length, take, drop, arith, refl, sym, ◌∙◌, ap, append_assoc, length-append, codes}
-use Rattle.std.specs.Prelude.{nat_lt, nat_le, decimal}
-use Rattle.std.proofs.lemmas.Bool.Decides.{nat_tests}
-use Rattle.std.proofs.lemmas.Bool.{ne_eqb, lt-ltb, le-leb, le-ltb, and_from, or_from}
+use Rattle.std.proofs.Common.{◌≡◌, ℕ, false, suc, Bool, ◌+◌, ◌-◌, ◌^◌, ◌%◌, ◌<◌, ◌≤◌, ◌==◌, ◌||◌, List, [], ◌∷◌, ◌++◌, Option, Some, None, length, take, arith, refl, ◌∙◌, ap, append_assoc, length-append}
+use Rattle.std.specs.Prelude.{nat_lt, decimal}
+use Rattle.std.proofs.lemmas.Bool.{ne_eqb, le-ltb, or_from}
 use Rattle.std.proofs.lemmas.Fmt.{decimal_by_steps, length-decimal-le}
 use Rattle.kn_lex.specs.Scanning.{quote_len, more_len, with_sort, plain_piece, zero_place, zero_fault}
 use Rattle.kn_lex.specs.Literal.{value_behind, inside, literal_value}
-use Rattle.kn_lex.specs.declared.quote.Quote.TheVariants.{Opening, Plain}
+use Rattle.kn_lex.specs.declared.quote.Quote.TheVariants.{Plain}
 use Rattle.kn_lex.specs.declared.token.Sort.TheVariants.{Text}
-use Rattle.kn_lex.specs.declared.piece.Piece.{Piece}
 use Rattle.kn_lex.specs.declared.piece.Piece.TheVariants.{Token}
-use Rattle.kn_lex.specs.declared.piece.Place.{Place}
 use Rattle.kn_lex.specs.declared.piece.Context.TheVariants.{WithinLine}
 use Rattle.kn_generate.proofs.Scans.{IsCut, take_front}
 

@@ -1,20 +1,18 @@
 -- That the generated texts read.
-use Rattle.std.proofs.Common.{◌≡◌, ℕ, zero, suc, true, false, Bool, ◌+◌, ◌*◌, ◌^◌, ◌<◌, ◌≤◌, ◌==◌, ◌&&◌, ◌||◌, if◌then◌else◌, List, [], ◌∷◌, ◌++◌, Option, Some, None, Result, Ok, Err, length, refl, sym, ◌∙◌, ap, subst, append_assoc, codes, arith}
+use Rattle.std.proofs.Common.{◌≡◌, ℕ, true, false, Bool, ◌+◌, ◌≤◌, ◌==◌, ◌||◌, if◌then◌else◌, List, [], ◌∷◌, Option, Some, None, Result, Ok, Err, length, refl, sym, ◌∙◌, subst, codes}
 use Rattle.std.specs.List.{list_all}
-use Rattle.std.specs.Prelude.{pos, map, nat_lt, nat_le, is_ok, is_some, IsSome, ok_or, decimal, flat_map}
+use Rattle.std.specs.Prelude.{pos, map, nat_lt, is_ok, is_some, IsSome, ok_or}
 use Rattle.std.specs.Option.{option_map_or}
 use Rattle.std.specs.Result.{result_ok}
 use Rattle.kn_lex.specs.Cutting.{Seen, start}
 use Rattle.kn_lex.specs.Literal.{literal_value}
 use Rattle.kn_lex.specs.Computed.{tokens_or_fault}
-use Rattle.kn_env.specs.declared.constant.Constant.{Constant}
-use Rattle.kn_fields.specs.Fields.{Field, field_of, fields_of, field_with, signed_to}
+use Rattle.kn_fields.specs.Fields.{field_of, fields_of, field_with}
 use Rattle.kn_fields.specs.Faults.{constants_in}
 use Rattle.kn_fields.specs.Scanning.{fault_in, first_place, fault_at, fault_without, version_place, constant_place, departure, goes_deep}
 use Rattle.kn_fields.specs.Depth.{depth_behind, run_behind}
 use Rattle.kn_fields.specs.Computed.{fields_or_fault}
 use Rattle.kn_principal.specs.Principals.{normal_form}
-use Rattle.kn_trees.specs.declared.formula.Formula.{Formula}
 use Rattle.kn_trees.specs.declared.program.Program.{Program}
 use Rattle.kn_trees.specs.declared.assertion.Assertion.{Assertion}
 use Rattle.kn_trees.specs.Kinds.{kind_of, is_well_kinded, is_clause_well_kinded, is_then_well_kinded, then_step, clause_step, program_step}
@@ -29,7 +27,7 @@ use Rattle.kn_trees.proofs.Kinded.{kind_of-Truth, kind_of-Whole, kind_of-Text, k
 use Rattle.kn_program.specs.Grammar.{program_with}
 use Rattle.kn_formula.specs.Words as L
 use Rattle.kn_formula.specs.Words.{behind}
-use Rattle.kn_formula.specs.Trees.{joined, need_of, has_bad_threshold, has_bad_name, formula_of}
+use Rattle.kn_formula.specs.Trees.{joined, need_of, has_bad_threshold, has_bad_name}
 use Rattle.kn_formula.specs.declared.written.Principal.TheVariants.{Literal}
 use Rattle.kn_formula.specs.declared.written.Rule.TheVariants.{Any, AtLeast}
 use Rattle.kn_formula.specs.declared.written.Written.{Written}
@@ -40,7 +38,7 @@ use Rattle.kn_formula.specs.Licensing as licensing
 use Rattle.kn_formula.specs.Licensing.{licensees_of}
 use Rattle.kn_program.specs.Words as W
 use Rattle.kn_program.specs.Words.{number_word, taken, itself}
-use Rattle.kn_program.specs.Signs.{operation_of, comparison_of, prefix_of, truth_of, number_of}
+use Rattle.kn_program.specs.Signs.{operation_of, comparison_of, prefix_of, truth_of}
 use Rattle.kn_program.specs.Trees as trees
 use Rattle.kn_program.specs.Reading.{read_program, tail_at, list_at, tests_at, negation_at, comparison_at, chain_at, operand_at, atom_at, program_at, clause_at}
 use Rattle.kn_program.specs.Conditions as conditions

@@ -1,5 +1,5 @@
 -- What the texts of the worked examples state.
-use Rattle.std.proofs.Common.{◌≡◌, ℕ, true, false, Bool, ◌==◌, if◌then◌else◌, List, [], ◌∷◌, Option, Some, None, Result, Ok, refl, ap, ◌∙◌, codes, length, arith}
+use Rattle.std.proofs.Common.{◌≡◌, ℕ, false, List, [], ◌∷◌, Some, None, Result, Ok, refl, ap, ◌∙◌, codes, length, arith}
 use Rattle.std.specs.Prelude.{nat_lt}
 use Rattle.kn_lex.specs.Cutting.{Seen, start}
 use Rattle.kn_lex.specs.Literal.{value_behind}
@@ -8,23 +8,19 @@ use Rattle.kn_lex.specs.Scanning.{plain_piece, white_len, colon_len, zero_place,
 use Rattle.kn_lex.specs.declared.token.Sort.TheVariants.{Label, Text}
 use Rattle.kn_lex.specs.declared.piece.Piece.{Piece}
 use Rattle.kn_lex.specs.declared.piece.Piece.TheVariants.{White, Token}
-use Rattle.kn_env.specs.declared.constant.Constant.{Constant}
-use Rattle.kn_fields.specs.Fields.{Field, field_of, fields_of, field_with}
-use Rattle.kn_fields.specs.Faults.{constants_in}
+use Rattle.kn_fields.specs.Fields.{field_of, fields_of, field_with}
 use Rattle.kn_fields.specs.Scanning.{fault_in, first_place, fault_at, fault_without, version_place, constant_place, departure, goes_deep}
 use Rattle.kn_fields.specs.Depth.{depth_behind, run_behind}
-use Rattle.kn_fields.specs.Computed.{fields_or_fault}
 use Rattle.kn_trees.specs.declared.formula.Formula.{Formula}
 use Rattle.kn_trees.specs.declared.formula.Formula.TheVariants.{Who as Licensee}
-use Rattle.kn_trees.specs.declared.program.Program.{Program}
 use Rattle.kn_trees.specs.declared.assertion.Assertion.{Assertion}
 use Rattle.kn_formula.specs.Words as L
 use Rattle.kn_formula.specs.Words.{behind}
-use Rattle.kn_formula.specs.Trees.{joined, has_bad_name, formula_of}
+use Rattle.kn_formula.specs.Trees.{has_bad_name, formula_of}
 use Rattle.kn_formula.specs.declared.written.Principal.TheVariants.{Literal}
 use Rattle.kn_formula.specs.declared.written.Written.TheVariants.{Who}
 use Rattle.kn_formula.proofs.TreeLemmas.{bad_threshold_who, bad_name_who, formula_who}
-use Rattle.kn_formula.specs.Reading.{read_words, ors_at, ands_at, one_at, forms_at, parts_after}
+use Rattle.kn_formula.specs.Reading.{read_words}
 use Rattle.kn_formula.specs.Licensing as licensing
 use Rattle.kn_formula.specs.Licensing.{licensees_of}
 use Rattle.kn_assert.specs.Parts.{principal_of, authorizer_of, licensees_by}
