@@ -3,20 +3,20 @@ use Rattle.std.proofs.Common.{◌≡◌, ℕ, true, false, zero, suc, Bool, ◌+
 use Rattle.std.specs.Prelude.{nat_lt}
 use Rattle.std.proofs.lemmas.Bool.Decides.{nat_tests}
 use Rattle.std.proofs.lemmas.List.{length-drop, drop_all, drop-drop, append-nil}
-use Rattle.std.proofs.lemmas.Bool.{false≢true}
-use Rattle.kn_lex.specs.Spelling.{SpellsPlain, Spells}
+use Rattle.kn_lex.specs.Spelling.{Spells}
 use Rattle.kn_lex.specs.Cutting.{IsPiece, Reaches, Cuts, start, spent, place_after, context_after, token_of, tokens_of, Seen}
 use Rattle.kn_lex.specs.Faults.{begins_foreign, begins_quote, begins_ampersand, begins_match, goes_on, Shows, IsFaultless, IsFirstLexicalFault}
 use Rattle.kn_lex.specs.Scanning.{piece_at, fault_at, fault_by, is_bad_blank, stuck_fault, body_len}
 use Rattle.kn_lex.specs.Seeing.{HasCause}
-use Rattle.kn_lex.specs.declared.token.Sort.TheVariants.{Label, Body, Name, Number as NumberSort, Text, Sign}
-use Rattle.kn_lex.specs.declared.piece.Piece.TheVariants.{White, Comment, Token}
+use Rattle.kn_lex.specs.declared.token.Sort.TheVariants.{Body}
+use Rattle.kn_lex.specs.declared.piece.Piece.TheVariants.{Token}
 use Rattle.kn_lex.specs.declared.piece.Piece.{Piece}
 use Rattle.kn_lex.specs.declared.piece.Place.{Place}
 use Rattle.kn_lex.specs.declared.piece.Context.{Context}
 use Rattle.kn_lex.specs.declared.piece.Context.TheVariants.{LineStart, WithinLine, CommentBody}
 use Rattle.kn_lex.specs.declared.fault.LexFault.{LexFault}
 use Rattle.kn_lex.specs.declared.fault.LexFault.TheVariants.{NotText, BadString, BadToken, Float, Regex, Number, Blank, NoMemory}
+use Rattle.kn_lex.proofs.Spelled.{piece_some}
 use Rattle.kn_lex.proofs.Pieces.{piece_sound}
 use Rattle.kn_lex.proofs.Faulty.{fault_shown}
 use Rattle.kn_lex.proofs.Settled.{settled_stays}
@@ -142,17 +142,6 @@ one_list text tokens other h k =
     h.told ∙ ap (tokens_of start 0 text) same ∙ sym k.told
 
 -- each piece leaves less to do
-
-piece_some : (first : Bool) (piece : Piece) → SpellsPlain first piece [] → ⊥
-piece_some first White e = false≢true e
-piece_some first Comment e = false≢true e
-piece_some true (Token Label) e = false≢true e
-piece_some false (Token Label) e = false≢true e
-piece_some first (Token Body) e = e
-piece_some first (Token Name) e = false≢true e
-piece_some first (Token NumberSort) e = false≢true e
-piece_some first (Token Text) e = let spelled = e.spelled in absurd (cc)
-piece_some first (Token Sign) e = false≢true e
 
 some_of : (context : Context) (rest : List ℕ) (p : Piece × ℕ) → IsPiece context rest p.0 p.1 → (Spells context p.0 [] → ⊥) → 0 < p.1
 some_of context rest p h none = by p.1 refl

@@ -19,7 +19,7 @@ use Rattle.kn_lex.specs.declared.piece.Context.{Context}
 use Rattle.kn_lex.specs.declared.piece.Context.TheVariants.{LineStart, WithinLine, CommentBody}
 use Rattle.kn_lex.specs.declared.fault.LexFault.{LexFault}
 use Rattle.kn_lex.specs.declared.fault.LexFault.TheVariants.{Float, Number}
-use Rattle.kn_lex.proofs.Spelled.{both}
+use Rattle.kn_lex.proofs.Spelled.{both, only_body}
 use Rattle.kn_lex.proofs.Faulty.{Least, shown_least}
 use Rattle.kn_lex.proofs.Reaching.{IsClean}
 use Rattle.kn_lex.proofs.Along.{every_cutting, one_list, finished_cuts}
@@ -47,19 +47,14 @@ plain_spelled first NumberSort bytes s b = (s, b refl)
 plain_spelled first Text bytes s b = s
 plain_spelled first Sign bytes s b = s
 
-body_spelled : (sort : Sort) (bytes : List ℕ) → Spells CommentBody (Token sort) bytes → IsSpelled sort bytes
-body_spelled Label bytes s = absurd s
-body_spelled Body bytes s = s
-body_spelled Name bytes s = absurd s
-body_spelled NumberSort bytes s = absurd s
-body_spelled Text bytes s = absurd s
-body_spelled Sign bytes s = absurd s
-
 piece_spelled : (context : Context) (sort : Sort) (bytes : List ℕ) → Spells context (Token sort) bytes → (sort ≡ NumberSort → digits_value bytes ≤ number_max)
     → IsSpelled sort bytes
 piece_spelled LineStart sort bytes s b = plain_spelled true sort bytes s b
 piece_spelled WithinLine sort bytes s b = plain_spelled false sort bytes s b
-piece_spelled CommentBody sort bytes s b = body_spelled sort bytes s
+piece_spelled CommentBody sort bytes s b =
+    let body = only_body (Token sort) bytes s in
+    let is : sort ≡ Body = cc in
+    subst (λ (k : Sort). IsSpelled k bytes) (sym is) body.1
 
 nothing : (text : List ℕ) → All (IsTokenOf text) []
 nothing text k d below = absurd (omega (arith, below))

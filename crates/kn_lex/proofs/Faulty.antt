@@ -11,7 +11,7 @@ use Rattle.kn_lex.specs.Bytes.{is_white}
 use Rattle.kn_lex.specs.Spelling.{is_run, is_blank}
 use Rattle.kn_lex.specs.Cutting.{IsPiece, BeginsNone, is_line_start, is_token}
 use Rattle.kn_lex.specs.Faults.{begins_foreign, begins_quote, begins_ampersand, begins_match, begins_other, begins_fraction, number_max, goes_on, HoldsZero, HasNumber, Shows, fault_place}
-use Rattle.kn_lex.specs.Scanning.{white_len, zero_place, zero_fault, number_fault, stuck_fault, piece_fault, fault_by, is_bad_blank, fault_at, piece_at, plain_piece, more_len}
+use Rattle.kn_lex.specs.Scanning.{white_len, zero_place, zero_fault, number_fault, stuck_fault, piece_fault, fault_by, is_bad_blank, fault_at, piece_at, plain_piece, more_len, is_number}
 use Rattle.kn_lex.specs.declared.token.Sort.{Sort}
 use Rattle.kn_lex.specs.declared.token.Sort.TheVariants.{Label, Body, Name, Number as NumberSort, Text, Sign}
 use Rattle.kn_lex.specs.declared.piece.Piece.{Piece}
@@ -22,7 +22,7 @@ use Rattle.kn_lex.specs.declared.piece.Context.TheVariants.{LineStart, WithinLin
 use Rattle.kn_lex.specs.declared.fault.LexFault.{LexFault}
 use Rattle.kn_lex.specs.declared.fault.LexFault.TheVariants.{NotText, BadString, BadToken, Float, Regex, Number, Blank, NoMemory}
 use Rattle.kn_lex.proofs.Scans.{is_blank-cons}
-use Rattle.kn_lex.proofs.Spelled.{both, white_some}
+use Rattle.kn_lex.proofs.Spelled.{both, choice, white_some}
 use Rattle.kn_lex.proofs.Pieces.{piece_sound, piece_is, none_begins, none_found}
 
 -- the first byte 0
@@ -153,16 +153,27 @@ number_shown place at left n cut = by (begins_fraction (drop n left)) refl (nat_
     by false f true e = (refl, record { n = n; cut = cut; shown = (f, (Decides-ltb number_max (digits_value (take n left))).0 e) })
     by false f false e = tt
 
+number_piece : (piece : Piece) → is_number piece ≡ true → piece ≡ Token NumberSort
+number_piece White e = absurd (false≢true e)
+number_piece Comment e = absurd (false≢true e)
+number_piece (Token Label) e = absurd (false≢true e)
+number_piece (Token Body) e = absurd (false≢true e)
+number_piece (Token Name) e = absurd (false≢true e)
+number_piece (Token NumberSort) e = refl
+number_piece (Token Text) e = absurd (false≢true e)
+number_piece (Token Sign) e = absurd (false≢true e)
+
+-- the fault of a piece is that of a number, or of a byte 0
+by_number : (P : Option LexFault → Type 0) (context : Context) (at : ℕ) (left : List ℕ) (piece : Piece) (n : ℕ) → IsPiece context left piece n
+    → (IsPiece context left (Token NumberSort) n → P (number_fault at (take n left) (drop n left))) → P (zero_fault at (zero_place (take n left)))
+    → P (piece_fault at piece (take n left) (drop n left))
+by_number P context at left piece n cut number other =
+    choice P (is_number piece) _ _ (λ e. number (subst (λ (p : Piece). IsPiece context left p n) (number_piece piece e) cut)) (λ _. other)
+
 piece_shown : (place : Place) (at : ℕ) (left : List ℕ) (piece : Piece) (n : ℕ) → IsPiece place.context left piece n
     → FoundShown place at left (piece_fault at piece (take n left) (drop n left))
-piece_shown place at left White n cut = zero_shown place at left White n cut
-piece_shown place at left Comment n cut = zero_shown place at left Comment n cut
-piece_shown place at left (Token Label) n cut = zero_shown place at left (Token Label) n cut
-piece_shown place at left (Token Body) n cut = zero_shown place at left (Token Body) n cut
-piece_shown place at left (Token Name) n cut = zero_shown place at left (Token Name) n cut
-piece_shown place at left (Token NumberSort) n cut = number_shown place at left n cut
-piece_shown place at left (Token Text) n cut = zero_shown place at left (Token Text) n cut
-piece_shown place at left (Token Sign) n cut = zero_shown place at left (Token Sign) n cut
+piece_shown place at left piece n cut =
+    by_number (FoundShown place at left) place.context at left piece n cut (number_shown place at left n) (zero_shown place at left piece n cut)
 
 found_shown : (place : Place) (at : ℕ) (left : List ℕ) → FoundShown place at left (fault_at place at left)
 found_shown place at left = by (is_bad_blank place left) refl (piece_at place.context left) refl
@@ -243,14 +254,9 @@ holds_least place at p k left is h = by (is_bad_blank place left) refl
     found = piece_is place.context left h.piece h.n h.cut
 
     digits : (piece : Piece) → IsPiece place.context left piece h.n → Least (NotText p) (piece_fault at piece (take h.n left) (drop h.n left))
-    digits White cut = zero_least at k p (take h.n left) is h.here
-    digits Comment cut = zero_least at k p (take h.n left) is h.here
-    digits (Token Label) cut = zero_least at k p (take h.n left) is h.here
-    digits (Token Body) cut = zero_least at k p (take h.n left) is h.here
-    digits (Token Name) cut = zero_least at k p (take h.n left) is h.here
-    digits (Token NumberSort) cut = absurd (no_zero_digit (take h.n left) k (number_spelled place.context left h.n cut) h.here)
-    digits (Token Text) cut = zero_least at k p (take h.n left) is h.here
-    digits (Token Sign) cut = zero_least at k p (take h.n left) is h.here
+    digits piece cut =
+        by_number (Least (NotText p)) place.context at left piece h.n cut
+        (λ number. absurd (no_zero_digit (take h.n left) k (number_spelled place.context left h.n number) h.here)) (zero_least at k p (take h.n left) is h.here)
 
     first : (n k : ℕ) (left : List ℕ) (w : BeginsWhite place.context left) → slice_get (take n left) k ≡ Some 0 → 0 < k
     first n k left w here = later n k w.first w.rest w.white (subst (λ (bs : List ℕ). slice_get (take n bs) k ≡ Some 0) w.is here)
@@ -380,15 +386,9 @@ number_within at n digits rest some = by (begins_fraction rest) (nat_lt number_m
 
 piece_within : (context : Context) (at : ℕ) (left : List ℕ) (piece : Piece) (n : ℕ) → IsPiece context left piece n
     → Within (at + n) (piece_fault at piece (take n left) (drop n left))
-piece_within context at left White n cut = zero_within at n left cut.within
-piece_within context at left Comment n cut = zero_within at n left cut.within
-piece_within context at left (Token Label) n cut = zero_within at n left cut.within
-piece_within context at left (Token Body) n cut = zero_within at n left cut.within
-piece_within context at left (Token Name) n cut = zero_within at n left cut.within
-piece_within context at left (Token NumberSort) n cut =
-    number_within at n (take n left) (drop n left) (number_some left n (number_spelled context left n cut))
-piece_within context at left (Token Text) n cut = zero_within at n left cut.within
-piece_within context at left (Token Sign) n cut = zero_within at n left cut.within
+piece_within context at left piece n cut =
+    by_number (Within (at + n)) context at left piece n cut
+    (λ number. number_within at n (take n left) (drop n left) (number_some left n (number_spelled context left n number))) (zero_within at n left cut.within)
 
 pub fault_within : (place : Place) (at : ℕ) (left : List ℕ) (fault : LexFault) (piece : Piece) (n : ℕ)
     → fault_at place at left ≡ Some fault → IsPiece place.context left piece n → fault_place fault < at + n

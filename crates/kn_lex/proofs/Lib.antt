@@ -15,4 +15,3 @@ pub mod Spelled
 pub mod Facts
 pub mod Told
 pub mod Finished
-pub mod Rebuilt

@@ -1,15 +1,14 @@
 -- Tokens stand in their order, and each tells whether it begins a line.
-use Rattle.std.proofs.Common.{◌≡◌, ℕ, true, false, Bool, ◌+◌, ◌≤◌, ◌&&◌, ◌||◌, not, List, [], ◌∷◌, ◌++◌, All, length, take, drop, arith, refl, sym, ◌∙◌, ap, subst}
+use Rattle.std.proofs.Common.{◌≡◌, ℕ, true, false, Bool, ◌+◌, ◌≤◌, ◌&&◌, ◌||◌, not, List, [], ◌∷◌, ◌++◌, length, take, drop, arith, refl, sym, ◌∙◌, ap, subst}
 use Rattle.std.specs.Prelude.{◌==◌, if◌then◌else◌}
 use Rattle.std.specs.List.{list_all}
 use Rattle.std.proofs.Math.Seq.{take-add}
 use Rattle.std.proofs.lemmas.Bool.{false≢true, ne_eqb}
 use Rattle.std.proofs.lemmas.Bool.Decides.{nat_tests}
-use Rattle.std.proofs.lemmas.List.{drop-drop, length-take-le}
-use Rattle.std.proofs.lemmas.List.Elements.{All-append, All-nil, All-cons}
+use Rattle.std.proofs.lemmas.List.{length-take-le}
 use Rattle.kn_base.specs.Decimal.{is_digit}
 use Rattle.kn_lex.specs.Bytes.{begins_name, continues_name, continues_label, is_letter, is_short_sign, is_long_sign}
-use Rattle.kn_lex.specs.Spelling.{is_comment, is_label_tail, is_label, is_continuation, is_body, is_name, is_number, is_sign, items_bytes, IsLiteral, Spells}
+use Rattle.kn_lex.specs.Spelling.{is_comment, is_label_tail, is_label, is_continuation, is_body, is_name, is_number, is_sign, items_bytes, IsLiteral, SpellsPlain, Spells}
 use Rattle.kn_lex.specs.Cutting.{Reaches, Cuts, Seen, start, place_after, context_after, token_of, tokens_of, is_line_start, is_comment_label, ends_line}
 use Rattle.kn_lex.specs.TokenFacts.{StandInOrder, begins_line}
 use Rattle.kn_lex.specs.declared.token.Sort.TheVariants.{Label, Body, Name, Number, Text, Sign}
@@ -18,7 +17,7 @@ use Rattle.kn_lex.specs.declared.piece.Piece.TheVariants.{White, Comment, Token}
 use Rattle.kn_lex.specs.declared.piece.Place.{Place}
 use Rattle.kn_lex.specs.declared.piece.Context.{Context}
 use Rattle.kn_lex.specs.declared.piece.Context.TheVariants.{LineStart, WithinLine, CommentBody}
-use Rattle.kn_lex.proofs.Spelled.{both, same_byte}
+use Rattle.kn_lex.proofs.Spelled.{both, same_byte, only_body, piece_some}
 
 -- the order
 
@@ -82,9 +81,6 @@ begins_other c e = grind (arith, nat_tests)
 digit_other : (c : ℕ) → is_digit c ≡ true → (c == 10) ≡ false
 digit_other c e = grind (arith, nat_tests)
 
-label_other : (c : ℕ) → continues_label c ≡ true → (c == 10) ≡ false
-label_other c e = grind (arith, nat_tests)
-
 letter_other : (c : ℕ) → is_letter c ≡ true → (c == 10) ≡ false
 letter_other c e = grind (arith, nat_tests)
 
@@ -141,67 +137,36 @@ literal_end bytes h = ap ends_line h.spelled ∙ ends_append (34 ∷ items_bytes
 
 -- the place behind a piece is at the beginning of a line exactly where the piece ends one
 
-context_ends : (context : Context) (piece : Piece) (c : ℕ) (cs : List ℕ) → Spells context piece (c ∷ cs) → is_line_start (context_after piece (c ∷ cs)) ≡ ends_line (c ∷ cs)
-context_ends context White c cs s = by (ends_line (c ∷ cs))
+plain_ends : (first : Bool) (piece : Piece) (c : ℕ) (cs : List ℕ) → SpellsPlain first piece (c ∷ cs) → is_line_start (context_after piece (c ∷ cs)) ≡ ends_line (c ∷ cs)
+plain_ends first White c cs s = by (ends_line (c ∷ cs))
   where
     by : (b : Bool) → is_line_start (if b then LineStart else WithinLine) ≡ b
     by true = refl
     by false = refl
-context_ends LineStart Comment c cs s = sym (comment_end (c ∷ cs) s)
-context_ends WithinLine Comment c cs s = sym (comment_end (c ∷ cs) s)
-context_ends CommentBody Comment c cs s = absurd s
-context_ends context (Token Label) c cs s = by (is_comment_label (c ∷ cs)) ∙ sym (label_end (c ∷ cs) (spelled context s))
+plain_ends first Comment c cs s = sym (comment_end (c ∷ cs) s)
+plain_ends first (Token Label) c cs s = by (is_comment_label (c ∷ cs)) ∙ sym (label_end (c ∷ cs) (both _ _ s).1)
   where
-    spelled : (context : Context) → Spells context (Token Label) (c ∷ cs) → is_label (c ∷ cs) ≡ true
-    spelled LineStart s = s
-    spelled WithinLine s = absurd (false≢true s)
-    spelled CommentBody s = absurd s
-
     by : (b : Bool) → is_line_start (if b then CommentBody else WithinLine) ≡ false
     by true = refl
     by false = refl
-context_ends LineStart (Token Body) c cs s = absurd s
-context_ends WithinLine (Token Body) c cs s = absurd s
-context_ends CommentBody (Token Body) c cs s = sym (body_end (c ∷ cs) s)
-context_ends LineStart (Token Name) c cs s = sym (name_end (c ∷ cs) s)
-context_ends WithinLine (Token Name) c cs s = sym (name_end (c ∷ cs) s)
-context_ends CommentBody (Token Name) c cs s = absurd s
-context_ends LineStart (Token Number) c cs s = sym (number_end (c ∷ cs) s)
-context_ends WithinLine (Token Number) c cs s = sym (number_end (c ∷ cs) s)
-context_ends CommentBody (Token Number) c cs s = absurd s
-context_ends LineStart (Token Text) c cs s = sym (literal_end (c ∷ cs) s)
-context_ends WithinLine (Token Text) c cs s = sym (literal_end (c ∷ cs) s)
-context_ends CommentBody (Token Text) c cs s = absurd s
-context_ends LineStart (Token Sign) c cs s = sym (sign_end (c ∷ cs) s)
-context_ends WithinLine (Token Sign) c cs s = sym (sign_end (c ∷ cs) s)
-context_ends CommentBody (Token Sign) c cs s = absurd s
+plain_ends first (Token Body) c cs s = absurd s
+plain_ends first (Token Name) c cs s = sym (name_end (c ∷ cs) s)
+plain_ends first (Token Number) c cs s = sym (number_end (c ∷ cs) s)
+plain_ends first (Token Text) c cs s = sym (literal_end (c ∷ cs) s)
+plain_ends first (Token Sign) c cs s = sym (sign_end (c ∷ cs) s)
+
+context_ends : (context : Context) (piece : Piece) (c : ℕ) (cs : List ℕ) → Spells context piece (c ∷ cs) → is_line_start (context_after piece (c ∷ cs)) ≡ ends_line (c ∷ cs)
+context_ends LineStart piece c cs s = plain_ends true piece c cs s
+context_ends WithinLine piece c cs s = plain_ends false piece c cs s
+context_ends CommentBody piece c cs s =
+    let body = only_body piece (c ∷ cs) s in
+    ap (λ (p : Piece). is_line_start (context_after p (c ∷ cs))) body.0 ∙ sym (body_end (c ∷ cs) body.1)
 
 -- an empty piece is an empty body, behind which no line begins
 empty_piece : (context : Context) (piece : Piece) → Spells context piece [] → (is_line_start context ≡ false) × (is_line_start (context_after piece []) ≡ false)
-empty_piece LineStart White s = absurd (false≢true s)
-empty_piece WithinLine White s = absurd (false≢true s)
-empty_piece CommentBody White s = absurd s
-empty_piece LineStart Comment s = absurd (false≢true s)
-empty_piece WithinLine Comment s = absurd (false≢true s)
-empty_piece CommentBody Comment s = absurd s
-empty_piece LineStart (Token Label) s = absurd (false≢true s)
-empty_piece WithinLine (Token Label) s = absurd (false≢true s)
-empty_piece CommentBody (Token Label) s = absurd s
-empty_piece LineStart (Token Body) s = absurd s
-empty_piece WithinLine (Token Body) s = absurd s
-empty_piece CommentBody (Token Body) s = (refl, refl)
-empty_piece LineStart (Token Name) s = absurd (false≢true s)
-empty_piece WithinLine (Token Name) s = absurd (false≢true s)
-empty_piece CommentBody (Token Name) s = absurd s
-empty_piece LineStart (Token Number) s = absurd (false≢true s)
-empty_piece WithinLine (Token Number) s = absurd (false≢true s)
-empty_piece CommentBody (Token Number) s = absurd s
-empty_piece LineStart (Token Text) s = absurd (cc (s.spelled))
-empty_piece WithinLine (Token Text) s = absurd (cc (s.spelled))
-empty_piece CommentBody (Token Text) s = absurd s
-empty_piece LineStart (Token Sign) s = absurd (false≢true s)
-empty_piece WithinLine (Token Sign) s = absurd (false≢true s)
-empty_piece CommentBody (Token Sign) s = absurd s
+empty_piece LineStart piece s = absurd (piece_some true piece s)
+empty_piece WithinLine piece s = absurd (piece_some false piece s)
+empty_piece CommentBody piece s = (refl, ap (λ (p : Piece). is_line_start (context_after p [])) (only_body piece [] s).0)
 
 pub next_begins : (whole : List ℕ) (place : Place) (at : ℕ) (piece : Piece) (n : ℕ) (bytes : List ℕ) → is_line_start place.context ≡ begins_line whole at
     → Spells place.context piece bytes → take n (drop at whole) ≡ bytes → length bytes ≡ n
@@ -214,28 +179,3 @@ next_begins whole place at piece n (c ∷ cs) here s e size =
     let some : ((at + n) == 0) ≡ false = ne_eqb _ _ (λ h. absurd (omega (arith, size, h))) in
     let whole_take : take (at + n) whole ≡ take at whole ++ c ∷ cs = take-add at n whole ∙ ap (λ bs. take at whole ++ bs) e in
     context_ends place.context piece c cs s ∙ sym (rw some (ap ends_line whole_take ∙ ends_append (take at whole) c cs))
-
-first_tells : (whole : List ℕ) (context : Context) (at : ℕ) (piece : Piece) (bytes : List ℕ) → is_line_start context ≡ begins_line whole at
-    → All (λ token. token.first ≡ begins_line whole token.span.start) (token_of context at piece bytes)
-first_tells whole context at White bytes here = All-nil (λ token. token.first ≡ begins_line whole token.span.start)
-first_tells whole context at Comment bytes here = All-nil (λ token. token.first ≡ begins_line whole token.span.start)
-first_tells whole context at (Token sort) [] here = All-nil (λ token. token.first ≡ begins_line whole token.span.start)
-first_tells whole context at (Token sort) (c ∷ cs) here =
-    All-cons (λ token. token.first ≡ begins_line whole token.span.start) _ [] here (All-nil (λ token. token.first ≡ begins_line whole token.span.start))
-
-first_from : (pieces : List (Piece × ℕ)) (whole : List ℕ) (place : Place) (at : ℕ) (text : List ℕ) (end : Place) → is_line_start place.context ≡ begins_line whole at
-    → text ≡ drop at whole → Reaches place text pieces end []
-    → All (λ token. token.first ≡ begins_line whole token.span.start) (tokens_of place at text pieces)
-first_from [] whole place at text end here is h = All-nil (λ token. token.first ≡ begins_line whole token.span.start)
-first_from (p ∷ ps) whole place at text end here is h =
-    let size : length (take p.1 text) ≡ p.1 = length-take-le p.1 text h.0.within in
-    let next : drop p.1 text ≡ drop (at + p.1) whole = ap (drop p.1) is ∙ drop-drop p.1 at whole in
-    let begins = next_begins whole place at p.0 p.1 (take p.1 text) here h.0.spelled (ap (take p.1) (sym is)) size in
-    All-append (λ token. token.first ≡ begins_line whole token.span.start) (token_of place.context at p.0 (take p.1 text))
-    (tokens_of (place_after place p.0 (take p.1 text)) (at + p.1) (drop p.1 text) ps)
-    (first_tells whole place.context at p.0 (take p.1 text) here)
-    (first_from ps whole (place_after place p.0 (take p.1 text)) (at + p.1) (drop p.1 text) end begins next h.1)
-
-pub first_of_lines : (text : List ℕ) (tokens : List Seen) → Cuts text tokens → All (λ token. token.first ≡ begins_line text token.span.start) tokens
-first_of_lines text tokens h =
-    subst (All (λ token. token.first ≡ begins_line text token.span.start)) (sym h.told) (first_from h.pieces text start 0 text h.reached.0 refl refl h.reached.1)

@@ -20,7 +20,7 @@ use Rattle.kn_lex.specs.declared.piece.Piece.{Piece}
 use Rattle.kn_lex.specs.declared.piece.Piece.TheVariants.{White, Comment, Token}
 use Rattle.kn_lex.specs.declared.piece.Context.{Context}
 use Rattle.kn_lex.specs.declared.piece.Context.TheVariants.{LineStart, WithinLine, CommentBody}
-use Rattle.kn_lex.proofs.Spelled.{both, choice, same_byte, gap_white, run_longest, run_passes, white_within, white_some, white_longest, white_spelled, colon_within, colon_found, name_in_label, body_within, body_spelled, body_longest}
+use Rattle.kn_lex.proofs.Spelled.{both, choice, same_byte, gap_white, run_longest, run_passes, white_within, white_some, white_longest, white_spelled, colon_within, colon_found, name_in_label, body_within, body_spelled, body_longest, only_body}
 use Rattle.kn_lex.proofs.Literals.{quote_sound, literal_found}
 
 -- which bytes begin what
@@ -320,14 +320,7 @@ plain_covers first rest (Token Text) m le e = covers_text first rest m le e
 plain_covers first rest (Token Sign) m le e = covers_sign first rest m le e
 
 body_covers : (rest : List ℕ) (other : Piece) (m : ℕ) → m ≤ length rest → SpellsBody other (take m rest) → Covers other m (Some (Token Body, body_len rest))
-body_covers rest White m le e = absurd e
-body_covers rest Comment m le e = absurd e
-body_covers rest (Token Label) m le e = absurd e
-body_covers rest (Token Body) m le e = (body_longest rest m le e, λ _. refl)
-body_covers rest (Token Name) m le e = absurd e
-body_covers rest (Token Number) m le e = absurd e
-body_covers rest (Token Text) m le e = absurd e
-body_covers rest (Token Sign) m le e = absurd e
+body_covers rest other m le e = let body = only_body other (take m rest) e in (body_longest rest m le body.1, λ _. body.0)
 
 pub piece_covers : (context : Context) (rest : List ℕ) (other : Piece) (m : ℕ) → m ≤ length rest → Spells context other (take m rest)
     → Covers other m (piece_at context rest)

@@ -6,8 +6,11 @@ use Rattle.std.proofs.Math.Numerals.{one-add}
 use Rattle.std.proofs.lemmas.Bool.{false≢true}
 use Rattle.std.proofs.lemmas.Bool.Decides.{nat_tests, Decides-eqb}
 use Rattle.kn_lex.specs.Bytes.{is_gap, is_white, continues_name, continues_label}
-use Rattle.kn_lex.specs.Spelling.{is_white_space, is_label_tail, is_blank, is_continuation, is_body}
+use Rattle.kn_lex.specs.Spelling.{is_white_space, is_label_tail, is_blank, is_continuation, is_body, SpellsPlain, SpellsBody}
 use Rattle.kn_lex.specs.Scanning.{white_len, colon_len, body_len, more_len}
+use Rattle.kn_lex.specs.declared.token.Sort.TheVariants.{Label, Body, Name, Number, Text, Sign}
+use Rattle.kn_lex.specs.declared.piece.Piece.{Piece}
+use Rattle.kn_lex.specs.declared.piece.Piece.TheVariants.{White, Comment, Token}
 use Rattle.kn_lex.proofs.Scans.{is_blank-cons}
 
 -- both parts of a conjunction
@@ -252,3 +255,25 @@ body_longest (c ∷ cs) (suc m) le e =
         → suc m ≤ cond (b && not (is_continuation cs)) 0 (1 + body_len cs)
     by true e rest = rw (continuation_front cs m e) (omega arith)
     by false e rest = omega arith
+
+-- behind the label of a comment nothing but a body is spelled
+pub only_body : (piece : Piece) (bytes : List ℕ) → SpellsBody piece bytes → (piece ≡ Token Body) × (is_body bytes ≡ true)
+only_body White bytes s = absurd s
+only_body Comment bytes s = absurd s
+only_body (Token Label) bytes s = absurd s
+only_body (Token Body) bytes s = (refl, s)
+only_body (Token Name) bytes s = absurd s
+only_body (Token Number) bytes s = absurd s
+only_body (Token Text) bytes s = absurd s
+only_body (Token Sign) bytes s = absurd s
+
+-- any other piece has a byte
+pub piece_some : (first : Bool) (piece : Piece) → SpellsPlain first piece [] → ⊥
+piece_some first White e = false≢true e
+piece_some first Comment e = false≢true e
+piece_some first (Token Label) e = false≢true (both first false e).1
+piece_some first (Token Body) e = e
+piece_some first (Token Name) e = false≢true e
+piece_some first (Token Number) e = false≢true e
+piece_some first (Token Text) e = let spelled = e.spelled in absurd (cc)
+piece_some first (Token Sign) e = false≢true e
