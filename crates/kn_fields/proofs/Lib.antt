@@ -7,3 +7,7 @@ pub mod Shown
 pub mod Deep
 pub mod Told
 pub mod Stretches
+pub mod Words
+pub mod Steps
+pub mod Levels
+pub mod Nesting

@@ -6,3 +6,5 @@ pub mod Faults
 pub mod Depth
 pub mod Scanning
 pub mod Computed
+pub mod Words
+pub mod Reading

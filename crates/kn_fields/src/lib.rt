@@ -2,6 +2,7 @@
 #![tactic(auto)]
 
 mod constants;
+mod cursor;
 mod depth;
 mod fault;
 mod label;
@@ -10,11 +11,14 @@ pub mod laws;
 mod outline;
 mod part;
 mod reader;
+mod unread;
 mod version;
 
+pub use cursor::Cursor;
 pub use depth::goes_deep;
 pub use fault::ReadFault;
 pub use label::{AUTHORIZER, CONDITIONS, LICENSEES, SIGNATURE};
 pub use outline::Fields;
 pub use part::Part;
 pub use reader::fields;
+pub use unread::Unread;

@@ -1,19 +1,18 @@
 -- What is spelled is read.
-use Rattle.std.proofs.Common.{◌≡◌, ℕ, zero, suc, ◌+◌, ◌*◌, ◌≤◌, List, [], ◌∷◌, ◌++◌, length, codes, Some, None, refl, ap, ◌∙◌, arith, length-append}
-use Rattle.std.proofs.lemmas.List.{append_assoc}
-use Rattle.kn_formula.specs.Words.{Word, is_sign_word, behind}
-use Rattle.kn_formula.specs.Words.Word.{name as name_word, sign as sign_word}
-use Rattle.kn_formula.specs.Trees.{joined, need_of}
-use Rattle.kn_formula.specs.Grammar.{Form, Both, One, Forms, form_words, both_words, one_words, forms_words, form_parts, both_parts, one_tree, forms_parts}
+use Rattle.std.proofs.Common.{◌≡◌, ℕ, zero, suc, ◌+◌, ◌*◌, ◌≤◌, List, [], ◌∷◌, ◌++◌, length, codes, Some, None, refl, arith, length-append}
+use Rattle.kn_fields.specs.Words.{Word, taken, itself, marked, named}
+use Rattle.kn_fields.specs.Words.Word.{sign as sign_word}
+use Rattle.kn_fields.proofs.Levels.{IsComplete, level_complete, closed_complete}
+use Rattle.kn_formula.specs.Trees.{need_of}
+use Rattle.kn_formula.specs.Grammar.{Form, Both, One, Forms, form_words, both_words, one_words, forms_words, form_parts, both_parts, one_tree, forms_parts, form_tree}
 use Rattle.kn_formula.specs.Grammar.Form.{both, either}
 use Rattle.kn_formula.specs.Grammar.Both.{one, each}
 use Rattle.kn_formula.specs.Grammar.One.{group, literal, name, some_of}
 use Rattle.kn_formula.specs.Grammar.Forms.{last, further}
-use Rattle.kn_formula.specs.Reading.{Parts, join_read, behind_of, close_after, in_brackets, ors_at, ands_at, one_at, forms_at}
+use Rattle.kn_formula.specs.Reading.{parts_at, one_at}
 use Rattle.kn_formula.specs.declared.written.Rule.TheVariants.{All, Any, AtLeast}
-use Rattle.kn_formula.specs.declared.written.Written.{Written}
-use Rattle.kn_formula.specs.declared.written.Written.TheVariants.{Several}
-use Rattle.kn_formula.proofs.Parting.{after_last, after_more}
+use Rattle.kn_formula.proofs.Lists.{both_tree, form_level, both_level, forms_level}
+use Rattle.kn_formula.proofs.Sound.{list_tree}
 
 -- a derivation has words
 pub one_some : (o : One) → 1 ≤ length (one_words o)
@@ -38,103 +37,74 @@ unfolding forms_words
 forms_some (last f) = form_some f
 forms_some (further f fs) = omega (arith, form_some f, length-append (form_words f) (sign_word (codes ",") ∷ forms_words fs))
 
--- each part has fewer words than both with a sign between them
-split_words : (front : List Word) (word : Word) (rest : List Word) → length (front ++ word ∷ rest) ≡ length front + length rest + 1
-split_words front word rest = let e : length (front ++ word ∷ rest) ≡ length front + length (word ∷ rest) = length-append front (word ∷ rest) in omega arith
+-- no part goes on with these words
+abbrev StopsOne : List Word → Type 0
+StopsOne rest = Unit {0}
 
-group_read : (go : List Word → Parts) (words : List Word) (list : List Written) (rest : List Word) → go words ≡ Some (list, sign_word (codes ")") ∷ rest)
-    → in_brackets Any (behind (is_sign_word (codes "(")) (sign_word (codes "(") ∷ words)) go ≡ Some (joined Any list, rest)
-unfolding behind
-group_read go words list rest e = ap (λ read. close_after (join_read Any read)) e
+abbrev StopsBoth : List Word → Type 0
+StopsBoth rest = marked (codes "&&") rest ≡ None
 
-list_read : (digits : List ℕ) (go : List Word → Parts) (words : List Word) (list : List Written) (rest : List Word) → go words ≡ Some (list, sign_word (codes ")") ∷ rest)
-    → in_brackets (AtLeast (need_of digits)) (behind_of (sign_word (codes "-") ∷ name_word (codes "of") ∷ sign_word (codes "(") ∷ words)) go
-    ≡ Some (Several (AtLeast (need_of digits)) list, rest)
-unfolding behind
-list_read digits go words list rest e = ap (λ read. close_after (join_read (AtLeast (need_of digits)) read)) e
+abbrev pub StopsForm : List Word → Type 0
+StopsForm rest = StopsBoth rest × (marked (codes "||") rest ≡ None)
 
--- no list goes on with these words
-pub record Ends (rest : List Word) : Type 0 where
-  pub ors : behind (is_sign_word (codes "||")) rest ≡ None
-  pub ands : behind (is_sign_word (codes "&&")) rest ≡ None
+pub nil_stops : StopsForm []
+unfolding taken
+nil_stops = (refl, refl)
 
-pub ends_nil : Ends []
-unfolding behind
-ends_nil = record { ors = refl; ands = refl }
+or_stops : (words : List Word) → StopsBoth (sign_word (codes "||") ∷ words)
+unfolding taken itself
+or_stops words = refl
 
-ends_close : (words : List Word) → Ends (sign_word (codes ")") ∷ words)
-unfolding behind
-ends_close words = record { ors = refl; ands = refl }
+close_stops : (words : List Word) → StopsForm (sign_word (codes ")") ∷ words)
+unfolding taken itself
+close_stops words = (refl, refl)
 
-ends_comma : (words : List Word) → Ends (sign_word (codes ",") ∷ words)
-unfolding behind
-ends_comma words = record { ors = refl; ands = refl }
+comma_stops : (words : List Word) → StopsForm (sign_word (codes ",") ∷ words)
+unfolding taken itself
+comma_stops words = (refl, refl)
 
-or_no_and : (words : List Word) → behind (is_sign_word (codes "&&")) (sign_word (codes "||") ∷ words) ≡ None
-unfolding behind
-or_no_and words = refl
+close_last : (words : List Word) → marked (codes ",") (sign_word (codes ")") ∷ words) ≡ None
+unfolding taken itself
+close_last words = refl
 
-close_no_comma : (words : List Word) → behind (is_sign_word (codes ",")) (sign_word (codes ")") ∷ words) ≡ None
-unfolding behind
-close_no_comma words = refl
+abbrev IsListComplete : ℕ → Type 0
+IsListComplete n =
+    (need : ℕ) (fs : Forms) (rest : List Word) → 3 * length (forms_words fs) + 1 ≤ n → StopsForm rest → marked (codes ",") rest ≡ None
+    → parts_at n (AtLeast need) (forms_words fs ++ rest) ≡ Some (list_tree need fs, rest)
 
-closing : (front rest : List Word) → (front ++ sign_word (codes ")") ∷ []) ++ rest ≡ front ++ sign_word (codes ")") ∷ rest
-closing front rest = append_assoc front (sign_word (codes ")") ∷ []) rest
+one_complete : (n : ℕ) → IsComplete 3 n 0 form_words form_tree StopsForm (parts_at n Any) → IsListComplete n → IsComplete 3 (suc n) 2 one_words one_tree StopsOne (one_at (suc n))
+unfolding one_at one_words one_tree taken named itself
+one_complete n form forms (group f) rest few stops =
+    let size = length-append (form_words f) (sign_word (codes ")") ∷ []) in
+    closed_complete (codes ")") (parts_at n Any) (form_words f) rest (form_tree f) (form f (sign_word (codes ")") ∷ rest) (omega (arith, few, size)) (close_stops rest))
+one_complete n form forms (literal value) rest few stops = refl
+one_complete n form forms (name text) rest few stops = refl
+one_complete n form forms (some_of digits fs) rest few stops =
+    let size = length-append (forms_words fs) (sign_word (codes ")") ∷ []) in
+    closed_complete (codes ")") (parts_at n (AtLeast (need_of digits))) (forms_words fs) rest (list_tree (need_of digits) fs)
+    (forms (need_of digits) fs (sign_word (codes ")") ∷ rest) (omega (arith, few, size)) (close_stops rest) (close_last rest))
 
 mutual
-  unfolding ors_at ands_at one_at forms_at form_words both_words one_words forms_words form_parts both_parts one_tree forms_parts
+  unfolding parts_at one_at form_words form_parts both_words both_parts forms_words forms_parts
 
-  pub complete_ors : (n : ℕ) (f : Form) (rest : List Word) → 3 * length (form_words f) ≤ n → Ends rest → ors_at n (form_words f ++ rest) ≡ Some (form_parts f, rest)
-  complete_ors zero f rest few ends = absurd (omega (arith, form_some f))
-  complete_ors (suc n) (both b) rest few ends =
-      after_last (codes "||") (join_read All (ands_at n (both_words b ++ rest))) (ors_at n) (joined All (both_parts b)) rest
-      (ap (join_read All) (complete_ands n b rest (omega (arith, few)) ends.ands)) ends.ors
-  complete_ors (suc n) (either b f) rest few ends =
-      let size = split_words (both_words b) (sign_word (codes "||")) (form_words f) in
-      let words : List Word = both_words b ++ sign_word (codes "||") ∷ (form_words f ++ rest) in
-      ap (ors_at (suc n)) (append_assoc (both_words b) (sign_word (codes "||") ∷ form_words f) rest)
-      ∙ after_more (codes "||") (join_read All (ands_at n words)) (ors_at n) (joined All (both_parts b)) (form_words f ++ rest) (form_parts f) rest
-      (ap (join_read All) (complete_ands n b (sign_word (codes "||") ∷ (form_words f ++ rest)) (omega (arith, few, size)) (or_no_and (form_words f ++ rest))))
-      (complete_ors n f rest (omega (arith, few, size)) ends)
+  pub complete_form : (n : ℕ) → IsComplete 3 n 0 form_words form_tree StopsForm (parts_at n Any)
+  complete_form zero d rest few stops = absurd (omega (arith, few, form_some d))
+  complete_form (suc n) d rest few stops =
+      level_complete form_level (parts_at n All) StopsBoth (suc n) d rest (λ i rest short stops. complete_both n i rest (omega (arith, few, short)) stops) (λ s rest fits. or_stops rest)
+      (omega (arith, few, form_some d)) stops.0 stops.1
 
-  pub complete_ands : (n : ℕ) (b : Both) (rest : List Word) → 3 * length (both_words b) ≤ n + 1 → behind (is_sign_word (codes "&&")) rest ≡ None
-      → ands_at n (both_words b ++ rest) ≡ Some (both_parts b, rest)
-  complete_ands zero b rest few ends = absurd (omega (arith, both_some b))
-  complete_ands (suc n) (one o) rest few ends =
-      after_last (codes "&&") (one_at n (one_words o ++ rest)) (ands_at n) (one_tree o) rest (complete_one n o rest (omega (arith, few))) ends
-  complete_ands (suc n) (each o b) rest few ends =
-      let size = split_words (one_words o) (sign_word (codes "&&")) (both_words b) in
-      let words : List Word = one_words o ++ sign_word (codes "&&") ∷ (both_words b ++ rest) in
-      ap (ands_at (suc n)) (append_assoc (one_words o) (sign_word (codes "&&") ∷ both_words b) rest)
-      ∙ after_more (codes "&&") (one_at n words) (ands_at n) (one_tree o) (both_words b ++ rest) (both_parts b) rest
-      (complete_one n o (sign_word (codes "&&") ∷ (both_words b ++ rest)) (omega (arith, few, size)))
-      (complete_ands n b rest (omega (arith, few, size)) ends)
+  complete_both : (n : ℕ) → IsComplete 3 n 1 both_words both_tree StopsBoth (parts_at n All)
+  complete_both zero d rest few stops = absurd (omega (arith, few, both_some d))
+  complete_both (suc n) d rest few stops =
+      level_complete both_level (one_at n) StopsOne (suc n) d rest (λ i rest short stops. complete_one n i rest (omega (arith, few, short)) stops) (λ s rest fits. tt)
+      (omega (arith, few, both_some d)) tt stops
 
-  pub complete_one : (n : ℕ) (o : One) (rest : List Word) → 3 * length (one_words o) ≤ n + 2 → one_at n (one_words o ++ rest) ≡ Some (one_tree o, rest)
-  complete_one zero o rest few = absurd (omega (arith, one_some o))
-  complete_one (suc n) (group f) rest few =
-      let size = split_words (form_words f) (sign_word (codes ")")) [] in
-      group_read (ors_at n) ((form_words f ++ sign_word (codes ")") ∷ []) ++ rest) (form_parts f) rest
-      (ap (ors_at n) (closing (form_words f) rest)
-      ∙ complete_ors n f (sign_word (codes ")") ∷ rest) (omega (arith, few, size)) (ends_close rest))
-  complete_one (suc n) (literal value) rest few = refl
-  complete_one (suc n) (name text) rest few = refl
-  complete_one (suc n) (some_of digits fs) rest few =
-      let size = split_words (forms_words fs) (sign_word (codes ")")) [] in
-      list_read digits (forms_at n) ((forms_words fs ++ sign_word (codes ")") ∷ []) ++ rest) (forms_parts fs) rest
-      (ap (forms_at n) (closing (forms_words fs) rest)
-      ∙ complete_forms n fs (sign_word (codes ")") ∷ rest) (omega (arith, few, size)) (ends_close rest) (close_no_comma rest))
+  complete_one : (n : ℕ) → IsComplete 3 n 2 one_words one_tree StopsOne (one_at n)
+  complete_one zero d rest few stops = absurd (omega (arith, few, one_some d))
+  complete_one (suc n) d rest few stops = one_complete n (complete_form n) (complete_forms n) d rest few stops
 
-  pub complete_forms : (n : ℕ) (fs : Forms) (rest : List Word) → 3 * length (forms_words fs) + 1 ≤ n → Ends rest → behind (is_sign_word (codes ",")) rest ≡ None
-      → forms_at n (forms_words fs ++ rest) ≡ Some (forms_parts fs, rest)
-  complete_forms zero fs rest few ends alone = absurd (omega (arith, few))
-  complete_forms (suc n) (last f) rest few ends alone =
-      after_last (codes ",") (join_read Any (ors_at n (form_words f ++ rest))) (forms_at n) (joined Any (form_parts f)) rest
-      (ap (join_read Any) (complete_ors n f rest (omega (arith, few)) ends)) alone
-  complete_forms (suc n) (further f fs) rest few ends alone =
-      let size = split_words (form_words f) (sign_word (codes ",")) (forms_words fs) in
-      let words : List Word = form_words f ++ sign_word (codes ",") ∷ (forms_words fs ++ rest) in
-      ap (forms_at (suc n)) (append_assoc (form_words f) (sign_word (codes ",") ∷ forms_words fs) rest)
-      ∙ after_more (codes ",") (join_read Any (ors_at n words)) (forms_at n) (joined Any (form_parts f)) (forms_words fs ++ rest) (forms_parts fs) rest
-      (ap (join_read Any) (complete_ors n f (sign_word (codes ",") ∷ (forms_words fs ++ rest)) (omega (arith, few, size)) (ends_comma (forms_words fs ++ rest))))
-      (complete_forms n fs rest (omega (arith, few, size)) ends alone)
+  complete_forms : (n : ℕ) → IsListComplete n
+  complete_forms zero need fs rest few stops alone = absurd (omega (arith, few))
+  complete_forms (suc n) need fs rest few stops alone =
+      level_complete (forms_level need) (parts_at n Any) StopsForm (suc n) fs rest (λ i rest short stops. complete_form n i rest (omega (arith, few, short)) stops) (λ s rest fits. comma_stops rest)
+      (omega (arith, few)) stops alone

@@ -1,74 +1,56 @@
 -- What the code gives of a field is what its tokens state.
-use Rattle.std.proofs.Common.{◌≡◌, ℕ, ◌<◌, ◌≤◌, true, false, List, [], ◌∷◌, length, Option, Some, None, Ok, Err, refl, sym, ap, subst, ◌∙◌, arith}
+use Rattle.std.proofs.Common.{◌≡◌, true, false, List, [], ◌∷◌, length, Option, Some, None, Result, Ok, Err, refl, sym, ap, subst, ◌∙◌, arith}
 use Rattle.std.proofs.lemmas.Bool.{cond-true, cond-false}
 use Rattle.kn_env.specs.declared.constant.Constant.{Constant}
 use Rattle.kn_lex.specs.Cutting.{Seen}
-use Rattle.kn_fields.specs.Fields.{between}
-use Rattle.kn_fields.proofs.Between.{between_none, between_length}
+use Rattle.kn_fields.specs.Words.{Word, words_of}
+use Rattle.kn_fields.specs.Reading.{ReadsWhole}
+use Rattle.kn_fields.specs.declared.unread.Unread.{Unread}
+use Rattle.kn_fields.specs.declared.unread.Unread.TheVariants.{Syntax as unread_Syntax, NoMemory as unread_NoMemory}
 use Rattle.kn_trees.specs.declared.formula.Formula.{Formula}
-use Rattle.kn_formula.specs.Words.{words_of, words_between}
 use Rattle.kn_formula.specs.Trees.{has_bad_threshold, has_bad_name}
-use Rattle.kn_formula.specs.Reading.{read_words, ReadsWhole}
+use Rattle.kn_formula.specs.Reading.{read_words}
 use Rattle.kn_formula.specs.Naming.{Names}
 use Rattle.kn_formula.specs.Licensing.{named, judged_read, licensees_of, Gives, of_unread}
 use Rattle.kn_formula.specs.declared.fault.FormulaFault.{FormulaFault}
 use Rattle.kn_formula.specs.declared.fault.FormulaFault.TheVariants.{Syntax, Threshold, Name, NoMemory}
-use Rattle.kn_formula.specs.declared.unread.Unread.{Unread}
-use Rattle.kn_formula.specs.declared.unread.Unread.TheVariants.{Syntax as unread_Syntax, NoMemory as unread_NoMemory}
 use Rattle.kn_formula.specs.declared.written.Written.{Written}
 
 -- a field without tokens
-pub nothing_given : (constants : List Constant) (tokens : List Seen) (from end : ℕ) → from ≡ end → licensees_of constants (between from end tokens) ≡ Ok None
-unfolding licensees_of
-nothing_given constants tokens from end none = ap (licensees_of constants) (between_none tokens from end (omega arith))
-
-judged_some : (constants : List Constant) (tokens : List Seen) → 0 < length tokens → licensees_of constants tokens ≡ judged_read constants (read_words (words_of tokens))
-unfolding licensees_of
-judged_some constants [] some = absurd (omega arith)
-judged_some constants (token ∷ tokens) some = refl
+pub nothing_given : (constants : List Constant) (tokens : List Seen) (words : List Word) → words ≡ words_of tokens → length words ≡ 0 → licensees_of constants tokens ≡ Ok None
+unfolding licensees_of words_of
+nothing_given constants [] words is none = refl
+nothing_given constants (token ∷ tokens) words is none = let size = ap length is in absurd (omega (arith, size, none))
 
 -- a field with tokens is judged by what is read of them
-judged_between : (constants : List Constant) (tokens : List Seen) (from end : ℕ) → from < end → end ≤ length tokens
-    → licensees_of constants (between from end tokens) ≡ judged_read constants (read_words (words_between from end tokens))
-unfolding words_between
-judged_between constants tokens from end some within =
-    let size = between_length tokens from end (omega arith) within in
-    judged_some constants (between from end tokens) (omega (arith, size, some))
+pub judged_by : (constants : List Constant) (tokens : List Seen) (words : List Word) → words ≡ words_of tokens → (length words ≡ 0 → ⊥) → licensees_of constants tokens ≡ judged_read constants (read_words words)
+unfolding licensees_of words_of
+judged_by constants [] words is some = absurd (some (ap length is))
+judged_by constants (token ∷ tokens) words is some = ap (λ words. judged_read constants (read_words words)) (sym is)
 
-pub unread_given : (constants : List Constant) (tokens : List Seen) (from end : ℕ) (unread : Unread) (fault : FormulaFault) → from < end → end ≤ length tokens
-    → ReadsWhole (Err unread) (read_words (words_between from end tokens)) → fault ≡ of_unread unread
-    → Gives {X = Option Formula} (Err fault) (licensees_of constants (between from end tokens))
-unread_given constants tokens from end unread_Syntax fault some within read is =
-    subst (λ fault. Gives {X = Option Formula} (Err fault) (licensees_of constants (between from end tokens))) (sym is)
-    (judged_between constants tokens from end some within ∙ ap (judged_read constants) read)
-unread_given constants tokens from end unread_NoMemory fault some within read is =
-    subst (λ fault. Gives {X = Option Formula} (Err fault) (licensees_of constants (between from end tokens))) (sym is) tt
+pub unread_given : (constants : List Constant) (found : Result (Option Formula) FormulaFault) (read : Option Written) (unread : Unread) (fault : FormulaFault) → found ≡ judged_read constants read
+    → ReadsWhole {X = Written} (Err unread) read → fault ≡ of_unread unread → Gives {X = Option Formula} (Err fault) found
+unread_given constants found read unread_Syntax fault judged none is = subst (λ fault. Gives {X = Option Formula} (Err fault) found) (sym is) (judged ∙ ap (judged_read constants) none)
+unread_given constants found read unread_NoMemory fault judged none is = subst (λ fault. Gives {X = Option Formula} (Err fault) found) (sym is) tt
 
-pub threshold_given : (constants : List Constant) (tokens : List Seen) (from end : ℕ) (written : Written) → from < end → end ≤ length tokens
-    → read_words (words_between from end tokens) ≡ Some written → has_bad_threshold written ≡ true → licensees_of constants (between from end tokens) ≡ Err Threshold
-threshold_given constants tokens from end written some within read bad =
-    judged_between constants tokens from end some within ∙ ap (judged_read constants) read
-    ∙ cond-true (has_bad_threshold written) _ _ bad
+pub threshold_given : (constants : List Constant) (found : Result (Option Formula) FormulaFault) (read : Option Written) (written : Written) → found ≡ judged_read constants read → read ≡ Some written
+    → has_bad_threshold written ≡ true → found ≡ Err Threshold
+threshold_given constants found read written judged is bad = judged ∙ ap (judged_read constants) is ∙ cond-true (has_bad_threshold written) _ _ bad
 
-named_read : (constants : List Constant) (tokens : List Seen) (from end : ℕ) (written : Written) → from < end → end ≤ length tokens
-    → read_words (words_between from end tokens) ≡ Some written → has_bad_threshold written ≡ false → licensees_of constants (between from end tokens) ≡ named constants written
-named_read constants tokens from end written some within read sound =
-    judged_between constants tokens from end some within ∙ ap (judged_read constants) read
-    ∙ cond-false (has_bad_threshold written) _ _ sound
+named_read : (constants : List Constant) (found : Result (Option Formula) FormulaFault) (read : Option Written) (written : Written) → found ≡ judged_read constants read → read ≡ Some written
+    → has_bad_threshold written ≡ false → found ≡ named constants written
+named_read constants found read written judged is sound = judged ∙ ap (judged_read constants) is ∙ cond-false (has_bad_threshold written) _ _ sound
 
-pub formula_given : (constants : List Constant) (tokens : List Seen) (from end : ℕ) (written : Written) (formula : Formula) → from < end → end ≤ length tokens
-    → read_words (words_between from end tokens) ≡ Some written → has_bad_threshold written ≡ false → Names constants written (Ok formula)
-    → licensees_of constants (between from end tokens) ≡ Ok (Some formula)
-formula_given constants tokens from end written formula some within read sound names =
-    named_read constants tokens from end written some within read sound
+pub formula_given : (constants : List Constant) (found : Result (Option Formula) FormulaFault) (read : Option Written) (written : Written) (formula : Formula) → found ≡ judged_read constants read → read ≡ Some written
+    → has_bad_threshold written ≡ false → Names constants written (Ok formula) → found ≡ Ok (Some formula)
+formula_given constants found read written formula judged is sound names =
+    named_read constants found read written judged is sound
     ∙ cond-false (has_bad_name constants written) _ _ names.0
     ∙ ap (λ (formula : Formula). Ok (Some formula)) (sym names.1)
 
-pub fault_given : (constants : List Constant) (tokens : List Seen) (from end : ℕ) (written : Written) (fault : FormulaFault) → from < end → end ≤ length tokens
-    → read_words (words_between from end tokens) ≡ Some written → has_bad_threshold written ≡ false → Names constants written (Err fault)
-    → Gives {X = Option Formula} (Err fault) (licensees_of constants (between from end tokens))
-fault_given constants tokens from end written Syntax some within read sound names = absurd names
-fault_given constants tokens from end written Threshold some within read sound names = absurd names
-fault_given constants tokens from end written Name some within read sound names =
-    named_read constants tokens from end written some within read sound ∙ cond-true (has_bad_name constants written) _ _ names
-fault_given constants tokens from end written NoMemory some within read sound names = tt
+pub fault_given : (constants : List Constant) (found : Result (Option Formula) FormulaFault) (read : Option Written) (written : Written) (fault : FormulaFault) → found ≡ judged_read constants read → read ≡ Some written
+    → has_bad_threshold written ≡ false → Names constants written (Err fault) → Gives {X = Option Formula} (Err fault) found
+fault_given constants found read written Syntax judged is sound names = absurd names
+fault_given constants found read written Threshold judged is sound names = absurd names
+fault_given constants found read written Name judged is sound names = named_read constants found read written judged is sound ∙ cond-true (has_bad_name constants written) _ _ names
+fault_given constants found read written NoMemory judged is sound names = tt

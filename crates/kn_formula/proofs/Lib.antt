@@ -1,9 +1,8 @@
-pub mod Parting
 pub mod Sound
 pub mod Complete
 pub mod Licenses
-pub mod WordLemmas
 pub mod TreeLemmas
+pub mod Lists
 pub mod Steps
 pub mod Judged
 pub mod Sizes

@@ -1,46 +1,39 @@
 -- What the tokens of a field state is what is read of them.
-use Rattle.std.proofs.Common.{◌≡◌, ◌*◌, Bool, true, false, List, [], ◌∷◌, length, Option, Some, None, Result, Ok, Err, ◌⊎◌, inl, inr, IfOk, IfErr, refl, sym, ap, subst, ◌∙◌, arith, append-nil}
+use Rattle.std.proofs.Common.{◌≡◌, ℕ, ◌*◌, Bool, true, false, List, [], ◌∷◌, length, Option, Some, None, Result, Ok, Err, ◌⊎◌, inl, inr, IfOk, IfErr, refl, sym, ap, subst, ◌∙◌, arith, append-nil}
 use Rattle.std.proofs.lemmas.Bool.{cond-true, cond-false}
 use Rattle.kn_env.specs.declared.constant.Constant.{Constant}
 use Rattle.kn_lex.specs.Cutting.{Seen}
+use Rattle.kn_fields.specs.Words.{Word, words_of}
+use Rattle.kn_fields.specs.Reading.{Read, whole}
+use Rattle.kn_fields.proofs.Steps.{whole_read}
 use Rattle.kn_trees.specs.declared.formula.Formula.{Formula}
-use Rattle.kn_formula.specs.Words.{Word, words_of}
-use Rattle.kn_formula.specs.Trees.{joined, has_bad_threshold, has_bad_name, formula_of}
+use Rattle.kn_formula.specs.Trees.{has_bad_threshold, has_bad_name, formula_of}
 use Rattle.kn_formula.specs.Grammar.{form_words, Spells}
-use Rattle.kn_formula.specs.Reading.{Part, join_read, ors_at, whole, read_words}
+use Rattle.kn_formula.specs.Reading.{parts_at, read_words}
 use Rattle.kn_formula.specs.Licensing.{AreLicensees, HasNoForm, Shows, named, judged, judged_read, licensees_of, Gives}
 use Rattle.kn_formula.specs.declared.fault.FormulaFault.{FormulaFault}
 use Rattle.kn_formula.specs.declared.fault.FormulaFault.TheVariants.{Syntax, Threshold, Name, NoMemory}
 use Rattle.kn_formula.specs.declared.written.Rule.TheVariants.{Any}
 use Rattle.kn_formula.specs.declared.written.Written.{Written}
-use Rattle.kn_formula.proofs.Parting.{join_parts}
-use Rattle.kn_formula.proofs.Sound.{sound_ors}
-use Rattle.kn_formula.proofs.Complete.{complete_ors, ends_nil, form_some}
-
-whole_part : (part : Part) (written : Written) → whole part ≡ Some written → part ≡ Some (written, [])
-whole_part None written e = absurd (cc)
-whole_part (Some (part, [])) written e = let same : part ≡ written = cc in ap (λ (part : Written). Some (part, [])) same
-whole_part (Some (part, word ∷ words)) written e = absurd (cc)
+use Rattle.kn_formula.proofs.Sound.{sound_form}
+use Rattle.kn_formula.proofs.Complete.{complete_form, nil_stops, form_some}
 
 -- what is read of all the words is spelled by them
 pub read_spelled : (tokens : List Seen) (written : Written) → read_words (words_of tokens) ≡ Some written → Spells tokens written
 unfolding read_words
 read_spelled tokens written e =
     let words : List Word = words_of tokens in
-    let whole = whole_part (join_read Any (ors_at (3 * length words) words)) written e in
-    let j = join_parts Any (ors_at (3 * length words) words) written [] whole in
-    let f = sound_ors (3 * length words) words j.list [] j.read in
-    record { form = f.form; words = sym (append-nil (form_words f.form)) ∙ f.spelled; tree = ap (joined Any) f.means ∙ sym j.part_is }
+    let f = sound_form (3 * length words) words written [] (whole_read (parts_at (3 * length words) Any words) written e) in
+    record { form = f.form; words = sym (append-nil (form_words f.form)) ∙ f.spelled; tree = f.means }
 
 -- what is spelled is read
 pub spelled_read : (tokens : List Seen) (written : Written) → Spells tokens written → read_words (words_of tokens) ≡ Some written
 unfolding read_words
 spelled_read tokens written s =
-    let all = complete_ors (3 * length (form_words s.form)) s.form [] (omega arith) ends_nil in
-    let words = append-nil (form_words s.form) in
-    let read = sym (ap (ors_at (3 * length (form_words s.form))) words) ∙ all in
-    ap (λ words. whole (join_read Any (ors_at (3 * length words) words))) (sym s.words)
-    ∙ ap (λ read. whole (join_read Any read)) read
+    let n : ℕ = 3 * length (form_words s.form) in
+    let all = complete_form n s.form [] (omega arith) nil_stops in
+    ap (λ (words : List Word). whole (parts_at (3 * length words) Any words)) (sym s.words)
+    ∙ ap (λ (read : Read Written). whole read) (sym (ap (parts_at n Any) (append-nil (form_words s.form))) ∙ all)
     ∙ ap (λ (part : Written). Some part) s.tree
 
 -- tokens spell at most one formula

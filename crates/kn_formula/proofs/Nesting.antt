@@ -1,21 +1,16 @@
 -- A formula that tokens spell is no deeper than their brackets allow.
-use Rattle.std.proofs.Common.{rules, ◌≡◌, ℕ, ◌+◌, ◌-◌, ◌*◌, ◌<◌, ◌≤◌, ◌&&◌, ◌||◌, max, if◌then◌else◌, ◌⊎◌, inl, inr, List, [], ◌∷◌, ◌++◌, map, codes, refl, sym, ap, subst, ◌∙◌, arith}
-use Rattle.std.specs.Prelude.{fold}
-use Rattle.std.specs.Str.{bytes_eq}
-use Rattle.std.proofs.lemmas.Bool.{cases_lt}
+use Rattle.std.proofs.Common.{rules, ◌≡◌, ℕ, ◌+◌, ◌*◌, ◌≤◌, max, List, [], ◌∷◌, ◌++◌, map, codes, refl, sym, ap, subst, ◌∙◌, arith}
 use Rattle.kn_env.specs.declared.constant.Constant.{Constant}
 use Rattle.kn_lex.specs.Cutting.{Seen}
-use Rattle.kn_lex.specs.declared.token.Sort.{Sort}
-use Rattle.kn_lex.specs.declared.token.Sort.TheVariants.{Label, Body, Name as SortName, Number, Text, Sign}
-use Rattle.kn_fields.specs.Constants.{is_sign_sort}
-use Rattle.kn_fields.specs.Depth.{depth_behind, IsTooDeep}
+use Rattle.kn_fields.specs.Depth.{IsTooDeep}
+use Rattle.kn_fields.specs.Words.{Word, words_of}
+use Rattle.kn_fields.specs.Words.Word.{name as name_word, number as number_word, sign as sign_word}
+use Rattle.kn_fields.proofs.Nesting.{Fits, after, Closes, closes_between, closes_group, shallow_fits, fits_here, fits_front, fits_between, fits_group}
 use Rattle.kn_trees.specs.Formulas.{greatest_of, formula_depth}
 use Rattle.kn_trees.specs.declared.formula.Formula.{Formula}
 use Rattle.kn_trees.specs.declared.formula.Formula.TheVariants.{Who as who_formula}
 use Rattle.kn_trees.specs.declared.formula.Formula.TheViews.{the_lemmas}
 use Rattle.kn_trees.specs.declared.formula.Formula.TheFolds.{fold_out-Formula}
-use Rattle.kn_formula.specs.Words.{Word, word_by, word_of, words_of}
-use Rattle.kn_formula.specs.Words.Word.{literal as literal_word, name as name_word, number as number_word, sign as sign_word, other as other_word}
 use Rattle.kn_formula.specs.Trees.{joined, need_of, ruled, formula_of}
 use Rattle.kn_formula.specs.Grammar.{Form, Both, One, Forms, form_words, both_words, one_words, forms_words, form_parts, both_parts, one_tree, forms_parts}
 use Rattle.kn_formula.specs.Grammar.Form.{both, either}
@@ -29,90 +24,6 @@ use Rattle.kn_formula.specs.declared.written.Rule.TheVariants.{All, Any, AtLeast
 use Rattle.kn_formula.specs.declared.written.Written.{Written}
 use Rattle.kn_formula.specs.declared.written.Written.TheVariants.{Who, Several}
 use Rattle.kn_formula.proofs.TreeLemmas.{formula_who, formula_several}
-
--- the brackets that are open behind a word
-abbrev sign_depth : ℕ → List ℕ → ℕ
-sign_depth depth text =
-    if bytes_eq text (codes "(") || bytes_eq text (codes "{") then depth + 1
-    else if bytes_eq text (codes ")") || bytes_eq text (codes "}") then depth - 1
-    else depth
-
-abbrev word_depth : ℕ → Word → ℕ
-word_depth depth (literal_word value) = depth
-word_depth depth (name_word text) = depth
-word_depth depth (number_word digits) = depth
-word_depth depth (sign_word text) = sign_depth depth text
-word_depth depth other_word = depth
-
-abbrev sort_depth : ℕ → Sort → List ℕ → ℕ
-sort_depth depth sort text =
-    if is_sign_sort sort && bytes_eq text (codes "(") || is_sign_sort sort && bytes_eq text (codes "{") then depth + 1
-    else if is_sign_sort sort && bytes_eq text (codes ")") || is_sign_sort sort && bytes_eq text (codes "}") then depth - 1
-    else depth
-
-depth_by : (depth : ℕ) (sort : Sort) (text : List ℕ) → sort_depth depth sort text ≡ word_depth depth (word_by sort text)
-depth_by depth Label text = refl
-depth_by depth Body text = refl
-depth_by depth SortName text = refl
-depth_by depth Number text = refl
-depth_by depth Text text = refl
-depth_by depth Sign text = refl
-
-depth_of : (depth : ℕ) (token : Seen) → depth_behind depth token ≡ word_depth depth (word_of token)
-unfolding depth_behind
-depth_of depth token = depth_by depth token.sort token.text
-
--- the brackets that are open behind all the words, and the most that are open somewhere
-after : ℕ → List Word → ℕ
-after depth [] = depth
-after depth (word ∷ words) = after (word_depth depth word) words
-
-deepest : ℕ → List Word → ℕ
-deepest depth [] = depth
-deepest depth (word ∷ words) = max depth (deepest (word_depth depth word) words)
-
-deepest_here : (depth : ℕ) (words : List Word) → depth ≤ deepest depth words
-unfolding deepest
-deepest_here depth [] = omega arith
-deepest_here depth (word ∷ words) = omega arith
-
-after_append : (depth : ℕ) (front rest : List Word) → after depth (front ++ rest) ≡ after (after depth front) rest
-unfolding after
-after_append depth [] rest = refl
-after_append depth (word ∷ front) rest = after_append (word_depth depth word) front rest
-
-deepest_front : (depth : ℕ) (front rest : List Word) → deepest depth front ≤ deepest depth (front ++ rest)
-unfolding deepest
-deepest_front depth [] rest = deepest_here depth rest
-deepest_front depth (word ∷ front) rest = omega (arith, deepest_front (word_depth depth word) front rest)
-
-deepest_rest : (depth : ℕ) (front rest : List Word) → deepest (after depth front) rest ≤ deepest depth (front ++ rest)
-unfolding deepest after
-deepest_rest depth [] rest = omega arith
-deepest_rest depth (word ∷ front) rest = omega (arith, deepest_rest (word_depth depth word) front rest)
-
--- where more brackets are open somewhere, tokens go too deep
-record GoesDeep (depth : ℕ) (tokens : List Seen) : Type 0 where
-  front : List Seen
-  rest : List Seen
-  split : tokens ≡ front ++ rest
-  deep : 64 < fold depth_behind depth front
-
-goes_deep : (depth : ℕ) (tokens : List Seen) → 64 < deepest depth (words_of tokens) → GoesDeep depth tokens
-unfolding deepest words_of
-goes_deep depth [] deep = record { front = []; rest = []; split = refl; deep = deep }
-goes_deep depth (token ∷ tokens) deep =
-    elim (cases_lt 64 depth) [
-      | inl here ↦ record { front = []; rest = token ∷ tokens; split = refl; deep = here }
-      | inr low ↦
-          let further = goes_deep (word_depth depth (word_of token)) tokens (omega (arith, deep, low)) in
-          record {
-            front = token ∷ further.front;
-            rest = further.rest;
-            split = ap (λ tokens. token ∷ tokens) further.split;
-            deep = subst (λ depth. 64 < fold depth_behind depth further.front) (sym (depth_of depth token)) further.deep;
-          }
-    ]
 
 -- how many brackets are open in one another
 mutual
@@ -134,100 +45,72 @@ mutual
   forms_nest (last f) = form_nest f
   forms_nest (further f fs) = max (form_nest f) (forms_nest fs)
 
--- between two parts with their brackets closed
-after_between : (depth : ℕ) (front rest : List Word) (word : Word) → after depth front ≡ depth → word_depth depth word ≡ depth → after depth rest ≡ depth
-    → after depth (front ++ word ∷ rest) ≡ depth
-unfolding after
-after_between depth front rest word first same second =
-    after_append depth front (word ∷ rest) ∙ ap (λ depth. after depth (word ∷ rest)) first ∙ ap (λ depth. after depth rest) same ∙ second
-
-after_closed : (depth : ℕ) (inner : List Word) → after (depth + 1) inner ≡ depth + 1 → after (depth + 1) (inner ++ sign_word (codes ")") ∷ []) ≡ depth
-unfolding after
-after_closed depth inner same =
-    after_append (depth + 1) inner (sign_word (codes ")") ∷ []) ∙ ap (λ depth. after depth (sign_word (codes ")") ∷ [])) same ∙ omega arith
-
 mutual
   unfolding after form_words both_words one_words forms_words
 
-  form_after : (depth : ℕ) (f : Form) → after depth (form_words f) ≡ depth
-  form_after depth (both b) = both_after depth b
-  form_after depth (either b f) = after_between depth (both_words b) (form_words f) (sign_word (codes "||")) (both_after depth b) refl (form_after depth f)
+  form_closes : (f : Form) → Closes (form_words f)
+  form_closes (both b) = both_closes b
+  form_closes (either b f) = closes_between (both_words b) (form_words f) (sign_word (codes "||")) (both_closes b) (λ depth. refl) (form_closes f)
 
-  both_after : (depth : ℕ) (b : Both) → after depth (both_words b) ≡ depth
-  both_after depth (one o) = one_after depth o
-  both_after depth (each o b) = after_between depth (one_words o) (both_words b) (sign_word (codes "&&")) (one_after depth o) refl (both_after depth b)
+  both_closes : (b : Both) → Closes (both_words b)
+  both_closes (one o) = one_closes o
+  both_closes (each o b) = closes_between (one_words o) (both_words b) (sign_word (codes "&&")) (one_closes o) (λ depth. refl) (both_closes b)
 
-  one_after : (depth : ℕ) (o : One) → after depth (one_words o) ≡ depth
-  one_after depth (group f) = after_closed depth (form_words f) (form_after (depth + 1) f)
-  one_after depth (literal value) = refl
-  one_after depth (name text) = refl
-  one_after depth (some_of digits fs) = after_closed depth (forms_words fs) (forms_after (depth + 1) fs)
+  one_closes : (o : One) → Closes (one_words o)
+  one_closes (group f) depth = closes_group depth (form_words f) (sign_word (codes ")")) (form_closes f) (omega arith)
+  one_closes (literal value) depth = refl
+  one_closes (name text) depth = refl
+  one_closes (some_of digits fs) depth = closes_group depth (forms_words fs) (sign_word (codes ")")) (forms_closes fs) (omega arith)
 
-  forms_after : (depth : ℕ) (fs : Forms) → after depth (forms_words fs) ≡ depth
-  forms_after depth (last f) = form_after depth f
-  forms_after depth (further f fs) = after_between depth (form_words f) (forms_words fs) (sign_word (codes ",")) (form_after depth f) refl (forms_after depth fs)
+  forms_closes : (fs : Forms) → Closes (forms_words fs)
+  forms_closes (last f) = form_closes f
+  forms_closes (further f fs) = closes_between (form_words f) (forms_words fs) (sign_word (codes ",")) (form_closes f) (λ depth. refl) (forms_closes fs)
 
--- what stands behind a part with its brackets closed is as deep as alone
-deepest_between : (depth : ℕ) (front rest : List Word) (word : Word) → after depth front ≡ depth → word_depth depth word ≡ depth → deepest depth rest ≤ deepest depth (front ++ word ∷ rest)
-unfolding deepest
-deepest_between depth front rest word first same =
-    let behind = deepest_rest depth front (word ∷ rest) in
-    let here : deepest (after depth front) (word ∷ rest) ≡ max depth (deepest depth rest) =
-    ap (λ depth. deepest depth (word ∷ rest)) first ∙ ap (λ inner. max depth (deepest inner rest)) same in
-    omega (arith, behind, here)
+-- behind `-`, `of` and `(` one bracket more is open
+fits_list : (depth run : ℕ) (digits : List ℕ) (inner : List Word)
+    → Fits depth run (number_word digits ∷ sign_word (codes "-") ∷ name_word (codes "of") ∷ sign_word (codes "(") ∷ inner ++ sign_word (codes ")") ∷ []) → Fits (depth + 1) 0 inner
+unfolding Fits
+fits_list depth run digits inner fits = fits_group depth 0 inner fits.2.2.2
 
 mutual
-  unfolding deepest form_words both_words one_words forms_words form_nest both_nest one_nest forms_nest
+  unfolding form_words both_words one_words forms_words form_nest both_nest one_nest forms_nest
 
-  form_reach : (depth : ℕ) (f : Form) → depth + form_nest f ≤ deepest depth (form_words f)
-  form_reach depth (both b) = both_reach depth b
-  form_reach depth (either b f) =
+  form_low : (depth run : ℕ) (f : Form) → Fits depth run (form_words f) → depth + form_nest f ≤ 64
+  form_low depth run (both b) fits = both_low depth run b fits
+  form_low depth run (either b f) fits =
       omega (
         arith,
-        both_reach depth b,
-        form_reach depth f,
-        deepest_front depth (both_words b) (sign_word (codes "||") ∷ form_words f),
-        deepest_between depth (both_words b) (form_words f) (sign_word (codes "||")) (both_after depth b) refl,
+        both_low depth run b (fits_front depth run (both_words b) (sign_word (codes "||") ∷ form_words f) fits),
+        form_low depth 0 f (fits_between depth run (both_words b) (form_words f) (sign_word (codes "||")) (both_closes b) (λ depth. refl) fits),
       )
 
-  both_reach : (depth : ℕ) (b : Both) → depth + both_nest b ≤ deepest depth (both_words b)
-  both_reach depth (one o) = one_reach depth o
-  both_reach depth (each o b) =
+  both_low : (depth run : ℕ) (b : Both) → Fits depth run (both_words b) → depth + both_nest b ≤ 64
+  both_low depth run (one o) fits = one_low depth run o fits
+  both_low depth run (each o b) fits =
       omega (
         arith,
-        one_reach depth o,
-        both_reach depth b,
-        deepest_front depth (one_words o) (sign_word (codes "&&") ∷ both_words b),
-        deepest_between depth (one_words o) (both_words b) (sign_word (codes "&&")) (one_after depth o) refl,
+        one_low depth run o (fits_front depth run (one_words o) (sign_word (codes "&&") ∷ both_words b) fits),
+        both_low depth 0 b (fits_between depth run (one_words o) (both_words b) (sign_word (codes "&&")) (one_closes o) (λ depth. refl) fits),
       )
 
-  one_reach : (depth : ℕ) (o : One) → depth + one_nest o ≤ deepest depth (one_words o)
-  one_reach depth (group f) = omega (arith, form_reach (depth + 1) f, deepest_front (depth + 1) (form_words f) (sign_word (codes ")") ∷ []))
-  one_reach depth (literal value) = omega arith
-  one_reach depth (name text) = omega arith
-  one_reach depth (some_of digits fs) = omega (arith, forms_reach (depth + 1) fs, deepest_front (depth + 1) (forms_words fs) (sign_word (codes ")") ∷ []))
+  one_low : (depth run : ℕ) (o : One) → Fits depth run (one_words o) → depth + one_nest o ≤ 64
+  one_low depth run (group f) fits = omega (arith, form_low (depth + 1) 0 f (fits_group depth run (form_words f) fits))
+  one_low depth run (literal value) fits = omega (arith, (fits_here depth run (one_words (literal value)) fits).0)
+  one_low depth run (name text) fits = omega (arith, (fits_here depth run (one_words (name text)) fits).0)
+  one_low depth run (some_of digits fs) fits = omega (arith, forms_low (depth + 1) 0 fs (fits_list depth run digits (forms_words fs) fits))
 
-  forms_reach : (depth : ℕ) (fs : Forms) → depth + forms_nest fs ≤ deepest depth (forms_words fs)
-  forms_reach depth (last f) = form_reach depth f
-  forms_reach depth (further f fs) =
+  forms_low : (depth run : ℕ) (fs : Forms) → Fits depth run (forms_words fs) → depth + forms_nest fs ≤ 64
+  forms_low depth run (last f) fits = form_low depth run f fits
+  forms_low depth run (further f fs) fits =
       omega (
         arith,
-        form_reach depth f,
-        forms_reach depth fs,
-        deepest_front depth (form_words f) (sign_word (codes ",") ∷ forms_words fs),
-        deepest_between depth (form_words f) (forms_words fs) (sign_word (codes ",")) (form_after depth f) refl,
+        form_low depth run f (fits_front depth run (form_words f) (sign_word (codes ",") ∷ forms_words fs) fits),
+        forms_low depth 0 fs (fits_between depth run (form_words f) (forms_words fs) (sign_word (codes ",")) (form_closes f) (λ depth. refl) fits),
       )
 
 -- at most 64 brackets are open in one another, where the tokens don't go too deep
 form_shallow : (tokens : List Seen) (f : Form) → form_words f ≡ words_of tokens → (IsTooDeep tokens → ⊥) → form_nest f ≤ 64
-form_shallow tokens f spelled shallow = by (cases_lt 64 (form_nest f))
-  where
-    by : (64 < form_nest f) ⊎ (form_nest f ≤ 64) → form_nest f ≤ 64
-    by (inr low) = low
-    by (inl high) =
-        let reach : form_nest f ≤ deepest 0 (words_of tokens) = subst (λ words. form_nest f ≤ deepest 0 words) spelled (omega (arith, form_reach 0 f)) in
-        let deep = goes_deep 0 tokens (omega (arith, reach, high)) in
-        absurd (shallow (record { front = deep.front; rest = deep.rest; split = deep.split; deep = inl deep.deep }))
+form_shallow tokens f spelled shallow = omega (arith, form_low 0 0 f (subst (Fits 0 0) (sym spelled) (shallow_fits tokens shallow)))
 
 -- the levels of a formula by the brackets
 

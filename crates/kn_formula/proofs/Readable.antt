@@ -1,16 +1,18 @@
 -- A formula that a field states is one that a reader may give.
-use Rattle.std.proofs.Common.{◌≡◌, ℕ, ◌≤◌, List, length, Some, Ok, ap, sym, ◌∙◌, arith}
+use Rattle.std.proofs.Common.{◌≡◌, ℕ, ◌≤◌, List, length, Option, Some, None, Result, Ok, Err, ap, sym, ◌∙◌, arith}
+use Rattle.std.specs.Prelude.{IfOk, IfSome}
 use Rattle.kn_env.specs.declared.constant.Constant.{Constant}
 use Rattle.kn_lex.specs.Cutting.{Seen}
 use Rattle.kn_fields.specs.Fields.{between}
 use Rattle.kn_fields.specs.Depth.{IsTooDeep}
 use Rattle.kn_fields.proofs.Between.{between_length}
+use Rattle.kn_fields.proofs.Words.{length_words}
 use Rattle.kn_trees.specs.Formulas.{formula_nodes, formula_depth, is_sound, IsReadable}
 use Rattle.kn_trees.specs.declared.formula.Formula.{Formula}
 use Rattle.kn_formula.specs.Trees.{has_bad_threshold, formula_of}
 use Rattle.kn_formula.specs.Grammar.{form_words, form_tree}
-use Rattle.kn_formula.specs.Licensing.{IsFormula, licensees_of}
-use Rattle.kn_formula.proofs.WordLemmas.{length_words}
+use Rattle.kn_formula.specs.Licensing.{IsFormula, licensees_of, Gives}
+use Rattle.kn_formula.specs.declared.fault.FormulaFault.{FormulaFault}
 use Rattle.kn_formula.proofs.Licenses.{formula_stands}
 use Rattle.kn_formula.proofs.Sizes.{tree_nodes, tree_sound}
 use Rattle.kn_formula.proofs.Nesting.{tree_depth}
@@ -27,8 +29,10 @@ stated_readable constants tokens formula is shallow =
     }
 
 -- so is what is given of a field among more tokens
-pub given_readable : (constants : List Constant) (tokens : List Seen) (from end : ℕ) (formula : Formula) → from ≤ end → end ≤ length tokens
-    → licensees_of constants (between from end tokens) ≡ Ok (Some formula) → (IsTooDeep (between from end tokens) → ⊥) → IsReadable (length tokens) formula
-given_readable constants tokens from end formula ordered within given shallow =
+pub given_readable : (constants : List Constant) (tokens : List Seen) (from end : ℕ) (r : Result (Option Formula) FormulaFault) → from ≤ end → end ≤ length tokens
+    → Gives r (licensees_of constants (between from end tokens)) → (IsTooDeep (between from end tokens) → ⊥) → IfOk r (λ licensees. IfSome licensees (λ formula. IsReadable (length tokens) formula))
+given_readable constants tokens from end (Ok None) ordered within given shallow = tt
+given_readable constants tokens from end (Ok (Some formula)) ordered within given shallow =
     let r = stated_readable constants (between from end tokens) formula (formula_stands constants (between from end tokens) (Some formula) given) shallow in
     record { sound = r.sound; small = omega (arith, r.small, between_length tokens from end ordered within); shallow = r.shallow }
+given_readable constants tokens from end (Err fault) ordered within given shallow = tt

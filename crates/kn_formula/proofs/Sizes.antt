@@ -10,7 +10,7 @@ use Rattle.kn_trees.specs.declared.formula.Formula.{Formula}
 use Rattle.kn_trees.specs.declared.formula.Formula.TheVariants.{Who as who_formula}
 use Rattle.kn_trees.specs.declared.formula.Formula.TheViews.{the_lemmas}
 use Rattle.kn_trees.specs.declared.formula.Formula.TheFolds.{fold_out-Formula}
-use Rattle.kn_formula.specs.Words.Word.{sign as sign_word}
+use Rattle.kn_fields.specs.Words.Word.{sign as sign_word}
 use Rattle.kn_formula.specs.Trees.{joined, need_of, itself, is_bad_rule, has_bad_threshold, ruled, formula_of}
 use Rattle.kn_formula.specs.Grammar.{Form, Both, One, Forms, form_words, both_words, one_words, forms_words, form_parts, both_parts, one_tree, forms_parts}
 use Rattle.kn_formula.specs.Grammar.Form.{both, either}

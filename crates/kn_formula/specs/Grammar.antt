@@ -2,8 +2,8 @@
 -- any formula is keynoted's own choice).
 use Rattle.std.specs.Prelude.{◌≡◌, ℕ, List, [], ◌∷◌, ◌++◌, codes}
 use Rattle.kn_lex.specs.Cutting.{Seen}
-use Rattle.kn_formula.specs.Words.{Word, words_of}
-use Rattle.kn_formula.specs.Words.Word.{literal as literal_word, name as name_word, number as number_word, sign as sign_word}
+use Rattle.kn_fields.specs.Words.{Word, words_of}
+use Rattle.kn_fields.specs.Words.Word.{literal as literal_word, name as name_word, number as number_word, sign as sign_word}
 use Rattle.kn_formula.specs.Trees.{joined, need_of}
 use Rattle.kn_formula.specs.declared.written.Principal.TheVariants.{Literal, Name}
 use Rattle.kn_formula.specs.declared.written.Rule.TheVariants.{All, Any, AtLeast}

@@ -1,4 +1,3 @@
-pub mod Words
 pub mod Trees
 pub mod Grammar
 pub mod Reading

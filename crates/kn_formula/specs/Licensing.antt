@@ -3,12 +3,12 @@ use Rattle.std.specs.Prelude.{◌≡◌, true, false, List, [], ◌∷◌, Optio
 use Rattle.kn_env.specs.declared.constant.Constant.{Constant}
 use Rattle.kn_lex.specs.Cutting.{Seen}
 use Rattle.kn_trees.specs.declared.formula.Formula.{Formula}
-use Rattle.kn_formula.specs.Words.{words_of}
+use Rattle.kn_fields.specs.Words.{words_of}
 use Rattle.kn_formula.specs.Trees.{has_bad_threshold, has_bad_name, formula_of}
 use Rattle.kn_formula.specs.Grammar.{Spells}
 use Rattle.kn_formula.specs.Reading.{read_words}
-use Rattle.kn_formula.specs.declared.unread.Unread.{Unread}
-use Rattle.kn_formula.specs.declared.unread.Unread.TheVariants.{Syntax as unread_Syntax, NoMemory as unread_NoMemory}
+use Rattle.kn_fields.specs.declared.unread.Unread.{Unread}
+use Rattle.kn_fields.specs.declared.unread.Unread.TheVariants.{Syntax as unread_Syntax, NoMemory as unread_NoMemory}
 use Rattle.kn_formula.specs.declared.written.Written.{Written}
 use Rattle.kn_formula.specs.declared.fault.FormulaFault.{FormulaFault}
 use Rattle.kn_formula.specs.declared.fault.FormulaFault.TheVariants.{Syntax, Threshold, Name, NoMemory}

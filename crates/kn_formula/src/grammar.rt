@@ -1,18 +1,17 @@
 //! The grammar of the Licensees field, with one token of look-ahead.
 //!
-//! The budget bounds the steps of a reading; each step down the grammar or on in a list takes one, and three for
-//! each token are enough.
-ghost use Rattle.std.specs.Prelude.{◌≡◌, ◌≤◌, [], ◌∷◌, ◌++◌, IfOk, length};
-ghost use Rattle.std.specs.Option.{option_map};
-ghost use Rattle.kn_formula.specs.Words.{words_between};
-ghost use Rattle.kn_formula.specs.Reading.{Reads, ReadsWhole, rule_text, is_whole, finished, join_read, in_brackets, parts_at, item_at, one_at, read_words};
+//! The budget bounds the steps of a reading: each step down the grammar takes one, and a list has fewer parts than
+//! it. Three for each token are enough.
+ghost use Rattle.std.specs.Prelude.{◌≡◌, [], ◌∷◌, ◌++◌, IfOk, codes};
+ghost use Rattle.std.specs.Str.{bytes_eq};
+ghost use Rattle.kn_fields.specs.Reading.{Reads, ReadsWhole, then_read, closed_by};
+ghost use Rattle.kn_formula.specs.Reading.{rule_text, is_whole, finished, of_front, parts_at, item_at, one_at, read_words};
 
 use crate::threshold::need_of;
-use crate::unread::Unread;
-use crate::word::{behind_of, behind_sign, token_at};
 use crate::written::{Principal, Rule, Written};
 use kn_base::{List, NoMemory, Octets};
-use kn_lex::{Sort, Tokens, literal};
+use kn_fields::{Cursor, Unread};
+use kn_lex::{Sort, literal};
 use std::alloc::Global;
 
 /// The sign between the parts of a list under a rule.
@@ -50,135 +49,122 @@ fn finished(rule: Rule, list: List<Written>, last: Written) -> Result<Written, N
     }
 }
 
-/// The parts of a list under a rule, and the place behind them.
+/// A list under a rule.
 #[cycle(form)]
 fn parts(
     alloc: Global,
-    tokens: &Tokens<'_>,
+    cursor: &mut Cursor<'_, '_>,
     rule: Rule,
-    at: u32,
-    end: u32,
     budget: u64,
-) -> Result<(Written, u32), Unread>
-    requires within { end ≤ length tokens.now }
-    ensures { Reads result (join_read rule (parts_at rule budget (words_between at end tokens.now))) (λ next. words_between next end tokens.now) }
+) -> Result<Written, Unread>
+    ensures { Reads result (parts_at budget rule cursor.old) cursor.new }
 {
     let mut list = List::new(alloc);
-    let mut next = at;
     let mut left = budget;
     while left > 0 {
-        left -= 1;
-        let (part, rest) = item(alloc, tokens, rule, next, end, left)?;
-        let Some(further) = behind_sign(tokens, rest, end, rule_text(rule)) else {
+        let part = item(alloc, cursor, rule, budget - 1)?;
+        if !cursor.take_sign(rule_text(rule)) {
             let whole = finished(rule, list, part)?;
-            return Ok((whole, rest));
-        };
+            return Ok(whole);
+        }
         match list.push(part) {
             Ok(()) => {}
             Err(_) => return Err(Unread::NoMemory),
         }
-        next = further;
+        left -= 1;
     }
     Err(Unread::Syntax)
 }
 
-/// A part of a list under a rule, and the place behind it.
+/// A part of a list under a rule.
 #[cycle(form)]
 fn item(
     alloc: Global,
-    tokens: &Tokens<'_>,
+    cursor: &mut Cursor<'_, '_>,
     rule: Rule,
-    at: u32,
-    end: u32,
     budget: u64,
-) -> Result<(Written, u32), Unread>
-    requires within { end ≤ length tokens.now }
-    ensures { Reads result (item_at rule budget (words_between at end tokens.now)) (λ next. words_between next end tokens.now) }
+) -> Result<Written, Unread>
+    ensures { Reads result (item_at budget rule cursor.old) cursor.new }
 {
     match rule {
-        Rule::All => one(alloc, tokens, at, end, budget),
-        Rule::Any => parts(alloc, tokens, Rule::All, at, end, budget),
-        Rule::AtLeast(_) => parts(alloc, tokens, Rule::Any, at, end, budget),
+        Rule::All => one(alloc, cursor, budget),
+        Rule::Any => parts(alloc, cursor, Rule::All, budget),
+        Rule::AtLeast(_) => parts(alloc, cursor, Rule::Any, budget),
     }
 }
 
-/// A principal, a formula in brackets or a threshold, and the place behind it.
+fn is_opening(text: &[u8]) -> bool
+    ensures { result ≡ bytes_eq text.now (codes "(") }
+{
+    text == b"(".as_slice()
+}
+
+/// What stands between the number of a threshold and its list.
+fn of_front(cursor: &mut Cursor<'_, '_>) -> Result<(), Unread>
+    ensures { Reads result (of_front cursor.old) cursor.new }
+{
+    cursor.expect_sign(b"-".as_slice())?;
+    cursor.expect_name(b"of".as_slice())?;
+    cursor.expect_sign(b"(".as_slice())
+}
+
+/// A principal, a formula in brackets or a threshold.
 #[cycle(form)]
-fn one(
-    alloc: Global,
-    tokens: &Tokens<'_>,
-    at: u32,
-    end: u32,
-    budget: u64,
-) -> Result<(Written, u32), Unread>
-    requires within { end ≤ length tokens.now }
-    ensures { Reads result (one_at budget (words_between at end tokens.now)) (λ next. words_between next end tokens.now) }
+fn one(alloc: Global, cursor: &mut Cursor<'_, '_>, budget: u64) -> Result<Written, Unread>
+    ensures { Reads result (one_at budget cursor.old) cursor.new }
 {
     if budget == 0 {
         return Err(Unread::Syntax);
     }
-    let Some(token) = token_at(tokens, at, end) else {
+    let Some(token) = cursor.take() else {
         return Err(Unread::Syntax);
     };
     match token.sort {
         Sort::Text => {
             let value = literal(alloc, token)?;
-            Ok((Written::Who(Principal::Literal(value)), at + 1))
+            Ok(Written::Who(Principal::Literal(value)))
         }
         Sort::Name => {
             let name = Octets::from_slice(alloc, token.text)?;
-            Ok((Written::Who(Principal::Name(name)), at + 1))
+            Ok(Written::Who(Principal::Name(name)))
         }
         Sort::Number => {
-            let rule = Rule::AtLeast(need_of(token.text));
-            let inner = behind_of(tokens, at + 1, end);
-            bracketed(alloc, tokens, rule, inner, end, budget - 1)
+            of_front(cursor)?;
+            bracketed(alloc, cursor, Rule::AtLeast(need_of(token.text)), budget - 1)
         }
         Sort::Sign => {
-            let inner = behind_sign(tokens, at, end, b"(".as_slice());
-            bracketed(alloc, tokens, Rule::Any, inner, end, budget - 1)
+            if is_opening(token.text) {
+                bracketed(alloc, cursor, Rule::Any, budget - 1)
+            } else {
+                Err(Unread::Syntax)
+            }
         }
         _ => Err(Unread::Syntax),
     }
 }
 
-/// The parts of a list in brackets, of which the opening one is read, and the place behind them.
+/// A list in brackets, of which the opening one is read.
 #[cycle(form)]
 fn bracketed(
     alloc: Global,
-    tokens: &Tokens<'_>,
+    cursor: &mut Cursor<'_, '_>,
     rule: Rule,
-    inner: Option<u32>,
-    end: u32,
     budget: u64,
-) -> Result<(Written, u32), Unread>
-    requires within { end ≤ length tokens.now }
-    ensures { Reads result (in_brackets rule (option_map (λ next. words_between next end tokens.now) inner) (parts_at rule budget)) (λ next. words_between next end tokens.now) }
+) -> Result<Written, Unread>
+    ensures { Reads result (then_read (parts_at budget rule cursor.old) (closed_by (codes ")"))) cursor.new }
 {
-    let Some(inner) = inner else {
-        return Err(Unread::Syntax);
-    };
-    let (whole, rest) = parts(alloc, tokens, rule, inner, end, budget)?;
-    match behind_sign(tokens, rest, end, b")".as_slice()) {
-        Some(next) => Ok((whole, next)),
-        None => Err(Unread::Syntax),
-    }
+    let whole = parts(alloc, cursor, rule, budget)?;
+    cursor.expect_sign(b")".as_slice())?;
+    Ok(whole)
 }
 
-/// The formula that the tokens from one place up to another spell.
-pub(crate) fn written(
-    alloc: Global,
-    tokens: &Tokens<'_>,
-    from: u32,
-    end: u32,
-) -> Result<Written, Unread>
-    requires ordered { from ≤ end }
-    requires within { end ≤ length tokens.now }
-    ensures { ReadsWhole result (read_words (words_between from end tokens.now)) }
+/// The formula that all the tokens spell.
+pub(crate) fn written(alloc: Global, cursor: &mut Cursor<'_, '_>) -> Result<Written, Unread>
+    ensures { ReadsWhole result (read_words cursor.old) }
 {
-    let budget = 3 * u64::from(end - from);
-    let (whole, rest) = parts(alloc, tokens, Rule::Any, from, end, budget)?;
-    match token_at(tokens, rest, end) {
+    let budget = 3 * u64::from(cursor.len());
+    let whole = parts(alloc, cursor, Rule::Any, budget)?;
+    match cursor.take() {
         Some(_) => Err(Unread::Syntax),
         None => Ok(whole),
     }

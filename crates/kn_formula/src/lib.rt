@@ -7,8 +7,6 @@ pub mod laws;
 mod named;
 mod reader;
 mod threshold;
-mod unread;
-mod word;
 mod written;
 
 pub use fault::FormulaFault;

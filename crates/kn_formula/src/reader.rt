@@ -10,7 +10,7 @@ use crate::named::formula;
 use crate::threshold::has_bad_threshold;
 use kn_base::List;
 use kn_env::Constant;
-use kn_fields::Part;
+use kn_fields::{Cursor, Part};
 use kn_lex::Tokens;
 use kn_trees::Formula;
 use std::alloc::Global;
@@ -32,11 +32,25 @@ pub fn licensees(
     ensures shown { IfErr result (λ fault. (fault ≡ FormulaFault.NoMemory) ⊎ Shows constants.now (between (part.label + 1) part.end tokens.now) fault) }
     ensures readable { IfOk result (λ licensees. IfSome licensees (λ formula. IsReadable (length tokens.now) formula)) }
 {
-    let from = part.label + 1;
-    if from == part.end {
+    read_licensees(alloc, tokens, part, constants)
+}
+
+/// The formula that is read of the field, or its fault.
+fn read_licensees(
+    alloc: Global,
+    tokens: &Tokens<'_>,
+    part: Part,
+    constants: &List<Constant>,
+) -> Result<Option<Formula>, FormulaFault>
+    requires before { part.label < part.end }
+    requires within { part.end ≤ length tokens.now }
+    ensures { Gives result (licensees_of constants.now (between (part.label + 1) part.end tokens.now)) }
+{
+    let mut cursor = Cursor::of_field(tokens, part);
+    if cursor.len() == 0 {
         return Ok(None);
     }
-    let written = match written(alloc, tokens, from, part.end) {
+    let written = match written(alloc, &mut cursor) {
         Ok(written) => written,
         Err(unread) => return Err(FormulaFault::from(unread)),
     };

@@ -1,6 +1,5 @@
-use Rattle.std.proofs.Common.{◌≡◌, ◌+◌, ◌*◌, ◌≤◌}
-use Rattle.kn_formula.specs.Words.{words_between}
-use Rattle.kn_formula.specs.Reading.{with_front, parts_at}
+use Rattle.std.proofs.Common.{◌+◌, ◌*◌, ◌≤◌}
+use Rattle.kn_formula.proofs.Steps.{Parts}
 use Rattle.kn_formula.proofs.grammar.+form.Given as goal
 
 abbrev pub decreases-parts : goal.decreases-parts
@@ -17,11 +16,7 @@ decreases-bracketed l = 2 * l.budget + 1
 
 -- the parts so far with those that are read from here on are all
 abbrev pub invariant-parts-loop-left : goal.invariant-parts-loop-left
-invariant-parts-loop-left l =
-    record {
-      fewer : l.left ≤ l.budget;
-      read : with_front l.list (parts_at l.rule l.left (words_between l.next l.end l.tokens)) ≡ parts_at l.rule l.budget (words_between l.at l.end l.tokens);
-    }
+invariant-parts-loop-left l = record { fewer : l.left ≤ l.budget; going : Parts l.rule l.budget l.left l.list l.cursor l.fn.cursor }
 
 abbrev pub decreases-parts-loop-left : goal.decreases-parts-loop-left
 decreases-parts-loop-left l = l.left

@@ -1,6 +1,6 @@
 use Rattle.std.proofs.Common.{◌∙◌, sym, ap}
 use Rattle.kn_formula.specs.declared.written.Written.TheVariants.{Several}
-use Rattle.kn_formula.proofs.Parting.{whole_alone, whole_several}
+use Rattle.kn_formula.proofs.Steps.{whole_alone, whole_several}
 use Rattle.kn_formula.proofs.grammar.finished.Goals as goal
 
 pub returns-then-is_whole : goal.returns-then-is_whole

@@ -1,0 +1,149 @@
+//! The tokens of a field, one after the other.
+ghost use Rattle.std.specs.Prelude.{◌≡◌, ◌+◌, ◌<◌, ◌≤◌, [], ◌∷◌, length, false, codes, MatchOption};
+ghost use Rattle.std.specs.Option.{option_map};
+ghost use Rattle.kn_lex.specs.Seeing.{seen};
+ghost use Rattle.kn_fields.specs.Fields.{between};
+ghost use Rattle.kn_fields.specs.Words.{words_of, word_of, first_sign, rest_of, marked, named, mark_if};
+ghost use Rattle.kn_fields.specs.Reading.{Reads};
+
+use crate::part::Part;
+use crate::unread::Unread;
+use kn_lex::{Sort, Token, Tokens};
+use std::marker::Model;
+
+/// The tokens of a field that are still to be read, seen as their words.
+#[derive(Drop)]
+pub struct Cursor<'t, 'a> {
+    tokens: &'t Tokens<'a>,
+    /// The place of the next token.
+    at: u32,
+    /// Where the field ends.
+    end: u32,
+}
+
+impl<'t, 'a> Model for Cursor<'t, 'a> {
+    ghost use Rattle.std.specs.Prelude.{◌≤◌, List, length};
+    ghost use Rattle.kn_fields.specs.Fields.{between};
+    ghost use Rattle.kn_fields.specs.Words.{Word, words_of};
+
+    ghost Value = { List Word };
+
+    ghost view = { λ c. words_of (between c.at c.end c.tokens.now) };
+
+    ghost invariant = { λ c. (c.at ≤ c.end) × (c.end ≤ length c.tokens.now) };
+}
+
+impl<'t, 'a> Cursor<'t, 'a> {
+    /// All the tokens of the field that stands there.
+    pub fn of_field(tokens: &'t Tokens<'a>, part: Part) -> Cursor<'t, 'a>
+        requires before { part.label < part.end }
+        requires within { part.end ≤ length tokens.now }
+        ensures { result ≡ words_of (between (part.label + 1) part.end tokens.now) }
+    {
+        let at = part.label + 1;
+        let end = part.end;
+        Cursor { tokens, at, end }
+    }
+
+    /// How many tokens are left.
+    pub fn len(&self) -> u32
+        ensures { result ≡ length self.now }
+    {
+        self.end - self.at
+    }
+
+    /// The next token, or None at the end of the field.
+    pub fn peek(&self) -> Option<&'t Token<'a>>
+        ensures { MatchOption result (self.now ≡ []) (λ token. self.now ≡ word_of (seen token.now) ∷ rest_of self.now) }
+    {
+        if self.at >= self.end {
+            return None;
+        }
+        let tokens = self.tokens;
+        match tokens.get(self.at) {
+            Some(token) => Some(token),
+            None => None,
+        }
+    }
+
+    /// Passes the next token, if there is one.
+    pub fn step(&mut self)
+        ensures { self.new ≡ rest_of self.old }
+    {
+        if self.at < self.end {
+            self.at += 1;
+        }
+    }
+
+    /// Takes the next token, or None at the end of the field.
+    pub fn take(&mut self) -> Option<&'t Token<'a>>
+        ensures { MatchOption result (self.old ≡ []) (λ token. self.old ≡ word_of (seen token.now) ∷ self.new) }
+    {
+        let token = self.peek();
+        self.step();
+        token
+    }
+
+    /// The next token where it is a sign.
+    pub fn sign(&self) -> Option<&'a [u8]>
+        ensures { option_map (λ text. text.now) result ≡ first_sign self.now }
+    {
+        let token = self.peek()?;
+        match token.sort {
+            Sort::Sign => Some(token.text),
+            _ => None,
+        }
+    }
+
+    /// Whether this sign comes next.
+    pub fn is_sign(&self, text: &[u8]) -> bool
+        ensures { mark_if result (rest_of self.now) ≡ marked text.now self.now }
+    {
+        let Some(next) = self.sign() else {
+            return false;
+        };
+        next == text
+    }
+
+    /// Whether this sign came next; then it is passed.
+    pub fn take_sign(&mut self, text: &[u8]) -> bool
+        ensures taken { mark_if result self.new ≡ marked text.now self.old }
+        ensures kept { result ≡ false → self.new ≡ self.old }
+    {
+        let there = self.is_sign(text);
+        if there {
+            self.step();
+        }
+        there
+    }
+
+    /// Passes this sign, which has to come next.
+    pub fn expect_sign(&mut self, text: &[u8]) -> Result<(), Unread>
+        ensures { Reads result (marked text.now self.old) self.new }
+    {
+        if self.take_sign(text) {
+            Ok(())
+        } else {
+            Err(Unread::Syntax)
+        }
+    }
+
+    /// Passes this name, which has to come next.
+    pub fn expect_name(&mut self, text: &[u8]) -> Result<(), Unread>
+        ensures { Reads result (named text.now self.old) self.new }
+    {
+        let Some(token) = self.take() else {
+            return Err(Unread::Syntax);
+        };
+        match token.sort {
+            Sort::Name => {
+                if token.text == text {
+                    Ok(())
+                } else {
+                    Err(Unread::Syntax)
+                }
+            }
+            _ => Err(Unread::Syntax),
+        }
+    }
+}

@@ -1,0 +1,23 @@
+//! Why nothing is read of a field.
+
+use kn_base::NoMemory;
+
+/// Why no tree is read of the tokens of a field.
+#[derive(Debug, Clone, Copy, PartialEq, Eq)]
+pub enum Unread {
+    /// The tokens spell nothing.
+    Syntax,
+    /// There was no memory for the tree.
+    NoMemory,
+}
+
+impl From<NoMemory> for Unread {
+    ghost use Rattle.std.specs.Prelude.{◌≡◌};
+    ghost use Rattle.kn_fields.specs.declared.unread.Unread.TheVariants.{NoMemory};
+
+    ghost from_gives = { λ _ e. e ≡ NoMemory };
+
+    fn from(_none: NoMemory) -> Unread {
+        Unread::NoMemory
+    }
+}
