@@ -71,6 +71,9 @@ sign_taken {S} which (sign spelled ∷ words) rest text found there stands is =
     ap (with_rest found) is ∙ ap (λ (found : Option S). with_rest found words) (stands ∙ ap which same)
 sign_taken which (other ∷ words) rest text found there stands is = absurd (cc)
 
+pub sign_left : {S : Type 0} (which : List ℕ → Option S) (words : List Word) (text : List ℕ) → Some text ≡ first_sign words → None ≡ which text → None ≡ taken which words
+sign_left which words text there stands = sign_taken which words (rest_of words) text None there stands refl
+
 -- the sign at the front is this one, or it isn't
 pub sign_told : (wanted : List ℕ) (words : List Word) (text : List ℕ) (same : Bool) → Some text ≡ first_sign words → same ≡ bytes_eq text wanted → mark_if same (rest_of words) ≡ marked wanted words
 unfolding itself

@@ -1,5 +1,5 @@
 -- What is spelled is read.
-use Rattle.std.proofs.Common.{◌≡◌, ℕ, zero, suc, ◌+◌, ◌*◌, ◌≤◌, true, List, [], ◌∷◌, ◌++◌, length, codes, Option, Some, None, refl, ap, ◌∙◌, arith, length-append}
+use Rattle.std.proofs.Common.{◌≡◌, ℕ, zero, suc, ◌≤◌, true, Bool, List, [], ◌∷◌, ◌++◌, length, codes, Option, Some, None, refl, ap, ◌∙◌, arith, length-append}
 use Rattle.std.proofs.lemmas.List.{append_assoc}
 use Rattle.kn_trees.specs.declared.program.Expr.{Expr}
 use Rattle.kn_trees.specs.declared.program.Expr.TheVariants as E
@@ -7,10 +7,10 @@ use Rattle.kn_trees.specs.declared.program.Comparison.{Comparison}
 use Rattle.kn_trees.specs.declared.program.Comparison.TheVariants.{Eq, Ne, Lt, Gt, Le, Ge}
 use Rattle.kn_trees.specs.declared.program.Operation.{Operation}
 use Rattle.kn_trees.specs.declared.program.Operation.TheVariants.{Plus, Less, Join, Times, Divide, Rest, Power as Powered}
-use Rattle.kn_program.specs.Words.{Word, Mark, taken, itself, marked}
-use Rattle.kn_program.specs.Words.Word.{sign as sign_word}
+use Rattle.kn_fields.specs.Words.{Word, Mark, taken, itself, marked}
+use Rattle.kn_fields.specs.Words.Word.{number as number_word, sign as sign_word}
 use Rattle.kn_program.specs.Signs.{operation_text, operation_of, comparison_text, comparison_of, prefix_text, prefix_of, is_at}
-use Rattle.kn_program.specs.Trees.{joined, chained, prefixed}
+use Rattle.kn_program.specs.Trees.{prefixed}
 use Rattle.kn_program.specs.Grammar.{Or, And, Not, Cmp, Sum, Product, Power, Unary, Atom, or_words, and_words, not_words, cmp_words, sum_words, product_words, power_words, unary_words, atom_words, or_parts, and_parts, not_tree, cmp_tree, sum_first, sum_links, product_first, product_links, power_first, power_links, unary_tree, atom_tree, or_tree}
 use Rattle.kn_program.specs.Grammar.Or.{ands, either}
 use Rattle.kn_program.specs.Grammar.And.{nots, each}
@@ -21,14 +21,16 @@ use Rattle.kn_program.specs.Grammar.Product.{power, multiplied}
 use Rattle.kn_program.specs.Grammar.Power.{unary, raised}
 use Rattle.kn_program.specs.Grammar.Unary.{atom, signed}
 use Rattle.kn_program.specs.Grammar.Atom.{group, literal, number, truth, name}
-use Rattle.kn_program.specs.Reading.{map_read, then_read, behind_sign, closed_by, tests_at, negation_at, comparison_at, chain_at, operand_at, atom_at}
+use Rattle.kn_fields.specs.Reading.{Read, map_read, then_read, behind_sign, closed_by}
+use Rattle.kn_program.specs.Reading.{name_tree, number_tree, atom_by, tests_at, negation_at, comparison_at, chain_at, operand_at, atom_at}
 use Rattle.kn_program.specs.declared.signs.Joint.TheVariants as joint
 use Rattle.kn_program.specs.declared.signs.Level.TheVariants as level
 use Rattle.kn_program.specs.declared.signs.Prefix.{Prefix}
-use Rattle.kn_program.proofs.SignLemmas.{comparison_there, prefix_there, taken_there, marked_there}
+use Rattle.kn_program.proofs.SignLemmas.{comparison_there, prefix_there}
+use Rattle.kn_fields.proofs.Words.{taken_there, marked_there}
+use Rattle.kn_fields.proofs.Levels.{IsComplete, level_complete, closed_complete}
 use Rattle.kn_program.proofs.Fronts.{cmp_no_not, atom_no_prefix}
-use Rattle.kn_program.proofs.Levels.{level_complete}
-use Rattle.kn_program.proofs.Lists.{or_level, and_level, sum_level, product_level, power_level}
+use Rattle.kn_program.proofs.Lists.{and_tree, sum_tree, product_tree, power_tree, or_level, and_level, sum_level, product_level, power_level}
 
 -- no operand, power .. goes on with these words
 abbrev pub StopsOperand : List Word → Type 0
@@ -115,9 +117,9 @@ atom_some : (a : Atom) → 1 ≤ length (atom_words a)
 unfolding atom_words
 atom_some (group o) = omega arith
 atom_some (literal value) = omega arith
-atom_some (number value) = omega arith
-atom_some (truth value) = omega arith
-atom_some (name text) = omega arith
+atom_some (number digits value is) = omega arith
+atom_some (truth text value is) = omega arith
+atom_some (name text is) = omega arith
 
 unary_some : (u : Unary) → 1 ≤ length (unary_words u)
 unfolding unary_words
@@ -159,124 +161,100 @@ unfolding or_words
 or_some (ands a) = and_some a
 or_some (either a o) = omega (arith, and_some a, length-append (and_words a) (sign_word (codes "||") ∷ or_words o))
 
--- a level is read with so many steps left, where what stands behind doesn't go on with it
-abbrev pub IsComplete : {D X : Type 0} → ℕ → ℕ → (D → List Word) → (D → X) → (List Word → Type 0) → (List Word → Option (X × List Word)) → Type 0
-IsComplete {D} {X} n more words_of tree_of Stops read =
-    (d : D) (rest : List Word) → 10 * length (words_of d) ≤ n + more → Stops rest → read (words_of d ++ rest) ≡ Some (tree_of d, rest)
-
-abbrev and_tree : And → Expr
-and_tree a = joined joint.And (and_parts a)
-
-abbrev sum_tree : Sum → Expr
-sum_tree s = chained (sum_first s) (sum_links s)
-
-abbrev product_tree : Product → Expr
-product_tree p = chained (product_first p) (product_links p)
-
-abbrev power_tree : Power → Expr
-power_tree p = chained (power_first p) (power_links p)
-
-not_complete : (n : ℕ) → IsComplete n 3 cmp_words cmp_tree StopsCmp (comparison_at n) → IsComplete n 2 not_words not_tree StopsCmp (negation_at n)
-    → IsComplete (suc n) 2 not_words not_tree StopsCmp (negation_at (suc n))
+not_complete : (n : ℕ) → IsComplete 10 n 3 cmp_words cmp_tree StopsCmp (comparison_at n) → IsComplete 10 n 2 not_words not_tree StopsCmp (negation_at n)
+    → IsComplete 10 (suc n) 2 not_words not_tree StopsCmp (negation_at (suc n))
 unfolding negation_at not_words not_tree
 not_complete n below same (cmp c) rest few stops =
-    ap (λ (found : Option (Mark × List Word)). behind_sign found (comparison_at n (cmp_words c ++ rest)) (λ mark rest. map_read E.Not (negation_at n rest))) (cmp_no_not c rest)
+    ap (λ (found : Read Mark). behind_sign found (comparison_at n (cmp_words c ++ rest)) (λ mark rest. map_read E.Not (negation_at n rest))) (cmp_no_not c rest)
     ∙ below c rest (omega (arith, few)) stops
 not_complete n below same (negated m) rest few stops =
-    ap (λ (found : Option (Mark × List Word)). behind_sign found (comparison_at n (sign_word (codes "!") ∷ (not_words m ++ rest))) (λ mark rest. map_read E.Not (negation_at n rest))) (marked_there (codes "!") (not_words m ++ rest))
+    ap (λ (found : Read Mark). behind_sign found (comparison_at n (sign_word (codes "!") ∷ (not_words m ++ rest))) (λ mark rest. map_read E.Not (negation_at n rest))) (marked_there (codes "!") (not_words m ++ rest))
     ∙ ap (map_read E.Not) (same m rest (omega (arith, few)) stops)
 
-cmp_complete : (n : ℕ) → IsComplete n 4 sum_words sum_tree StopsSum (chain_at n level.Sum) → IsComplete (suc n) 3 cmp_words cmp_tree StopsCmp (comparison_at (suc n))
+cmp_complete : (n : ℕ) → IsComplete 10 n 4 sum_words sum_tree StopsSum (chain_at n level.Sum) → IsComplete 10 (suc n) 3 cmp_words cmp_tree StopsCmp (comparison_at (suc n))
 unfolding comparison_at cmp_words cmp_tree
 cmp_complete n below (sum s) rest few stops =
-    ap (λ (read : Option (Expr × List Word)). then_read read (λ left rest.
+    ap (λ (read : Read Expr). then_read read (λ left rest.
     behind_sign (taken comparison_of rest) (Some (left, rest)) (λ found behind. map_read (E.Compare found left) (chain_at n level.Sum behind)))) (below s rest (omega (arith, few)) stops.0)
-    ∙ ap (λ (found : Option (Comparison × List Word)). behind_sign found (Some (sum_tree s, rest)) (λ found behind. map_read (E.Compare found (sum_tree s)) (chain_at n level.Sum behind))) stops.1
+    ∙ ap (λ (found : Read Comparison). behind_sign found (Some (sum_tree s, rest)) (λ found behind. map_read (E.Compare found (sum_tree s)) (chain_at n level.Sum behind))) stops.1
 cmp_complete n below (compared s sign t) rest few stops =
     let size = length-append (sum_words s) (sign_word (comparison_text sign) ∷ sum_words t) in
     let left : List Word = sum_words t ++ rest in
     ap (comparison_at (suc n)) (append_assoc (sum_words s) (sign_word (comparison_text sign) ∷ sum_words t) rest)
-    ∙ ap (λ (read : Option (Expr × List Word)). then_read read (λ left rest.
+    ∙ ap (λ (read : Read Expr). then_read read (λ left rest.
     behind_sign (taken comparison_of rest) (Some (left, rest)) (λ found behind. map_read (E.Compare found left) (chain_at n level.Sum behind))))
     (below s (sign_word (comparison_text sign) ∷ left) (omega (arith, few, size)) (comparison_stops sign left))
-    ∙ ap (λ (found : Option (Comparison × List Word)). behind_sign found (Some (sum_tree s, sign_word (comparison_text sign) ∷ left)) (λ found behind. map_read (E.Compare found (sum_tree s)) (chain_at n level.Sum behind)))
+    ∙ ap (λ (found : Read Comparison). behind_sign found (Some (sum_tree s, sign_word (comparison_text sign) ∷ left)) (λ found behind. map_read (E.Compare found (sum_tree s)) (chain_at n level.Sum behind)))
     (taken_there comparison_of (comparison_text sign) left sign (comparison_there sign))
     ∙ ap (map_read (E.Compare sign (sum_tree s))) (below t rest (omega (arith, few, size)) stops.0)
 
-unary_complete : (n : ℕ) → IsComplete n 8 atom_words atom_tree StopsOperand (atom_at n) → IsComplete n 7 unary_words unary_tree StopsOperand (operand_at n)
-    → IsComplete (suc n) 7 unary_words unary_tree StopsOperand (operand_at (suc n))
+unary_complete : (n : ℕ) → IsComplete 10 n 8 atom_words atom_tree StopsOperand (atom_at n) → IsComplete 10 n 7 unary_words unary_tree StopsOperand (operand_at n)
+    → IsComplete 10 (suc n) 7 unary_words unary_tree StopsOperand (operand_at (suc n))
 unfolding operand_at unary_words unary_tree
 unary_complete n below same (atom a) rest few stops =
-    ap (λ (found : Option (Prefix × List Word)). behind_sign found (atom_at n (atom_words a ++ rest)) (λ found rest. map_read (prefixed found) (operand_at n rest))) (atom_no_prefix a rest)
+    ap (λ (found : Read Prefix). behind_sign found (atom_at n (atom_words a ++ rest)) (λ found rest. map_read (prefixed found) (operand_at n rest))) (atom_no_prefix a rest)
     ∙ below a rest (omega (arith, few)) stops
 unary_complete n below same (signed sign u) rest few stops =
-    ap (λ (found : Option (Prefix × List Word)). behind_sign found (atom_at n (sign_word (prefix_text sign) ∷ (unary_words u ++ rest))) (λ found rest. map_read (prefixed found) (operand_at n rest)))
+    ap (λ (found : Read Prefix). behind_sign found (atom_at n (sign_word (prefix_text sign) ∷ (unary_words u ++ rest))) (λ found rest. map_read (prefixed found) (operand_at n rest)))
     (taken_there prefix_of (prefix_text sign) (unary_words u ++ rest) sign (prefix_there sign))
     ∙ ap (map_read (prefixed sign)) (same u rest (omega (arith, few)) stops)
 
--- what a closing sign follows is read
-pub closed_there : {X : Type 0} (text : List ℕ) (read : X) (rest : List Word) → closed_by text read (sign_word text ∷ rest) ≡ Some (read, rest)
-closed_there text read rest = ap (λ (found : Option (Mark × List Word)). behind_sign found None (λ mark behind. Some (read, behind))) (marked_there text rest)
-
-atom_complete : (n : ℕ) → IsComplete n 0 or_words or_tree StopsOr (tests_at n joint.Or) → IsComplete (suc n) 8 atom_words atom_tree StopsOperand (atom_at (suc n))
+atom_complete : (n : ℕ) → IsComplete 10 n 0 or_words or_tree StopsOr (tests_at n joint.Or) → IsComplete 10 (suc n) 8 atom_words atom_tree StopsOperand (atom_at (suc n))
 unfolding atom_at atom_words atom_tree
 atom_complete n below (group o) rest few stops =
     let size = length-append (or_words o) (sign_word (codes ")") ∷ []) in
-    let inner : List Word = (or_words o ++ sign_word (codes ")") ∷ []) ++ rest in
-    ap (λ (found : Option (Mark × List Word)). behind_sign found None (λ mark inner. then_read (tests_at n joint.Or inner) (closed_by (codes ")")))) (marked_there (codes "(") inner)
-    ∙ ap (λ (words : List Word). then_read (tests_at n joint.Or words) (closed_by (codes ")"))) (append_assoc (or_words o) (sign_word (codes ")") ∷ []) rest)
-    ∙ ap (λ (read : Option (Expr × List Word)). then_read read (closed_by (codes ")"))) (below o (sign_word (codes ")") ∷ rest) (omega (arith, few, size)) (bracket_stops rest))
-    ∙ closed_there (codes ")") (or_tree o) rest
+    ap (λ (found : Read Mark). then_read found (λ mark inner. then_read (tests_at n joint.Or inner) (closed_by (codes ")")))) (marked_there (codes "(") ((or_words o ++ sign_word (codes ")") ∷ []) ++ rest))
+    ∙ closed_complete (codes ")") (tests_at n joint.Or) (or_words o) rest (or_tree o) (below o (sign_word (codes ")") ∷ rest) (omega (arith, few, size)) (bracket_stops rest))
 atom_complete n below (literal value) rest few stops = refl
-atom_complete n below (number value) rest few stops = refl
-atom_complete n below (truth value) rest few stops = refl
-atom_complete n below (name text) rest few stops = refl
+atom_complete n below (number digits value is) rest few stops = ap (λ (found : Option ℕ). atom_by (number_tree found) (number_word digits) rest (tests_at n joint.Or)) is
+atom_complete n below (truth text value is) rest few stops = ap (λ (found : Option Bool). Some (name_tree found text, rest)) is
+atom_complete n below (name text is) rest few stops = ap (λ (found : Option Bool). Some (name_tree found text, rest)) is
 
 mutual
   unfolding tests_at negation_at comparison_at chain_at operand_at atom_at or_words or_parts and_words and_parts sum_words sum_first sum_links product_words product_first product_links power_words power_first power_links
 
-  pub complete_or : (n : ℕ) → IsComplete n 0 or_words or_tree StopsOr (tests_at n joint.Or)
+  pub complete_or : (n : ℕ) → IsComplete 10 n 0 or_words or_tree StopsOr (tests_at n joint.Or)
   complete_or zero d rest few stops = absurd (omega (arith, few, or_some d))
   complete_or (suc n) d rest few stops =
       level_complete or_level (tests_at n joint.And) StopsAnd (suc n) d rest (λ i rest short stops. complete_and n i rest (omega (arith, few, short)) stops) (λ s rest fits. or_stops rest)
       (omega (arith, few, or_some d)) stops.0 stops.1
 
-  pub complete_and : (n : ℕ) → IsComplete n 1 and_words and_tree StopsAnd (tests_at n joint.And)
+  pub complete_and : (n : ℕ) → IsComplete 10 n 1 and_words and_tree StopsAnd (tests_at n joint.And)
   complete_and zero d rest few stops = absurd (omega (arith, few, and_some d))
   complete_and (suc n) d rest few stops =
       level_complete and_level (negation_at n) StopsCmp (suc n) d rest (λ i rest short stops. complete_not n i rest (omega (arith, few, short)) stops) (λ s rest fits. and_stops rest)
       (omega (arith, few, and_some d)) stops.0 stops.1
 
-  pub complete_not : (n : ℕ) → IsComplete n 2 not_words not_tree StopsCmp (negation_at n)
+  pub complete_not : (n : ℕ) → IsComplete 10 n 2 not_words not_tree StopsCmp (negation_at n)
   complete_not zero d rest few stops = absurd (omega (arith, few, not_some d))
   complete_not (suc n) d rest few stops = not_complete n (complete_cmp n) (complete_not n) d rest few stops
 
-  pub complete_cmp : (n : ℕ) → IsComplete n 3 cmp_words cmp_tree StopsCmp (comparison_at n)
+  pub complete_cmp : (n : ℕ) → IsComplete 10 n 3 cmp_words cmp_tree StopsCmp (comparison_at n)
   complete_cmp zero d rest few stops = absurd (omega (arith, few, cmp_some d))
   complete_cmp (suc n) d rest few stops = cmp_complete n (complete_sum n) d rest few stops
 
-  pub complete_sum : (n : ℕ) → IsComplete n 4 sum_words sum_tree StopsSum (chain_at n level.Sum)
+  pub complete_sum : (n : ℕ) → IsComplete 10 n 4 sum_words sum_tree StopsSum (chain_at n level.Sum)
   complete_sum zero d rest few stops = absurd (omega (arith, few, sum_some d))
   complete_sum (suc n) d rest few stops =
       level_complete sum_level (chain_at n level.Product) StopsProduct (suc n) d rest (λ i rest short stops. complete_product n i rest (omega (arith, few, short)) stops) sum_stops
       (omega (arith, few, sum_some d)) stops.0 stops.1
 
-  pub complete_product : (n : ℕ) → IsComplete n 5 product_words product_tree StopsProduct (chain_at n level.Product)
+  pub complete_product : (n : ℕ) → IsComplete 10 n 5 product_words product_tree StopsProduct (chain_at n level.Product)
   complete_product zero d rest few stops = absurd (omega (arith, few, product_some d))
   complete_product (suc n) d rest few stops =
       level_complete product_level (chain_at n level.Power) StopsPower (suc n) d rest (λ i rest short stops. complete_power n i rest (omega (arith, few, short)) stops) product_stops
       (omega (arith, few, product_some d)) stops.0 stops.1
 
-  pub complete_power : (n : ℕ) → IsComplete n 6 power_words power_tree StopsPower (chain_at n level.Power)
+  pub complete_power : (n : ℕ) → IsComplete 10 n 6 power_words power_tree StopsPower (chain_at n level.Power)
   complete_power zero d rest few stops = absurd (omega (arith, few, power_some d))
   complete_power (suc n) d rest few stops =
       level_complete power_level (operand_at n) StopsOperand (suc n) d rest (λ i rest short stops. complete_unary n i rest (omega (arith, few, short)) stops) (λ s rest fits. tt)
       (omega (arith, few, power_some d)) tt stops
 
-  pub complete_unary : (n : ℕ) → IsComplete n 7 unary_words unary_tree StopsOperand (operand_at n)
+  pub complete_unary : (n : ℕ) → IsComplete 10 n 7 unary_words unary_tree StopsOperand (operand_at n)
   complete_unary zero d rest few stops = absurd (omega (arith, few, unary_some d))
   complete_unary (suc n) d rest few stops = unary_complete n (complete_atom n) (complete_unary n) d rest few stops
 
-  pub complete_atom : (n : ℕ) → IsComplete n 8 atom_words atom_tree StopsOperand (atom_at n)
+  pub complete_atom : (n : ℕ) → IsComplete 10 n 8 atom_words atom_tree StopsOperand (atom_at n)
   complete_atom zero d rest few stops = absurd (omega (arith, few, atom_some d))
   complete_atom (suc n) d rest few stops = atom_complete n (complete_or n) d rest few stops

@@ -4,6 +4,7 @@ use Rattle.std.proofs.Common.{◌≡◌, ℕ, ◌+◌, ◌*◌, ◌≤◌, max, 
 use Rattle.std.specs.Prelude.{IfOk, IfSome}
 use Rattle.kn_lex.specs.Cutting.{Seen}
 use Rattle.kn_fields.specs.Depth.{IsTooDeep}
+use Rattle.kn_fields.proofs.Nesting.{Fits, shallow_fits, fits_here, fits_front, fits_between, fits_group, fits_block}
 use Rattle.kn_trees.specs.Formulas.{greatest_of}
 use Rattle.kn_trees.specs.Levels.{expr_depth, program_depth, clause_depth}
 use Rattle.kn_trees.proofs.Leveled.{link_depths, depth-Truth, depth-Whole, depth-Text, depth-Name, depth-Not, depth-Minus, depth-Number, depth-Deref, depth-And, depth-Or, depth-Compare, depth-Chain, depth-Top, depth-Value, depth-Block, depth-clause, depth-program}
@@ -12,8 +13,8 @@ use Rattle.kn_trees.specs.declared.program.Link2.{Link2}
 use Rattle.kn_trees.specs.declared.program.Program.{Program as ProgramTree}
 use Rattle.kn_trees.specs.declared.program.Clause.{Clause as ClauseTree}
 use Rattle.kn_program.specs.Signs.{operation_text, comparison_text}
-use Rattle.kn_program.specs.Words.{Word}
-use Rattle.kn_program.specs.Words.Word.{sign as sign_word}
+use Rattle.kn_fields.specs.Words.{Word}
+use Rattle.kn_fields.specs.Words.Word.{sign as sign_word}
 use Rattle.kn_program.specs.Trees.{joined, chained, prefixed}
 use Rattle.kn_program.specs.Grammar.{Or, And, Not, Cmp, Sum, Product, Power, Unary, Atom, or_words, and_words, not_words, cmp_words, sum_words, product_words, power_words, unary_words, atom_words, or_parts, and_parts, not_tree, cmp_tree, sum_first, sum_links, product_first, product_links, power_first, power_links, unary_tree, atom_tree, or_tree, Program, Clause, program_words, entry_words, clause_words, program_with, program_clauses, entry_clauses, clause_tree, program_tree, IsProgram}
 use Rattle.kn_program.specs.Grammar.Or.{ands, either}
@@ -35,7 +36,7 @@ use Rattle.kn_program.specs.declared.signs.Joint.TheVariants as joint
 use Rattle.kn_program.specs.declared.signs.Prefix.{Prefix}
 use Rattle.kn_program.specs.declared.signs.Prefix.TheVariants.{Minus, Number, Deref}
 use Rattle.kn_program.proofs.Stated.{program_stands}
-use Rattle.kn_program.proofs.Nesting.{Fits, shallow_fits, fits_here, fits_front, fits_between, fits_prefix, fits_not, fits_group, fits_block, plain_operation, plain_comparison, and_closes, not_closes, or_closes, sum_closes, product_closes, power_closes, unary_closes, entry_closes}
+use Rattle.kn_program.proofs.Nesting.{fits_prefix, fits_not, plain_operation, plain_comparison, and_closes, not_closes, or_closes, sum_closes, product_closes, power_closes, unary_closes, entry_closes}
 
 abbrev parts_depth : List Expr → ℕ
 parts_depth parts = greatest_of (map expr_depth parts)
@@ -156,9 +157,9 @@ mutual
   atom_levels depth run (group o) fits =
       omega (arith, depth_joined joint.Or (or_parts o), or_levels (depth + 1) 0 o (fits_group depth run (or_words o) fits))
   atom_levels depth run (literal value) fits = let here = (fits_here depth run _ fits).0 in omega (arith, here, depth-Text value)
-  atom_levels depth run (number value) fits = let here = (fits_here depth run _ fits).0 in omega (arith, here, depth-Whole (pos value))
-  atom_levels depth run (truth value) fits = let here = (fits_here depth run _ fits).0 in omega (arith, here, depth-Truth value)
-  atom_levels depth run (name text) fits = let here = (fits_here depth run _ fits).0 in omega (arith, here, depth-Name text)
+  atom_levels depth run (number digits value is) fits = let here = (fits_here depth run _ fits).0 in omega (arith, here, depth-Whole (pos value))
+  atom_levels depth run (truth text value is) fits = let here = (fits_here depth run _ fits).0 in omega (arith, here, depth-Truth value)
+  atom_levels depth run (name text is) fits = let here = (fits_here depth run _ fits).0 in omega (arith, here, depth-Name text)
 
 test_levels : (depth run : ℕ) (o : Or) → Fits depth run (or_words o) → expr_depth (or_tree o) + 25 * depth ≤ 1626
 test_levels depth run o fits = omega (arith, depth_joined joint.Or (or_parts o), or_levels depth run o fits)

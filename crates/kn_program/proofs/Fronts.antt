@@ -1,8 +1,8 @@
 -- With which word an expression begins.
 use Rattle.std.proofs.Common.{◌≡◌, ℕ, Bool, true, false, ◌&&◌, List, [], ◌∷◌, ◌++◌, codes, Option, Some, None, refl, ap, ◌∙◌}
 use Rattle.std.specs.Option.{is_none}
-use Rattle.kn_program.specs.Words.{Word, with_rest, taken, itself, marked}
-use Rattle.kn_program.specs.Words.Word.{literal as literal_word, truth as truth_word, name as name_word, number as number_word, sign as sign_word, other as other_word}
+use Rattle.kn_fields.specs.Words.{Word, with_rest, taken, itself, marked}
+use Rattle.kn_fields.specs.Words.Word.{literal as literal_word, name as name_word, number as number_word, sign as sign_word, other as other_word}
 use Rattle.kn_program.specs.Signs.{operation_text, comparison_text, prefix_text, prefix_of}
 use Rattle.kn_program.specs.Grammar.{Or, And, Not, Cmp, Sum, Product, Power, Unary, Atom, or_words, and_words, not_words, cmp_words, sum_words, product_words, power_words, unary_words, atom_words}
 use Rattle.kn_program.specs.Grammar.Or.{ands, either}
@@ -28,8 +28,7 @@ pub record Begins (passes : Word → Bool) (words : List Word) : Type 0 where
 -- what may begin an operand passes
 pub record PassesOperands (passes : Word → Bool) : Type 0 where
   pub of_literal : (value : List ℕ) → passes (literal_word value) ≡ true
-  pub of_number : (value : ℕ) → passes (number_word value) ≡ true
-  pub of_truth : (value : Bool) → passes (truth_word value) ≡ true
+  pub of_number : (digits : List ℕ) → passes (number_word digits) ≡ true
   pub of_name : (text : List ℕ) → passes (name_word text) ≡ true
   pub of_open : passes (sign_word (codes "(")) ≡ true
   pub of_prefix : (prefix : Prefix) → passes (sign_word (prefix_text prefix)) ≡ true
@@ -45,9 +44,9 @@ atom_begins : (passes : Word → Bool) → PassesOperands passes → (a : Atom) 
 unfolding atom_words
 atom_begins passes p (group o) = begins_by passes _ _ p.of_open
 atom_begins passes p (literal value) = begins_by passes _ _ (p.of_literal value)
-atom_begins passes p (number value) = begins_by passes _ _ (p.of_number value)
-atom_begins passes p (truth value) = begins_by passes _ _ (p.of_truth value)
-atom_begins passes p (name text) = begins_by passes _ _ (p.of_name text)
+atom_begins passes p (number digits value is) = begins_by passes _ _ (p.of_number digits)
+atom_begins passes p (truth text value is) = begins_by passes _ _ (p.of_name text)
+atom_begins passes p (name text is) = begins_by passes _ _ (p.of_name text)
 
 unary_begins : (passes : Word → Bool) → PassesOperands passes → (u : Unary) → Begins passes (unary_words u)
 unfolding unary_words
@@ -82,8 +81,7 @@ no_not_operands : PassesOperands is_no_not
 unfolding taken itself
 no_not_operands = record {
   of_literal = λ value. refl;
-  of_number = λ value. refl;
-  of_truth = λ value. refl;
+  of_number = λ digits. refl;
   of_name = λ text. refl;
   of_open = refl;
   of_prefix = prefix;
@@ -102,8 +100,7 @@ no_end_operands : PassesOperands is_no_end
 unfolding taken itself
 no_end_operands = record {
   of_literal = λ value. refl;
-  of_number = λ value. refl;
-  of_truth = λ value. refl;
+  of_number = λ digits. refl;
   of_name = λ text. refl;
   of_open = refl;
   of_prefix = prefix;
@@ -133,9 +130,8 @@ or_begins (either a o) = begins_more is_no_end (and_words a) (sign_word (codes "
 taken_first : {S : Type 0} (which : List ℕ → Option S) (word : Word) (rest : List Word) → is_none (taken which (word ∷ rest)) ≡ is_none (taken which (word ∷ []))
 unfolding taken
 taken_first which (literal_word value) rest = refl
-taken_first which (truth_word value) rest = refl
 taken_first which (name_word text) rest = refl
-taken_first which (number_word value) rest = refl
+taken_first which (number_word digits) rest = refl
 taken_first {S} which (sign_word text) rest = by (which text)
   where
     by : (o : Option S) → is_none (with_rest o rest) ≡ is_none (with_rest o [])
@@ -157,9 +153,9 @@ pub atom_no_prefix : (a : Atom) (rest : List Word) → taken prefix_of (atom_wor
 unfolding taken prefix_of atom_words
 atom_no_prefix (group o) rest = refl
 atom_no_prefix (literal value) rest = refl
-atom_no_prefix (number value) rest = refl
-atom_no_prefix (truth value) rest = refl
-atom_no_prefix (name text) rest = refl
+atom_no_prefix (number digits value is) rest = refl
+atom_no_prefix (truth text value is) rest = refl
+atom_no_prefix (name text is) rest = refl
 
 both : (a b : Bool) → (a && b) ≡ true → (a ≡ true) × (b ≡ true)
 both true true e = (refl, refl)

@@ -1,5 +1,3 @@
-pub mod Parting
-pub mod Levels
 pub mod SignLemmas
 pub mod Lists
 pub mod Sound
@@ -8,7 +6,6 @@ pub mod Complete
 pub mod Programs
 pub mod Stated
 pub mod Numbers
-pub mod WordLemmas
 pub mod TreeLemmas
 pub mod Steps
 pub mod Nesting

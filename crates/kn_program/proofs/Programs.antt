@@ -5,24 +5,25 @@ use Rattle.kn_trees.specs.declared.program.Expr.{Expr}
 use Rattle.kn_trees.specs.declared.program.Clause.{Clause as ClauseTree}
 use Rattle.kn_trees.specs.declared.program.Then.{Then}
 use Rattle.kn_trees.specs.declared.program.Then.TheVariants.{Top, Value}
-use Rattle.kn_program.specs.Words.{Word, Mark, taken, itself, marked}
-use Rattle.kn_program.specs.Words.Word.{sign as sign_word}
+use Rattle.kn_fields.specs.Words.{Word, Mark, taken, itself, marked}
+use Rattle.kn_fields.specs.Words.Word.{sign as sign_word}
 use Rattle.kn_program.specs.Grammar.{Or, or_words, or_tree, Program, Entry, Clause, program_words, entry_words, clause_words, program_clauses, clause_tree}
 use Rattle.kn_program.specs.Grammar.Entry.{nothing, something}
 use Rattle.kn_program.specs.Grammar.Clause.{bare, valued, nested}
-use Rattle.kn_program.specs.Reading.{map_read, then_read, behind_sign, closed_by, has_clause, entry_by, entry_at, clause_with, block, value_after, tests_at, program_at, clause_at}
+use Rattle.kn_fields.specs.Reading.{Read, Reader, map_read, then_read, behind_sign, closed_by}
+use Rattle.kn_fields.proofs.Words.{read_parts, marked_before, marked_there}
+use Rattle.kn_fields.proofs.Steps.{mapped, behind, chosen}
+use Rattle.kn_fields.proofs.Levels.{Spelled, IsSound, none_sound, level_sound, level_complete, closed_sound, closed_complete}
+use Rattle.kn_program.specs.Reading.{has_clause, entry_by, entry_at, clause_with, block, value_after, tests_at, program_at, clause_at}
 use Rattle.kn_program.specs.declared.signs.Joint.TheVariants as joint
-use Rattle.kn_program.proofs.Parting.{mapped, behind, chosen, read_parts}
-use Rattle.kn_program.proofs.SignLemmas.{marked_before, marked_there}
-use Rattle.kn_program.proofs.Levels.{Spelled, level_sound, level_complete}
 use Rattle.kn_program.proofs.Lists.{entry_tree, program_level}
 use Rattle.kn_program.proofs.Fronts.{or_clause, test_clause, or_no_brace}
-use Rattle.kn_program.proofs.Sound.{IsSound, closed, sound_or}
-use Rattle.kn_program.proofs.Complete.{StopsOr, arrow_stops, semicolon_stops, brace_stops, closed_there, or_some, complete_or}
+use Rattle.kn_program.proofs.Sound.{sound_or}
+use Rattle.kn_program.proofs.Complete.{StopsOr, arrow_stops, semicolon_stops, brace_stops, or_some, complete_or}
 
 -- what is read is spelled
 
-entry_sound : (clause : List Word → Option (ClauseTree × List Word)) → IsSound clause_words clause_tree clause → IsSound entry_words entry_tree (entry_at clause)
+entry_sound : (clause : Reader ClauseTree) → IsSound clause_words clause_tree clause → IsSound entry_words entry_tree (entry_at clause)
 unfolding entry_words
 entry_sound clause sound words x rest e = by (has_clause words) e
   where
@@ -35,11 +36,11 @@ entry_sound clause sound words x rest e = by (has_clause words) e
         let c = sound words m.from rest m.is in
         record { form = something c.form; spelled = c.spelled; means = ap (λ (clause : ClauseTree). Some clause) c.means ∙ m.made }
 
-abbrev clause_go : (List Word → Option (Expr × List Word)) → (List Word → Option (List ClauseTree × List Word)) → Expr → List Word → Option (ClauseTree × List Word)
+abbrev clause_go : (Reader Expr) → (Reader (List ClauseTree)) → Expr → Reader ClauseTree
 clause_go tests program test rest =
     behind_sign (marked (codes "->") rest) (Some (clause_with test Top, rest)) (λ mark behind. map_read (clause_with test) (value_after behind tests program))
 
-value_sound : (tests : List Word → Option (Expr × List Word)) (program : List Word → Option (List ClauseTree × List Word))
+value_sound : (tests : Reader Expr) (program : Reader (List ClauseTree))
     → IsSound or_words or_tree tests → IsSound program_words program_clauses program
     → (o : Or) (left : List Word) (value : Then) (rest words middle : List Word) (x : ClauseTree) (test : Expr)
     → value_after left tests program ≡ Some (value, rest) → or_words o ++ middle ≡ words → middle ≡ sign_word (codes "->") ∷ left → or_tree o ≡ test → clause_with test value ≡ x
@@ -63,28 +64,22 @@ value_sound tests program tested programmed o left value rest words middle x tes
           }
       | inr t ↦
           let m = mapped block (then_read (program t.left) (closed_by (codes "}"))) value rest t.is in
-          let b = behind (program t.left) (closed_by (codes "}")) m.from rest m.is in
-          let c = closed (codes "}") b.first b.middle m.from rest b.then_is in
-          let p = programmed t.left b.first b.middle b.is in
-          let inner : (program_words p.form ++ sign_word (codes "}") ∷ []) ++ rest ≡ t.left =
-          append_assoc (program_words p.form) (sign_word (codes "}") ∷ []) rest
-          ∙ ap (λ (rest : List Word). program_words p.form ++ rest) (sym c.words_are)
-          ∙ p.spelled in
+          let p = closed_sound (codes "}") program_words program_clauses program programmed t.left m.from rest m.is in
           record {
             form = nested o p.form;
             spelled = append_assoc (or_words o) (sign_word (codes "->") ∷ sign_word (codes "{") ∷ (program_words p.form ++ sign_word (codes "}") ∷ [])) rest
-                ∙ ap (λ (inner : List Word). or_words o ++ sign_word (codes "->") ∷ sign_word (codes "{") ∷ inner) inner
+                ∙ ap (λ (inner : List Word). or_words o ++ sign_word (codes "->") ∷ sign_word (codes "{") ∷ inner) p.spelled
                 ∙ ap (λ (left : List Word). or_words o ++ sign_word (codes "->") ∷ left) (sym (marked_before (codes "{") left t.left t.found t.there))
                 ∙ ap (λ (middle : List Word). or_words o ++ middle) (sym middle_is)
                 ∙ front;
             means = ap (λ (test : Expr). clause_with test (block (program_clauses p.form))) test_is
-                ∙ ap (λ (clauses : List ClauseTree). clause_with test (block clauses)) (p.means ∙ c.same)
+                ∙ ap (λ (clauses : List ClauseTree). clause_with test (block clauses)) p.means
                 ∙ ap (clause_with test) m.made
                 ∙ made;
           }
     ]
 
-clause_sound : (tests : List Word → Option (Expr × List Word)) (program : List Word → Option (List ClauseTree × List Word))
+clause_sound : (tests : Reader Expr) (program : Reader (List ClauseTree))
     → IsSound or_words or_tree tests → IsSound program_words program_clauses program
     → IsSound clause_words clause_tree (λ words. then_read (tests words) (clause_go tests program))
 unfolding clause_words clause_tree
@@ -104,9 +99,6 @@ clause_sound tests program tested programmed words x rest e =
           value_sound tests program tested programmed o.form t.left m.from rest words b.middle x b.first m.is o.spelled
           (marked_before (codes "->") b.middle t.left t.found t.there) o.means m.made
     ]
-
-none_sound : {D X : Type 0} (words_of : D → List Word) (tree_of : D → X) (words : List Word) (x : X) (rest : List Word) → ◌≡◌ {A = Option (X × List Word)} None (Some (x, rest)) → Spelled words_of tree_of words x rest
-none_sound words_of tree_of words x rest e = absurd (cc)
 
 mutual
   unfolding program_at clause_at program_words program_clauses
@@ -171,36 +163,35 @@ entry_complete n below (something c) rest few stops =
 clause_complete : (n : ℕ) → IsProgramComplete n → IsClauseComplete (suc n)
 unfolding clause_at clause_words clause_tree
 clause_complete n below (bare test) rest few stops =
-    ap (λ (read : Option (Expr × List Word)). then_read read (clause_go (tests_at n joint.Or) (program_at n))) (complete_or n test rest (omega (arith, few, or_some test)) stops.0)
-    ∙ ap (λ (found : Option (Mark × List Word)). behind_sign found (Some (clause_with (or_tree test) Top, rest))
+    ap (λ (read : Read Expr). then_read read (clause_go (tests_at n joint.Or) (program_at n))) (complete_or n test rest (omega (arith, few, or_some test)) stops.0)
+    ∙ ap (λ (found : Read Mark). behind_sign found (Some (clause_with (or_tree test) Top, rest))
     (λ mark behind. map_read (clause_with (or_tree test)) (value_after behind (tests_at n joint.Or) (program_at n)))) stops.1
 clause_complete n below (valued test value) rest few stops =
     let size = length-append (or_words test) (sign_word (codes "->") ∷ or_words value) in
     let left : List Word = or_words value ++ rest in
     ap (clause_at (suc n)) (append_assoc (or_words test) (sign_word (codes "->") ∷ or_words value) rest)
-    ∙ ap (λ (read : Option (Expr × List Word)). then_read read (clause_go (tests_at n joint.Or) (program_at n)))
+    ∙ ap (λ (read : Read Expr). then_read read (clause_go (tests_at n joint.Or) (program_at n)))
     (complete_or n test (sign_word (codes "->") ∷ left) (omega (arith, few, size, or_some test)) (arrow_stops left))
-    ∙ ap (λ (found : Option (Mark × List Word)). behind_sign found (Some (clause_with (or_tree test) Top, sign_word (codes "->") ∷ left))
+    ∙ ap (λ (found : Read Mark). behind_sign found (Some (clause_with (or_tree test) Top, sign_word (codes "->") ∷ left))
     (λ mark behind. map_read (clause_with (or_tree test)) (value_after behind (tests_at n joint.Or) (program_at n)))) (marked_there (codes "->") left)
-    ∙ ap (λ (found : Option (Mark × List Word)). map_read (clause_with (or_tree test)) (behind_sign found (map_read Value (tests_at n joint.Or left))
+    ∙ ap (λ (found : Read Mark). map_read (clause_with (or_tree test)) (behind_sign found (map_read Value (tests_at n joint.Or left))
     (λ mark inner. map_read block (then_read (program_at n inner) (closed_by (codes "}")))))) (or_no_brace value rest)
-    ∙ ap (λ (read : Option (Expr × List Word)). map_read (clause_with (or_tree test)) (map_read Value read)) (complete_or n value rest (omega (arith, few, size, or_some test)) stops.0)
+    ∙ ap (λ (read : Read Expr). map_read (clause_with (or_tree test)) (map_read Value read)) (complete_or n value rest (omega (arith, few, size, or_some test)) stops.0)
 clause_complete n below (nested test p) rest few stops =
     let inner : List Word = program_words p ++ sign_word (codes "}") ∷ [] in
     let size = length-append (or_words test) (sign_word (codes "->") ∷ sign_word (codes "{") ∷ inner) in
     let inner_size = length-append (program_words p) (sign_word (codes "}") ∷ []) in
     let left : List Word = inner ++ rest in
     ap (clause_at (suc n)) (append_assoc (or_words test) (sign_word (codes "->") ∷ sign_word (codes "{") ∷ inner) rest)
-    ∙ ap (λ (read : Option (Expr × List Word)). then_read read (clause_go (tests_at n joint.Or) (program_at n)))
+    ∙ ap (λ (read : Read Expr). then_read read (clause_go (tests_at n joint.Or) (program_at n)))
     (complete_or n test (sign_word (codes "->") ∷ sign_word (codes "{") ∷ left) (omega (arith, few, size, inner_size, or_some test)) (arrow_stops (sign_word (codes "{") ∷ left)))
-    ∙ ap (λ (found : Option (Mark × List Word)). behind_sign found (Some (clause_with (or_tree test) Top, sign_word (codes "->") ∷ sign_word (codes "{") ∷ left))
+    ∙ ap (λ (found : Read Mark). behind_sign found (Some (clause_with (or_tree test) Top, sign_word (codes "->") ∷ sign_word (codes "{") ∷ left))
     (λ mark behind. map_read (clause_with (or_tree test)) (value_after behind (tests_at n joint.Or) (program_at n)))) (marked_there (codes "->") (sign_word (codes "{") ∷ left))
-    ∙ ap (λ (found : Option (Mark × List Word)). map_read (clause_with (or_tree test)) (behind_sign found (map_read Value (tests_at n joint.Or (sign_word (codes "{") ∷ left)))
+    ∙ ap (λ (found : Read Mark). map_read (clause_with (or_tree test)) (behind_sign found (map_read Value (tests_at n joint.Or (sign_word (codes "{") ∷ left)))
     (λ mark inner. map_read block (then_read (program_at n inner) (closed_by (codes "}")))))) (marked_there (codes "{") left)
-    ∙ ap (λ (words : List Word). map_read (clause_with (or_tree test)) (map_read block (then_read (program_at n words) (closed_by (codes "}"))))) (append_assoc (program_words p) (sign_word (codes "}") ∷ []) rest)
-    ∙ ap (λ (read : Option (List ClauseTree × List Word)). map_read (clause_with (or_tree test)) (map_read block (then_read read (closed_by (codes "}")))))
-    (below p (sign_word (codes "}") ∷ rest) (omega (arith, few, size, inner_size, or_some test)) (brace_entry rest) (brace_last rest))
-    ∙ ap (λ (read : Option (List ClauseTree × List Word)). map_read (clause_with (or_tree test)) (map_read block read)) (closed_there (codes "}") (program_clauses p) rest)
+    ∙ ap (λ (read : Read (List ClauseTree)). map_read (clause_with (or_tree test)) (map_read block read))
+    (closed_complete (codes "}") (program_at n) (program_words p) rest (program_clauses p)
+    (below p (sign_word (codes "}") ∷ rest) (omega (arith, few, size, inner_size, or_some test)) (brace_entry rest) (brace_last rest)))
 
 mutual
   unfolding program_at program_words program_clauses

@@ -1,27 +1,16 @@
 -- Signs and what they stand for, forwards and backwards.
-use Rattle.std.proofs.Common.{◌≡◌, ℕ, Bool, true, false, List, [], ◌∷◌, codes, Option, Some, None, if◌then◌else◌, refl, ap, ◌∙◌}
+use Rattle.std.proofs.Common.{◌≡◌, ℕ, Bool, true, false, List, codes, Option, Some, None, if◌then◌else◌, refl}
 use Rattle.std.specs.Str.{bytes_eq}
-use Rattle.std.proofs.lemmas.Slice.Eq.{bytes_eq-Decides}
-use Rattle.std.proofs.lemmas.Bool.{cond-true}
+use Rattle.kn_fields.proofs.Words.{same_bytes}
 use Rattle.kn_trees.specs.declared.program.Comparison.{Comparison}
 use Rattle.kn_trees.specs.declared.program.Comparison.TheVariants.{Eq, Ne, Lt, Gt, Le, Ge}
 use Rattle.kn_trees.specs.declared.program.Operation.{Operation}
 use Rattle.kn_trees.specs.declared.program.Operation.TheVariants.{Plus, Less, Join, Times, Divide, Rest, Power as Powered}
-use Rattle.kn_program.specs.Words.{Word, Mark, with_rest, taken, itself, marked}
-use Rattle.kn_program.specs.Words.Word.{literal, truth, name, number, sign, other}
 use Rattle.kn_program.specs.Signs.{operation_text, operation_of, is_at, comparison_text, comparison_of, prefix_text, prefix_of}
 use Rattle.kn_program.specs.declared.signs.Level.{Level}
 use Rattle.kn_program.specs.declared.signs.Level.TheVariants.{Sum, Product, Power}
 use Rattle.kn_program.specs.declared.signs.Prefix.{Prefix}
 use Rattle.kn_program.specs.declared.signs.Prefix.TheVariants.{Minus, Number, Deref}
-use Rattle.kn_program.proofs.Parting.{read_parts}
-
-same_bytes : (xs ys : List ℕ) → bytes_eq xs ys ≡ true → xs ≡ ys
-same_bytes xs ys = (bytes_eq-Decides xs ys).0
-
--- a text is itself
-pub bytes_itself : (xs : List ℕ) → bytes_eq xs xs ≡ true
-bytes_itself xs = (bytes_eq-Decides xs xs).1 refl
 
 -- a row of a table: where a text is this one it stands for this, and else the further rows decide
 row : {S : Type 0} (P : S → Type 0) (text wanted : List ℕ) (s found : S) (further : Option S) → (text ≡ wanted → P s) → (further ≡ Some found → P found)
@@ -118,44 +107,3 @@ unfolding prefix_of
 prefix_there Minus = refl
 prefix_there Number = refl
 prefix_there Deref = refl
-
--- a sign is taken from the front
-pub record Taken {S : Type 0} (which : List ℕ → Option S) (words rest : List Word) (found : S) : Type 0 where
-  pub text : List ℕ
-  pub words_are : words ≡ sign text ∷ rest
-  pub stands_for : which text ≡ Some found
-
-pub taken_before : {S : Type 0} (which : List ℕ → Option S) (words rest : List Word) (found : S) → taken which words ≡ Some (found, rest) → Taken which words rest found
-unfolding taken
-taken_before which [] rest found e = absurd (cc)
-taken_before which (literal value ∷ words) rest found e = absurd (cc)
-taken_before which (truth value ∷ words) rest found e = absurd (cc)
-taken_before which (name text ∷ words) rest found e = absurd (cc)
-taken_before which (number value ∷ words) rest found e = absurd (cc)
-taken_before {S} which (sign text ∷ words) rest found e = by (which text) refl e
-  where
-    by : (o : Option S) → which text ≡ o → with_rest o words ≡ Some (found, rest) → Taken which (sign text ∷ words) rest found
-    by None none is = absurd (cc)
-    by (Some s) some is =
-        let same = read_parts s found words rest is in
-        record { text = text; words_are = ap (λ (words : List Word). sign text ∷ words) same.1; stands_for = some ∙ ap (λ (s : S). Some s) same.0 }
-taken_before which (other ∷ words) rest found e = absurd (cc)
-
-pub taken_there : {S : Type 0} (which : List ℕ → Option S) (text : List ℕ) (rest : List Word) (found : S) → which text ≡ Some found → taken which (sign text ∷ rest) ≡ Some (found, rest)
-unfolding taken
-taken_there which text rest found e = ap (λ o. with_rest o rest) e
-
--- so is a sign that stands for itself
-pub marked_before : (text : List ℕ) (words rest : List Word) (mark : Mark) → marked text words ≡ Some (mark, rest) → words ≡ sign text ∷ rest
-unfolding itself
-marked_before text words rest mark e =
-    let t = taken_before (itself text) words rest mark e in
-    t.words_are ∙ ap (λ (text : List ℕ). sign text ∷ rest) (by t.text (bytes_eq t.text text) refl t.stands_for)
-  where
-    by : (spelled : List ℕ) (b : Bool) → bytes_eq spelled text ≡ b → (if b then Some tt else None) ≡ Some mark → spelled ≡ text
-    by spelled true same is = same_bytes spelled text same
-    by spelled false same is = absurd (cc)
-
-pub marked_there : (text : List ℕ) (rest : List Word) → marked text (sign text ∷ rest) ≡ Some (tt, rest)
-unfolding itself
-marked_there text rest = taken_there (itself text) text rest tt (cond-true (bytes_eq text text) _ _ (bytes_itself text))

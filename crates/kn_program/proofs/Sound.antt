@@ -1,42 +1,28 @@
 -- What is read is spelled by what is read of.
-use Rattle.std.proofs.Common.{◌≡◌, ℕ, zero, suc, List, [], ◌∷◌, ◌++◌, codes, Option, Some, None, inl, inr, refl, sym, ap, ◌∙◌}
+use Rattle.std.proofs.Common.{◌≡◌, ℕ, zero, suc, Bool, List, [], ◌∷◌, ◌++◌, codes, Option, Some, None, inl, inr, refl, sym, ap, ◌∙◌}
 use Rattle.std.proofs.lemmas.List.{append_assoc}
 use Rattle.kn_trees.specs.declared.program.Expr.{Expr}
 use Rattle.kn_trees.specs.declared.program.Expr.TheVariants as E
-use Rattle.kn_program.specs.Words.{Word, taken, marked}
-use Rattle.kn_program.specs.Words.Word.{literal as literal_word, truth as truth_word, name as name_word, number as number_word, sign as sign_word, other as other_word}
-use Rattle.kn_program.specs.Signs.{comparison_text, comparison_of, prefix_text, prefix_of}
-use Rattle.kn_program.specs.Trees.{joined, chained, prefixed}
-use Rattle.kn_program.specs.Grammar.{And, Sum, Product, Power, Atom, or_words, and_words, not_words, cmp_words, sum_words, product_words, power_words, unary_words, atom_words, or_parts, and_parts, not_tree, cmp_tree, sum_first, sum_links, product_first, product_links, power_first, power_links, unary_tree, atom_tree, or_tree}
+use Rattle.kn_fields.specs.Words.{Word, taken, marked}
+use Rattle.kn_fields.specs.Words.Word.{literal as literal_word, name as name_word, number as number_word, sign as sign_word, other as other_word}
+use Rattle.kn_program.specs.Signs.{comparison_text, comparison_of, prefix_text, prefix_of, truth_of, number_of}
+use Rattle.kn_program.specs.Trees.{prefixed}
+use Rattle.kn_program.specs.Grammar.{Atom, or_words, and_words, not_words, cmp_words, sum_words, product_words, power_words, unary_words, atom_words, or_parts, and_parts, not_tree, cmp_tree, sum_first, sum_links, product_first, product_links, power_first, power_links, unary_tree, atom_tree, or_tree}
 use Rattle.kn_program.specs.Grammar.Not.{cmp, negated}
 use Rattle.kn_program.specs.Grammar.Cmp.{sum, compared}
 use Rattle.kn_program.specs.Grammar.Unary.{atom, signed}
 use Rattle.kn_program.specs.Grammar.Atom.{group, literal, number, truth, name}
-use Rattle.kn_program.specs.Reading.{map_read, then_read, behind_sign, closed_by, group_at, atom_front, tests_at, negation_at, comparison_at, chain_at, operand_at, atom_at}
+use Rattle.kn_fields.specs.Reading.{Read, Reader, map_read, then_read, behind_sign, closed_by}
+use Rattle.kn_fields.proofs.Words.{read_parts, taken_before, marked_before}
+use Rattle.kn_fields.proofs.Steps.{mapped, behind, chosen}
+use Rattle.kn_fields.proofs.Levels.{Spelled, IsSound, none_sound, level_sound, closed_sound}
+use Rattle.kn_program.specs.Reading.{name_tree, number_tree, atom_by, atom_front, tests_at, negation_at, comparison_at, chain_at, operand_at, atom_at}
 use Rattle.kn_program.specs.declared.signs.Joint.TheVariants as joint
 use Rattle.kn_program.specs.declared.signs.Level.TheVariants as level
-use Rattle.kn_program.proofs.Parting.{mapped, behind, chosen, read_parts}
-use Rattle.kn_program.proofs.SignLemmas.{comparison_before, prefix_before, taken_before, marked_before}
-use Rattle.kn_program.proofs.Levels.{Spelled, level_sound}
-use Rattle.kn_program.proofs.Lists.{or_level, and_level, sum_level, product_level, power_level}
+use Rattle.kn_program.proofs.SignLemmas.{comparison_before, prefix_before}
+use Rattle.kn_program.proofs.Lists.{and_tree, sum_tree, product_tree, power_tree, or_level, and_level, sum_level, product_level, power_level}
 
--- what a reader of a level gives is spelled
-abbrev pub IsSound : {D X : Type 0} → (D → List Word) → (D → X) → (List Word → Option (X × List Word)) → Type 0
-IsSound {D} {X} words_of tree_of read = (words : List Word) (x : X) (rest : List Word) → read words ≡ Some (x, rest) → Spelled words_of tree_of words x rest
-
-abbrev and_tree : And → Expr
-and_tree a = joined joint.And (and_parts a)
-
-abbrev sum_tree : Sum → Expr
-sum_tree s = chained (sum_first s) (sum_links s)
-
-abbrev product_tree : Product → Expr
-product_tree p = chained (product_first p) (product_links p)
-
-abbrev power_tree : Power → Expr
-power_tree p = chained (power_first p) (power_links p)
-
-not_sound : (comparison negation : List Word → Option (Expr × List Word)) → IsSound cmp_words cmp_tree comparison → IsSound not_words not_tree negation
+not_sound : (comparison negation : Reader Expr) → IsSound cmp_words cmp_tree comparison → IsSound not_words not_tree negation
     → IsSound not_words not_tree (λ words. behind_sign (marked (codes "!") words) (comparison words) (λ mark rest. map_read E.Not (negation rest)))
 unfolding not_words not_tree
 not_sound comparison negation below same words x rest e =
@@ -54,7 +40,7 @@ not_sound comparison negation below same words x rest e =
           }
     ]
 
-cmp_sound : (sums : List Word → Option (Expr × List Word)) → IsSound sum_words sum_tree sums
+cmp_sound : (sums : Reader Expr) → IsSound sum_words sum_tree sums
     → IsSound cmp_words cmp_tree (λ words. then_read (sums words) (λ left rest.
     behind_sign (taken comparison_of rest) (Some (left, rest)) (λ found behind. map_read (E.Compare found left) (sums behind))))
 unfolding cmp_words cmp_tree
@@ -87,7 +73,7 @@ cmp_sound sums sound words x rest e =
           }
     ]
 
-unary_sound : (atoms operands : List Word → Option (Expr × List Word)) → IsSound atom_words atom_tree atoms → IsSound unary_words unary_tree operands
+unary_sound : (atoms operands : Reader Expr) → IsSound atom_words atom_tree atoms → IsSound unary_words unary_tree operands
     → IsSound unary_words unary_tree (λ words. behind_sign (taken prefix_of words) (atoms words) (λ found rest. map_read (prefixed found) (operands rest)))
 unfolding unary_words unary_tree
 unary_sound atoms operands below same words x rest e =
@@ -108,48 +94,19 @@ unary_sound atoms operands below same words x rest e =
           }
     ]
 
--- what a closing sign follows
-pub record Closed {X : Type 0} (text : List ℕ) (read : X) (words : List Word) (x : X) (rest : List Word) : Type 0 where
-  pub same : read ≡ x
-  pub words_are : words ≡ sign_word text ∷ rest
-
-pub closed : {X : Type 0} (text : List ℕ) (read : X) (words : List Word) (x : X) (rest : List Word) → closed_by text read words ≡ Some (x, rest) → Closed text read words x rest
-closed {X} text read words x rest e =
-    elim (chosen (marked text words) None (λ mark behind. Some (read, behind)) x rest e) [
-      | inl o ↦ absurd (none o.is)
-      | inr t ↦
-          let same = read_parts read x t.left rest t.is in
-          record { same = same.0; words_are = marked_before text words t.left t.found t.there ∙ ap (λ (rest : List Word). sign_word text ∷ rest) same.1 }
-    ]
-  where
-    none : ◌≡◌ {A = Option (X × List Word)} None (Some (x, rest)) → ⊥
-    none is = absurd (cc)
-
-group_sound : (tests : List Word → Option (Expr × List Word)) → IsSound or_words or_tree tests → IsSound atom_words atom_tree (λ words. group_at words tests)
+group_sound : (tests : Reader Expr) → IsSound or_words or_tree tests → IsSound atom_words atom_tree (λ words. then_read (marked (codes "(") words) (λ mark inner. then_read (tests inner) (closed_by (codes ")"))))
 unfolding atom_words atom_tree
 group_sound tests sound words x rest e =
-    elim (chosen (marked (codes "(") words) None (λ mark inner. then_read (tests inner) (closed_by (codes ")"))) x rest e) [
-      | inl o ↦ absurd (none o.is)
-      | inr t ↦
-          let b = behind (tests t.left) (closed_by (codes ")")) x rest t.is in
-          let c = closed (codes ")") b.first b.middle x rest b.then_is in
-          let o = sound t.left b.first b.middle b.is in
-          record {
-            form = group o.form;
-            spelled = ap (λ (words : List Word). sign_word (codes "(") ∷ words)
-                (append_assoc (or_words o.form) (sign_word (codes ")") ∷ []) rest
-                ∙ ap (λ (rest : List Word). or_words o.form ++ rest) (sym c.words_are)
-                ∙ o.spelled)
-                ∙ sym (marked_before (codes "(") words t.left t.found t.there);
-            means = o.means ∙ c.same;
-          }
-    ]
-  where
-    none : ◌≡◌ {A = Option (Expr × List Word)} None (Some (x, rest)) → ⊥
-    none is = absurd (cc)
+    let a = behind (marked (codes "(") words) (λ mark inner. then_read (tests inner) (closed_by (codes ")"))) x rest e in
+    let b = closed_sound (codes ")") or_words or_tree tests sound a.middle x rest a.then_is in
+    record {
+      form = group b.form;
+      spelled = ap (λ (words : List Word). sign_word (codes "(") ∷ words) b.spelled ∙ sym (marked_before (codes "(") words a.middle a.first a.is);
+      means = b.means;
+    }
 
 -- an atom of one word
-word_sound : (a : Atom) (word : Word) (words rest : List Word) (x : Expr) → atom_words a ≡ word ∷ [] → ◌≡◌ {A = Option (Expr × List Word)} (Some (atom_tree a, words)) (Some (x, rest))
+word_sound : (a : Atom) (word : Word) (words rest : List Word) (x : Expr) → atom_words a ≡ word ∷ [] → ◌≡◌ {A = Read Expr} (Some (atom_tree a, words)) (Some (x, rest))
     → Spelled atom_words atom_tree (word ∷ words) x rest
 word_sound a word words rest x is e =
     let same = read_parts (atom_tree a) x words rest e in
@@ -159,18 +116,26 @@ word_sound a word words rest x is e =
       means = same.0;
     }
 
-atom_sound : (tests : List Word → Option (Expr × List Word)) → IsSound or_words or_tree tests → IsSound atom_words atom_tree (λ words. atom_front words tests)
+name_sound : (text : List ℕ) (found : Option Bool) (words rest : List Word) (x : Expr) → truth_of text ≡ found → ◌≡◌ {A = Read Expr} (Some (name_tree found text, words)) (Some (x, rest))
+    → Spelled atom_words atom_tree (name_word text ∷ words) x rest
+unfolding atom_words atom_tree
+name_sound text None words rest x is e = word_sound (name text is) (name_word text) words rest x refl e
+name_sound text (Some value) words rest x is e = word_sound (truth text value is) (name_word text) words rest x refl e
+
+number_sound : (tests : Reader Expr) → IsSound or_words or_tree tests → (digits : List ℕ) (found : Option ℕ) (words rest : List Word) (x : Expr) → number_of digits ≡ found
+    → atom_by (number_tree found) (number_word digits) words tests ≡ Some (x, rest) → Spelled atom_words atom_tree (number_word digits ∷ words) x rest
+unfolding atom_words atom_tree
+number_sound tests sound digits None words rest x is e = group_sound tests sound (number_word digits ∷ words) x rest e
+number_sound tests sound digits (Some value) words rest x is e = word_sound (number digits value is) (number_word digits) words rest x refl e
+
+atom_sound : (tests : Reader Expr) → IsSound or_words or_tree tests → IsSound atom_words atom_tree (λ words. atom_front words tests)
 unfolding atom_words atom_tree
 atom_sound tests sound [] x rest e = absurd (cc)
 atom_sound tests sound (literal_word value ∷ words) x rest e = word_sound (literal value) (literal_word value) words rest x refl e
-atom_sound tests sound (truth_word value ∷ words) x rest e = word_sound (truth value) (truth_word value) words rest x refl e
-atom_sound tests sound (name_word text ∷ words) x rest e = word_sound (name text) (name_word text) words rest x refl e
-atom_sound tests sound (number_word value ∷ words) x rest e = word_sound (number value) (number_word value) words rest x refl e
+atom_sound tests sound (name_word text ∷ words) x rest e = name_sound text (truth_of text) words rest x refl e
+atom_sound tests sound (number_word digits ∷ words) x rest e = number_sound tests sound digits (number_of digits) words rest x refl e
 atom_sound tests sound (sign_word text ∷ words) x rest e = group_sound tests sound (sign_word text ∷ words) x rest e
 atom_sound tests sound (other_word ∷ words) x rest e = group_sound tests sound (other_word ∷ words) x rest e
-
-none_sound : {D X : Type 0} (words_of : D → List Word) (tree_of : D → X) (words : List Word) (x : X) (rest : List Word) → ◌≡◌ {A = Option (X × List Word)} None (Some (x, rest)) → Spelled words_of tree_of words x rest
-none_sound words_of tree_of words x rest e = absurd (cc)
 
 mutual
   unfolding tests_at negation_at comparison_at chain_at operand_at atom_at or_words or_parts and_words and_parts sum_words sum_first sum_links product_words product_first product_links power_words power_first power_links

@@ -1,29 +1,23 @@
 -- What the tokens of a field state is what is read of them.
-use Rattle.std.proofs.Common.{◌≡◌, ℕ, ◌+◌, ◌*◌, ◌<◌, ◌≤◌, ◌⊎◌, inl, inr, Bool, true, false, List, [], ◌∷◌, length, Option, Some, None, Result, Ok, Err, refl, sym, ap, subst, ◌∙◌, arith, append-nil}
+use Rattle.std.proofs.Common.{◌≡◌, ℕ, ◌+◌, ◌*◌, ◌⊎◌, inl, inr, Bool, true, false, List, [], ◌∷◌, length, Option, Some, None, Result, Ok, Err, refl, sym, ap, subst, ◌∙◌, arith, append-nil}
 use Rattle.std.specs.Prelude.{IfOk, IfErr}
 use Rattle.std.proofs.lemmas.Bool.{cond-true, cond-false}
 use Rattle.kn_lex.specs.Cutting.{Seen}
-use Rattle.kn_fields.specs.Fields.{between}
-use Rattle.kn_fields.proofs.Between.{between_none, between_length}
+use Rattle.kn_fields.specs.Words.{Word, taken, words_of}
+use Rattle.kn_fields.specs.Reading.{Read, map_read, whole, ReadsWhole}
+use Rattle.kn_fields.specs.declared.unread.Unread.{Unread}
+use Rattle.kn_fields.specs.declared.unread.Unread.TheVariants.{Syntax as unread_Syntax, NoMemory as unread_NoMemory}
+use Rattle.kn_fields.proofs.Steps.{mapped, whole_read}
 use Rattle.kn_trees.specs.Kinds.{is_well_kinded}
 use Rattle.kn_trees.specs.declared.program.Program.{Program as ProgramTree}
 use Rattle.kn_trees.specs.declared.program.Clause.{Clause as ClauseTree}
-use Rattle.kn_program.specs.Words.{Word, taken, words_of, words_between}
-use Rattle.kn_program.specs.Grammar.{program_words, program_with, IsProgram}
-use Rattle.kn_program.specs.Reading.{map_read, program_at, whole, read_program, ReadsWhole}
+use Rattle.kn_program.specs.Grammar.{Program, program_words, program_with, program_tree, IsProgram}
+use Rattle.kn_program.specs.Reading.{program_at, read_program}
 use Rattle.kn_program.specs.Conditions.{IsConditions, HasNoProgram, Shows, judged, judged_read, program_of, Gives, of_unread}
 use Rattle.kn_program.specs.declared.fault.ProgramFault.{ProgramFault}
 use Rattle.kn_program.specs.declared.fault.ProgramFault.TheVariants.{Syntax, Kind, NoMemory}
-use Rattle.kn_program.specs.declared.unread.Unread.{Unread}
-use Rattle.kn_program.specs.declared.unread.Unread.TheVariants.{Syntax as unread_Syntax, NoMemory as unread_NoMemory}
-use Rattle.kn_program.proofs.Parting.{mapped}
 use Rattle.kn_program.proofs.Complete.{nil_stops}
 use Rattle.kn_program.proofs.Programs.{StopsEntry, sound_program, complete_program}
-
-whole_read : {X : Type 0} (read : Option (X × List Word)) (x : X) → whole read ≡ Some x → read ≡ Some (x, [])
-whole_read None x e = absurd (cc)
-whole_read {X} (Some (y, [])) x e = let same : y ≡ x = cc in ap (λ (x : X). Some (x, [])) same
-whole_read (Some (y, word ∷ words)) x e = absurd (cc)
 
 -- what is read of all the words is spelled by them
 pub read_spelled : (tokens : List Seen) (program : ProgramTree) → read_program (words_of tokens) ≡ Some program → IsProgram tokens program
@@ -41,15 +35,15 @@ unfolding taken
 nothing_stops = ((nil_stops, refl), refl)
 
 -- what is spelled is read
-pub spelled_read : (tokens : List Seen) (program : ProgramTree) → IsProgram tokens program → read_program (words_of tokens) ≡ Some program
+pub form_read : (form : Program) → read_program (program_words form) ≡ Some (program_tree form)
 unfolding read_program taken
-spelled_read tokens program s =
-    let n : ℕ = 12 * length (program_words s.form) + 1 in
-    let all = complete_program n s.form [] (omega arith) nothing_stops refl in
-    let read = sym (ap (program_at n) (append-nil (program_words s.form))) ∙ all in
-    ap (λ (words : List Word). whole (map_read program_with (program_at (12 * length words + 1) words))) (sym s.words)
-    ∙ ap (λ (read : Option (List ClauseTree × List Word)). whole (map_read program_with read)) read
-    ∙ ap (λ (program : ProgramTree). Some program) s.tree
+form_read form =
+    let n : ℕ = 12 * length (program_words form) + 1 in
+    let all = complete_program n form [] (omega arith) nothing_stops refl in
+    ap (λ (read : Read (List ClauseTree)). whole (map_read program_with read)) (sym (ap (program_at n) (append-nil (program_words form))) ∙ all)
+
+pub spelled_read : (tokens : List Seen) (program : ProgramTree) → IsProgram tokens program → read_program (words_of tokens) ≡ Some program
+spelled_read tokens program s = ap read_program (sym s.words) ∙ form_read s.form ∙ ap (λ (program : ProgramTree). Some program) s.tree
 
 -- tokens spell at most one program
 pub spelled_once : (tokens : List Seen) (a b : ProgramTree) → IsProgram tokens a → IsProgram tokens b → a ≡ b
@@ -122,38 +116,29 @@ fault_stands tokens fault e = subst (Says tokens) e (found_says tokens)
 
 -- what the code gives of a field
 
-pub nothing_given : (tokens : List Seen) (from end : ℕ) → from ≡ end → program_of (between from end tokens) ≡ Ok None
-unfolding program_of
-nothing_given tokens from end none = ap program_of (between_none tokens from end (omega arith))
-
-judged_some : (tokens : List Seen) → 0 < length tokens → program_of tokens ≡ judged_read (read_program (words_of tokens))
-unfolding program_of
-judged_some [] some = absurd (omega arith)
-judged_some (token ∷ tokens) some = refl
+pub nothing_given : (tokens : List Seen) (words : List Word) → words ≡ words_of tokens → length words ≡ 0 → program_of tokens ≡ Ok None
+unfolding program_of words_of
+nothing_given [] words is none = refl
+nothing_given (token ∷ tokens) words is none = let size = ap length is in absurd (omega (arith, size, none))
 
 -- a field with tokens is judged by what is read of them
-judged_between : (tokens : List Seen) (from end : ℕ) → from < end → end ≤ length tokens → program_of (between from end tokens) ≡ judged_read (read_program (words_between from end tokens))
-unfolding words_between
-judged_between tokens from end some within =
-    let size = between_length tokens from end (omega arith) within in
-    judged_some (between from end tokens) (omega (arith, size, some))
+pub judged_by : (tokens : List Seen) (words : List Word) → words ≡ words_of tokens → (length words ≡ 0 → ⊥) → program_of tokens ≡ judged_read (read_program words)
+unfolding program_of words_of
+judged_by [] words is some = absurd (some (ap length is))
+judged_by (token ∷ tokens) words is some = ap (λ words. judged_read (read_program words)) (sym is)
 
-pub unread_given : (tokens : List Seen) (from end : ℕ) (unread : Unread) (fault : ProgramFault) → from < end → end ≤ length tokens
-    → ReadsWhole (Err unread) (read_program (words_between from end tokens)) → fault ≡ of_unread unread
-    → Gives {X = Option ProgramTree} (Err fault) (program_of (between from end tokens))
-unread_given tokens from end unread_Syntax fault some within read is =
-    subst (λ fault. Gives {X = Option ProgramTree} (Err fault) (program_of (between from end tokens))) (sym is)
-    (judged_between tokens from end some within ∙ ap judged_read read)
-unread_given tokens from end unread_NoMemory fault some within read is =
-    subst (λ fault. Gives {X = Option ProgramTree} (Err fault) (program_of (between from end tokens))) (sym is) tt
+pub unread_given : (found : Result (Option ProgramTree) ProgramFault) (read : Option ProgramTree) (unread : Unread) (fault : ProgramFault) → found ≡ judged_read read
+    → ReadsWhole {X = ProgramTree} (Err unread) read → fault ≡ of_unread unread → Gives {X = Option ProgramTree} (Err fault) found
+unread_given found read unread_Syntax fault judged none is = subst (λ fault. Gives {X = Option ProgramTree} (Err fault) found) (sym is) (judged ∙ ap judged_read none)
+unread_given found read unread_NoMemory fault judged none is = subst (λ fault. Gives {X = Option ProgramTree} (Err fault) found) (sym is) tt
 
-pub program_given : (tokens : List Seen) (from end : ℕ) (program : ProgramTree) → from < end → end ≤ length tokens → read_program (words_between from end tokens) ≡ Some program
-    → is_well_kinded program ≡ true → program_of (between from end tokens) ≡ Ok (Some program)
-program_given tokens from end program some within read well = judged_between tokens from end some within ∙ ap judged_read read ∙ judged_well program well
+pub program_given : (found : Result (Option ProgramTree) ProgramFault) (read : Option ProgramTree) (program : ProgramTree) → found ≡ judged_read read → read ≡ Some program → is_well_kinded program ≡ true
+    → found ≡ Ok (Some program)
+program_given found read program is some well = is ∙ ap judged_read some ∙ judged_well program well
 
-pub kind_given : (tokens : List Seen) (from end : ℕ) (program : ProgramTree) → from < end → end ≤ length tokens → read_program (words_between from end tokens) ≡ Some program
-    → is_well_kinded program ≡ false → program_of (between from end tokens) ≡ Err Kind
-kind_given tokens from end program some within read bad = judged_between tokens from end some within ∙ ap judged_read read ∙ judged_bad program bad
+pub kind_given : (found : Result (Option ProgramTree) ProgramFault) (read : Option ProgramTree) (program : ProgramTree) → found ≡ judged_read read → read ≡ Some program → is_well_kinded program ≡ false
+    → found ≡ Err Kind
+kind_given found read program is some bad = is ∙ ap judged_read some ∙ judged_bad program bad
 
 -- what is given, in the words of the grammar
 

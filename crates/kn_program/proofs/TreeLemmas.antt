@@ -1,26 +1,25 @@
 -- Expressions by their parts.
-use Rattle.std.proofs.Common.{◌≡◌, ◌+◌, List, [], ◌∷◌, ◌++◌, length, refl, sym, ap, ◌∙◌, arith, length-append}
+use Rattle.std.proofs.Common.{◌≡◌, Bool, true, false, List, [], ◌∷◌, ◌++◌, length, refl, ap, arith}
 use Rattle.kn_trees.specs.declared.program.Expr.{Expr}
 use Rattle.kn_trees.specs.declared.program.Expr.TheVariants as E
 use Rattle.kn_trees.specs.declared.program.Link2.{Link2}
 use Rattle.kn_program.specs.Trees.{several, joined, chained}
 use Rattle.kn_program.specs.declared.signs.Joint.{Joint}
 
--- no list of one part
-pub joined_several : (joint : Joint) (list : List Expr) → (length list ≡ 1 → ⊥) → several joint list ≡ joined joint list
-unfolding joined
-joined_several joint [] h = refl
-joined_several joint (part ∷ []) h = absurd (h (omega arith))
-joined_several joint (part ∷ next ∷ list) h = refl
+pub not_both : (b : Bool) → b ≡ false → b ≡ true → ⊥
+not_both b fails holds = absurd (cc)
 
--- a list of one part, which is its last
-pub joined_one : (joint : Joint) (list front : List Expr) (part : Expr) → length list ≡ 1 → list ≡ front ++ part ∷ [] → part ≡ joined joint list
+-- one part alone, and a last one behind others
+pub joined_alone : (joint : Joint) (list : List Expr) (last : Expr) → list ≡ [] → last ≡ joined joint (list ++ last ∷ [])
 unfolding joined
-joined_one joint list [] part one is = sym (ap (joined joint) is)
-joined_one joint list (first ∷ front) part one is =
-    let size : length list ≡ length (front ++ part ∷ []) + 1 = ap length is ∙ omega arith in
-    let more : length (front ++ part ∷ []) ≡ length front + 1 = length-append front (part ∷ []) ∙ omega arith in
-    absurd (omega arith)
+joined_alone joint [] last none = refl
+joined_alone joint (part ∷ list) last none = absurd (cc)
+
+pub joined_more : (joint : Joint) (list : List Expr) (last : Expr) → (list ≡ [] → ⊥) → several joint (list ++ last ∷ []) ≡ joined joint (list ++ last ∷ [])
+unfolding joined
+joined_more joint [] last some = absurd (some refl)
+joined_more joint (part ∷ []) last some = refl
+joined_more joint (part ∷ next ∷ list) last some = refl
 
 pub chained_none : (first : Expr) (links : List Link2) → length links ≡ 0 → first ≡ chained first links
 unfolding chained

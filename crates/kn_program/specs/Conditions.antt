@@ -1,13 +1,13 @@
 -- What the tokens of a Conditions field state (RFC 2704, section 4). The faults and their order are keynoted's own.
 use Rattle.std.specs.Prelude.{◌≡◌, true, false, List, [], ◌∷◌, Option, Some, None, Result, Ok, Err, if◌then◌else◌}
 use Rattle.kn_lex.specs.Cutting.{Seen}
+use Rattle.kn_fields.specs.Words.{words_of}
 use Rattle.kn_trees.specs.Kinds.{is_well_kinded}
 use Rattle.kn_trees.specs.declared.program.Program.{Program}
-use Rattle.kn_program.specs.Words.{words_of}
 use Rattle.kn_program.specs.Grammar.{IsProgram}
 use Rattle.kn_program.specs.Reading.{read_program}
-use Rattle.kn_program.specs.declared.unread.Unread.{Unread}
-use Rattle.kn_program.specs.declared.unread.Unread.TheVariants.{Syntax as unread_Syntax, NoMemory as unread_NoMemory}
+use Rattle.kn_fields.specs.declared.unread.Unread.{Unread}
+use Rattle.kn_fields.specs.declared.unread.Unread.TheVariants.{Syntax as unread_Syntax, NoMemory as unread_NoMemory}
 use Rattle.kn_program.specs.declared.fault.ProgramFault.{ProgramFault}
 use Rattle.kn_program.specs.declared.fault.ProgramFault.TheVariants.{Syntax, Kind, NoMemory}
 

@@ -1,7 +1,9 @@
 -- Which tokens spell which program (RFC 2704, section 4, the Conditions field). The levels, and the grouping to the
 -- left, are keynoted's own choices.
-use Rattle.std.specs.Prelude.{◌≡◌, ℕ, pos, Bool, true, List, [], ◌∷◌, ◌++◌, codes}
+use Rattle.std.specs.Prelude.{◌≡◌, ℕ, pos, Bool, true, List, [], ◌∷◌, ◌++◌, codes, Some, None}
 use Rattle.kn_lex.specs.Cutting.{Seen}
+use Rattle.kn_fields.specs.Words.{Word, words_of}
+use Rattle.kn_fields.specs.Words.Word.{literal as literal_word, name as name_word, number as number_word, sign as sign_word}
 use Rattle.kn_trees.specs.declared.program.Expr.{Expr}
 use Rattle.kn_trees.specs.declared.program.Expr.TheVariants as E
 use Rattle.kn_trees.specs.declared.program.Link2.{Link2}
@@ -10,9 +12,7 @@ use Rattle.kn_trees.specs.declared.program.Operation.{Operation}
 use Rattle.kn_trees.specs.declared.program.Program.{Program as ProgramTree, roll-Program}
 use Rattle.kn_trees.specs.declared.program.Clause.{Clause as ClauseTree}
 use Rattle.kn_trees.specs.declared.program.Then.TheVariants.{Top, Value, Block}
-use Rattle.kn_program.specs.Words.{Word, words_of}
-use Rattle.kn_program.specs.Words.Word.{literal as literal_word, truth as truth_word, name as name_word, number as number_word, sign as sign_word}
-use Rattle.kn_program.specs.Signs.{operation_text, comparison_text, prefix_text, is_at}
+use Rattle.kn_program.specs.Signs.{operation_text, comparison_text, prefix_text, is_at, truth_of, number_of}
 use Rattle.kn_program.specs.Trees.{joined, chained, prefixed}
 use Rattle.kn_program.specs.declared.signs.Joint.TheVariants as joint
 use Rattle.kn_program.specs.declared.signs.Level.TheVariants as level
@@ -60,13 +60,13 @@ mutual
     atom : Atom → Unary
     signed : Prefix → Unary → Unary
 
-  -- Atom: ( Or ), or a literal, or a number, or true or false, or a name
+  -- Atom: ( Or ), or a literal, or a number by its digits, or a truth value by its name, or another name
   pub data Atom : Type 0 where
     group : Or → Atom
     literal : List ℕ → Atom
-    number : ℕ → Atom
-    truth : Bool → Atom
-    name : List ℕ → Atom
+    number : (digits : List ℕ) → (value : ℕ) → number_of digits ≡ Some value → Atom
+    truth : (text : List ℕ) → (value : Bool) → truth_of text ≡ Some value → Atom
+    name : (text : List ℕ) → truth_of text ≡ None → Atom
 
 -- its tokens
 unfoldable mutual
@@ -105,9 +105,9 @@ unfoldable mutual
   pub atom_words : Atom → List Word
   atom_words (group o) = sign_word (codes "(") ∷ or_words o ++ sign_word (codes ")") ∷ []
   atom_words (literal value) = literal_word value ∷ []
-  atom_words (number value) = number_word value ∷ []
-  atom_words (truth value) = truth_word value ∷ []
-  atom_words (name text) = name_word text ∷ []
+  atom_words (number digits value is) = number_word digits ∷ []
+  atom_words (truth text value is) = name_word text ∷ []
+  atom_words (name text is) = name_word text ∷ []
 
 abbrev pub link : Operation → Expr → Link2
 link sign right = record { sign = sign; right = right }
@@ -161,9 +161,9 @@ unfoldable mutual
   pub atom_tree : Atom → Expr
   atom_tree (group o) = joined joint.Or (or_parts o)
   atom_tree (literal value) = E.Text value
-  atom_tree (number value) = E.Whole (pos value)
-  atom_tree (truth value) = E.Truth value
-  atom_tree (name text) = E.Name text
+  atom_tree (number digits value is) = E.Whole (pos value)
+  atom_tree (truth text value is) = E.Truth value
+  atom_tree (name text is) = E.Name text
 
 abbrev pub or_tree : Or → Expr
 or_tree o = joined joint.Or (or_parts o)

@@ -1,5 +1,4 @@
 pub mod Signs
-pub mod Words
 pub mod Trees
 pub mod Grammar
 pub mod Reading

@@ -2,278 +2,225 @@
 //!
 //! The budget bounds the steps of a reading: each step down the grammar takes one, and a list of parts or of
 //! operations has fewer than it. Ten for each token are enough.
-ghost use Rattle.std.specs.Prelude.{◌≡◌, ◌≤◌, ◌+◌, ◌-◌, length, Some};
-ghost use Rattle.std.specs.Option.{option_map};
+ghost use Rattle.std.specs.Prelude.{◌≡◌, ◌+◌, ◌≤◌, ◌<◌};
 ghost use Rattle.kn_lex.specs.Seeing.{seen};
-ghost use Rattle.kn_program.specs.Words.{word_of, words_between, marked};
-ghost use Rattle.kn_program.specs.Signs.{joint_text, height};
-ghost use Rattle.kn_program.specs.Reading.{Reads, ReadsWord, tests_at, test_at, negation_at, comparison_at, chain_at, side_at, operand_at, atom_at, group_at};
+ghost use Rattle.kn_fields.specs.Words.{word_of};
+ghost use Rattle.kn_fields.specs.Reading.{Reads};
+ghost use Rattle.kn_program.specs.Signs.{height};
+ghost use Rattle.kn_program.specs.Reading.{ReadsWord, tests_at, test_at, negation_at, comparison_at, chain_at, side_at, links_at, climb_at, first_at, operand_at, atom_at};
 
+use crate::operators::{has_operation, take_comparison, take_operation, take_prefix};
 use crate::signs::{Joint, Level, height, joint_text, number_of, truth_of};
 use crate::tree::{chained, compared, joined, negated, prefixed};
-use crate::unread::Unread;
-use crate::word::{behind_sign, comparison_at, has_operation, operation_at, prefix_at, token_at};
 use kn_base::{List, Octets};
-use kn_lex::{Sort, Token, Tokens, literal};
+use kn_fields::{Cursor, Unread};
+use kn_lex::{Sort, Token, literal};
 use kn_trees::{Expr, Link2};
 use std::alloc::Global;
 
-/// The place behind a joint, or None where it doesn't stand.
-fn behind_joint(tokens: &Tokens<'_>, at: u32, end: u32, joint: Joint) -> Option<u32>
-    requires within { end ≤ length tokens.now }
-    ensures { option_map (λ next. (tt, words_between next end tokens.now)) result ≡ marked (joint_text joint) (words_between at end tokens.now) }
-{
-    behind_sign(tokens, at, end, joint_text(joint))
-}
-
-/// The tests with `||` or `&&` between them, and the place behind them.
+/// The tests with `||` or `&&` between them.
 #[cycle(expression)]
 pub(crate) fn tests(
     alloc: Global,
-    tokens: &Tokens<'_>,
+    cursor: &mut Cursor<'_, '_>,
     joint: Joint,
-    at: u32,
-    end: u32,
     budget: u64,
-) -> Result<(Expr, u32), Unread>
-    requires within { end ≤ length tokens.now }
-    ensures { Reads result (tests_at budget joint (words_between at end tokens.now)) (λ next. words_between next end tokens.now) }
+) -> Result<Expr, Unread>
+    ensures { Reads result (tests_at budget joint cursor.old) cursor.new }
 {
-    if budget == 0 {
-        return Err(Unread::Syntax);
-    }
-    let (first, mut next) = test(alloc, tokens, joint, at, end, budget - 1)?;
-    match behind_joint(tokens, next, end, joint) {
-        Some(_) => {}
-        None => return Ok((first, next)),
-    }
     let mut parts = List::new(alloc);
-    match parts.push(first) {
-        Ok(()) => {}
-        Err(_) => return Err(Unread::NoMemory),
-    }
     let mut left = budget;
     while left > 0 {
-        left -= 1;
-        let Some(start) = behind_joint(tokens, next, end, joint) else {
-            return Ok((joined(joint, parts), next));
-        };
-        let (part, rest) = test(alloc, tokens, joint, start, end, budget - 1)?;
+        let part = test(alloc, cursor, joint, budget - 1)?;
+        if !cursor.take_sign(joint_text(joint)) {
+            let whole = joined(joint, parts, part)?;
+            return Ok(whole);
+        }
         match parts.push(part) {
             Ok(()) => {}
             Err(_) => return Err(Unread::NoMemory),
         }
-        next = rest;
+        left -= 1;
     }
     Err(Unread::Syntax)
 }
 
-/// One of the tests that stand between joints of this sort, and the place behind it.
+/// One of the tests that stand between joints of this sort.
 #[cycle(expression)]
 fn test(
     alloc: Global,
-    tokens: &Tokens<'_>,
+    cursor: &mut Cursor<'_, '_>,
     joint: Joint,
-    at: u32,
-    end: u32,
     budget: u64,
-) -> Result<(Expr, u32), Unread>
-    requires within { end ≤ length tokens.now }
-    ensures { Reads result (test_at budget joint (words_between at end tokens.now)) (λ next. words_between next end tokens.now) }
+) -> Result<Expr, Unread>
+    ensures { Reads result (test_at budget joint cursor.old) cursor.new }
 {
     match joint {
-        Joint::Or => tests(alloc, tokens, Joint::And, at, end, budget),
-        Joint::And => negation(alloc, tokens, at, end, budget),
+        Joint::Or => tests(alloc, cursor, Joint::And, budget),
+        Joint::And => negation(alloc, cursor, budget),
     }
 }
 
-/// A comparison, or `!` and what it stands before, and the place behind it.
+/// A comparison, or `!` and what it stands before.
 #[cycle(expression)]
-fn negation(
-    alloc: Global,
-    tokens: &Tokens<'_>,
-    at: u32,
-    end: u32,
-    budget: u64,
-) -> Result<(Expr, u32), Unread>
-    requires within { end ≤ length tokens.now }
-    ensures { Reads result (negation_at budget (words_between at end tokens.now)) (λ next. words_between next end tokens.now) }
+fn negation(alloc: Global, cursor: &mut Cursor<'_, '_>, budget: u64) -> Result<Expr, Unread>
+    ensures { Reads result (negation_at budget cursor.old) cursor.new }
 {
     if budget == 0 {
         return Err(Unread::Syntax);
     }
-    let Some(inner) = behind_sign(tokens, at, end, b"!".as_slice()) else {
-        return comparison(alloc, tokens, at, end, budget - 1);
-    };
-    let (part, next) = negation(alloc, tokens, inner, end, budget - 1)?;
+    if !cursor.take_sign(b"!".as_slice()) {
+        return comparison(alloc, cursor, budget - 1);
+    }
+    let part = negation(alloc, cursor, budget - 1)?;
     let whole = negated(alloc, part)?;
-    Ok((whole, next))
+    Ok(whole)
 }
 
-/// A sum, or two with a comparison between them, and the place behind it.
+/// A sum, or two with a comparison between them.
 #[cycle(expression)]
-fn comparison(
-    alloc: Global,
-    tokens: &Tokens<'_>,
-    at: u32,
-    end: u32,
-    budget: u64,
-) -> Result<(Expr, u32), Unread>
-    requires within { end ≤ length tokens.now }
-    ensures { Reads result (comparison_at budget (words_between at end tokens.now)) (λ next. words_between next end tokens.now) }
+fn comparison(alloc: Global, cursor: &mut Cursor<'_, '_>, budget: u64) -> Result<Expr, Unread>
+    ensures { Reads result (comparison_at budget cursor.old) cursor.new }
 {
     if budget == 0 {
         return Err(Unread::Syntax);
     }
-    let (left, rest) = chain(alloc, tokens, Level::Sum, at, end, budget - 1)?;
-    let Some((sign, start)) = comparison_at(tokens, rest, end) else {
-        return Ok((left, rest));
+    let left = chain(alloc, cursor, Level::Sum, budget - 1)?;
+    let Some(sign) = take_comparison(cursor) else {
+        return Ok(left);
     };
-    let (right, next) = chain(alloc, tokens, Level::Sum, start, end, budget - 1)?;
+    let right = chain(alloc, cursor, Level::Sum, budget - 1)?;
     let whole = compared(alloc, sign, left, right)?;
-    Ok((whole, next))
+    Ok(whole)
 }
 
-/// The operands with operations of a level between them, and the place behind them.
+/// The operands with operations of a level between them.
 ///
 /// The first operand comes before the levels, so that one with no operation behind it takes no way through them.
 #[cycle(expression)]
 fn chain(
     alloc: Global,
-    tokens: &Tokens<'_>,
+    cursor: &mut Cursor<'_, '_>,
     level: Level,
-    at: u32,
-    end: u32,
     budget: u64,
-) -> Result<(Expr, u32), Unread>
-    requires within { end ≤ length tokens.now }
-    ensures { Reads result (chain_at budget level (words_between at end tokens.now)) (λ next. words_between next end tokens.now) }
+) -> Result<Expr, Unread>
+    ensures { Reads result (chain_at budget level cursor.old) cursor.new }
 {
     let levels = height(level);
     if budget < levels {
         return Err(Unread::Syntax);
     }
-    let (first, next) = operand(alloc, tokens, at, end, budget - levels)?;
-    if has_operation(tokens, next, end) {
-        climb(alloc, tokens, level, at, first, next, end, budget)
+    let first = operand(alloc, cursor, budget - levels)?;
+    if has_operation(cursor) {
+        climb(alloc, cursor, level, first, budget)
     } else {
-        Ok((first, next))
+        Ok(first)
     }
 }
 
-/// The same, where the first operand is read, from `at` up to `next`.
+/// The operations of a level and of the tighter ones behind a first operand.
 #[cycle(expression)]
 fn climb(
     alloc: Global,
-    tokens: &Tokens<'_>,
+    cursor: &mut Cursor<'_, '_>,
     level: Level,
-    at: u32,
     operand: Expr,
-    next: u32,
-    end: u32,
     budget: u64,
-) -> Result<(Expr, u32), Unread>
-    requires within { end ≤ length tokens.now }
+) -> Result<Expr, Unread>
     requires enough { height level ≤ budget }
-    requires read { operand_at (budget - height level) (words_between at end tokens.now) ≡ Some (operand, words_between next end tokens.now) }
-    ensures { Reads result (chain_at budget level (words_between at end tokens.now)) (λ next. words_between next end tokens.now) }
+    ensures { Reads result (climb_at budget level operand cursor.old) cursor.new }
 {
-    let (first, mut next) = first_side(alloc, tokens, level, at, operand, next, end, budget - 1)?;
+    let first = first_side(alloc, cursor, level, operand, budget - 1)?;
+    links(alloc, cursor, level, first, budget)
+}
+
+/// The operations of the tighter levels behind a first operand.
+#[cycle(expression)]
+fn first_side(
+    alloc: Global,
+    cursor: &mut Cursor<'_, '_>,
+    level: Level,
+    operand: Expr,
+    budget: u64,
+) -> Result<Expr, Unread>
+    requires enough { height level ≤ budget + 1 }
+    ensures { Reads result (first_at budget level operand cursor.old) cursor.new }
+{
+    match level {
+        Level::Sum => climb(alloc, cursor, Level::Product, operand, budget),
+        Level::Product => climb(alloc, cursor, Level::Power, operand, budget),
+        Level::Power => Ok(operand),
+    }
+}
+
+/// The operations of a level behind a first side.
+#[cycle(expression)]
+fn links(
+    alloc: Global,
+    cursor: &mut Cursor<'_, '_>,
+    level: Level,
+    first: Expr,
+    budget: u64,
+) -> Result<Expr, Unread>
+    requires some { 0 < budget }
+    ensures { Reads result (links_at budget level first cursor.old) cursor.new }
+{
+    let Some(found) = take_operation(cursor, level) else {
+        return Ok(first);
+    };
+    let mut sign = found;
     let mut links = List::new(alloc);
-    let mut left = budget;
+    let mut left = budget - 1;
     while left > 0 {
-        left -= 1;
-        let Some((sign, start)) = operation_at(tokens, next, end, level) else {
-            let whole = chained(alloc, first, links)?;
-            return Ok((whole, next));
-        };
-        let (right, rest) = side(alloc, tokens, level, start, end, budget - 1)?;
+        let right = side(alloc, cursor, level, budget - 1)?;
         match links.push(Link2 { sign, right }) {
             Ok(()) => {}
             Err(_) => return Err(Unread::NoMemory),
         }
-        next = rest;
+        let Some(next) = take_operation(cursor, level) else {
+            let whole = chained(alloc, first, links)?;
+            return Ok(whole);
+        };
+        sign = next;
+        left -= 1;
     }
     Err(Unread::Syntax)
 }
 
-/// The first side of the operations of a level, where its first operand is read, from `at` up to `next`.
-#[cycle(expression)]
-fn first_side(
-    alloc: Global,
-    tokens: &Tokens<'_>,
-    level: Level,
-    at: u32,
-    operand: Expr,
-    next: u32,
-    end: u32,
-    budget: u64,
-) -> Result<(Expr, u32), Unread>
-    requires within { end ≤ length tokens.now }
-    requires enough { height level ≤ budget + 1 }
-    requires read { operand_at (budget + 1 - height level) (words_between at end tokens.now) ≡ Some (operand, words_between next end tokens.now) }
-    ensures { Reads result (side_at budget level (words_between at end tokens.now)) (λ next. words_between next end tokens.now) }
-{
-    match level {
-        Level::Sum => climb(
-            alloc,
-            tokens,
-            Level::Product,
-            at,
-            operand,
-            next,
-            end,
-            budget,
-        ),
-        Level::Product => climb(alloc, tokens, Level::Power, at, operand, next, end, budget),
-        Level::Power => Ok((operand, next)),
-    }
-}
-
-/// A side of the operations of a level, and the place behind it.
+/// A side of the operations of a level.
 #[cycle(expression)]
 fn side(
     alloc: Global,
-    tokens: &Tokens<'_>,
+    cursor: &mut Cursor<'_, '_>,
     level: Level,
-    at: u32,
-    end: u32,
     budget: u64,
-) -> Result<(Expr, u32), Unread>
-    requires within { end ≤ length tokens.now }
-    ensures { Reads result (side_at budget level (words_between at end tokens.now)) (λ next. words_between next end tokens.now) }
+) -> Result<Expr, Unread>
+    ensures { Reads result (side_at budget level cursor.old) cursor.new }
 {
     match level {
-        Level::Sum => chain(alloc, tokens, Level::Product, at, end, budget),
-        Level::Product => chain(alloc, tokens, Level::Power, at, end, budget),
-        Level::Power => operand(alloc, tokens, at, end, budget),
+        Level::Sum => chain(alloc, cursor, Level::Product, budget),
+        Level::Product => chain(alloc, cursor, Level::Power, budget),
+        Level::Power => operand(alloc, cursor, budget),
     }
 }
 
-/// An atom, or a sign and the operand behind it, and the place behind it.
+/// An atom, or a sign and the operand behind it.
 #[cycle(expression)]
-fn operand(
-    alloc: Global,
-    tokens: &Tokens<'_>,
-    at: u32,
-    end: u32,
-    budget: u64,
-) -> Result<(Expr, u32), Unread>
-    requires within { end ≤ length tokens.now }
-    ensures { Reads result (operand_at budget (words_between at end tokens.now)) (λ next. words_between next end tokens.now) }
+fn operand(alloc: Global, cursor: &mut Cursor<'_, '_>, budget: u64) -> Result<Expr, Unread>
+    ensures { Reads result (operand_at budget cursor.old) cursor.new }
 {
     if budget == 0 {
         return Err(Unread::Syntax);
     }
-    let Some((prefix, inner)) = prefix_at(tokens, at, end) else {
-        return atom(alloc, tokens, at, end, budget - 1);
+    let Some(prefix) = take_prefix(cursor) else {
+        return atom(alloc, cursor, budget - 1);
     };
-    let (part, next) = operand(alloc, tokens, inner, end, budget - 1)?;
+    let part = operand(alloc, cursor, budget - 1)?;
     let whole = prefixed(alloc, prefix, part)?;
-    Ok((whole, next))
+    Ok(whole)
 }
 
-/// An expression of one token, or None for a sign and for a token that stands in no expression.
+/// The expression of one token, or None where it is none of its own.
 fn constant(alloc: Global, token: &Token<'_>) -> Result<Option<Expr>, Unread>
     ensures { ReadsWord result (word_of (seen token.now)) }
 {
@@ -297,48 +244,27 @@ fn constant(alloc: Global, token: &Token<'_>) -> Result<Option<Expr>, Unread>
     }
 }
 
-/// An expression of one token or in brackets, and the place behind it.
+/// An expression of one token or in brackets.
 #[cycle(expression)]
-fn atom(
-    alloc: Global,
-    tokens: &Tokens<'_>,
-    at: u32,
-    end: u32,
-    budget: u64,
-) -> Result<(Expr, u32), Unread>
-    requires within { end ≤ length tokens.now }
-    ensures { Reads result (atom_at budget (words_between at end tokens.now)) (λ next. words_between next end tokens.now) }
+fn atom(alloc: Global, cursor: &mut Cursor<'_, '_>, budget: u64) -> Result<Expr, Unread>
+    ensures { Reads result (atom_at budget cursor.old) cursor.new }
 {
     if budget == 0 {
         return Err(Unread::Syntax);
     }
-    let Some(token) = token_at(tokens, at, end) else {
+    let Some(token) = cursor.peek() else {
         return Err(Unread::Syntax);
     };
     match constant(alloc, token)? {
-        Some(whole) => Ok((whole, at + 1)),
-        None => group(alloc, tokens, at, end, budget - 1),
-    }
-}
-
-/// Tests in brackets, and the place behind them.
-#[cycle(expression)]
-fn group(
-    alloc: Global,
-    tokens: &Tokens<'_>,
-    at: u32,
-    end: u32,
-    budget: u64,
-) -> Result<(Expr, u32), Unread>
-    requires within { end ≤ length tokens.now }
-    ensures { Reads result (group_at (words_between at end tokens.now) (tests_at budget Joint.Or)) (λ next. words_between next end tokens.now) }
-{
-    let Some(inner) = behind_sign(tokens, at, end, b"(".as_slice()) else {
-        return Err(Unread::Syntax);
-    };
-    let (whole, rest) = tests(alloc, tokens, Joint::Or, inner, end, budget)?;
-    match behind_sign(tokens, rest, end, b")".as_slice()) {
-        Some(next) => Ok((whole, next)),
-        None => Err(Unread::Syntax),
+        Some(whole) => {
+            cursor.step();
+            Ok(whole)
+        }
+        None => {
+            cursor.expect_sign(b"(".as_slice())?;
+            let whole = tests(alloc, cursor, Joint::Or, budget - 1)?;
+            cursor.expect_sign(b")".as_slice())?;
+            Ok(whole)
+        }
     }
 }

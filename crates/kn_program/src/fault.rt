@@ -1,4 +1,4 @@
-use crate::unread::Unread;
+use kn_fields::Unread;
 
 /// Why the tokens of a Conditions field are no program. The faults, their order and their numbers are keynoted's own.
 #[derive(Debug, Clone, Copy, PartialEq, Eq)]

@@ -5,11 +5,10 @@ mod clauses;
 mod expression;
 mod fault;
 pub mod laws;
+mod operators;
 mod reader;
 mod signs;
 mod tree;
-mod unread;
-mod word;
 
 pub use fault::ProgramFault;
 pub use reader::conditions;

@@ -10,7 +10,7 @@ ghost use Rattle.kn_program.specs.declared.fault.ProgramFault.TheVariants.{NoMem
 
 use crate::clauses::program;
 use crate::fault::ProgramFault;
-use kn_fields::Part;
+use kn_fields::{Cursor, Part};
 use kn_lex::Tokens;
 use kn_trees::{Program, is_well_kinded};
 use std::alloc::Global;
@@ -49,11 +49,11 @@ fn read_conditions(
     ensures given { Gives result (program_of (between (part.label + 1) part.end tokens.now)) }
     ensures well_kinded { IfOk result (λ conditions. IfSome conditions (λ program. is_well_kinded program ≡ true)) }
 {
-    let from = part.label + 1;
-    if from == part.end {
+    let mut cursor = Cursor::of_field(tokens, part);
+    if cursor.len() == 0 {
         return Ok(None);
     }
-    let program = match program(alloc, tokens, from, part.end) {
+    let program = match program(alloc, &mut cursor) {
         Ok(program) => program,
         Err(unread) => return Err(ProgramFault::from(unread)),
     };

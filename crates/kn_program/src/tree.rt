@@ -1,5 +1,5 @@
 //! Expressions by their parts.
-ghost use Rattle.std.specs.Prelude.{◌≡◌, IfOk};
+ghost use Rattle.std.specs.Prelude.{◌≡◌, [], ◌∷◌, ◌++◌, IfOk};
 ghost use Rattle.kn_program.specs.Trees.{several, joined, chained, prefixed};
 
 use crate::signs::{Joint, Prefix};
@@ -16,17 +16,17 @@ fn several(joint: Joint, parts: List<Expr>) -> Expr
     }
 }
 
-/// Several tests with this between them; one part alone is itself.
-pub(crate) fn joined(joint: Joint, list: List<Expr>) -> Expr
-    ensures { result ≡ joined joint list }
+/// Several tests with this between them, of which the last comes alone; one part alone is itself.
+pub(crate) fn joined(joint: Joint, list: List<Expr>, last: Expr) -> Result<Expr, NoMemory>
+    ensures { IfOk result (λ whole. whole ≡ joined joint (list ++ last ∷ [])) }
 {
-    let mut parts = list;
-    if parts.len() != 1 {
-        return several(joint, parts);
+    if list.is_empty() {
+        return Ok(last);
     }
-    match parts.pop() {
-        Some(only) => only,
-        None => several(joint, parts),
+    let mut parts = list;
+    match parts.push(last) {
+        Ok(()) => Ok(several(joint, parts)),
+        Err(_) => Err(NoMemory),
     }
 }
 

@@ -1,9 +1,10 @@
-use Rattle.std.proofs.Common.{sym, ◌∙◌}
-use Rattle.kn_program.proofs.TreeLemmas.{joined_several, joined_one}
+use Rattle.std.proofs.Common.{ap, ◌∙◌}
+use Rattle.kn_program.specs.Trees.{several}
+use Rattle.kn_program.proofs.TreeLemmas.{joined_alone, joined_more, not_both}
 use Rattle.kn_program.proofs.tree.joined.Goals as goal
 
-pub returns-then-len-ne1 : goal.returns-then-len-ne1
-returns-then-len-ne1 c = c.several.ensures ∙ joined_several c.args.joint c.args.list (λ one. c.if-len-ne1.true (c.len.ensures ∙ one))
+pub returns-then-is_empty : goal.returns-then-is_empty
+returns-then-is_empty c = joined_alone c.args.joint c.args.list c.args.last (c.is_empty.ensures.0 c.if-is_empty.true)
 
-pub returns-in-Some : goal.returns-in-Some
-returns-in-Some c = joined_one c.args.joint c.args.list _ _ (sym c.len.ensures ∙ c.if-len-ne1.false) c.in-Some.ensures
+pub returns-in-Ok : goal.returns-in-Ok
+returns-in-Ok c = c.several.ensures ∙ ap (several c.args.joint) c.in-Ok.ensures.ok ∙ joined_more c.args.joint c.args.list c.args.last (λ none. not_both c.is_empty.result c.if-is_empty.false (c.is_empty.ensures.1 none))
