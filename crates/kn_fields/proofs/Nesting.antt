@@ -182,4 +182,3 @@ fits_group depth run inner fits = fits_front (depth + 1) 0 inner (sign_word (cod
 pub fits_block : (depth run : ℕ) (inner : List Word) → Fits depth run (sign_word (codes "{") ∷ (inner ++ sign_word (codes "}") ∷ [])) → Fits (depth + 1) 0 inner
 unfolding Fits
 fits_block depth run inner fits = fits_front (depth + 1) 0 inner (sign_word (codes "}") ∷ []) fits.2
-

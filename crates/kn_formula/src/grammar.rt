@@ -130,7 +130,12 @@ fn one(alloc: Global, cursor: &mut Cursor<'_, '_>, budget: u64) -> Result<Writte
         }
         Sort::Number => {
             of_front(cursor)?;
-            bracketed(alloc, cursor, Rule::AtLeast(need_of(token.text)), budget - 1)
+            bracketed(
+                alloc,
+                cursor,
+                Rule::AtLeast(need_of(token.text)),
+                budget - 1,
+            )
         }
         Sort::Sign => {
             if is_opening(token.text) {

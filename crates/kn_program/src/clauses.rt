@@ -27,11 +27,7 @@ fn add(list: &mut List<Clause>, entry: Option<Clause>) -> Result<(), NoMemory>
 
 /// The clauses with `;` between them.
 #[cycle(program)]
-fn clauses(
-    alloc: Global,
-    cursor: &mut Cursor<'_, '_>,
-    budget: u64,
-) -> Result<List<Clause>, Unread>
+fn clauses(alloc: Global, cursor: &mut Cursor<'_, '_>, budget: u64) -> Result<List<Clause>, Unread>
     ensures { Reads result (program_at budget cursor.old) cursor.new }
 {
     let mut list = List::new(alloc);
@@ -56,11 +52,7 @@ fn has_clause(cursor: &Cursor<'_, '_>) -> bool
 
 /// A clause, or None where it is empty.
 #[cycle(program)]
-fn entry(
-    alloc: Global,
-    cursor: &mut Cursor<'_, '_>,
-    budget: u64,
-) -> Result<Option<Clause>, Unread>
+fn entry(alloc: Global, cursor: &mut Cursor<'_, '_>, budget: u64) -> Result<Option<Clause>, Unread>
     ensures { Reads result (entry_at (clause_at budget) cursor.old) cursor.new }
 {
     if !has_clause(cursor) {
