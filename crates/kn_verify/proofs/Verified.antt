@@ -58,7 +58,7 @@ refused_by_name law e version values reply built rows (Rejected reject) to_query
   rejected = first_item e built reply rows reject of cause.1;
   only = λ other others. one_reason e (distinct_ids e built reply rows of) reply.rows reply.value reject other (first_item e built reply rows reject of cause.1) others;
 }
-refused_by_name law e version values reply built rows NoMemory to_query of cause = tt
+refused_by_name law e version values reply built rows NoMemory to_query of cause = to_query
 
 -- the same of a checker's answer
 pub ok_by_name : LocatedProofs → LeastLevelsAreLeast → (e : Equations) (version : ℕ) (values : List (List ℕ)) (reply : ReadReply) (built : Interned) (rows : List Row) (result : Result (Unit {0}) Refused) →

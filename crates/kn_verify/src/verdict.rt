@@ -44,7 +44,7 @@ impl From<NoMemory> for Refused {
 
 /// Whether a reply proves its value of what a session asks where these are the compliance values.
 ///
-/// `NoMemory` comes only for want of memory.
+/// `NoMemory` comes only for want of memory, and never for the reply to another query, which needs none.
 pub fn verify(
     alloc: Global,
     view: &View<'_>,
