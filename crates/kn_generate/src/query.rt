@@ -10,7 +10,7 @@ ghost use Rattle.kn_generate.specs.Measured.{granted_count, granted_count_at, Is
 use crate::text::principal;
 use kn_answer::{Built, Tally};
 use kn_base::{List, NoMemory, Octets, Steps};
-use kn_env::{Attributes, Values};
+use kn_env::{Attributes, EnvFault, Values, ValuesFault};
 use kn_query::build_query;
 use kn_session::View;
 use kn_settle::settle;
@@ -77,7 +77,8 @@ fn values(alloc: Global) -> Result<Values, NoMemory>
 {
     match Values::of(alloc, b"v0,v1,v2,v3") {
         Ok(values) => Ok(values),
-        Err(_) => Err(NoMemory),
+        Err(ValuesFault::NoMemory) => Err(NoMemory),
+        Err(_) => unreachable!(),
     }
 }
 
@@ -101,7 +102,8 @@ fn attributes(alloc: Global) -> Result<Attributes, NoMemory>
     let mut attributes = Attributes::new(alloc);
     match attributes.set(b"level", b"5") {
         Ok(()) => Ok(attributes),
-        Err(_) => Err(NoMemory),
+        Err(EnvFault::NoMemory) => Err(NoMemory),
+        Err(_) => unreachable!(),
     }
 }
 
