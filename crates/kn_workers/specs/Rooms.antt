@@ -51,6 +51,6 @@ HaveRooms rooms i (d ∷ doors) = (d.links ≡ links_of rooms i) × (d.failing �
 
 -- binding in memory fails exactly where the call is among those that fail, and else the doors have the rooms
 abbrev pub BindsRooms : Result (List DoorInMemory) BindFault → NetInMemory → NetInMemory → Type 0
-BindsRooms (Ok doors) n n' = (is_failing n.failing (raised n.calls) ≡ false) × (n'.calls ≡ raised n.calls) × HaveRooms n.waiting 0 doors
-BindsRooms (Err Failed) n n' = (is_failing n.failing (raised n.calls) ≡ true) × (n'.calls ≡ raised n.calls) × (n'.waiting ≡ n.waiting)
+BindsRooms (Ok doors) n n' = (is_failing n.failing (raised n.calls) ≡ false) × HaveRooms n.waiting 0 doors × (n' ≡ record n { waiting = []; calls = raised n.calls; bound = n'.bound })
+BindsRooms (Err Failed) n n' = (is_failing n.failing (raised n.calls) ≡ true) × (n' ≡ record n { calls = raised n.calls; bound = n'.bound; faults = raised n.faults })
 BindsRooms (Err NoMemory) n n' = n' ≡ n
