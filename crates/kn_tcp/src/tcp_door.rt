@@ -1,5 +1,9 @@
 //! A door of a TCP listener.
-ghost use Rattle.std.specs.Prelude.{◌≡◌, ◌+◌, ◌<◌};
+ghost use Rattle.std.specs.Prelude.{◌≡◌, ◌+◌, ◌≤◌, ◌<◌};
+ghost use Rattle.kn_outside.specs.Faults.{raised};
+ghost use Rattle.kn_real.specs.Counted.{counted_link_seen};
+ghost use Rattle.kn_workers.specs.Doors.{Accepts};
+ghost use Rattle.kn_workers.specs.declared.accepted.Accepted.TheVariants as A;
 
 use kn_real::TcpLink;
 use kn_workers::{Accepted, Door, Served};
@@ -60,7 +64,12 @@ impl Door for TcpDoor {
 
     ghost seen = { counted_seen };
 
-    fn accept<R: Wait>(&mut self, _rt: &R) -> Accepted<TcpLink> {
+    fn accept<R: Wait>(&mut self, _rt: &R) -> Accepted<TcpLink>
+        ensures answer { Accepts counted_link_seen result (counted_seen self.old) (counted_seen self.new) }
+        ensures finished { self.old.finished ≤ self.old.given }
+        ensures later { self.old.faults ≤ self.new.faults }
+        ensures failed { result ≡ A.Failed → self.new.faults ≡ raised self.old.faults }
+    {
         if self.given >= self.quota {
             return Accepted::Closed;
         }

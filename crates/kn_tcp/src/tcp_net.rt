@@ -1,10 +1,13 @@
 //! The net of the system.
 ghost use Rattle.std.specs.Prelude.{◌≡◌, ◌≢◌, ◌≤◌, ◌<◌, None, [], length, IfOk, IfErr, IsSomeAnd};
+ghost use Rattle.std.specs.Str.{IsUtf8};
 ghost use Rattle.std.specs.IoError.{error_kind};
 ghost use Rattle.std.specs.declared.io.ErrorKind.{ErrorKind};
+ghost use Rattle.kn_base.specs.declared.limits.TheConstants.{WORKERS};
+ghost use Rattle.kn_outside.specs.Faults.{raised};
 ghost use Rattle.kn_workers.specs.declared.binding.BindFault.TheVariants as B;
-ghost use Rattle.kn_tcp.specs.Tcp.{counted_seen};
-ghost use Rattle.kn_workers.specs.Nets.{AreBound, share, with_faults};
+ghost use Rattle.kn_tcp.specs.Tcp.{counted_seen, tcp_seen};
+ghost use Rattle.kn_workers.specs.Nets.{AreBound, Binds, share, with_faults};
 
 use crate::tcp_door::TcpDoor;
 use kn_base::{List, NoMemory, Octets, Reserved};
@@ -62,7 +65,15 @@ impl Net for TcpNet {
         address: &[u8],
         doors: u32,
         quota: u32,
-    ) -> Result<List<TcpDoor>, BindFault> {
+    ) -> Result<List<TcpDoor>, BindFault>
+        requires doors { (1 ≤ doors) × (doors ≤ WORKERS) }
+        requires unbound { self.old.bound ≡ None }
+        ensures doors { IfOk result (λ rooms. length rooms ≡ doors) }
+        ensures new { IfOk result (λ rooms. AreBound counted_seen quota doors 0 rooms) }
+        ensures binds { Binds (record { address = address.now; doors = doors; quota = quota }) result (tcp_seen self.old) (tcp_seen self.new) }
+        ensures failed { result ≡ Err B.Failed → self.new.faults ≡ raised self.old.faults }
+        ensures text { IfOk result (λ rooms. IsUtf8 address.now) }
+    {
         let text = match Octets::from_slice(alloc, address) {
             Ok(text) => text,
             Err(NoMemory) => return Err(BindFault::NoMemory),
@@ -95,7 +106,10 @@ impl Net for TcpNet {
 }
 
 /// A listener at an address. A text that isn't UTF-8 is no address.
-fn listen(rt: &HostRuntime, alloc: Global, address: &[u8]) -> Result<Arc<TcpListener>, BindFault> {
+fn listen(rt: &HostRuntime, alloc: Global, address: &[u8]) -> Result<Arc<TcpListener>, BindFault>
+    ensures text { ¬ IsUtf8 address.now → result ≡ Err B.Failed }
+    ensures bound { IfOk result (λ listener. IsUtf8 address.now) }
+{
     let text = match str::from_utf8(address) {
         Ok(text) => text,
         Err(_) => return Err(BindFault::Failed),

@@ -1,4 +1,4 @@
-use Rattle.std.proofs.Common.{◌≡◌, ◌+◌, ℕ, List, ◌∷◌, ◌++◌, length, length-append, ap, sym, ◌∙◌, subst, arith}
+use Rattle.std.proofs.Common.{◌≡◌, ◌+◌, ℕ, List, length, length-append, ap, sym, ◌∙◌, subst, arith}
 use Rattle.kn_tcp.specs.Tcp.{CountedDoor, counted_seen}
 use Rattle.kn_workers.specs.Nets.{share, IsBound, AreBound}
 use Rattle.kn_workers.proofs.RoomLaws.{bound_one_more}
