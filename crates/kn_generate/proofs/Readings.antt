@@ -1,5 +1,5 @@
 -- That the generated texts read.
-use Rattle.std.proofs.Common.{◌≡◌, ℕ, true, false, Bool, ◌+◌, ◌≤◌, ◌==◌, ◌||◌, if◌then◌else◌, List, [], ◌∷◌, Option, Some, None, Result, Ok, Err, length, refl, sym, ◌∙◌, subst, codes}
+use Rattle.std.proofs.Common.{◌≡◌, ℕ, true, false, Bool, ◌+◌, ◌≤◌, ◌==◌, ◌||◌, if◌then◌else◌, List, [], ◌∷◌, Option, Some, None, Result, Ok, Err, length, refl, ◌∙◌, codes}
 use Rattle.std.specs.List.{list_all}
 use Rattle.std.specs.Prelude.{pos, map, nat_lt, is_ok, is_some, IsSome, ok_or}
 use Rattle.std.specs.Option.{option_map_or}
@@ -11,6 +11,9 @@ use Rattle.kn_fields.specs.Fields.{field_of, fields_of, field_with}
 use Rattle.kn_fields.specs.Faults.{constants_in}
 use Rattle.kn_fields.specs.Scanning.{fault_in, first_place, fault_at, fault_without, version_place, constant_place, departure, goes_deep}
 use Rattle.kn_fields.specs.Depth.{depth_behind, run_behind}
+use Rattle.kn_fields.specs.Words as L
+use Rattle.kn_fields.specs.Words.{taken, named, itself}
+use Rattle.kn_fields.specs.Reading.{tail_at, list_at}
 use Rattle.kn_fields.specs.Computed.{fields_or_fault}
 use Rattle.kn_principal.specs.Principals.{normal_form}
 use Rattle.kn_trees.specs.declared.program.Program.{Program}
@@ -24,23 +27,33 @@ use Rattle.kn_trees.specs.declared.program.Clause.{Clause}
 use Rattle.kn_trees.specs.declared.program.Then.TheVariants.{Value}
 use Rattle.kn_trees.specs.declared.program.Then.TheFolds.{fold-roll-Program}
 use Rattle.kn_trees.proofs.Kinded.{kind_of-Truth, kind_of-Whole, kind_of-Text, kind_of-Name, kind_of-Number, kind_of-Compare, is_then_well_kinded-Value, is_clause_well_kinded-parts}
-use Rattle.kn_program.specs.Grammar.{program_with}
-use Rattle.kn_formula.specs.Words as L
-use Rattle.kn_formula.specs.Words.{behind}
+use Rattle.kn_program.specs.Grammar.{program_with, Sum, Unary, Or, program_words as form_words, entry_words, clause_words, or_words, and_words, not_words, cmp_words, sum_words, product_words, power_words, unary_words, atom_words, program_clauses, entry_clauses, clause_tree, or_parts, and_parts, not_tree, cmp_tree, sum_first, sum_links, product_first, product_links, power_first, power_links, unary_tree, atom_tree}
+use Rattle.kn_program.specs.Grammar.Or.{ands}
+use Rattle.kn_program.specs.Grammar.And.{nots}
+use Rattle.kn_program.specs.Grammar.Not.{cmp}
+use Rattle.kn_program.specs.Grammar.Cmp.{sum, compared}
+use Rattle.kn_program.specs.Grammar.Sum.{product}
+use Rattle.kn_program.specs.Grammar.Product.{power}
+use Rattle.kn_program.specs.Grammar.Power.{unary}
+use Rattle.kn_program.specs.Grammar.Unary.{atom, signed}
+use Rattle.kn_program.specs.Grammar.Atom.{literal as literal_atom, number as number_atom, truth as truth_atom, name as name_atom}
+use Rattle.kn_program.specs.Grammar.Program.{ends, goes_on}
+use Rattle.kn_program.specs.Grammar.Entry.{nothing, something}
+use Rattle.kn_program.specs.Grammar.Clause.{valued}
 use Rattle.kn_formula.specs.Trees.{joined, need_of, has_bad_threshold, has_bad_name}
 use Rattle.kn_formula.specs.declared.written.Principal.TheVariants.{Literal}
 use Rattle.kn_formula.specs.declared.written.Rule.TheVariants.{Any, AtLeast}
 use Rattle.kn_formula.specs.declared.written.Written.{Written}
 use Rattle.kn_formula.specs.declared.written.Written.TheVariants.{Who, Several}
 use Rattle.kn_formula.proofs.TreeLemmas.{bad_threshold_who, bad_threshold_several, bad_name_who, bad_name_several}
-use Rattle.kn_formula.specs.Reading.{read_words, ors_at, ands_at, one_at, forms_at, parts_after}
+use Rattle.kn_formula.specs.Reading.{read_words, parts_at, one_at}
 use Rattle.kn_formula.specs.Licensing as licensing
 use Rattle.kn_formula.specs.Licensing.{licensees_of}
-use Rattle.kn_program.specs.Words as W
-use Rattle.kn_program.specs.Words.{number_word, taken, itself}
-use Rattle.kn_program.specs.Signs.{operation_of, comparison_of, prefix_of, truth_of}
+use Rattle.kn_program.specs.Signs.{truth_of, number_of}
 use Rattle.kn_program.specs.Trees as trees
-use Rattle.kn_program.specs.Reading.{read_program, tail_at, list_at, tests_at, negation_at, comparison_at, chain_at, operand_at, atom_at, program_at, clause_at}
+use Rattle.kn_program.specs.Reading.{read_program}
+use Rattle.kn_program.specs.declared.signs.Prefix.TheVariants.{Number}
+use Rattle.kn_program.proofs.Stated.{form_read}
 use Rattle.kn_program.specs.Conditions as conditions
 use Rattle.kn_program.specs.Conditions.{program_of}
 use Rattle.kn_assert.specs.Parts.{principal_of, authorizer_of, licensees_by, conditions_by}
@@ -88,7 +101,7 @@ abbrev written : List ℕ → List ℕ → List ℕ → List ℕ → Written
 written va vb vc vd = Several Any (Who (Literal va) ∷ Several (AtLeast 2) (three vb vc vd) ∷ [])
 
 words_spell : (va vb vc vd : List ℕ) → read_words (formula_words va vb vc vd) ≡ Some (written va vb vc vd)
-unfolding read_words ors_at ands_at one_at forms_at parts_after behind joined need_of
+unfolding read_words parts_at one_at list_at tail_at taken named itself joined need_of
 words_spell va vb vc vd = refl
 
 good_thresholds : (va vb vc vd : List ℕ) → has_bad_threshold (written va vb vc vd) ≡ false
@@ -114,17 +127,17 @@ formula_ok va vb vc vd ea eb ec ed =
 
 -- one literal is a formula
 pub one_spells : (v : List ℕ) → read_words (L.literal v ∷ []) ≡ Some (Who (Literal v))
-unfolding read_words ors_at ands_at one_at forms_at parts_after behind joined
+unfolding read_words parts_at one_at list_at tail_at taken itself joined
 one_spells v = refl
 
 one_ok : (v : List ℕ) → is_bad v ≡ false → is_ok (licensees_by (licensing.judged_read [] (read_words (L.literal v ∷ [])))) ≡ true
 one_ok v e = formula_judged _ (Who (Literal v)) (one_spells v) (bad_threshold_who (Literal v)) (bad_name_who [] (Literal v) ∙ e)
 
 -- the words of a program, and what they spell
-abbrev program_words : W.Word → List ℕ → List ℕ → List W.Word
+abbrev program_words : List ℕ → List ℕ → List ℕ → List L.Word
 program_words limit ve vl =
-    W.sign (codes "@") ∷ W.name (codes "level") ∷ W.sign (codes ">") ∷ limit ∷ W.sign (codes "->") ∷ W.literal ve ∷ W.sign (codes ";")
-    ∷ W.truth true ∷ W.sign (codes "->") ∷ W.literal vl ∷ W.sign (codes ";") ∷ []
+    L.sign (codes "@") ∷ L.name (codes "level") ∷ L.sign (codes ">") ∷ L.number limit ∷ L.sign (codes "->") ∷ L.literal ve ∷ L.sign (codes ";")
+    ∷ L.name (codes "true") ∷ L.sign (codes "->") ∷ L.literal vl ∷ L.sign (codes ";") ∷ []
 
 abbrev passes : ℕ → Expr
 passes v = E.Compare Gt (E.Number (E.Name (codes "level"))) (E.Whole (pos v))
@@ -132,9 +145,17 @@ passes v = E.Compare Gt (E.Number (E.Name (codes "level"))) (E.Whole (pos v))
 abbrev clauses_of : ℕ → List ℕ → List ℕ → List Clause
 clauses_of v ve vl = (record { test = passes v; then = Value (E.Text ve) }) ∷ (record { test = E.Truth true; then = Value (E.Text vl) }) ∷ []
 
-program_reads : (v : ℕ) (ve vl : List ℕ) → read_program (program_words (W.number v) ve vl) ≡ Some (program_with (clauses_of v ve vl))
-unfolding read_program tail_at list_at tests_at negation_at comparison_at chain_at operand_at atom_at program_at clause_at taken itself operation_of comparison_of prefix_of trees.joined trees.chained
-program_reads v ve vl = refl
+abbrev alone : Unary → Sum
+alone u = product (power (unary u))
+
+abbrev test : Unary → Or
+test u = ands (nots (cmp (sum (alone u))))
+
+program_reads : (limit : List ℕ) (v : ℕ) (ve vl : List ℕ) → number_of limit ≡ Some v → read_program (program_words limit ve vl) ≡ Some (program_with (clauses_of v ve vl))
+unfolding form_words entry_words clause_words or_words and_words not_words cmp_words sum_words product_words power_words unary_words atom_words program_clauses entry_clauses clause_tree or_parts and_parts not_tree cmp_tree sum_first sum_links product_first product_links power_first power_links unary_tree atom_tree trees.joined trees.chained truth_of
+program_reads limit v ve vl e =
+    form_read (goes_on (something (valued (ands (nots (cmp (compared (alone (signed Number (atom (name_atom (codes "level") refl)))) Gt (alone (atom (number_atom limit v e))))))) (test (atom (literal_atom ve)))))
+    (goes_on (something (valued (test (atom (truth_atom (codes "true") true refl))) (test (atom (literal_atom vl))))) (ends nothing)))
 
 well : (clauses : List Clause) → is_well_kinded (program_with clauses) ≡ list_all (λ right. right) (map is_clause_well_kinded clauses)
 unfolding is_well_kinded is_clause_well_kinded
@@ -157,8 +178,8 @@ program_well v ve vl = well (clauses_of v ve vl) ∙ rw (clause_well (passes v) 
 program_judged : (read : Option Program) (program : Program) → read ≡ Some program → is_well_kinded program ≡ true → is_ok (conditions_by (conditions.judged_read read)) ≡ true
 program_judged read program e f = rw (e, f) refl
 
-program_ok : (v : ℕ) (ve vl : List ℕ) → is_ok (conditions_by (conditions.judged_read (read_program (program_words (number_word (Some v)) ve vl)))) ≡ true
-program_ok v ve vl = program_judged _ (program_with (clauses_of v ve vl)) (program_reads v ve vl) (program_well v ve vl)
+program_ok : (limit : List ℕ) (v : ℕ) (ve vl : List ℕ) → number_of limit ≡ Some v → is_ok (conditions_by (conditions.judged_read (read_program (program_words limit ve vl)))) ≡ true
+program_ok limit v ve vl e = program_judged _ (program_with (clauses_of v ve vl)) (program_reads limit v ve vl e) (program_well v ve vl)
 
 module _ (i a b c d e : List ℕ) (t : ℕ) where
   abbrev cuts : Cuts
@@ -180,10 +201,8 @@ module _ (i a b c d e : List ℕ) (t : ℕ) where
       formula_ok (literal_value (quoted (112 ∷ a))) (literal_value (quoted (112 ∷ b))) (literal_value (quoted (112 ∷ c))) (literal_value (quoted (112 ∷ d))) na.not_bad nb.not_bad nc.not_bad nd.not_bad
 
   conditions_ok : IsDigit t → is_ok (conditions_in (of_field 3 (tokens_at start 0 cuts))) ≡ true
-  unfolding field_with fields_of field_of goes_deep depth_behind run_behind program_of W.words_of truth_of
-  conditions_ok digit =
-      subst (λ (o : Option ℕ). is_ok (conditions_by (conditions.judged_read (read_program (program_words (number_word o) (literal_value (quoted (118 ∷ e))) (literal_value (codes "\"v1\"")))))) ≡ true)
-      (sym digit.valued) (program_ok digit.value (literal_value (quoted (118 ∷ e))) (literal_value (codes "\"v1\"")))
+  unfolding field_with fields_of field_of goes_deep depth_behind run_behind program_of L.words_of
+  conditions_ok digit = program_ok ((48 + t) ∷ []) digit.value (literal_value (quoted (118 ∷ e))) (literal_value (codes "\"v1\"")) digit.valued
 
   fields_read : (text : List ℕ) → IsDigit t → IsNaming (quoted (112 ∷ i)) → IsNaming (quoted (112 ∷ a)) → IsNaming (quoted (112 ∷ b)) → IsNaming (quoted (112 ∷ c)) → IsNaming (quoted (112 ∷ d))
       → is_some (result_ok (reading_with text (tokens_at start 0 cuts))) ≡ true

@@ -11,11 +11,10 @@ use Rattle.kn_lex.specs.declared.piece.Piece.TheVariants.{White, Token}
 use Rattle.kn_fields.specs.Fields.{field_of, fields_of, field_with}
 use Rattle.kn_fields.specs.Scanning.{fault_in, first_place, fault_at, fault_without, version_place, constant_place, departure, goes_deep}
 use Rattle.kn_fields.specs.Depth.{depth_behind, run_behind}
+use Rattle.kn_fields.specs.Words as L
 use Rattle.kn_trees.specs.declared.formula.Formula.{Formula}
 use Rattle.kn_trees.specs.declared.formula.Formula.TheVariants.{Who as Licensee}
 use Rattle.kn_trees.specs.declared.assertion.Assertion.{Assertion}
-use Rattle.kn_formula.specs.Words as L
-use Rattle.kn_formula.specs.Words.{behind}
 use Rattle.kn_formula.specs.Trees.{has_bad_name, formula_of}
 use Rattle.kn_formula.specs.declared.written.Principal.TheVariants.{Literal}
 use Rattle.kn_formula.specs.declared.written.Written.TheVariants.{Who}
