@@ -1,3 +1,4 @@
+//! The faults of a Licensees field.
 use kn_fields::Unread;
 
 /// Why the tokens of a Licensees field are no formula. The faults, their order and their numbers are keynoted's own.

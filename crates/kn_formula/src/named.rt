@@ -1,3 +1,4 @@
+//! The formula with its principals in normal form.
 ghost use Rattle.std.specs.Prelude.{◌≡◌, codes};
 ghost use Rattle.std.specs.Option.{option_map};
 ghost use Rattle.kn_formula.specs.Trees.{constant_value, principal_text, normal_text, is_bad_text, ruled};

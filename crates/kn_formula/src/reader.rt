@@ -1,3 +1,4 @@
+//! Reading a Licensees field.
 ghost use Rattle.std.specs.Prelude.{◌≡◌, ◌⊎◌, ◌+◌, ◌≤◌, ◌<◌, IfOk, IfErr, IfSome, length, false, All};
 ghost use Rattle.kn_trees.specs.Formulas.{IsReadable};
 ghost use Rattle.kn_fields.specs.Fields.{between};

@@ -1,3 +1,4 @@
+//! The thresholds of a formula as it is written.
 ghost use Rattle.std.specs.Prelude.{◌≡◌, slice_index};
 ghost use Rattle.kn_formula.specs.Trees.{need_of, is_bad_rule, has_bad_threshold};
 

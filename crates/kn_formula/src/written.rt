@@ -1,3 +1,4 @@
+//! Formulas as they are written, with names that are no texts yet.
 use kn_base::{List, Octets};
 
 /// A principal as it is written (RFC 2704, section 4, the Licensees field).

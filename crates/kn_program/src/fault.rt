@@ -1,3 +1,4 @@
+//! The faults of a Conditions field.
 use kn_fields::Unread;
 
 /// Why the tokens of a Conditions field are no program. The faults, their order and their numbers are keynoted's own.

@@ -1,3 +1,4 @@
+//! Reading a Conditions field.
 ghost use Rattle.std.specs.Prelude.{◌≡◌, ◌+◌, ◌≤◌, ◌<◌, ◌⊎◌, Option, IfOk, IfErr, IfSome, length, true};
 ghost use Rattle.kn_trees.specs.Kinds.{is_well_kinded};
 ghost use Rattle.kn_trees.specs.Levels.{program_depth};
