@@ -1,3 +1,4 @@
 pub mod Requests
 pub mod Underway
 pub mod Finding
+pub mod Refused

@@ -2,6 +2,7 @@
 ghost use Rattle.std.specs.Prelude.{◌≡◌, ◌≢◌, List, true, OnErr, OnOk};
 ghost use Rattle.std.specs.Arc.{arc_value};
 ghost use Rattle.kn_store.specs.declared.update.Update.{Update};
+ghost use Rattle.kn_fields.specs.declared.fault.ReadFault.TheVariants as R;
 ghost use Rattle.kn_session.specs.declared.fault.SessionFault.TheVariants as F;
 ghost use Rattle.kn_wire.specs.Digits.{IsWellFormed};
 ghost use Rattle.kn_wire.specs.Requests.{Open, Close, Pin, Assert, Retract, Set, SetHex, Unset, Auth, Unauth, Clear, are_digits};
@@ -57,6 +58,17 @@ fn pass_refusal(fault: SessionFault) -> Result<(), NoMemory>
     }
 }
 
+/// Hands on want of memory, and passes over the fault of a text.
+fn pass_fault(fault: ReadFault) -> Result<(), NoMemory>
+    ensures ok { OnOk result (fault ≢ R.NoMemory) }
+    ensures err { OnErr result (fault ≡ R.NoMemory) }
+{
+    match fault {
+        ReadFault::NoMemory => Err(NoMemory),
+        _ => Ok(()),
+    }
+}
+
 fn start(snapshot: &Snapshot, sessions: &mut Sessions) -> Result<(), NoMemory>
     requires room { NumbersGoOn sessions.old }
     ensures { OnOk result (state_of_sessions sessions.new ≡ applied (arc_value snapshot.now) sessions.old Open) }
@@ -92,8 +104,7 @@ fn add_private(alloc: Global, sessions: &mut Sessions, s: u32, block: &[u8]) -> 
 {
     let assertion = match read(alloc, block) {
         Ok(assertion) => assertion,
-        Err(ReadFault::NoMemory) => return Err(NoMemory),
-        Err(_) => return Ok(()),
+        Err(fault) => return pass_fault(fault),
     };
     match sessions.add_private(s, block, assertion) {
         Ok(_) => Ok(()),
