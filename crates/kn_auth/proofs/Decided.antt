@@ -14,45 +14,8 @@ use Rattle.kn_auth.specs.declared.entry.Entry.TheVariants.{Comment, Mac, Digest,
 use Rattle.kn_auth.specs.declared.key_file.KeyFile.{KeyFile}
 use Rattle.kn_auth.proofs.Stated.{one_result, key_words, no_words, no_key, no_digest, no_secret, no_line, states_once}
 use Rattle.kn_auth.proofs.Whole.{IsReadTo, read_none, read_more, read_whole, first_refused}
-use Rattle.kn_auth.proofs.Words.{heads_apart}
+use Rattle.kn_base.proofs.Cuts.{IsCut, HasFront, cut_or_none, front_or_none}
 use Rattle.std.specs.Str.Lines.{lines}
-
--- a text before the first byte of a kind, and behind it
-record IsCut (at : ℕ) (text : List ℕ) : Type 0 where
-  word : List ℕ
-  rest : List ℕ
-  spelled : text ≡ word ++ at ∷ rest
-  clean : list_any (λ b. b == at) word ≡ false
-
-cut_or_none : (at : ℕ) (text : List ℕ) → IsCut at text ⊎ (list_any (λ b. b == at) text ≡ false)
-cut_or_none at [] = inr refl
-cut_or_none at (b ∷ text) =
-    elim (cases_eq b at) [
-      | inl here ↦ inl (record { word = []; rest = text; spelled = ap (λ (c : ℕ). c ∷ text) here; clean = refl })
-      | inr other ↦
-          let first : (b == at) ≡ false = ne_eqb b at other in
-          elim (cut_or_none at text) [
-            | inl cut ↦ inl (record { word = b ∷ cut.word; rest = cut.rest; spelled = ap (λ (l : List ℕ). b ∷ l) cut.spelled; clean = rw (first, cut.clean) refl })
-            | inr none ↦ inr (rw (first, none) refl)
-          ]
-    ]
-
--- a text behind a front
-record HasFront (front text : List ℕ) : Type 0 where
-  rest : List ℕ
-  spelled : text ≡ front ++ rest
-
-front_or_none : (front text : List ℕ) → HasFront front text ⊎ ((rest : List ℕ) → text ≢ front ++ rest)
-front_or_none [] text = inl (record { rest = text; spelled = refl })
-front_or_none (a ∷ front) [] = inr (λ rest e. absurd (cc))
-front_or_none (a ∷ front) (b ∷ text) =
-    elim (cases_eq b a) [
-      | inl same ↦ elim (front_or_none front text) [
-        | inl has ↦ let behind : text ≡ front ++ has.rest = has.spelled in inl (record { rest = has.rest; spelled = cc })
-        | inr none ↦ inr (λ rest e. none rest (cc))
-      ]
-      | inr other ↦ inr (λ rest e. heads_apart b a text (front ++ rest) other e)
-    ]
 
 decoded : (digits : List ℕ) (r : Result (List ℕ) FromHexError) → decode_of digits ≡ r → ((key : List ℕ) × SpellsKey digits key) ⊎ ((key : List ℕ) → ¬ SpellsKey digits key)
 decoded digits (Err e) is = inr (λ key s. let wrong : Ok key ≡ Err e = sym s.decoded ∙ is in cc)

@@ -1,7 +1,6 @@
 pub mod Blocks
 pub mod Keyed
 pub mod Stated
-pub mod Words
 pub mod Whole
 pub mod FileLines
 pub mod Signatures

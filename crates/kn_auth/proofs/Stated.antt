@@ -14,7 +14,7 @@ use Rattle.kn_auth.specs.KeyLines.{is_comment, SpellsKey, SpellsDigest, NamesPri
 use Rattle.kn_auth.specs.declared.entry.MacKey.{MacKey}
 use Rattle.kn_auth.specs.declared.entry.Entry.{Entry}
 use Rattle.kn_auth.specs.declared.entry.Entry.TheVariants.{Comment, Mac, Digest, Secret}
-use Rattle.kn_auth.proofs.Words.{heads_apart, cut_once, no_cut}
+use Rattle.kn_base.proofs.Cuts.{heads_apart, cut_once, no_cut}
 
 -- a result has one value
 pub one_result : (r : Result (List ℕ) FromHexError) (x y : List ℕ) → r ≡ Ok x → r ≡ Ok y → x ≡ y

@@ -2,8 +2,8 @@
 ghost use Rattle.std.specs.Prelude.{◌≡◌, ◌++◌, ℕ, List, codes, IfOk, MatchOption};
 ghost use Rattle.kn_auth.specs.KeyLines.{is_comment, SpellsKey, NamesPrincipal, States, StatesNothing};
 
-use crate::text::{behind, cut};
 use hex::{FromHex, FromHexError};
+use kn_base::text::{behind, cut};
 use kn_base::{NoMemory, Octets};
 use kn_principal::{PrincipalFault, normal};
 use std::alloc::Global;

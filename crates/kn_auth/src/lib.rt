@@ -10,7 +10,6 @@ mod hmac;
 mod key_file;
 pub mod laws;
 mod mac_keys;
-mod text;
 
 pub use authenticator::Authenticator;
 pub use digest_list::DigestList;

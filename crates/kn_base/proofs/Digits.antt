@@ -1,9 +1,10 @@
 -- Decimal digits.
-use Rattle.std.proofs.Common.{◌≡◌, ℕ, true, Bool, ◌+◌, ◌-◌, ◌*◌, ◌^◌, ◌<◌, ◌≤◌, List, ◌∷◌, length, drop, get_or, arith, add-one, lit<}
-use Rattle.std.proofs.Math.Nat.{pow-suc, pow-le-pow_right}
-use Rattle.std.proofs.lemmas.List.{drop_more}
+use Rattle.std.proofs.Common.{◌≡◌, ℕ, true, false, Bool, nat_lt, Some, None, refl, ap, lt-ltb, ◌+◌, ◌-◌, ◌*◌, ◌^◌, ◌<◌, ◌≤◌, List, ◌∷◌, length, drop, get_or, arith, add-one, lit<}
+use Rattle.std.proofs.Math.Nat.{pow-suc, pow-le-pow_right, le-mul_of_pos_right}
+use Rattle.std.proofs.lemmas.Bool.Decides.{nat_tests}
+use Rattle.std.proofs.lemmas.List.{drop_all, drop_more}
 use Rattle.std.specs.List.{list_all}
-use Rattle.kn_base.specs.Decimal.{digits_value, is_digit}
+use Rattle.kn_base.specs.Decimal.{digits_value, digits_within, is_digit}
 
 -- ten times a number below a power of ten, and a digit, is below the next
 pub one_digit_more : (i number digit : ℕ) → number < 10 ^ i → digit ≤ 9 → number * 10 + digit < 10 ^ (i + 1)
@@ -35,3 +36,22 @@ digit_read_at text i number whole within e = digit_read (drop (i + 1) text) numb
 pub digits_left : (text : List ℕ) (i : ℕ) (all : Bool) → i < length text → is_digit (get_or text i 0) ≡ true
     → list_all is_digit (drop i text) ≡ all → list_all is_digit (drop (i + 1) text) ≡ all
 digits_left text i all within digit e = let step = rw (rest_at text i within) at e in rw digit at step
+
+-- a digit never makes less of what is read, so that what is above a limit stays there
+pub read_over : (limit : ℕ) (digits : List ℕ) (i value : ℕ) → i < length digits
+    → value * 10 ^ length (drop i digits) + digits_value (drop i digits) ≡ digits_value digits
+    → limit < value * 10 + (get_or digits i 0 - 48) → None ≡ digits_within limit digits
+read_over limit digits i value within e over =
+    let read = digit_read_at digits i value (digits_value digits) within e in
+    let k = length (drop (i + 1) digits) in
+    let some : 10 ^ 0 ≤ 10 ^ k = pow-le-pow_right {n = 10} (lit< tt) {i = 0} (omega arith) in
+    let le : value * 10 + (get_or digits i 0 - 48) ≤ (value * 10 + (get_or digits i 0 - 48)) * 10 ^ k = le-mul_of_pos_right _ (omega arith) in
+    rw (lt-ltb limit (digits_value digits) (omega (arith, read, le, over))) refl
+
+pub read_all : (limit : ℕ) (digits : List ℕ) (i value : ℕ) → length digits ≤ i → value * 10 ^ length (drop i digits) + digits_value (drop i digits) ≡ digits_value digits → value ≤ limit
+    → Some value ≡ digits_within limit digits
+read_all limit digits i value past e low =
+    let last : value * 10 ^ length (drop i digits) + digits_value (drop i digits) ≡ value * 1 + 0 = ap (λ rest. value * 10 ^ length rest + digits_value rest) (drop_all i digits past) in
+    let whole : digits_value digits ≡ value = omega (arith, last, e) in
+    let within : nat_lt limit value ≡ false = grind (arith, nat_tests) in
+    rw (whole, within) refl

@@ -1,5 +1,5 @@
 -- Decimal numbers of one to nine digits (keynoted's own).
-use Rattle.std.specs.Prelude.{ℕ, Bool, List, [], ◌∷◌, ◌+◌, ◌-◌, ◌*◌, ◌^◌, nat_le, ◌==◌, ◌&&◌, ◌||◌, not, length, slice_index, Option, Some, None, if◌then◌else◌}
+use Rattle.std.specs.Prelude.{ℕ, Bool, List, [], ◌∷◌, ◌+◌, ◌-◌, ◌*◌, ◌^◌, nat_le, nat_lt, ◌==◌, ◌&&◌, ◌||◌, not, length, slice_index, Option, Some, None, if◌then◌else◌}
 use Rattle.std.specs.List.{list_all}
 
 -- whether a byte is a decimal digit
@@ -19,3 +19,7 @@ has_decimal_form text =
 -- the number that a text of this form spells by digits alone
 abbrev pub decimal_of : List ℕ → Option ℕ
 decimal_of text = if has_decimal_form text && list_all is_digit text then Some (digits_value text) else None
+
+-- the number that digits spell, unless it is above a limit
+abbrev pub digits_within : ℕ → List ℕ → Option ℕ
+digits_within limit digits = if nat_lt limit (digits_value digits) then None else Some (digits_value digits)

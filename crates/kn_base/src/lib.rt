@@ -1,4 +1,4 @@
-//! What every crate of keynoted stands on: lists, octets, spans, counted steps and the limits.
+//! What every crate of keynoted stands on: lists, octets, spans, counted steps, cut texts and the limits.
 #![tactic(auto)]
 
 mod boxed;
@@ -11,11 +11,12 @@ mod octets;
 mod reserved;
 mod span;
 mod steps;
+pub mod text;
 
 pub use boxed::Boxed;
 pub use list::List;
 pub use memory::NoMemory;
-pub use number::decimal;
+pub use number::{decimal, digits_within};
 pub use octets::Octets;
 pub use reserved::Reserved;
 pub use span::Span;

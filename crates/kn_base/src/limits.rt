@@ -77,3 +77,6 @@ pub const CONNECTIONS: u32 = 1_000_000;
 
 /// The bytes of a file.
 pub const FILE_BYTES: usize = 16_777_216;
+
+/// The greatest number that a token spells and an expression holds.
+pub const WHOLE_NUMBER: u32 = 2_147_483_647;

@@ -126,3 +126,21 @@ impl<T> List<T> {
         mem::replace(&mut self.items[i as usize], item)
     }
 }
+
+impl<T: Drop> List<T> {
+    /// Adds an item at the end, or drops it where there is no memory or the list is full.
+    ///
+    /// The first item gets room for itself alone, since many lists of a tree have one item.
+    pub fn add(&mut self, item: T) -> Result<(), NoMemory>
+        ensures ok { OnOk result (self.new ≡ self.old ++ item ∷ []) }
+        ensures err { OnErr result (self.new ≡ self.old) }
+    {
+        if self.items.is_empty() && self.items.reserve_exact(1).is_err() {
+            return Err(NoMemory);
+        }
+        match self.push(item) {
+            Ok(()) => Ok(()),
+            Err(_refused) => Err(NoMemory),
+        }
+    }
+}

@@ -1,7 +1,7 @@
 //! Numbers in decimal digits.
 ghost use Rattle.std.specs.Prelude.{◌≡◌, ◌≤◌, ◌-◌, true, false, length, IfSome, IfNone, if◌then◌else◌};
 ghost use Rattle.std.specs.List.{list_all};
-ghost use Rattle.kn_base.specs.Decimal.{decimal_of, digits_value, has_decimal_form, is_digit};
+ghost use Rattle.kn_base.specs.Decimal.{decimal_of, digits_value, digits_within, has_decimal_form, is_digit};
 
 /// The number that decimal digits spell: one to nine digits without a leading zero, or the text `0`;
 /// else None. The form is keynoted's own.
@@ -45,4 +45,18 @@ fn digit(byte: u8) -> Option<u8>
     } else {
         None
     }
+}
+
+/// The number that digits spell, or None above a limit. What is below the digit 0 counts as one.
+pub fn digits_within(limit: u32, digits: &[u8]) -> Option<u32>
+    ensures { result ≡ digits_within limit digits.now }
+{
+    let mut value: u64 = 0;
+    for byte in digits {
+        value = value * 10 + u64::from(byte.saturating_sub(b'0'));
+        if value > u64::from(limit) {
+            return None;
+        }
+    }
+    Some(value as u32)
 }

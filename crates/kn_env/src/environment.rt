@@ -151,18 +151,9 @@ impl<'a> Env<'a> {
     pub fn value(&self, name: &[u8]) -> &[u8]
         ensures { result.now ≡ name_value self.now name.now }
     {
-        match self.constant(name) {
+        match constant_value(self.constants.as_slice(), name) {
             Some(value) => value,
             None => self.query.value(name),
-        }
-    }
-
-    fn constant(&self, name: &[u8]) -> Option<&[u8]>
-        ensures { option_map (λ value. value.now) result ≡ constant_value name.now self.now.constants }
-    {
-        match constant_of(self.constants.as_slice(), name) {
-            Some(constant) => Some(constant.value.as_slice()),
-            None => None,
         }
     }
 
@@ -172,6 +163,16 @@ impl<'a> Env<'a> {
     {
         let query = self.query;
         query.values
+    }
+}
+
+/// The value of the local constant of a name.
+pub fn constant_value<'a>(constants: &'a [Constant], name: &[u8]) -> Option<&'a [u8]>
+    ensures { option_map (λ value. value.now) result ≡ constant_value name.now constants.now }
+{
+    match constant_of(constants, name) {
+        Some(constant) => Some(constant.value.as_slice()),
+        None => None,
     }
 }
 

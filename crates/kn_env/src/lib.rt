@@ -8,5 +8,5 @@ mod values;
 
 pub use attributes::{Absent, Attributes, EnvFault, is_attribute_name};
 pub use constant::Constant;
-pub use environment::{Env, Query};
+pub use environment::{Env, Query, constant_value};
 pub use values::{Values, ValuesFault};

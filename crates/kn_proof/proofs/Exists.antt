@@ -15,7 +15,7 @@ use Rattle.kn_proof.specs.declared.header.Header.{Header}
 use Rattle.kn_proof.specs.Lines.{HeaderTexts, IsHeaderForm, IsHeaderInRange, IsRowForm, IsRowInRange, IsSmall, RowTexts, header_line, row_line, is_id, is_name, is_numeral}
 use Rattle.kn_proof.specs.Reading.{HasLargeRow, HasNoEnd, HasNoHeader, HasNoRow, IsEnd, IsFirstFault, IsHeader, IsHeaderFault, IsReplyText, IsReadRow, IsRowLinesFault, header_text, id_number}
 use Rattle.kn_proof.specs.Words.{AreHeaderWords, AreRowLines, AreRowsTo, AreRowWords, IsFaultBehind}
-use Rattle.kn_proof.proofs.Cuts.{HasFront, IsCut, cut_or_none, front_or_none}
+use Rattle.kn_base.proofs.Cuts.{HasFront, IsCut, cut_or_none, front_or_none}
 use Rattle.kn_proof.proofs.Lines.{front_words, header_words, no_count, no_header_form, no_id, no_name, no_quote, no_row_form, no_row_value, no_value, no_version, not_closed, row_of_words, row_words}
 use Rattle.kn_proof.proofs.Numerals.{numeral_written, short_value}
 use Rattle.kn_proof.proofs.Quotes.{unquoted_of}

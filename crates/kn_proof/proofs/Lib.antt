@@ -1,6 +1,5 @@
 pub mod Numerals
 pub mod Quotes
-pub mod Cuts
 pub mod Lines
 pub mod Written
 pub mod Only

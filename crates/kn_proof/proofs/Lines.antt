@@ -9,7 +9,7 @@ use Rattle.kn_env.specs.Values.{is_value_name}
 use Rattle.kn_proof.specs.Quoting.{HasNoByte}
 use Rattle.kn_proof.specs.Reading.{HasNoHeader, HasNoRow, HasLargeRow}
 use Rattle.kn_proof.specs.Words.{IsCutHeader, IsCutRow, AreHeaderWords, AreRowWords, row_front}
-use Rattle.kn_proof.proofs.Cuts.{cut_once, no_cut}
+use Rattle.kn_base.proofs.Cuts.{cut_once, no_cut}
 use Rattle.kn_proof.proofs.Numerals.{numeral_lacks, lacks_by}
 use Rattle.kn_proof.proofs.Quotes.{one_principal, closed}
 

@@ -11,7 +11,7 @@ use Rattle.kn_proof.specs.declared.fault.ProofFault.TheVariants.{Line, Number, C
 use Rattle.kn_proof.specs.declared.header.Header.{Header}
 use Rattle.kn_proof.specs.Lines.{RowTexts, header_line, row_line}
 use Rattle.kn_proof.specs.Reading.{IsReadRow, IsReplyText, IsReadTo, HasNoRow, HasLargeRow, IsEnd, IsHeaderFault, IsRowLinesFault, IsLaterFault, IsFirstFault, header_text}
-use Rattle.kn_proof.proofs.Cuts.{heads_apart}
+use Rattle.kn_base.proofs.Cuts.{heads_apart}
 use Rattle.kn_proof.proofs.Lines.{header_once, row_once, cut_header}
 use Rattle.kn_proof.proofs.Written.{header_texts, row_texts, header_form, header_range, row_form, row_range, header_read_once, row_read_once}
 

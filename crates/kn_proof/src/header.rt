@@ -6,7 +6,8 @@ ghost use Rattle.kn_proof.specs.Words.{AreHeaderWords};
 ghost use Rattle.kn_proof.specs.declared.fault.ProofFault.TheVariants as F;
 
 use crate::fault::ProofFault;
-use crate::text::{behind, cut, is_name, is_numeral, number, small_number};
+use crate::text::{is_name, is_numeral, number, small_number};
+use kn_base::text::{behind, cut};
 use kn_base::{NoMemory, Octets};
 use std::alloc::Global;
 

@@ -11,7 +11,7 @@ use crate::header::{Header, read_header};
 use crate::named::NamedRow;
 use crate::reply::ReadReply;
 use crate::row_line::read_row;
-use crate::text::behind;
+use kn_base::text::behind;
 use kn_base::{List, NoMemory};
 use std::alloc::Global;
 

@@ -9,8 +9,9 @@ ghost use Rattle.kn_proof.specs.declared.fault.ProofFault.TheVariants as F;
 use crate::fault::ProofFault;
 use crate::named::{Id, NamedRow};
 use crate::quoted::unquoted;
-use crate::text::{behind, cut, is_numeral, number, small_number};
+use crate::text::{is_numeral, number, small_number};
 use kn_base::NoMemory;
+use kn_base::text::{behind, cut};
 use std::alloc::Global;
 
 /// A row, and the lines behind its own.

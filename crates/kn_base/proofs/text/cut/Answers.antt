@@ -1,7 +1,7 @@
 use Rattle.std.proofs.Common.{◌≡◌, ◌==◌, false, take, take_all, ne_eqb}
 use Rattle.std.proofs.lemmas.List.Elements.{All-more}
 use Rattle.std.proofs.lemmas.List.Folds.{list_any_none}
-use Rattle.kn_auth.proofs.text.cut.Goals as goal
+use Rattle.kn_base.proofs.text.cut.Goals as goal
 
 pub returns-then-byte-at-clause-first : goal.returns-then-byte-at-clause-first
 returns-then-byte-at-clause-first c =

@@ -1,4 +1,4 @@
--- Texts cut at the first byte of a kind.
+-- Texts cut at the first byte of a kind, and texts with different fronts.
 use Rattle.std.proofs.Common.{◌≡◌, ◌≢◌, ◌⊎◌, ℕ, false, ◌==◌, List, [], ◌∷◌, ◌++◌, refl, sym, ap, ◌∙◌, inl, inr}
 use Rattle.std.specs.List.{list_any}
 use Rattle.std.proofs.lemmas.Bool.{or_parts, cases_eq, eqb-false, eq-eqb, ne_eqb, false≢true}
