@@ -1,6 +1,6 @@
 -- The places of the labels among tokens.
-use Rattle.std.proofs.Common.{◌≡◌, ℕ, true, false, zero, suc, Bool, ◌+◌, ◌<◌, ◌≤◌, List, [], ◌∷◌, ◌++◌, cond, length, drop, get_or, arith, refl, sym, ◌∙◌, ap, if◌then◌else◌}
-use Rattle.std.specs.Prelude.{not, nat_le}
+use Rattle.std.proofs.Common.{◌≡◌, ℕ, zero, suc, Bool, ◌+◌, ◌<◌, ◌≤◌, List, [], ◌∷◌, ◌++◌, length, drop, get_or, arith, sym, ◌∙◌, ap}
+use Rattle.std.specs.Prelude.{not}
 use Rattle.std.specs.List.{prefix_len}
 use Rattle.std.proofs.lemmas.List.{at_drop_more, at_drop_all}
 use Rattle.std.proofs.lemmas.Bool.Decides.{nat_tests}
@@ -11,13 +11,7 @@ use Rattle.kn_lex.specs.Seeing.{is_label_sort, label_places, place_from}
 pub places_more : (at : ℕ) (front back : List Seen) → label_places at (front ++ back) ≡ label_places at front ++ label_places (at + length front) back
 unfolding label_places
 places_more at [] back = ap (λ (n : ℕ). label_places n back) (omega arith)
-places_more at (t ∷ ts) back = by (is_label_sort t.sort) (places_more (at + 1) ts back ∙ ap (λ (n : ℕ). label_places (at + 1) ts ++ label_places n back) (omega arith))
-  where
-    by : (b : Bool) → label_places (at + 1) (ts ++ back) ≡ label_places (at + 1) ts ++ label_places (at + length (t ∷ ts)) back
-        → (if b then at ∷ label_places (at + 1) (ts ++ back) else label_places (at + 1) (ts ++ back))
-        ≡ (if b then at ∷ label_places (at + 1) ts else label_places (at + 1) ts) ++ label_places (at + length (t ∷ ts)) back
-    by true rest = ap (λ (places : List ℕ). at ∷ places) rest
-    by false rest = rest
+places_more at (t ∷ ts) back = grind (arith, places_more (at + 1) ts back)
 
 pub places_step : (labels new : List ℕ) (tokens more added : List Seen) (n : ℕ) → labels ≡ label_places 0 tokens → n ≡ length tokens
     → new ≡ labels ++ label_places n added → more ≡ tokens ++ added → new ≡ label_places 0 more
@@ -30,18 +24,11 @@ abbrev pub is_other : Seen → Bool
 is_other token = not (is_label_sort token.sort)
 
 -- from the first token on
-first_behind : (tokens : List Seen) (at from end : ℕ) → from ≤ at → end ≡ at + length tokens → place_from from end (label_places at tokens) ≡ at + prefix_len is_other tokens
+first_behind : (tokens : List Seen) (at from end : ℕ) → from ≤ at → end ≡ at + length tokens
+    → place_from from end (label_places at tokens) ≡ at + prefix_len is_other tokens
 unfolding label_places place_from
 first_behind [] at from end le size = omega (arith, size)
-first_behind (t ∷ ts) at from end le size = by (is_label_sort t.sort) (first_behind ts (at + 1) from end (omega (arith, le)) (omega (arith, size)))
-  where
-    here : nat_le from at ≡ true
-    here = grind (arith, nat_tests)
-
-    by : (b : Bool) → place_from from end (label_places (at + 1) ts) ≡ at + 1 + prefix_len is_other ts
-        → place_from from end (if b then at ∷ label_places (at + 1) ts else label_places (at + 1) ts) ≡ at + cond (not b) (1 + prefix_len is_other ts) 0
-    by true rest = rw here (omega arith)
-    by false rest = omega (arith, rest)
+first_behind (t ∷ ts) at from end le size = grind (arith, nat_tests, first_behind ts (at + 1) from end)
 
 -- from a token within on
 within_behind : (tokens : List Seen) (skip at from end : ℕ) → from ≡ at + skip → skip ≤ length tokens → end ≡ at + length tokens
@@ -49,16 +36,7 @@ within_behind : (tokens : List Seen) (skip at from end : ℕ) → from ≡ at + 
 unfolding label_places place_from
 within_behind tokens zero at from end is le size = let rest = first_behind tokens at from end (omega (arith, is)) size in omega (arith, rest, is)
 within_behind [] (suc skip) at from end is le size = absurd (omega (arith, le))
-within_behind (t ∷ ts) (suc skip) at from end is le size =
-    by (is_label_sort t.sort) (within_behind ts skip (at + 1) from end (omega (arith, is)) (omega (arith, le)) (omega (arith, size)))
-  where
-    before : nat_le from at ≡ false
-    before = grind (arith, nat_tests)
-
-    by : (b : Bool) → place_from from end (label_places (at + 1) ts) ≡ from + prefix_len is_other (drop skip ts)
-        → place_from from end (if b then at ∷ label_places (at + 1) ts else label_places (at + 1) ts) ≡ from + prefix_len is_other (drop skip ts)
-    by true rest = rw before rest
-    by false rest = rest
+within_behind (t ∷ ts) (suc skip) at from end is le size = grind (arith, nat_tests, within_behind ts skip (at + 1) from end)
 
 pub label_found : (tokens : List Seen) (from : ℕ) → from ≤ length tokens
     → place_from from (length tokens) (label_places 0 tokens) ≡ from + prefix_len is_other (drop from tokens)
@@ -69,16 +47,12 @@ label_found tokens from le = within_behind tokens from 0 from (length tokens) (o
 pub place_here : (from end : ℕ) (places : List ℕ) (i found : ℕ) → i < length places → from ≤ get_or places i 0
     → place_from from end (drop i places) ≡ found → get_or places i 0 ≡ found
 unfolding place_from
-place_here from end places i found h le e =
-    let here : nat_le from (get_or places i 0) ≡ true = grind (arith, nat_tests) in
-    sym (at_drop_more (place_from from end) places i 0 h ∙ rw here refl) ∙ e
+place_here from end places i found h le e = grind (arith, nat_tests, at_drop_more (place_from from end) places i 0 h)
 
 pub place_next : (from end : ℕ) (places : List ℕ) (i found : ℕ) → i < length places → get_or places i 0 < from
     → place_from from end (drop i places) ≡ found → place_from from end (drop (i + 1) places) ≡ found
 unfolding place_from
-place_next from end places i found h lt e =
-    let over : nat_le from (get_or places i 0) ≡ false = grind (arith, nat_tests) in
-    sym (at_drop_more (place_from from end) places i 0 h ∙ rw over refl) ∙ e
+place_next from end places i found h lt e = grind (arith, nat_tests, at_drop_more (place_from from end) places i 0 h)
 
 pub place_last : (from end : ℕ) (places : List ℕ) (i found : ℕ) → length places ≤ i → place_from from end (drop i places) ≡ found → end ≡ found
 unfolding place_from

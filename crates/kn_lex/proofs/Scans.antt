@@ -1,12 +1,12 @@
 -- How the scanner's functions go on at a place in a text, and end with it.
-use Rattle.std.proofs.Common.{◌≡◌, ℕ, true, false, Bool, ◌+◌, ◌-◌, ◌*◌, ◌^◌, ◌<◌, ◌≤◌, List, [], ◌∷◌, Option, Some, None, cond, suc, length, take, drop, get_or, arith, refl, sym, ◌∙◌, ap, lit<, if◌then◌else◌}
+use Rattle.std.proofs.Common.{cond, ◌≡◌, ℕ, true, false, Bool, ◌+◌, ◌-◌, ◌*◌, ◌^◌, ◌<◌, ◌≤◌, List, [], ◌∷◌, Option, Some, None, suc, length, take, drop, get_or, arith, refl, sym, ◌∙◌, ap, lit<, if◌then◌else◌}
 use Rattle.std.specs.Prelude.{not, ◌||◌, ◌&&◌, ◌==◌, nat_lt, nat_le}
 use Rattle.std.proofs.Math.Nat.{le-mul_of_pos_right, pow-le-pow_right}
 use Rattle.std.proofs.Math.Numerals.{one-add}
 use Rattle.std.proofs.lemmas.Bool.{lt-ltb}
 use Rattle.std.proofs.lemmas.Bool.Decides.{nat_tests}
 use Rattle.std.proofs.lemmas.List.{at_drop_more, at_drop_all, drop-drop}
-use Rattle.std.specs.List.{prefix_len, list_all}
+use Rattle.std.specs.List.{prefix_len}
 use Rattle.kn_base.specs.Decimal.{digits_value}
 use Rattle.kn_base.proofs.Digits.{digit_read_at}
 use Rattle.kn_lex.specs.Bytes.{is_gap, is_white, is_quoted, continues_label, begins_with}
@@ -27,47 +27,42 @@ begins_at p xs i h = at_drop_more (begins_with p) xs i 0 h
 pub begins_end : (p : ℕ → Bool) (xs : List ℕ) (i : ℕ) → length xs ≤ i → begins_with p (drop i xs) ≡ false
 begins_end p xs i h = at_drop_all (begins_with p) xs i h
 
+-- a front one byte longer, and what is behind it
+pub take_next : (x : ℕ) (xs : List ℕ) (n : ℕ) → take (1 + n) (x ∷ xs) ≡ x ∷ take n xs
+take_next x xs n = rw (one-add n) refl
+
+pub drop_next : (x : ℕ) (xs : List ℕ) (n : ℕ) → drop (1 + n) (x ∷ xs) ≡ drop n xs
+drop_next x xs n = rw (one-add n) refl
+
 -- what ends a run tells how the bytes go on
 
 pub white_by_run : (xs : List ℕ)
     → white_len xs ≡ (if begins_with (λ c. c == 10) (drop (prefix_len is_gap xs) xs) then prefix_len is_gap xs + 1 else prefix_len is_gap xs)
 unfolding white_len
 white_by_run [] = refl
-white_by_run (c ∷ cs) = by (is_gap c) refl (white_by_run cs)
+white_by_run (c ∷ cs) = by (c == 10) (is_gap c) refl (λ e. grind (arith, nat_tests)) (white_by_run cs)
   where
-    by : (g : Bool) → is_gap c ≡ g
+    by : (b g : Bool) → (c == 10) ≡ b → (g ≡ true → b ≡ false)
         → white_len cs ≡ (if begins_with (λ d. d == 10) (drop (prefix_len is_gap cs) cs) then prefix_len is_gap cs + 1 else prefix_len is_gap cs)
-        → (if c == 10 then 1 else if g then 1 + white_len cs else 0)
+        → (if b then 1 else if g then 1 + white_len cs else 0)
         ≡ (if begins_with (λ d. d == 10) (drop (cond g (1 + prefix_len is_gap cs) 0) (c ∷ cs)) then cond g (1 + prefix_len is_gap cs) 0 + 1 else cond g (1 + prefix_len is_gap cs) 0)
-    by false g rest = refl
-    by true g rest =
-        let line : (c == 10) ≡ false = grind (arith, nat_tests) in
-        rw (line, one-add (prefix_len is_gap cs), rest) (ends (begins_with (λ d. d == 10) (drop (prefix_len is_gap cs) cs)))
-      where
-        ends : (b : Bool) → 1 + (if b then prefix_len is_gap cs + 1 else prefix_len is_gap cs)
-            ≡ (if b then suc (prefix_len is_gap cs) + 1 else suc (prefix_len is_gap cs))
-        ends true = omega arith
-        ends false = omega arith
+    by b g here other rest = grind (arith, drop_next)
+
+-- a colon goes on no label
+pub colon_ends : (c : ℕ) → continues_label c ≡ true → (c == 58) ≡ false
+colon_ends c e = grind (arith, nat_tests)
 
 pub colon_by_run : (xs : List ℕ)
     → colon_len xs ≡ (if begins_with (λ c. c == 58) (drop (prefix_len continues_label xs) xs) then Some (prefix_len continues_label xs + 1) else None)
 unfolding colon_len
 colon_by_run [] = refl
-colon_by_run (c ∷ cs) = by (continues_label c) refl (colon_by_run cs)
+colon_by_run (c ∷ cs) = by (c == 58) (continues_label c) refl (colon_ends c) (colon_by_run cs)
   where
-    by : (g : Bool) → continues_label c ≡ g
+    by : (b g : Bool) → (c == 58) ≡ b → (g ≡ true → b ≡ false)
         → colon_len cs ≡ (if begins_with (λ d. d == 58) (drop (prefix_len continues_label cs) cs) then Some (prefix_len continues_label cs + 1) else None)
-        → (if c == 58 then Some 1 else if g then more_len 1 (colon_len cs) else None)
+        → (if b then Some 1 else if g then more_len 1 (colon_len cs) else None)
         ≡ (if begins_with (λ d. d == 58) (drop (cond g (1 + prefix_len continues_label cs) 0) (c ∷ cs)) then Some (cond g (1 + prefix_len continues_label cs) 0 + 1) else None)
-    by false g rest = refl
-    by true g rest =
-        let colon : (c == 58) ≡ false = grind (arith, nat_tests) in
-        rw (colon, one-add (prefix_len continues_label cs), rest) (ends (begins_with (λ d. d == 58) (drop (prefix_len continues_label cs) cs)))
-      where
-        ends : (b : Bool) → more_len 1 (if b then Some (prefix_len continues_label cs + 1) else None)
-            ≡ (if b then Some (suc (prefix_len continues_label cs) + 1) else None)
-        ends true = ap Some (omega arith)
-        ends false = refl
+    by b g here other rest = grind (arith, drop_next)
 
 pub body_len_at : (xs : List ℕ) (i : ℕ) → i < length xs
     → body_len (drop i xs) ≡ (if get_or xs i 0 == 10 && not (is_continuation (drop (i + 1) xs)) then 0 else 1 + body_len (drop (i + 1) xs))
@@ -87,13 +82,7 @@ line_end_end xs i h = at_drop_all is_line_end xs i h
 body_line : (ys : List ℕ) → body_len ys ≡ line_len ys + body_len (drop (line_len ys) ys)
 unfolding body_len
 body_line [] = refl
-body_line (c ∷ cs) = by (c == 10) refl (body_line cs)
-  where
-    by : (b : Bool) → (c == 10) ≡ b → body_len cs ≡ line_len cs + body_len (drop (line_len cs) cs)
-        → cond (b && not (is_continuation cs)) 0 (1 + body_len cs)
-        ≡ cond (not b) (1 + line_len cs) 0 + body_len (drop (cond (not b) (1 + line_len cs) 0) (c ∷ cs))
-    by true b rest = rw b (omega arith)
-    by false b rest = rw (one-add (line_len cs)) (omega (arith, rest))
+body_line (c ∷ cs) = grind (arith, body_line cs, drop_next)
 
 -- the body of a comment goes on to the end of each of its lines
 pub body_by_line : (xs : List ℕ) (i n : ℕ) → line_len (drop i xs) ≡ n → body_len xs ≡ i + body_len (drop i xs)
@@ -104,23 +93,15 @@ body_by_line xs i n e whole =
 
 line_ends : (ys : List ℕ) → is_line_end (drop (line_len ys) ys) ≡ true
 line_ends [] = refl
-line_ends (c ∷ cs) = by (c == 10) refl (line_ends cs)
-  where
-    by : (b : Bool) → (c == 10) ≡ b → is_line_end (drop (line_len cs) cs) ≡ true → is_line_end (drop (cond (not b) (1 + line_len cs) 0) (c ∷ cs)) ≡ true
-    by true b rest = b
-    by false b rest = rw (one-add (line_len cs)) rest
+line_ends (c ∷ cs) = grind (arith, line_ends cs, drop_next)
 
 -- behind a line it goes on with a continuation line alone
 pub body_at_line : (xs : List ℕ) (i n : ℕ) → line_len (drop i xs) ≡ n → i + n < length xs
     → body_len (drop (i + n) xs) ≡ (if is_continuation (drop (i + n + 1) xs) then 1 + body_len (drop (i + n + 1) xs) else 0)
 body_at_line xs i n e h =
-    let newline : (get_or xs (i + n) 0 == 10) ≡ true = sym (line_end_at xs (i + n) h) ∙ ap is_line_end (sym (drop-drop n i xs))
-    ∙ ap (λ k. is_line_end (drop k (drop i xs))) (sym e) ∙ line_ends (drop i xs) in
-    body_len_at xs (i + n) h ∙ rw newline (by (is_continuation (drop (i + n + 1) xs)))
-  where
-    by : (b : Bool) → (if not b then 0 else 1 + body_len (drop (i + n + 1) xs)) ≡ (if b then 1 + body_len (drop (i + n + 1) xs) else 0)
-    by true = refl
-    by false = refl
+    let newline : (get_or xs (i + n) 0 == 10) ≡ true =
+    cc (line_end_at xs (i + n) h, drop-drop n i xs, line_ends (drop i xs)) in
+    body_len_at xs (i + n) h ∙ rw newline (grind arith)
 
 pub quote_len_at : (quote : Quote) (xs : List ℕ) (i : ℕ) → i < length xs
     → quote_len quote (drop i xs) ≡ len_after (quote_step quote (get_or xs i 0)) (λ next. quote_len next (drop (i + 1) xs))
@@ -132,33 +113,19 @@ unfolding quote_len
 quote_len_end quote xs i h = at_drop_all (quote_len quote) xs i h
 
 pub more_len_twice : (a b : ℕ) (n : Option ℕ) → more_len a (more_len b n) ≡ more_len (a + b) n
-more_len_twice a b None = refl
-more_len_twice a b (Some n) = ap (λ k. Some k) (omega arith)
+more_len_twice a b n = grind arith
 
 pub more_len_none : (a : ℕ) (n : Option ℕ) → n ≡ None → more_len a n ≡ None
 more_len_none a n e = ap (more_len a) e
 
 pub more_len_zero : (n : Option ℕ) → more_len 0 n ≡ n
-more_len_zero None = refl
-more_len_zero (Some n) = ap (λ k. Some k) (omega arith)
+more_len_zero n = grind arith
 
 -- what stands for itself leaves a literal as it is
 pub quoted_run : (xs : List ℕ) → quote_len Plain xs ≡ more_len (prefix_len is_quoted xs) (quote_len Plain (drop (prefix_len is_quoted xs) xs))
 unfolding quote_len
 quoted_run [] = refl
-quoted_run (c ∷ cs) = by (is_quoted c) refl (quoted_run cs)
-  where
-    by : (q : Bool) → is_quoted c ≡ q
-        → quote_len Plain cs ≡ more_len (prefix_len is_quoted cs) (quote_len Plain (drop (prefix_len is_quoted cs) cs))
-        → quote_len Plain (c ∷ cs) ≡ more_len (cond q (1 + prefix_len is_quoted cs) 0) (quote_len Plain (drop (cond q (1 + prefix_len is_quoted cs) 0) (c ∷ cs)))
-    by false q rest = sym (more_len_zero (quote_len Plain (c ∷ cs)))
-    by true q rest =
-        let close : (c == 34) ≡ false = grind (arith, nat_tests) in
-        let escape : (c == 92) ≡ false = grind (arith, nat_tests) in
-        let line : (c == 10 || c == 13) ≡ false = grind (arith, nat_tests) in
-        rw (close, escape, line, one-add (prefix_len is_quoted cs)) (
-        ap (more_len 1) rest ∙ more_len_twice 1 (prefix_len is_quoted cs) _ ∙ ap (λ k. more_len k (quote_len Plain (drop (prefix_len is_quoted cs) cs))) (one-add (prefix_len is_quoted cs))
-        )
+quoted_run (c ∷ cs) = grind (arith, nat_tests, quoted_run cs, drop_next)
 
 -- one step of a literal, and what leaves it as it is behind it
 pub quote_on : (xs : List ℕ) (quote next : Quote) (i n : ℕ) → i < length xs → quote_step quote (get_or xs i 0) ≡ Go next
@@ -166,11 +133,11 @@ pub quote_on : (xs : List ℕ) (quote next : Quote) (i n : ℕ) → i < length x
     → quote_len Opening xs ≡ more_len i (quote_len quote (drop i xs))
     → quote_len Opening xs ≡ more_len (i + 1 + n) (quote_len next (drop (i + 1 + n) xs))
 quote_on xs quote next i n h step stay whole =
-    whole
-    ∙ ap (more_len i) (quote_len_at quote xs i h ∙ ap (λ s. len_after s (λ next. quote_len next (drop (i + 1) xs))) step ∙ ap (more_len 1) stay)
-    ∙ ap (more_len i) (more_len_twice 1 n _) ∙ more_len_twice i (1 + n) _
-    ∙ ap (λ k. more_len k (quote_len next (drop n (drop (i + 1) xs)))) (omega arith)
-    ∙ ap (λ ys. more_len (i + 1 + n) (quote_len next ys)) (drop-drop n (i + 1) xs)
+    let here = quote_len_at quote xs i h in
+    let there = drop-drop n (i + 1) xs in
+    let once = more_len_twice 1 n (quote_len next (drop n (drop (i + 1) xs))) in
+    let twice = more_len_twice i (1 + n) (quote_len next (drop n (drop (i + 1) xs))) in
+    grind arith
 
 pub goes_on_at : (commented : Bool) (xs : List ℕ) (i : ℕ) → i < length xs
     → goes_on commented (drop i xs) ≡ goes_on commented (get_or xs i 0 ∷ drop (i + 1) xs)
@@ -182,29 +149,11 @@ goes_on_end false xs i h = at_drop_all (goes_on false) xs i h
 
 -- a newline ends a blank line, and a byte that isn't white space leaves none
 pub is_blank-cons : (c : ℕ) (cs : List ℕ) → is_blank (c ∷ cs) ≡ (if c == 10 then true else is_white c && is_blank cs)
-is_blank-cons c cs = by (c == 10)
-  where
-    n : ℕ
-    n = prefix_len (λ byte. not (byte == 10)) cs
-
-    by : (b : Bool) → list_all is_white (take (cond (not b) (1 + n) 0) (c ∷ cs)) ≡ (if b then true else is_white c && is_blank cs)
-    by true = refl
-    by false = rw (one-add n) refl
+is_blank-cons c cs = grind (arith, take_next)
 
 pub blank_by_run : (xs : List ℕ) → is_blank xs ≡ is_line_end (drop (prefix_len is_gap xs) xs)
 blank_by_run [] = refl
-blank_by_run (c ∷ cs) = is_blank-cons c cs ∙ by (is_gap c) refl (blank_by_run cs)
-  where
-    by : (g : Bool) → is_gap c ≡ g → is_blank cs ≡ is_line_end (drop (prefix_len is_gap cs) cs)
-        → (if c == 10 then true else (g || c == 10) && is_blank cs) ≡ is_line_end (drop (cond g (1 + prefix_len is_gap cs) 0) (c ∷ cs))
-    by false g rest = ends (c == 10)
-      where
-        ends : (b : Bool) → (if b then true else b && is_blank cs) ≡ b
-        ends true = refl
-        ends false = refl
-    by true g rest =
-        let line : (c == 10) ≡ false = grind (arith, nat_tests) in
-        rw (line, one-add (prefix_len is_gap cs)) rest
+blank_by_run (c ∷ cs) = grind (arith, nat_tests, blank_by_run cs, is_blank-cons c cs, drop_next)
 
 pub ends_line_by_last : (bytes : List ℕ) → 0 < length bytes → ends_line bytes ≡ (get_or bytes (length bytes - 1) 0 == 10)
 ends_line_by_last [] h = absurd (omega arith)

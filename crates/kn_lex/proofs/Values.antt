@@ -1,8 +1,9 @@
 -- The value of a literal, item by item.
-use Rattle.std.proofs.Common.{append-nil, eq-eqb, ◌≡◌, ℕ, zero, suc, ◌+◌, ◌<◌, ◌≤◌, Bool, true, false, cond, List, [], ◌∷◌, ◌++◌, None, length, drop, get_or, arith, refl, sym, ◌∙◌, ap}
+use Rattle.std.proofs.Common.{append-nil, eq-eqb, ◌≡◌, ℕ, zero, suc, ◌+◌, ◌<◌, ◌≤◌, List, [], ◌∷◌, ◌++◌, None, length, drop, get_or, arith, refl, sym, ◌∙◌, ap}
 use Rattle.std.specs.Prelude.{not, ◌==◌}
 use Rattle.std.specs.List.{prefix_len}
 use Rattle.std.proofs.lemmas.Bool.{ne_eqb}
+use Rattle.std.proofs.lemmas.Bool.Decides.{nat_tests}
 use Rattle.std.proofs.lemmas.List.{drop_all}
 use Rattle.std.proofs.Math.Numerals.{add-one}
 use Rattle.memchr.specs.Find.{IsFirstByte, is_byte}
@@ -41,12 +42,7 @@ value_whole value xs at h e = sym (append-nil value) ∙ ap (λ zs. value ++ zs)
 none_escaped : (ys : List ℕ) → prefix_len (λ byte. not (byte == 92)) ys ≡ length ys → value_behind 0 ys ≡ ys
 unfolding value_behind
 none_escaped [] e = refl
-none_escaped (y ∷ ys) e = cases (y == 92) refl e (none_escaped ys)
-  where
-    cases : (b : Bool) → (y == 92) ≡ b → cond (not b) (1 + prefix_len (λ byte. not (byte == 92)) ys) 0 ≡ suc (length ys)
-        → (prefix_len (λ byte. not (byte == 92)) ys ≡ length ys → value_behind 0 ys ≡ ys) → value_behind 0 (y ∷ ys) ≡ y ∷ ys
-    cases true b e rest = absurd (omega (arith, e))
-    cases false b e rest = rw b (ap (λ zs. y ∷ zs) (rest (omega (arith, e))))
+none_escaped (y ∷ ys) e = grind (arith, nat_tests, none_escaped ys)
 
 -- without a backslash the value is what stands there
 pub value_same : (xs : List ℕ) → IsFirstByte (is_byte 92) xs None → value_behind 0 xs ≡ xs

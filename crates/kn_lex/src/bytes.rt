@@ -57,27 +57,7 @@ pub(crate) fn is_octal_digit(byte: u8) -> bool
 pub(crate) fn is_short_sign(byte: u8) -> bool
     ensures { result ≡ is_short_sign byte }
 {
-    matches!(
-        byte,
-        b'(' | b')'
-            | b'{'
-            | b'}'
-            | b','
-            | b';'
-            | b'!'
-            | b'<'
-            | b'>'
-            | b'='
-            | b'+'
-            | b'-'
-            | b'*'
-            | b'/'
-            | b'%'
-            | b'^'
-            | b'.'
-            | b'$'
-            | b'@'
-    )
+    matches!(byte, b'!' | b'$'..=b'%' | b'('..=b'/' | b';'..=b'>' | b'@' | b'^' | b'{' | b'}')
 }
 
 #[inline(always)]
@@ -169,20 +149,7 @@ pub(crate) fn kind_of(byte: u8) -> Kind
         b'A'..=b'Z' | b'a'..=b'z' | b'_' => Kind::Word,
         b'0'..=b'9' => Kind::Numeral,
         b'"' => Kind::Quote,
-        b'('
-        | b')'
-        | b'{'
-        | b'}'
-        | b','
-        | b';'
-        | b'+'
-        | b'*'
-        | b'/'
-        | b'%'
-        | b'^'
-        | b'.'
-        | b'$'
-        | b'@' => Kind::Lone,
+        b'$'..=b'%' | b'('..=b',' | b'.'..=b'/' | b';' | b'@' | b'^' | b'{' | b'}' => Kind::Lone,
         _ => Kind::Other,
     }
 }

@@ -103,10 +103,7 @@ fn zero_place(bytes: &[u8]) -> Option<usize>
 pub(crate) fn has_zero(bytes: &[u8]) -> bool
     ensures { result ≡ false → zero_place bytes.now ≡ None }
 {
-    match zero_place(bytes) {
-        Some(_) => true,
-        None => false,
-    }
+    zero_place(bytes).is_some()
 }
 
 fn piece_fault(at: u32, piece: Piece, bytes: &[u8], rest: &[u8], has_zero: bool) -> Option<LexFault>

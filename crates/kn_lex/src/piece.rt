@@ -35,30 +35,19 @@ pub struct Place {
 pub(crate) fn is_line_start(context: Context) -> bool
     ensures { result ≡ is_line_start context }
 {
-    match context {
-        Context::LineStart => true,
-        Context::WithinLine => false,
-        Context::CommentBody => false,
-    }
+    matches!(context, Context::LineStart)
 }
 
 pub(crate) fn is_token(piece: Piece) -> bool
     ensures { result ≡ is_token piece }
 {
-    match piece {
-        Piece::White => false,
-        Piece::Comment => false,
-        Piece::Token(_) => true,
-    }
+    matches!(piece, Piece::Token(_))
 }
 
 pub(crate) fn is_number(piece: Piece) -> bool
     ensures { result ≡ is_number piece }
 {
-    match piece {
-        Piece::Token(Sort::Number) => true,
-        _ => false,
-    }
+    matches!(piece, Piece::Token(Sort::Number))
 }
 
 #[tactic(auto, using(crate::proofs::Scans::ends_line_by_last))]
