@@ -1,11 +1,6 @@
 pub mod Rows
-pub mod Cutting
-pub mod Bare
 pub mod Splitting
-pub mod Tokens
 pub mod Whole
 pub mod Literals
-pub mod Machine
-pub mod Places
-pub mod Quiet
-pub mod Reading
+pub mod Silent
+pub mod AtCuts

@@ -1,19 +1,53 @@
--- The spans of a file, line by line.
-use Rattle.std.proofs.Common.{◌≡◌, ℕ, true, false, Bool, ◌+◌, ◌-◌, ◌<◌, ◌≤◌, List, [], ◌∷◌, ◌++◌, cond, All, length, take, drop, map, arith, refl, sym, ◌∙◌, ap, ap₂, append-nil, append_assoc, length-append, subst, if◌then◌else◌}
-use Rattle.std.specs.Prelude.{not, ◌&&◌, ◌==◌, filter}
+-- The lines of a file, and its spans, line by line.
+use Rattle.std.proofs.Common.{◌≡◌, ℕ, ◌⊎◌, inl, inr, ◌+◌, ◌<◌, ◌≤◌, List, [], ◌∷◌, length, take, drop, arith, refl, sym, if◌then◌else◌, true, false, Bool, ◌-◌, ◌++◌, map, ◌∙◌, ap, ap₂, append-nil, append_assoc, length-append, cond, subst}
+use Rattle.std.specs.Prelude.{◌==◌, not, ◌&&◌, filter}
 use Rattle.std.specs.List.{slice_split, onto_first}
+use Rattle.std.proofs.Math.Numerals.{one-add}
 use Rattle.std.proofs.Math.Seq.{take-add}
-use Rattle.std.proofs.lemmas.Bool.{cond-true, cond-false}
 use Rattle.std.proofs.lemmas.Grind.{flat_map-append}
-use Rattle.std.proofs.lemmas.List.Elements.{All-nil, All-cons, All-append}
 use Rattle.std.proofs.lemmas.List.{drop_all, drop-drop, length-drop, length-take-le}
+use Rattle.std.proofs.lemmas.Bool.{false≢true}
 use Rattle.kn_base.specs.declared.span.Span.{Span}
+use Rattle.kn_lex.specs.Scanning.{line_len}
 use Rattle.kn_lex.specs.Spelling.{is_blank}
-use Rattle.kn_files.specs.Lines.{Line, lines_of, joined, placed, is_cut, is_literal, after_line}
-use Rattle.kn_files.specs.Pieces.{is_assertion, text_of, span_of, spans_of, IsWithin}
-use Rattle.kn_files.specs.Splitting.{span_if}
+use Rattle.kn_lex.specs.Cutting.{ends_line}
+use Rattle.kn_lex.proofs.Spelled.{both, choice}
+use Rattle.kn_files.specs.Lines.{lines_of, Line, joined, placed, is_cut, is_literal, after_line, is_line, are_lines}
+use Rattle.kn_files.specs.Pieces.{is_assertion, text_of, span_of, spans_of, StandApart}
+use Rattle.kn_files.specs.Paragraphs.{lines_in}
+use Rattle.kn_files.specs.Splitting.{span_if, settled}
 use Rattle.kn_files.specs.declared.within.Within.{Within}
-use Rattle.kn_files.specs.declared.within.Within.TheVariants.{Plain}
+use Rattle.kn_files.specs.declared.within.Within.TheVariants.{Plain, Comment, Body, Literal}
+
+-- how many bytes the first line has
+unfoldable pub line_size : List ℕ → ℕ
+line_size [] = 0
+line_size (byte ∷ bytes) = if byte == 10 then 1 else 1 + line_size bytes
+
+pub size_within : (bytes : List ℕ) (n : ℕ) → n ≡ line_len bytes → n < length bytes → line_size bytes ≡ n + 1
+unfolding line_size
+size_within [] n e h = absurd (omega (arith, h))
+size_within (c ∷ cs) n e h = grind (arith, size_within cs (line_len cs) refl)
+
+pub size_at_end : (bytes : List ℕ) (n : ℕ) → n ≡ line_len bytes → length bytes ≤ n → line_size bytes ≡ n
+unfolding line_size
+size_at_end [] n e h = sym e
+size_at_end (c ∷ cs) n e h = grind (arith, size_at_end cs (line_len cs) refl)
+
+pub take_next : (n c : ℕ) (cs : List ℕ) → take (1 + n) (c ∷ cs) ≡ c ∷ take n cs
+take_next n c cs = rw (one-add n) refl
+
+pub drop_next : (n c : ℕ) (cs : List ℕ) → drop (1 + n) (c ∷ cs) ≡ drop n cs
+drop_next n c cs = rw (one-add n) refl
+
+first_cut : (c : ℕ) (cs : List ℕ) → lines_of (c ∷ cs) ≡ take (line_size (c ∷ cs)) (c ∷ cs) ∷ lines_of (drop (line_size (c ∷ cs)) (c ∷ cs))
+unfolding line_size lines_of
+first_cut c [] = grind arith
+first_cut c (d ∷ ds) = grind (arith, first_cut d ds, take_next, drop_next)
+
+pub line_size_whole : (xs : List ℕ) (n : ℕ) → line_size xs ≡ n → 0 < length xs → lines_of xs ≡ take n xs ∷ lines_of (drop n xs)
+line_size_whole [] n e h = absurd (omega arith)
+line_size_whole (c ∷ cs) n e h = rw (← e) (first_cut c cs)
 
 -- the spans of what is left, where a piece began before
 abbrev pub spans_from : ℕ → List ℕ → Within → List (List ℕ) → List Span
@@ -23,23 +57,24 @@ spans_from start front within (line ∷ lines) =
     then span_if start front ++ spans_from (start + length front + length line) [] (after_line within line) lines
     else spans_from start (front ++ line) (after_line within line) lines
 
--- lines in front of the first part
-onto : List Line → List (List Line) → List (List Line)
-onto [] parts = parts
-onto (line ∷ lines) parts = onto_first line (onto lines parts)
+-- the parts between the cuts, where these lines of the first part were before
+abbrev pub parts_from : List Line → List Line → List (List Line)
+parts_from held [] = held ∷ []
+parts_from held (line ∷ lines) = if is_cut line then held ∷ parts_from [] lines else parts_from (held ++ line ∷ []) lines
 
-onto-empty : (held : List Line) (parts : List (List Line)) → onto held ([] ∷ parts) ≡ held ∷ parts
-unfolding onto
-onto-empty [] parts = refl
-onto-empty (line ∷ lines) parts = ap (onto_first line) (onto-empty lines parts)
+held_first : (first : Line) (lines held : List Line) → onto_first first (parts_from held lines) ≡ parts_from (first ∷ held) lines
+held_first first [] held = refl
+held_first first (line ∷ lines) held = grind (arith, held_first first lines (held ++ line ∷ []))
 
-onto-more : (held : List Line) (line : Line) (parts : List (List Line)) → onto held (onto_first line parts) ≡ onto (held ++ line ∷ []) parts
-unfolding onto
-onto-more [] line parts = refl
-onto-more (first ∷ lines) line parts = ap (onto_first first) (onto-more lines line parts)
+pub parts_whole : (lines : List Line) → slice_split is_cut lines ≡ parts_from [] lines
+parts_whole [] = refl
+parts_whole (line ∷ lines) = grind (arith, parts_whole lines, held_first line lines [])
 
-chosen : List (List Line) → List Span
-chosen parts = map span_of (filter (λ lines. is_assertion (text_of lines)) parts)
+abbrev pub is_kept : List Line → Bool
+is_kept lines = is_assertion (text_of lines)
+
+abbrev pub chosen : List (List Line) → List Span
+chosen parts = map span_of (filter is_kept parts)
 
 -- the lines begin at this place and have these bytes
 IsHeld : List Line → ℕ → List ℕ → Type 0
@@ -48,17 +83,13 @@ IsHeld (line ∷ lines) start front = (line.start ≡ start) × (text_of (line �
 
 chosen-cons : (held : List Line) (start : ℕ) (front : List ℕ) (parts : List (List Line)) → IsHeld held start front
     → chosen (held ∷ parts) ≡ span_if start front ++ chosen parts
-unfolding chosen IsHeld
+unfolding IsHeld
 chosen-cons [] start front parts h = ap (λ (text : List ℕ). span_if start text ++ chosen parts) h
-chosen-cons (line ∷ lines) start front parts h = by (is_assertion (text_of (line ∷ lines))) ∙ ap₂ (λ (s : ℕ) (text : List ℕ). span_if s text ++ chosen parts) h.0 h.1
+chosen-cons (line ∷ lines) start front parts h =
+    by ∙ ap₂ (λ (s : ℕ) (text : List ℕ). span_if s text ++ chosen parts) h.0 h.1
   where
-    span : Span
-    span = span_of (line ∷ lines)
-
-    by : (b : Bool) → map span_of (cond b ((line ∷ lines) ∷ filter (λ ls. is_assertion (text_of ls)) parts) (filter (λ ls. is_assertion (text_of ls)) parts))
-        ≡ cond b (span_of (line ∷ lines) ∷ []) [] ++ map span_of (filter (λ ls. is_assertion (text_of ls)) parts)
-    by true = refl
-    by false = refl
+    by : chosen ((line ∷ lines) ∷ parts) ≡ span_if line.start (text_of (line ∷ lines)) ++ chosen parts
+    by = grind arith
 
 held_more : (held : List Line) (start at : ℕ) (front : List ℕ) (line : Line) → IsHeld held start front → line.start ≡ start + length front
     → IsHeld (held ++ line ∷ []) start (front ++ line.bytes)
@@ -69,41 +100,20 @@ held_more [] start at front line h e =
 held_more (first ∷ lines) start at front line h e =
     (h.0, flat_map-append (λ (l : Line). l.bytes) (first ∷ lines) (line ∷ []) ∙ ap₂ (λ (a b : List ℕ). a ++ b) h.1 (append-nil line.bytes))
 
-behind_line : Within → ℕ → List ℕ → List (List ℕ) → List (List Line)
-behind_line within at line lines = slice_split is_cut (placed (after_line within line) (at + length line) lines)
-
-along_step : (line : List ℕ) (lines : List (List ℕ)) (held : List Line) (start at : ℕ) (front : List ℕ) (within : Within) → IsHeld held start front → at ≡ start + length front
-    → chosen (onto [] (behind_line within at line lines)) ≡ spans_from (start + length front + length line) [] (after_line within line) lines
-    → chosen (onto (held ++ record { within = within; start = at; bytes = line } ∷ []) (behind_line within at line lines)) ≡ spans_from start (front ++ line) (after_line within line) lines
-    → chosen (onto held (slice_split is_cut (placed within at (line ∷ lines)))) ≡ spans_from start front within (line ∷ lines)
-unfolding onto behind_line
-along_step line lines held start at front within h e cut on = by (not (is_literal within) && is_blank line)
-  where
-    here : Line
-    here = record { within = within; start = at; bytes = line }
-
-    behind : List (List Line)
-    behind = behind_line within at line lines
-
-    by : (b : Bool) → chosen (onto held (cond b ([] ∷ behind) (onto_first here behind)))
-        ≡ cond b (span_if start front ++ spans_from (start + length front + length line) [] (after_line within line) lines) (spans_from start (front ++ line) (after_line within line) lines)
-    by true = ap chosen (onto-empty held behind) ∙ chosen-cons held start front behind h ∙ ap (λ (spans : List Span). span_if start front ++ spans) cut
-    by false = ap chosen (onto-more held here behind) ∙ on
-
 spans_along : (lines : List (List ℕ)) (held : List Line) (start at : ℕ) (front : List ℕ) (within : Within) → IsHeld held start front → at ≡ start + length front
-    → chosen (onto held (slice_split is_cut (placed within at lines))) ≡ spans_from start front within lines
-unfolding chosen IsHeld onto behind_line
-spans_along [] held start at front within h e =
-    ap chosen (onto-empty held []) ∙ chosen-cons held start front [] h ∙ append-nil (span_if start front)
+    → chosen (parts_from held (placed within at lines)) ≡ spans_from start front within lines
+unfolding IsHeld
+spans_along [] held start at front within h e = chosen-cons held start front [] h ∙ append-nil (span_if start front)
 spans_along (line ∷ lines) held start at front within h e =
-    along_step line lines held start at front within h e
-    (spans_along lines [] (start + length front + length line) (at + length line) [] (after_line within line) refl (omega (arith, e)))
-    (spans_along lines (held ++ record { within = within; start = at; bytes = line } ∷ []) start (at + length line) (front ++ line) (after_line within line)
-    (held_more held start at front (record { within = within; start = at; bytes = line }) h e) (omega (arith, e, length-append front line)))
+    let here : Line = record { within = within; start = at; bytes = line } in
+    let next : Within = after_line within line in
+    let cut = spans_along lines [] (start + length front + length line) (at + length line) [] next refl (omega (arith, e)) in
+    let on = spans_along lines (held ++ here ∷ []) start (at + length line) (front ++ line) next (held_more held start at front here h e) (omega (arith, e, length-append front line)) in
+    grind (arith, chosen-cons held start front (parts_from [] (placed next (at + length line) lines)) h)
 
 pub spans_whole : (file : List ℕ) → spans_of file ≡ spans_from 0 [] Plain (lines_of file)
-unfolding spans_of chosen onto IsHeld
-spans_whole file = spans_along (lines_of file) [] 0 0 [] Plain refl refl
+unfolding spans_of IsHeld
+spans_whole file = ap chosen (parts_whole (lines_in file)) ∙ spans_along (lines_of file) [] 0 0 [] Plain refl refl
 
 -- what the loop keeps: the spans so far and those of what is left are those of the file
 pub record IsSplit (file : List ℕ) (start at : ℕ) (within : Within) (spans : List Span) : Type 0 where
@@ -121,101 +131,6 @@ split_end file start at within spans new h end e =
     let none : drop at file ≡ [] = drop_all at file end in
     e ∙ sym (ap (λ (rest : List ℕ). spans ++ spans_from start (take (at - start) (drop start file)) within (lines_of rest)) none) ∙ h.whole
 
-length-slice : (file : List ℕ) (start at : ℕ) → start ≤ at → at ≤ length file → length (take (at - start) (drop start file)) ≡ at - start
-length-slice file start at o i = length-take-le (at - start) (drop start file) (omega (arith, length-drop start file))
-
-slice-more : (file : List ℕ) (start at n : ℕ) → start ≤ at
-    → take (at + n - start) (drop start file) ≡ take (at - start) (drop start file) ++ take n (drop at file)
-slice-more file start at n o =
-    let front : ℕ = at - start in
-    let all : at + n - start ≡ front + n = omega arith in
-    let place : start + front ≡ at = omega arith in
-    ap (λ (k : ℕ). take k (drop start file)) all
-    ∙ take-add front n (drop start file)
-    ∙ ap (λ (rest : List ℕ). take front (drop start file) ++ take n rest) (drop-drop front start file ∙ ap (λ (k : ℕ). drop k file) place)
-
--- one line on
-pub from_on : (start : ℕ) (front : List ℕ) (within : Within) (line : List ℕ) (lines : List (List ℕ)) → (not (is_literal within) && is_blank line) ≡ false
-    → spans_from start front within (line ∷ lines) ≡ spans_from start (front ++ line) (after_line within line) lines
-from_on start front within line lines e = cond-false (not (is_literal within) && is_blank line) _ _ e
-
-pub from_cut : (start : ℕ) (front : List ℕ) (within : Within) (line : List ℕ) (lines : List (List ℕ)) → (not (is_literal within) && is_blank line) ≡ true
-    → spans_from start front within (line ∷ lines)
-    ≡ span_if start front ++ spans_from (start + length front + length line) [] (after_line within line) lines
-from_cut start front within line lines e = cond-true (not (is_literal within) && is_blank line) _ _ e
-
--- a line at which the file isn't cut
-on_by : (file line : List ℕ) (start at n : ℕ) (within next : Within) (spans : List Span) → IsSplit file start at within spans
-    → at + n ≤ length file → line ≡ take n (drop at file) → lines_of (drop at file) ≡ take n (drop at file) ∷ lines_of (drop n (drop at file))
-    → (not (is_literal within) && is_blank line) ≡ false → next ≡ after_line within line → IsSplit file start (at + n) next spans
-on_by file line start at n within next spans h inside l cut test after = record {
-  order = omega (arith, h.order);
-  inside = inside;
-  whole =
-      ap (λ (text : List ℕ). spans ++ spans_from start text next (lines_of (drop (at + n) file))) (slice-more file start at n h.order)
-      ∙ ap₂ (λ (w : Within) (rest : List ℕ). spans ++ spans_from start (front ++ here) w (lines_of rest)) same (sym (drop-drop n at file))
-      ∙ ap (λ (found : List Span). spans ++ found) (sym (from_on start front within here behind uncut))
-      ∙ ap (λ (lines : List (List ℕ)). spans ++ spans_from start front within lines) (sym cut)
-      ∙ h.whole;
-}
-  where
-    front : List ℕ
-    front = take (at - start) (drop start file)
-
-    here : List ℕ
-    here = take n (drop at file)
-
-    behind : List (List ℕ)
-    behind = lines_of (drop n (drop at file))
-
-    same : next ≡ after_line within here
-    same = after ∙ ap (after_line within) l
-
-    uncut : (not (is_literal within) && is_blank here) ≡ false
-    uncut = ap (λ (text : List ℕ). not (is_literal within) && is_blank text) (sym l) ∙ test
-
--- a blank line, at which the file is cut
-cut_by : (file line : List ℕ) (start at n : ℕ) (within next : Within) (spans new : List Span) → IsSplit file start at within spans
-    → at + n ≤ length file → line ≡ take n (drop at file) → lines_of (drop at file) ≡ take n (drop at file) ∷ lines_of (drop n (drop at file))
-    → (not (is_literal within) && is_blank line) ≡ true → next ≡ after_line within line
-    → new ≡ spans ++ span_if start (take (at - start) (drop start file)) → IsSplit file (at + n) (at + n) next new
-cut_by file line start at n within next spans new h inside l cut test after pushed = record {
-  order = omega arith;
-  inside = inside;
-  whole =
-      ap₂ (λ (text : List ℕ) (found : List Span). found ++ spans_from (at + n) text next (lines_of (drop (at + n) file))) nothing pushed
-      ∙ append_assoc spans (span_if start front) (spans_from (at + n) [] next (lines_of (drop (at + n) file)))
-      ∙ ap₂ (λ (w : Within) (rest : List ℕ). spans ++ (span_if start front ++ spans_from (at + n) [] w (lines_of rest))) same (sym (drop-drop n at file))
-      ∙ ap (λ (k : ℕ). spans ++ (span_if start front ++ spans_from k [] (after_line within here) behind)) place
-      ∙ ap (λ (found : List Span). spans ++ found) (sym (from_cut start front within here behind blank))
-      ∙ ap (λ (lines : List (List ℕ)). spans ++ spans_from start front within lines) (sym cut)
-      ∙ h.whole;
-}
-  where
-    front : List ℕ
-    front = take (at - start) (drop start file)
-
-    here : List ℕ
-    here = take n (drop at file)
-
-    behind : List (List ℕ)
-    behind = lines_of (drop n (drop at file))
-
-    same : next ≡ after_line within here
-    same = after ∙ ap (after_line within) l
-
-    blank : (not (is_literal within) && is_blank here) ≡ true
-    blank = ap (λ (text : List ℕ). not (is_literal within) && is_blank text) (sym l) ∙ test
-
-    nothing : take (at + n - (at + n)) (drop (at + n) file) ≡ []
-    nothing = let zero : at + n - (at + n) ≡ 0 = omega arith in ap (λ (k : ℕ). take k (drop (at + n) file)) zero
-
-    place : at + n ≡ start + length front + length here
-    place =
-        let size = length-slice file start at h.order h.inside in
-        let more : length here ≡ n = length-take-le n (drop at file) (omega (arith, length-drop at file)) in
-        omega (arith, size, more, h.order)
-
 -- a line is the front of what is left
 pub record IsFirstLine (file : List ℕ) (at : ℕ) (rest line : List ℕ) (n : ℕ) : Type 0 where
   pub left : rest ≡ drop at file
@@ -223,75 +138,185 @@ pub record IsFirstLine (file : List ℕ) (at : ℕ) (rest line : List ℕ) (n : 
   pub size : n ≤ length rest
   pub cut : lines_of rest ≡ take n rest ∷ lines_of (drop n rest)
 
-line_size_is : (file : List ℕ) (at : ℕ) (rest line : List ℕ) (n : ℕ) → at ≤ length file → IsFirstLine file at rest line n
-    → (at + n ≤ length file) × (at + n ≡ at + length line)
-line_size_is file at rest line n i l =
+record IsNext (file : List ℕ) (at : ℕ) (line : List ℕ) : Type 0 where
+  inside : at + length line ≤ length file
+  front : take (length line) (drop at file) ≡ line
+  cut : lines_of (drop at file) ≡ line ∷ lines_of (drop (at + length line) file)
+
+next_line : (file : List ℕ) (at : ℕ) (rest line : List ℕ) (n : ℕ) → at ≤ length file → IsFirstLine file at rest line n → IsNext file at line
+next_line file at rest line n within l =
+    let size : length line ≡ n = ap length l.front ∙ length-take-le n rest l.size in
     let left = ap length l.left ∙ length-drop at file in
-    let size = ap length l.front ∙ length-take-le n rest l.size in
-    (omega (arith, left, l.size), omega (arith, size))
+    record {
+      inside = omega (arith, size, left, l.size);
+      front = ap₂ (λ (k : ℕ) (bytes : List ℕ). take k bytes) size (sym l.left) ∙ sym l.front;
+      cut = ap lines_of (sym l.left) ∙ l.cut
+          ∙ ap₂ (λ (a b : List ℕ). a ∷ lines_of b) (sym l.front) (ap₂ (λ (k : ℕ) (bytes : List ℕ). drop k bytes) (sym size) l.left ∙ drop-drop (length line) at file);
+    }
 
+-- a line's end makes no difference between a comment and what stands outside
+spans_settled : (start : ℕ) (front : List ℕ) (within : Within) (lines : List (List ℕ))
+    → spans_from start front within lines ≡ spans_from start front (settled within) lines
+unfolding after_line
+spans_settled start front within [] = refl
+spans_settled start front Plain (line ∷ lines) = refl
+spans_settled start front Comment (line ∷ lines) = refl
+spans_settled start front Body (line ∷ lines) = refl
+spans_settled start front (Literal quote) (line ∷ lines) = refl
+
+-- one line on
+split_next : (file line : List ℕ) (start at begin : ℕ) (within next : Within) (spans new : List Span) → IsSplit file start at within spans → IsNext file at line
+    → begin ≤ at + length line → settled next ≡ settled (after_line within line)
+    → new ++ spans_from begin (take (at + length line - begin) (drop begin file)) (after_line within line) (lines_of (drop (at + length line) file))
+    ≡ spans ++ spans_from start (take (at - start) (drop start file)) within (line ∷ lines_of (drop (at + length line) file))
+    → IsSplit file begin (at + length line) next new
+split_next file line start at begin within next spans new h n order e step =
+    let front : List ℕ = take (at + length line - begin) (drop begin file) in
+    let lines : List (List ℕ) = lines_of (drop (at + length line) file) in
+    record {
+      order = order;
+      inside = n.inside;
+      whole = ap (λ (found : List Span). new ++ found)
+          (spans_settled begin front next lines ∙ ap (λ (w : Within). spans_from begin front w lines) e ∙ sym (spans_settled begin front (after_line within line) lines))
+          ∙ step ∙ ap (λ (all : List (List ℕ)). spans ++ spans_from start (take (at - start) (drop start file)) within all) (sym n.cut) ∙ h.whole;
+    }
+
+-- a line at which the file isn't cut
 pub split_on : (file rest line : List ℕ) (start at n : ℕ) (within next : Within) (spans new : List Span) → IsSplit file start at within spans
-    → IsFirstLine file at rest line n → (not (is_literal within) && is_blank line) ≡ false → next ≡ after_line within line → new ≡ spans
+    → IsFirstLine file at rest line n → (not (is_literal within) && is_blank line) ≡ false → settled next ≡ settled (after_line within line) → new ≡ spans
     → IsSplit file start (at + length line) next new
-split_on file rest line start at n within next spans new h l test after same =
-    let size = line_size_is file at rest line n h.inside l in
-    let here = l.front ∙ ap (take n) l.left in
-    let cut : lines_of (drop at file) ≡ take n (drop at file) ∷ lines_of (drop n (drop at file)) =
-    subst (λ (text : List ℕ). lines_of text ≡ take n text ∷ lines_of (drop n text)) l.left l.cut in
-    subst (λ (found : List Span). IsSplit file start (at + length line) next found) (sym same)
-    (subst (λ (k : ℕ). IsSplit file start k next spans) size.1 (on_by file line start at n within next spans h size.0 here cut test after))
+split_on file rest line start at n within next spans new h l test e same =
+    let next_is = next_line file at rest line n h.inside l in
+    let front : ℕ = at - start in
+    let all : at + length line - start ≡ front + length line = let o = h.order in omega arith in
+    let place : start + front ≡ at = let o = h.order in omega arith in
+    let slice : take (at + length line - start) (drop start file) ≡ take front (drop start file) ++ line =
+    ap (λ (k : ℕ). take k (drop start file)) all ∙ take-add front (length line) (drop start file)
+    ∙ ap (λ (more : List ℕ). take front (drop start file) ++ more) (ap (take (length line)) (drop-drop front start file ∙ ap (λ (k : ℕ). drop k file) place) ∙ next_is.front) in
+    split_next file line start at start within next spans new h next_is (omega (arith, h.order)) e (rw (same, slice, test) refl)
 
+-- a blank line, at which the file is cut
 pub split_cut : (file rest line : List ℕ) (start at n : ℕ) (within next : Within) (spans new : List Span) → IsSplit file start at within spans
-    → IsFirstLine file at rest line n → (not (is_literal within) && is_blank line) ≡ true → next ≡ after_line within line
+    → IsFirstLine file at rest line n → (not (is_literal within) && is_blank line) ≡ true → settled next ≡ settled (after_line within line)
     → new ≡ spans ++ span_if start (take (at - start) (drop start file)) → IsSplit file (at + length line) (at + length line) next new
-split_cut file rest line start at n within next spans new h l test after pushed =
-    let size = line_size_is file at rest line n h.inside l in
-    let here = l.front ∙ ap (take n) l.left in
-    let cut : lines_of (drop at file) ≡ take n (drop at file) ∷ lines_of (drop n (drop at file)) =
-    subst (λ (text : List ℕ). lines_of text ≡ take n text ∷ lines_of (drop n text)) l.left l.cut in
-    subst (λ (k : ℕ). IsSplit file k k next new) size.1 (cut_by file line start at n within next spans new h size.0 here cut test after pushed)
+split_cut file rest line start at n within next spans new h l test e pushed =
+    let front : List ℕ = take (at - start) (drop start file) in
+    let behind : List (List ℕ) = lines_of (drop (at + length line) file) in
+    let none : at + length line - (at + length line) ≡ 0 = omega arith in
+    let size : length front ≡ at - start = length-take-le (at - start) (drop start file) (omega (arith, length-drop start file, h.inside)) in
+    let place : at + length line ≡ start + length front + length line = omega (arith, size, h.order) in
+    split_next file line start at (at + length line) within next spans new h (next_line file at rest line n h.inside l) (omega arith) e
+    (rw (pushed, none, test) (append_assoc spans (span_if start front) (spans_from (at + length line) [] (after_line within line) behind)
+    ∙ ap (λ (k : ℕ). spans ++ (span_if start front ++ spans_from k [] (after_line within line) behind)) place))
 
 -- an assertion has some bytes
 pub assertion_some : (text : List ℕ) → is_assertion text ≡ true → 0 < length text
 assertion_some [] e = absurd (cc)
 assertion_some (byte ∷ bytes) e = omega arith
 
-within_if : (file : List ℕ) (start : ℕ) (text : List ℕ) → start + length text ≤ length file → All (IsWithin file) (span_if start text)
-within_if file start text h = by (is_assertion text) (assertion_some text)
-  where
-    by : (b : Bool) → (b ≡ true → 0 < length text)
-        → All (IsWithin file) (cond b (record { start = start; end = start + length text } ∷ []) [])
-    by true some = All-cons (IsWithin file) _ [] (record { some = omega (arith, some refl); within = h }) (All-nil (IsWithin file))
-    by false some = All-nil (IsWithin file)
+front_joined : (byte : ℕ) (lines : List (List ℕ)) → joined (onto_first byte lines) ≡ byte ∷ joined lines
+front_joined byte [] = refl
+front_joined byte (line ∷ lines) = refl
 
-within_along : (file : List ℕ) (lines : List (List ℕ)) (start : ℕ) (front : List ℕ) (within : Within)
-    → start + length front + length (joined lines) ≤ length file → All (IsWithin file) (spans_from start front within lines)
-within_along file [] start front within h = within_if file start front (omega arith)
-within_along file (line ∷ lines) start front within h =
-    let size = length-append line (joined lines) in
-    by (not (is_literal within) && is_blank line)
-    (All-append (IsWithin file) (span_if start front) (spans_from (start + length front + length line) [] (after_line within line) lines)
-    (within_if file start front (omega (arith, size)))
-    (within_along file lines (start + length front + length line) [] (after_line within line) (omega (arith, size))))
-    (within_along file lines start (front ++ line) (after_line within line) (omega (arith, size, length-append front line)))
-  where
-    by : (b : Bool) → All (IsWithin file) (span_if start front ++ spans_from (start + length front + length line) [] (after_line within line) lines)
-        → All (IsWithin file) (spans_from start (front ++ line) (after_line within line) lines)
-        → All (IsWithin file) (if b then span_if start front ++ spans_from (start + length front + length line) [] (after_line within line) lines else spans_from start (front ++ line) (after_line within line) lines)
-    by true cut on = cut
-    by false cut on = on
-
-pub joined-lines : (file : List ℕ) → joined (lines_of file) ≡ file
+pub joined_lines : (file : List ℕ) → joined (lines_of file) ≡ file
 unfolding lines_of
-joined-lines [] = refl
-joined-lines (byte ∷ bytes) = by (byte == 10) (lines_of bytes) (joined-lines bytes)
-  where
-    by : (b : Bool) (lines : List (List ℕ)) → joined lines ≡ bytes → joined (cond b ((byte ∷ []) ∷ lines) (onto_first byte lines)) ≡ byte ∷ bytes
-    by true lines e = ap (λ (text : List ℕ). byte ∷ text) e
-    by false [] e = ap (λ (text : List ℕ). byte ∷ text) e
-    by false (line ∷ lines) e = ap (λ (text : List ℕ). byte ∷ text) e
+joined_lines [] = refl
+joined_lines (byte ∷ bytes) = grind (arith, joined_lines bytes, front_joined)
 
-pub spans_within : (file : List ℕ) → All (IsWithin file) (spans_of file)
-spans_within file =
-    subst (All (IsWithin file)) (sym (spans_whole file))
-    (within_along file (lines_of file) 0 [] Plain (let whole : length (joined (lines_of file)) ≡ length file = ap length (joined-lines file) in omega (arith, whole)))
+line_some : (line : List ℕ) → is_line line ≡ true → 0 < length line
+line_some [] e = absurd (false≢true e)
+line_some (byte ∷ bytes) e = omega arith
+
+pub first_line : (line : List ℕ) (lines : List (List ℕ)) → are_lines (line ∷ lines) ≡ true → is_line line ≡ true
+first_line line [] e = e
+first_line line (next ∷ lines) e = grind arith
+
+pub more_lines : (line : List ℕ) (lines : List (List ℕ)) → are_lines (line ∷ lines) ≡ true → are_lines lines ≡ true
+more_lines line [] e = refl
+more_lines line (next ∷ lines) e = grind arith
+
+-- the lines of a file
+
+newline_front : (byte : ℕ) (lines : List (List ℕ)) → (byte == 10) ≡ true → are_lines lines ≡ true → are_lines ((byte ∷ []) ∷ lines) ≡ true
+newline_front byte [] t e = refl
+newline_front byte (line ∷ lines) t e = grind arith
+
+byte_front : (byte : ℕ) (lines : List (List ℕ)) → (byte == 10) ≡ false → are_lines lines ≡ true → are_lines (onto_first byte lines) ≡ true
+byte_front byte [] t e = refl
+byte_front byte ([] ∷ lines) t e = grind arith
+byte_front byte ((next ∷ bytes) ∷ []) t e = grind arith
+byte_front byte ((next ∷ bytes) ∷ line ∷ lines) t e = grind arith
+
+pub are_lines_of_file : (file : List ℕ) → are_lines (lines_of file) ≡ true
+unfolding lines_of
+are_lines_of_file [] = refl
+are_lines_of_file (byte ∷ bytes) = grind (arith, are_lines_of_file bytes, newline_front, byte_front)
+
+-- the last line may lack its newline
+cut_last : (line : List ℕ) → is_line line ≡ true → lines_of line ≡ line ∷ []
+unfolding lines_of
+cut_last [] e = absurd (false≢true e)
+cut_last (byte ∷ []) e = grind arith
+cut_last (byte ∷ next ∷ bytes) e = grind (arith, cut_last (next ∷ bytes))
+
+cut_line : (line rest : List ℕ) → is_line line ≡ true → ends_line line ≡ true → lines_of (line ++ rest) ≡ line ∷ lines_of rest
+unfolding lines_of
+cut_line [] rest e n = absurd (false≢true e)
+cut_line (byte ∷ []) rest e n = grind arith
+cut_line (byte ∷ next ∷ bytes) rest e n = grind (arith, cut_line (next ∷ bytes) rest)
+
+pub lines_of_joined : (lines : List (List ℕ)) → are_lines lines ≡ true → lines_of (joined lines) ≡ lines
+unfolding lines_of
+lines_of_joined [] e = refl
+lines_of_joined (line ∷ []) e = ap lines_of (append-nil line) ∙ cut_last line e
+lines_of_joined (line ∷ next ∷ lines) e = grind (arith, cut_line line (joined (next ∷ lines)), lines_of_joined (next ∷ lines))
+
+-- the spans stand apart
+
+apart_if : (from start : ℕ) (text : List ℕ) (spans : List Span) → from ≤ start → ((k : ℕ) → k ≤ start + length text + 1 → StandApart k spans)
+    → StandApart from (span_if start text ++ spans)
+apart_if from start text spans le rest = by (is_assertion text) (assertion_some text)
+  where
+    by : (b : Bool) → (b ≡ true → 0 < length text) → StandApart from (cond b (record { start = start; end = start + length text } ∷ []) [] ++ spans)
+    by true some = (le, omega (arith, some refl), rest (start + length text + 1) (omega arith))
+    by false some = rest from (omega (arith, le))
+
+apart_along : (lines : List (List ℕ)) (from start : ℕ) (front : List ℕ) (within : Within) → from ≤ start → are_lines lines ≡ true
+    → StandApart from (spans_from start front within lines)
+apart_along [] from start front within le e =
+    subst (StandApart from) (append-nil (span_if start front)) (apart_if from start front [] le (λ k small. tt))
+apart_along (line ∷ lines) from start front within le e =
+    let some = line_some line (first_line line lines e) in
+    let cut = spans_from (start + length front + length line) [] (after_line within line) lines in
+    choice (StandApart from) (not (is_literal within) && is_blank line) (span_if start front ++ cut) (spans_from start (front ++ line) (after_line within line) lines)
+    (λ _. apart_if from start front cut le
+    (λ k small. apart_along lines k (start + length front + length line) [] (after_line within line) (omega (arith, small, some)) (more_lines line lines e)))
+    (λ _. apart_along lines from start (front ++ line) (after_line within line) le (more_lines line lines e))
+
+pub spans_apart : (file : List ℕ) → StandApart 0 (spans_of file)
+spans_apart file = subst (StandApart 0) (sym (spans_whole file)) (apart_along (lines_of file) 0 0 [] Plain (omega arith) (are_lines_of_file file))
+
+ends_line-append : (xs line : List ℕ) → is_line line ≡ true → ends_line (xs ++ line) ≡ ends_line line
+ends_line-append [] line e = refl
+ends_line-append (x ∷ []) [] e = absurd (false≢true e)
+ends_line-append (x ∷ []) (byte ∷ bytes) e = refl
+ends_line-append (x ∷ y ∷ xs) line e = ends_line-append (y ∷ xs) line e
+
+-- there are no bytes, or they end with a newline
+abbrev pub AreWhole : List ℕ → Type 0
+AreWhole xs = (xs ≡ []) ⊎ (ends_line xs ≡ true)
+
+-- they are whole if lines follow them
+abbrev pub AreWholeBefore : List (List ℕ) → List ℕ → Type 0
+AreWholeBefore [] xs = Unit {0}
+AreWholeBefore (line ∷ lines) xs = AreWhole xs
+
+pub none_whole : (lines : List (List ℕ)) → AreWholeBefore lines []
+none_whole [] = tt
+none_whole (line ∷ lines) = inl refl
+
+pub whole_behind : (xs line : List ℕ) (lines : List (List ℕ)) → are_lines (line ∷ lines) ≡ true → AreWholeBefore lines (xs ++ line)
+whole_behind xs line [] e = tt
+whole_behind xs line (next ∷ lines) e =
+    let own = both (is_line line) (ends_line line) (both (is_line line && ends_line line) (are_lines (next ∷ lines)) e).0 in
+    inr (ends_line-append xs line own.0 ∙ own.1)

@@ -13,6 +13,7 @@ ghost use Rattle.kn_files.specs.Pieces.{is_assertion, text_of, span_of, spans_of
 ghost use Rattle.kn_files.specs.declared.within.Within.{Within};
 
 /// The lines of a file are those that make it up, and there is one way only to cut it into lines.
+#[tactic(auto, using(crate::proofs::Splitting::joined_lines, crate::proofs::Splitting::are_lines_of_file, crate::proofs::Splitting::lines_of_joined))]
 pub fn lines_of_file()
     ensures joined { (file : List ℕ) → joined (lines_of file) ≡ file }
     ensures lines { (file : List ℕ) → are_lines (lines_of file) ≡ true }
@@ -23,6 +24,7 @@ pub fn lines_of_file()
 /// its opening quote and items it is open; it ends before a bare end of a line, and before a carriage return
 /// that follows a backslash and that no newline follows. Other bytes than quotes and `#` open nothing, and a
 /// comment takes the rest of its line.
+#[tactic(auto, using(crate::proofs::Literals::literal_facts))]
 pub fn literals_in_lines()
     ensures whole { (bytes : List ℕ) → IsLiteral bytes → fold after_byte Within.Plain bytes ≡ Within.Plain }
     ensures open_behind { (items : List Item) → list_all is_item items ≡ true → is_literal (fold after_byte Within.Plain (34 ∷ items_bytes items)) ≡ true }
@@ -33,6 +35,7 @@ pub fn literals_in_lines()
 {}
 
 /// The spans of a file are in it and in their order, with something between each two, and have whole lines.
+#[tactic(auto, using(crate::proofs::Rows::spans_within, crate::proofs::Splitting::spans_apart, crate::proofs::Rows::spans_whole_lines))]
 pub fn spans_of_file()
     ensures within { (file : List ℕ) → All (IsWithin file) (spans_of file) }
     ensures apart { (file : List ℕ) → StandApart 0 (spans_of file) }
@@ -40,6 +43,7 @@ pub fn spans_of_file()
 {}
 
 /// What is left out has neither a token nor a lexical fault, and all else has one.
+#[tactic(auto, using(crate::proofs::Silent::kept))]
 pub fn left_out()
     ensures neither { (text : List ℕ) → is_assertion text ≡ false → Cuts text [] × IsFaultless text }
     ensures either { (text : List ℕ) → is_assertion text ≡ true → Cuts text [] → IsFaultless text → ⊥ }
@@ -47,6 +51,7 @@ pub fn left_out()
 
 /// A text without lexical faults isn't cut between its tokens: as a file it is one assertion where it has
 /// tokens, and none where it has none.
+#[tactic(auto, using(crate::proofs::Whole::no_spans))]
 pub fn faultless_text()
     ensures none { (text : List ℕ) → Cuts text [] → IsFaultless text → spans_of text ≡ [] }
     ensures one { (text : List ℕ) (token : Seen) (tokens : List Seen) → Cuts text (token ∷ tokens) → IsFaultless text → length (spans_of text) ≡ 1 }
@@ -55,6 +60,7 @@ pub fn faultless_text()
 /// The spans of a file by its lines. Each paragraph that is an assertion is a span, and there is no other span.
 /// A blank line that begins outside literals is in no span, and each other line is one of a paragraph, in whose
 /// span it is.
+#[tactic(auto, using(crate::proofs::Rows::each_span, crate::proofs::Rows::only_span, crate::proofs::Rows::line_paragraph))]
 pub fn spans_by_lines()
     ensures each { (file : List ℕ) (lines : List Line) → IsParagraph file lines → is_assertion (text_of lines) ≡ true → Contains (spans_of file) (span_of lines) }
     ensures only { (file : List ℕ) (span : Span) → Contains (spans_of file) span → IsOfParagraph file span }
@@ -67,6 +73,7 @@ pub fn spans_by_lines()
 /// opens no literal, whatever quotes it has: the next line begins outside literals. Behind a comment's line a line
 /// that neither goes on with the body nor has such a label is read as any other. A line on which a literal goes on
 /// has no labels, and is read from within that literal on.
+#[tactic(auto, using(crate::proofs::Rows::comment_opens_nothing, crate::proofs::Rows::body_ends, crate::proofs::Rows::other_line, crate::proofs::Rows::open_line))]
 pub fn comments_in_files()
     ensures opens_nothing { (file : List ℕ) (before comment : List Line) (next : Line) (behind : List Line) → lines_in file ≡ before ++ comment ++ next ∷ behind → AreOfComment comment → is_literal next.within ≡ false }
     ensures body_ends { (line : List ℕ) → is_continuation line ≡ false → is_comment_label (take 8 line) ≡ false → after_line Within.Body line ≡ fold after_byte Within.Plain line }

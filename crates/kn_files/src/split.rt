@@ -12,6 +12,7 @@ use kn_lex::{goes_on, is_blank, line_len};
 use std::alloc::Global;
 
 /// The bytes of the line that begins here, with its newline.
+#[tactic(auto, using(crate::proofs::Splitting::size_within, crate::proofs::Splitting::size_at_end, crate::proofs::Splitting::line_size_whole))]
 fn line_size(rest: &[u8]) -> usize
     requires { 0 < length rest.now }
     ensures line { lines_of rest.now ≡ take result rest.now ∷ lines_of (drop result rest.now) }
@@ -43,10 +44,7 @@ fn push_piece(spans: &mut List<Span>, file: &[u8], start: usize, end: usize) -> 
         start: start as u32,
         end: end as u32,
     };
-    match spans.push(span) {
-        Ok(()) => Ok(()),
-        Err(_) => Err(NoMemory),
-    }
+    spans.add(span)
 }
 
 /// Whether the file is cut at this line.

@@ -82,7 +82,7 @@ fn after_bytes(within: Within, bytes: &[u8]) -> Within
 
 /// Whether a line ends with a newline, before which a byte stands that is neither white space nor a backslash: no literal
 /// goes on behind it.
-#[tactic(auto, using(crate::proofs::Bare::ends_bare_by_last, crate::proofs::Bare::ends_bare_short))]
+#[tactic(auto, using(crate::proofs::Literals::ends_bare_by_last, crate::proofs::Literals::ends_bare_short))]
 fn ends_bare(line: &[u8]) -> bool
     ensures { result ≡ ends_bare line.now }
 {
@@ -93,7 +93,7 @@ fn ends_bare(line: &[u8]) -> bool
 }
 
 /// What the next line begins in. Whether a comment stands at the end of the line isn't told.
-#[tactic(auto, unfolding(crate::specs::Lines::after_line))]
+#[tactic(auto, using(crate::proofs::Literals::bare_next), unfolding(crate::specs::Lines::after_line))]
 pub(crate) fn after_line(within: Within, line: &[u8]) -> Within
     ensures { settled result ≡ settled (after_line within line.now) }
 {
@@ -109,8 +109,5 @@ pub(crate) fn after_line(within: Within, line: &[u8]) -> Within
 pub(crate) fn is_literal(within: Within) -> bool
     ensures { result ≡ is_literal within }
 {
-    match within {
-        Within::Literal(_) => true,
-        _ => false,
-    }
+    matches!(within, Within::Literal(_))
 }

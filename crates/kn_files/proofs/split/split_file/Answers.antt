@@ -1,10 +1,10 @@
-use Rattle.std.proofs.Common.{refl, sym, subst, ◌∙◌, All}
+use Rattle.std.proofs.Common.{sym, subst, ◌∙◌, All}
 use Rattle.kn_base.specs.declared.span.Span.{Span}
 use Rattle.std.specs.Prelude.{List}
 use Rattle.kn_files.specs.Pieces.{IsWithin}
 use Rattle.kn_files.specs.declared.within.Within.TheVariants.{Plain}
-use Rattle.kn_files.proofs.Bare.{split_settled}
-use Rattle.kn_files.proofs.Splitting.{IsSplit, IsFirstLine, split_start, split_on, split_cut, split_end, spans_within}
+use Rattle.kn_files.proofs.Splitting.{IsSplit, IsFirstLine, split_start, split_on, split_cut, split_end}
+use Rattle.kn_files.proofs.Rows.{spans_within}
 use Rattle.kn_files.proofs.split.split_file.Goals as goal
 use Rattle.kn_files.proofs.split.split_file.Goals.{then-is_cut+in_ok-push_piece, else-is_cut}
 
@@ -17,10 +17,9 @@ loop-at-preserved c =
     record { left = c.split_at.ensures.back; front = c.split_at-in-loop-at.ensures.front; size = c.line_size.ensures.within; cut = c.line_size.ensures.line } in
     elim c.if-is_cut.branch [
       | then-is_cut+in_ok-push_piece w ↦
-          rw w.start-is (split_settled _ _ _ _ _ _ (split_cut _ _ _ _ _ _ _ _ _ _ c.loop-at.invariant line (sym c.is_cut.ensures ∙ w.if-is_cut.true) refl
-          (w.spans-is ∙ w.in_ok-push_piece.ensures)) c.after_line-within.ensures)
+          rw w.start-is (split_cut _ _ _ _ _ _ _ _ _ _ c.loop-at.invariant line (sym c.is_cut.ensures ∙ w.if-is_cut.true) c.after_line-within.ensures (w.spans-is ∙ w.in_ok-push_piece.ensures))
       | else-is_cut w ↦
-          rw w.start-is (split_settled _ _ _ _ _ _ (split_on _ _ _ _ _ _ _ _ _ _ c.loop-at.invariant line (sym c.is_cut.ensures ∙ w.if-is_cut.false) refl w.spans-is) c.after_line-within.ensures)
+          rw w.start-is (split_on _ _ _ _ _ _ _ _ _ _ c.loop-at.invariant line (sym c.is_cut.ensures ∙ w.if-is_cut.false) c.after_line-within.ensures w.spans-is)
     ]
 
 pub returns-clause-spans : goal.returns-clause-spans
@@ -28,6 +27,4 @@ returns-clause-spans c =
     split_end _ _ _ _ _ _ c.loop-at.invariant c.loop-at-test.false (c.in_ok-push_piece-2.ensures)
 
 pub returns-clause-within : goal.returns-clause-within
-returns-clause-within c =
-    let whole = split_end _ _ _ _ _ _ c.loop-at.invariant c.loop-at-test.false (c.in_ok-push_piece-2.ensures) in
-    subst (All (IsWithin c.args.file.now)) (sym whole) (spans_within c.args.file.now)
+returns-clause-within c = subst (All (IsWithin c.args.file.now)) (sym (returns-clause-spans c)) (spans_within c.args.file.now)
