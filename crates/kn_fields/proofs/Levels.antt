@@ -1,11 +1,11 @@
 -- A level of a grammar that is a list: items with signs between them. What is read of it is what is spelled.
-use Rattle.std.proofs.Common.{◌≡◌, ℕ, zero, suc, ◌+◌, ◌*◌, ◌≤◌, Bool, true, List, [], ◌∷◌, ◌++◌, length, Some, None, ◌⊎◌, inl, inr, refl, sym, ap, subst, ◌∙◌, arith, length-append}
+use Rattle.std.proofs.Common.{◌≡◌, ℕ, zero, suc, ◌+◌, ◌*◌, ◌≤◌, Bool, true, List, [], ◌∷◌, ◌++◌, length, Some, None, ◌⊎◌, inl, inr, refl, ap, ◌∙◌, arith, length-append}
 use Rattle.std.proofs.lemmas.List.{append_assoc}
-use Rattle.kn_fields.specs.Words.{Word, Mark, marked}
+use Rattle.kn_fields.specs.Words.{Word, Mark}
 use Rattle.kn_fields.specs.Words.Word.{sign as sign_word}
-use Rattle.kn_fields.specs.Reading.{Read, Reader, map_read, then_read, behind_sign, closed_by, with_front, more_at, tail_at, list_at}
-use Rattle.kn_fields.proofs.Words.{read_parts, marked_before, marked_there}
-use Rattle.kn_fields.proofs.Steps.{mapped, behind, fronted}
+use Rattle.kn_fields.specs.Reading.{Read, Reader, map_read, then_read, closed_by, with_front, more_at, tail_at, list_at, marked}
+use Rattle.kn_fields.proofs.Words.{marked_before, marked_there}
+use Rattle.kn_fields.proofs.Steps.{mapped, behind, fronted, chosen}
 
 -- a front of the words is spelled by a derivation of this tree, and this is left
 pub record Spelled {D X : Type 0} (words_of : D → List Word) (tree_of : D → X) (words : List Word) (tree : X) (rest : List Word) : Type 0 where
@@ -93,47 +93,35 @@ tail_sound : {S X E Y I D : Type 0} (level : Level S X E Y I D) (item : Reader X
     → tail_at level.which level.piece item n words ≡ Some (others, rest) → (i : I) → Tailed level i words others rest
 unfolding tail_at
 tail_sound level item zero words others rest sound e i = absurd (cc)
-tail_sound {S} {X} {E} {Y} {I} {D} level item (suc n) words others rest sound e i =
-    by (λ words others. tail_sound level item n words others rest sound) (level.which words) refl e
-  where
-    by : ((words : List Word) (others : List E) → tail_at level.which level.piece item n words ≡ Some (others, rest) → (i : I) → Tailed level i words others rest)
-        → (found : Read S) → level.which words ≡ found → behind_sign found (Some ([], words)) (more_at level.piece item (tail_at level.which level.piece item n)) ≡ Some (others, rest) → Tailed level i words others rest
-    by again None none is =
-        let same = read_parts {X = List E} [] others words rest is in
-        record {
-          form = level.alone i;
-          spelled = ap (λ (spelled : List Word). spelled ++ rest) (level.alone_words i) ∙ ap (λ (rest : List Word). level.item_words i ++ rest) (sym same.1);
-          parts = subst (level.Parted (level.alone i) (level.item_tree i)) same.0 (level.alone_parts i);
-        }
-    by again (Some (s, left)) some is =
-        let before = level.sign_before words left s some in
-        let b = behind (item left) (λ x behind. with_front (level.piece s x) (tail_at level.which level.piece item n behind)) others rest is in
-        let o = sound left b.first b.middle b.is in
-        let f = fronted (level.piece s b.first) (tail_at level.which level.piece item n b.middle) others rest b.then_is in
-        let t = again b.middle f.others f.is o.form in
-        record {
-          form = level.more i s before.1 t.form;
-          spelled = ap (λ (spelled : List Word). spelled ++ rest) (level.more_words i s before.1 t.form)
-              ∙ append_assoc (level.item_words i) (level.sign s ∷ level.words t.form) rest
-              ∙ ap (λ (inner : List Word). level.item_words i ++ level.sign s ∷ inner) (t.spelled ∙ o.spelled)
-              ∙ ap (λ (words : List Word). level.item_words i ++ words) (sym before.0);
-          parts = subst (level.Parted (level.more i s before.1 t.form) (level.item_tree i)) (ap (λ (x : X). level.piece s x ++ f.others) o.means ∙ f.all_is)
-              (level.more_parts i s before.1 t.form _ _ t.parts);
-        }
+tail_sound level item (suc n) words others rest sound e i =
+    elim (chosen (level.which words) (Some ([], words)) (more_at level.piece item (tail_at level.which level.piece item n)) others rest e) [
+      | inl none ↦ record { form = level.alone i; spelled = grind (arith, level.alone_words i, none.is); parts = grind (arith, level.alone_parts i, none.is) }
+      | inr there ↦
+          let before = level.sign_before words there.left there.found there.there in
+          let b = behind (item there.left) (λ x behind. with_front (level.piece there.found x) (tail_at level.which level.piece item n behind)) others rest there.is in
+          let o = sound there.left b.first b.middle b.is in
+          let f = fronted (level.piece there.found b.first) (tail_at level.which level.piece item n b.middle) others rest b.then_is in
+          let t = tail_sound level item n b.middle f.others rest sound f.is o.form in
+          record {
+            form = level.more i there.found before.1 t.form;
+            spelled = grind (arith, append_assoc, level.more_words i there.found before.1 t.form, before.0, t.spelled, o.spelled);
+            parts = grind (arith, o.means, f.all_is, level.more_parts i there.found before.1 t.form _ _ t.parts);
+          }
+    ]
 
 pub level_sound : {S X E Y I D : Type 0} (level : Level S X E Y I D) (item : Reader X) (n : ℕ) (words : List Word) (y : Y) (rest : List Word)
     → IsSound level.item_words level.item_tree item
     → list_at level.which level.piece level.finish item n words ≡ Some (y, rest) → Spelled level.words level.tree words y rest
 unfolding list_at
-level_sound {S} {X} {E} {Y} {I} {D} level item n words y rest sound e =
+level_sound level item n words y rest sound e =
     let b = behind (item words) (λ first rest. map_read (level.finish first) (tail_at level.which level.piece item n rest)) y rest e in
     let o = sound words b.first b.middle b.is in
     let m = mapped (level.finish b.first) (tail_at level.which level.piece item n b.middle) y rest b.then_is in
     let t = tail_sound level item n b.middle m.from rest sound m.is o.form in
     record {
       form = t.form;
-      spelled = t.spelled ∙ o.spelled;
-      means = level.tree_is t.form _ _ t.parts ∙ ap (λ (x : X). level.finish x m.from) o.means ∙ m.made;
+      spelled = cc (t.spelled, o.spelled);
+      means = cc (level.tree_is t.form _ _ t.parts, o.means, m.made);
     }
 
 -- what is spelled is read: its first item, and what stands behind that
@@ -151,7 +139,7 @@ read_complete : {S X E Y I D : Type 0} (level : Level S X E Y I D) (item : Reade
     → length (level.words d) ≤ limit → length (level.words d) + 1 ≤ n → Stops rest → level.which rest ≡ None → Told level item n d rest
 unfolding tail_at
 read_complete level item Stops limit zero d rest complete between fits few stops last = absurd (omega (arith, few))
-read_complete {S} {X} {E} {Y} {I} {D} level item Stops limit (suc n) d rest complete between fits few stops last =
+read_complete level item Stops limit (suc n) d rest complete between fits few stops last =
     elim (level.split d) [
       | inl a ↦
           let words = ap level.words a.1 ∙ level.alone_words a.0 in
@@ -160,9 +148,9 @@ read_complete {S} {X} {E} {Y} {I} {D} level item Stops limit (suc n) d rest comp
             first = level.item_tree a.0;
             others = [];
             middle = rest;
-            parts = subst (λ (d : D). level.Parted d (level.item_tree a.0) []) (sym a.1) (level.alone_parts a.0);
-            first_read = ap (λ (spelled : List Word). item (spelled ++ rest)) words ∙ complete a.0 rest (omega (arith, size, fits)) stops;
-            others_read = ap (λ (found : Read S). behind_sign found (Some ([], rest)) (more_at level.piece item (tail_at level.which level.piece item n))) last;
+            parts = rw a.1 (level.alone_parts a.0);
+            first_read = cc (words, complete a.0 rest (omega (arith, size)) stops);
+            others_read = grind arith;
           }
       | inr m ↦
           let words = ap level.words m.4 ∙ level.more_words m.0 m.1 m.2 m.3 in
@@ -173,13 +161,9 @@ read_complete {S} {X} {E} {Y} {I} {D} level item Stops limit (suc n) d rest comp
             first = level.item_tree m.0;
             others = level.piece m.1 r.first ++ r.others;
             middle = level.sign m.1 ∷ left;
-            parts = subst (λ (d : D). level.Parted d (level.item_tree m.0) (level.piece m.1 r.first ++ r.others)) (sym m.4) (level.more_parts m.0 m.1 m.2 m.3 _ _ r.parts);
-            first_read = ap (λ (spelled : List Word). item (spelled ++ rest)) words
-                ∙ ap item (append_assoc (level.item_words m.0) (level.sign m.1 ∷ level.words m.3) rest)
-                ∙ complete m.0 (level.sign m.1 ∷ left) (omega (arith, size, fits)) (between m.1 left m.2);
-            others_read = ap (λ (found : Read S). behind_sign found (Some ([], level.sign m.1 ∷ left)) (more_at level.piece item (tail_at level.which level.piece item n))) (level.sign_there m.1 left m.2)
-                ∙ ap (λ (read : Read X). then_read read (λ x behind. with_front (level.piece m.1 x) (tail_at level.which level.piece item n behind))) r.first_read
-                ∙ ap (with_front (level.piece m.1 r.first)) r.others_read;
+            parts = grind (arith, level.more_parts m.0 m.1 m.2 m.3 _ _ r.parts);
+            first_read = cc (words, append_assoc (level.item_words m.0) (level.sign m.1 ∷ level.words m.3) rest, complete m.0 (level.sign m.1 ∷ left) (omega (arith, size)) (between m.1 left m.2));
+            others_read = cc (level.sign_there m.1 left m.2, r.first_read, r.others_read);
           }
     ]
 
@@ -189,11 +173,9 @@ pub level_complete : {S X E Y I D : Type 0} (level : Level S X E Y I D) (item : 
     → length (level.words d) + 1 ≤ n → Stops rest → level.which rest ≡ None
     → list_at level.which level.piece level.finish item n (level.words d ++ rest) ≡ Some (level.tree d, rest)
 unfolding list_at
-level_complete {S} {X} {E} {Y} {I} {D} level item Stops n d rest complete between few stops last =
+level_complete level item Stops n d rest complete between few stops last =
     let r = read_complete level item Stops (length (level.words d)) n d rest complete between (omega arith) few stops last in
-    ap (λ (read : Read X). then_read read (λ first rest. map_read (level.finish first) (tail_at level.which level.piece item n rest))) r.first_read
-    ∙ ap (map_read (level.finish r.first)) r.others_read
-    ∙ ap (λ (y : Y). Some (y, rest)) (sym (level.tree_is d _ _ r.parts))
+    cc (r.first_read, r.others_read, level.tree_is d _ _ r.parts)
 
 -- what a closing sign follows is spelled with it, and read
 pub closed_sound : {D X : Type 0} (text : List ℕ) (words_of : D → List Word) (tree_of : D → X) (read : Reader X) → IsSound words_of tree_of read
@@ -204,15 +186,11 @@ closed_sound text words_of tree_of read sound words x rest e =
     let d = sound words b.first b.middle b.is in
     record {
       form = d.form;
-      spelled = append_assoc (words_of d.form) (sign_word text ∷ []) rest
-          ∙ ap (λ (rest : List Word). words_of d.form ++ rest) (sym (marked_before text b.middle rest m.from m.is))
-          ∙ d.spelled;
-      means = d.means ∙ m.made;
+      spelled = grind (arith, append_assoc, marked_before text b.middle rest m.from m.is, d.spelled);
+      means = cc (d.means, m.made);
     }
 
 pub closed_complete : {X : Type 0} (text : List ℕ) (read : Reader X) (inner rest : List Word) (x : X) → read (inner ++ sign_word text ∷ rest) ≡ Some (x, sign_word text ∷ rest)
     → then_read (read ((inner ++ sign_word text ∷ []) ++ rest)) (closed_by text) ≡ Some (x, rest)
-closed_complete {X} text read inner rest x e =
-    ap (λ (words : List Word). then_read (read words) (closed_by text)) (append_assoc inner (sign_word text ∷ []) rest)
-    ∙ ap (λ (read : Read X). then_read read (closed_by text)) e
-    ∙ ap (map_read (λ mark. x)) (marked_there text rest)
+closed_complete text read inner rest x e =
+    cc (append_assoc inner (sign_word text ∷ []) rest, marked_there text rest)

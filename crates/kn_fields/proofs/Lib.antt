@@ -1,6 +1,5 @@
 pub mod Between
 pub mod Parts
-pub mod Settings
 pub mod Lists
 pub mod Places
 pub mod Shown

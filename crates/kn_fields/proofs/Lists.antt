@@ -1,153 +1,93 @@
 -- A list of constants is what the turns take: three tokens for each, of different names.
-use Rattle.std.proofs.Common.{◌≡◌, ◌≢◌, ℕ, Bool, true, false, ◌&&◌, ◌||◌, not, Some, None, List, [], ◌∷◌, ◌++◌, map, codes, refl, sym, ◌∙◌, ap, subst, append-nil, append_assoc, bytes_eq, eq-eqb}
-use Rattle.std.specs.Prelude.{◌==◌, slice_index, if◌then◌else◌}
+use Rattle.std.proofs.Common.{◌≤◌, length, ◌≡◌, ℕ, false, Option, Some, None, inl, inr, List, [], ◌∷◌, ◌++◌, map, codes, arith, refl, append-nil, append_assoc, bytes_eq}
 use Rattle.std.specs.List.{list_any, IsDistinct, AllByRecursion}
-use Rattle.std.proofs.lemmas.Option.{none-some}
-use Rattle.std.proofs.lemmas.Bool.{false≢true, ne_eqb}
+use Rattle.std.proofs.lemmas.Bool.Decides.{nat_tests}
 use Rattle.std.proofs.lemmas.List.Folds.{list_any-append}
 use Rattle.std.proofs.lemmas.Slice.Eq.{bytes_eq-Decides}
+use Rattle.std.specs.Option.{option_or}
 use Rattle.kn_lex.specs.Cutting.{Seen}
-use Rattle.kn_lex.specs.declared.token.Sort.{Sort}
-use Rattle.kn_lex.specs.declared.token.Sort.TheVariants.{Label, Body, Name, Number, Text, Sign}
-use Rattle.kn_lex.proofs.Spelled.{both}
-use Rattle.kn_fields.specs.Constants.{is_name_sort, is_sign_sort, is_text_sort, constants_of, IsSetting, AreSettings, IsConstantList, BeginsConstantList, HasDeparture}
-use Rattle.kn_fields.specs.Turns.{is_name, next_turn, turn_behind, fits, departs}
-use Rattle.kn_fields.specs.Faults.{HasNone, HasFirst}
-use Rattle.kn_fields.specs.Scanning.{first_place}
+use Rattle.kn_lex.specs.declared.token.Sort.TheVariants.{Text, Sign}
+use Rattle.kn_fields.specs.Constants.{constants_of, IsSetting, AreSettings, IsConstantList, BeginsConstantList, HasDeparture}
+use Rattle.kn_fields.specs.Fields.{Field, field_with}
+use Rattle.kn_fields.specs.Turns.{is_name, next_turn, turn_behind, departs}
+use Rattle.kn_fields.specs.Faults.{DepartsAt}
+use Rattle.kn_fields.specs.Scanning.{first_place, end_place, departure, constant_place}
 use Rattle.kn_fields.specs.declared.constants.Turn.{Turn}
-use Rattle.kn_fields.specs.declared.constants.Turn.TheVariants.{Setting, Equals, Value}
-use Rattle.kn_fields.proofs.Places.{none_shown, none_place}
-use Rattle.kn_fields.proofs.Settings.{turn_more, text_sort}
+use Rattle.kn_fields.specs.declared.constants.Turn.TheVariants.{Setting}
+use Rattle.kn_fields.proofs.Between.{steps}
+use Rattle.kn_fields.proofs.Places.{first_shown, none_shown, none_place, place_append}
+
+pub turn_append : (turn : Turn) (tokens others : List Seen) → turn_behind turn (tokens ++ others) ≡ turn_behind (turn_behind turn tokens) others
+unfolding turn_behind
+turn_append turn [] others = refl
+turn_append turn (t ∷ tokens) others = turn_append (next_turn turn) tokens others
+
+pub turn_more : (turn : Turn) (tokens : List Seen) (token : Seen) → turn_behind turn (tokens ++ token ∷ []) ≡ next_turn (turn_behind turn tokens)
+unfolding turn_behind
+turn_more turn tokens token = turn_append turn tokens (token ∷ [])
+
+pub turn_first : (turn : Turn) → turn_behind turn [] ≡ turn
+unfolding turn_behind
+turn_first turn = refl
+
+-- a step of the loop over the turns
+pub ruleset turns = (steps, turn_more, turn_first)
+
+-- three tokens that fit behind whole constants set a new name
+fit_three : (front : List Seen) (n e v : Seen) (rest : List Seen) → turn_behind Setting front ≡ Setting → first_place departs front (n ∷ e ∷ v ∷ rest) ≡ None
+    → IsSetting n e v × (list_any (is_name n.text) front ≡ false) × (first_place departs (front ++ n ∷ e ∷ v ∷ []) rest ≡ None)
+unfolding first_place turn_behind
+fit_three front n e v rest due none = grind (arith, nat_tests, bytes_eq-Decides, append_assoc, turn_append)
+
+three_fit : (front : List Seen) (n e v : Seen) (rest : List Seen) → turn_behind Setting front ≡ Setting → IsSetting n e v → list_any (is_name n.text) front ≡ false
+    → first_place departs (front ++ n ∷ e ∷ v ∷ []) rest ≡ None → first_place departs front (n ∷ e ∷ v ∷ rest) ≡ None
+unfolding first_place turn_behind
+three_fit front n e v rest due set new none = grind (arith, nat_tests, bytes_eq-Decides, append_assoc, turn_append)
 
 -- the names that a list sets
 names : List Seen → List (List ℕ)
 names tokens = map (λ constant. constant.name) (constants_of tokens)
 
 -- no such name stands among these tokens
-IsApart : List Seen → List (List ℕ) → Type 0
+abbrev IsApart : List Seen → List (List ℕ) → Type 0
 IsApart front texts = AllByRecursion (λ text. list_any (is_name text) front ≡ false) texts
 
-neither : (a b : Bool) → (a || b) ≡ false → (a ≡ false) × (b ≡ false)
-neither true b e = absurd (false≢true (sym e))
-neither false b e = (refl, e)
-
-not_false : (b : Bool) → not b ≡ false → b ≡ true
-not_false true h = refl
-not_false false h = absurd (false≢true (sym h))
-
-not_true : (b : Bool) → not b ≡ true → b ≡ false
-not_true false h = refl
-not_true true h = absurd (false≢true h)
-
-name_sort : (sort : Sort) → is_name_sort sort ≡ true → sort ≡ Name
-name_sort Label e = absurd (false≢true e)
-name_sort Body e = absurd (false≢true e)
-name_sort Name e = refl
-name_sort Number e = absurd (false≢true e)
-name_sort Text e = absurd (false≢true e)
-name_sort Sign e = absurd (false≢true e)
-
-sign_sort : (sort : Sort) → is_sign_sort sort ≡ true → sort ≡ Sign
-sign_sort Label e = absurd (false≢true e)
-sign_sort Body e = absurd (false≢true e)
-sign_sort Name e = absurd (false≢true e)
-sign_sort Number e = absurd (false≢true e)
-sign_sort Text e = absurd (false≢true e)
-sign_sort Sign e = refl
-
--- one token on
-
-step_on : (front : List Seen) (t : Seen) (ts : List Seen) → first_place departs front (t ∷ ts) ≡ None
-    → (departs front t ≡ false) × (first_place departs (front ++ t ∷ []) ts ≡ None)
-unfolding first_place
-step_on front t ts h = by (departs front t) refl h
-  where
-    by : (b : Bool) → departs front t ≡ b → (if b then Some t.span.start else first_place departs (front ++ t ∷ []) ts) ≡ None
-        → (departs front t ≡ false) × (first_place departs (front ++ t ∷ []) ts ≡ None)
-    by true d e = absurd (none-some _ (sym e))
-    by false d e = (d, e)
-
-step_back : (front : List Seen) (t : Seen) (ts : List Seen) → departs front t ≡ false → first_place departs (front ++ t ∷ []) ts ≡ None
-    → first_place departs front (t ∷ ts) ≡ None
-unfolding first_place
-step_back front t ts d rest = ap (λ (b : Bool). if b then Some t.span.start else first_place departs (front ++ t ∷ []) ts) d ∙ rest
-
-fit : (turn : Turn) (front : List Seen) (t : Seen) → turn_behind Setting front ≡ turn → departs front t ≡ false → fits turn front t ≡ true
-fit turn front t due d = ap (λ (x : Turn). fits x front t) (sym due) ∙ not_false (fits (turn_behind Setting front) front t) d
-
-unfit : (turn : Turn) (front : List Seen) (t : Seen) → turn_behind Setting front ≡ turn → fits turn front t ≡ true → departs front t ≡ false
-unfit turn front t due f = ap (λ (x : Turn). not (fits x front t)) due ∙ ap not f
-
--- three tokens on
-three : (front : List Seen) (n e v : Seen) → ((front ++ n ∷ []) ++ e ∷ []) ++ v ∷ [] ≡ front ++ n ∷ e ∷ v ∷ []
-three front n e v = append_assoc (front ++ n ∷ []) (e ∷ []) (v ∷ []) ∙ append_assoc front (n ∷ []) (e ∷ v ∷ [])
-
-record IsDue (front : List Seen) (n e v : Seen) : Type 0 where
-  sign : turn_behind Setting (front ++ n ∷ []) ≡ Equals
-  value : turn_behind Setting ((front ++ n ∷ []) ++ e ∷ []) ≡ Value
-  more : turn_behind Setting (front ++ n ∷ e ∷ v ∷ []) ≡ Setting
-
-due_next : (front : List Seen) (n e v : Seen) → turn_behind Setting front ≡ Setting → IsDue front n e v
-due_next front n e v due =
-    let sign = turn_more Setting front n ∙ ap next_turn due in
-    let value = turn_more Setting (front ++ n ∷ []) e ∙ ap next_turn sign in
-    record {
-      sign = sign;
-      value = value;
-      more = ap (turn_behind Setting) (sym (three front n e v)) ∙ turn_more Setting ((front ++ n ∷ []) ++ e ∷ []) v ∙ ap next_turn value;
-    }
-
-record IsNew (front : List Seen) (n : Seen) : Type 0 where
-  sort : n.sort ≡ Name
-  own : slice_index n.text 0 ≢ 95
-  apart : list_any (is_name n.text) front ≡ false
-
-new_name : (front : List Seen) (n : Seen) → fits Setting front n ≡ true → IsNew front n
-new_name front n f =
-    let last = both (is_name_sort n.sort && not (slice_index n.text 0 == 95)) (not (list_any (is_name n.text) front)) f in
-    let first = both (is_name_sort n.sort) (not (slice_index n.text 0 == 95)) last.0 in
-    record {
-      sort = name_sort n.sort first.0;
-      own = λ is. false≢true (sym (not_true (slice_index n.text 0 == 95) first.1) ∙ eq-eqb (slice_index n.text 0) 95 is);
-      apart = not_true (list_any (is_name n.text) front) last.1;
-    }
-
-record IsSignOf (e : Seen) : Type 0 where
-  sort : e.sort ≡ Sign
-  text : e.text ≡ codes "="
-
-the_sign : (front : List Seen) (e : Seen) → fits Equals front e ≡ true → IsSignOf e
-the_sign front e f =
-    let parts = both (is_sign_sort e.sort) (bytes_eq e.text (codes "=")) f in
-    record { sort = sign_sort e.sort parts.0; text = (bytes_eq-Decides e.text (codes "=")).0 parts.1 }
-
 -- names that don't stand among more tokens don't stand among fewer, and differ from the name that was set last
-apart_from : (front : List Seen) (n e v : Seen) (texts : List (List ℕ)) → n.sort ≡ Name → IsApart (front ++ n ∷ e ∷ v ∷ []) texts
+apart_from : (front : List Seen) (n e v : Seen) (texts : List (List ℕ)) → IsSetting n e v → IsApart (front ++ n ∷ e ∷ v ∷ []) texts
     → IsApart front texts × AllByRecursion (λ text. bytes_eq n.text text ≡ false) texts
-unfolding IsApart
-apart_from front n e v [] sort h = (tt, tt)
-apart_from front n e v (text ∷ texts) sort h =
-    let rest = apart_from front n e v texts sort h.1 in
-    let parts = neither (list_any (is_name text) front) (list_any (is_name text) (n ∷ e ∷ v ∷ [])) (sym (list_any-append (is_name text) front (n ∷ e ∷ v ∷ [])) ∙ h.0) in
-    let own = neither (is_name text n) (list_any (is_name text) (e ∷ v ∷ [])) parts.1 in
-    let other : bytes_eq n.text text ≡ false = ap (λ (s : Sort). is_name_sort s && bytes_eq n.text text) (sym sort) ∙ own.0 in
-    ((parts.0, rest.0), (other, rest.1))
+apart_from front n e v [] set apart = (tt, tt)
+apart_from front n e v (text ∷ texts) set apart = grind (arith, list_any-append, apart_from front n e v texts set apart.1)
 
 apart_to : (front : List Seen) (n e v : Seen) (texts : List (List ℕ)) → IsSetting n e v → IsApart front texts → AllByRecursion (λ text. bytes_eq n.text text ≡ false) texts
     → IsApart (front ++ n ∷ e ∷ v ∷ []) texts
-unfolding IsApart
-apart_to front n e v [] s h d = tt
-apart_to front n e v (text ∷ texts) s h d =
-    let last : list_any (is_name text) (n ∷ e ∷ v ∷ []) ≡ false =
-    rw (ap is_name_sort s.name_sort, ap is_name_sort s.sign_sort, ap is_name_sort s.literal, d.0) refl in
-    (list_any-append (is_name text) front (n ∷ e ∷ v ∷ []) ∙ rw (h.0, last) refl, apart_to front n e v texts s h.1 d.1)
+apart_to front n e v [] set apart own = tt
+apart_to front n e v (text ∷ texts) set apart own = grind (arith, list_any-append, apart_to front n e v texts set apart.1 own.1)
+
+apart_at_first : (texts : List (List ℕ)) → IsApart [] texts
+apart_at_first [] = tt
+apart_at_first (text ∷ texts) = (refl, apart_at_first texts)
+
+-- constants whose names stand nowhere before
+record AreNew (front tokens : List Seen) : Type 0 where
+  settings : AreSettings tokens
+  apart : IsApart front (names tokens)
+  distinct : IsDistinct bytes_eq (names tokens)
+
+one_new : (front : List Seen) (n e v : Seen) (rest : List Seen) → IsSetting n e v → list_any (is_name n.text) front ≡ false → AreNew (front ++ n ∷ e ∷ v ∷ []) rest
+    → AreNew front (n ∷ e ∷ v ∷ rest)
+unfolding names constants_of IsDistinct
+one_new front n e v rest set new others =
+    let apart = apart_from front n e v (names rest) set others.apart in
+    record { settings = (set, others.settings); apart = (new, apart.0); distinct = (apart.1, others.distinct) }
+
+none_new : (front : List Seen) → AreNew front []
+unfolding names constants_of IsDistinct
+none_new front = record { settings = tt; apart = tt; distinct = tt }
 
 -- tokens that don't depart begin a list, and are one where a name is due behind them
-record IsCompleted (front tokens : List Seen) : Type 0 where
+record IsBegun (front tokens : List Seen) : Type 0 where
   behind : List Seen
-  settings : AreSettings (tokens ++ behind)
-  apart : IsApart front (names (tokens ++ behind))
-  distinct : IsDistinct bytes_eq (names (tokens ++ behind))
+  all : AreNew front (tokens ++ behind)
   whole : turn_behind Setting tokens ≡ Setting → behind ≡ []
 
 an_equals : Seen
@@ -156,138 +96,102 @@ an_equals = record { sort = Sign; span = record { start = 0; end = 0 }; text = c
 a_literal : Seen
 a_literal = record { sort = Text; span = record { start = 0; end = 0 }; text = []; first = false }
 
-completed : (front tokens : List Seen) → turn_behind Setting front ≡ Setting → first_place departs front tokens ≡ None → IsCompleted front tokens
-unfolding names IsApart constants_of turn_behind an_equals a_literal IsDistinct
-completed front [] due none = record { behind = []; settings = tt; apart = tt; distinct = tt; whole = λ h. refl }
-completed front (n ∷ []) due none =
-    let first = step_on front n [] none in
-    let new = new_name front n (fit Setting front n due first.0) in
-    record {
-      behind = an_equals ∷ a_literal ∷ [];
-      settings = (record { name_sort = new.sort; own_name = new.own; sign_sort = refl; sign = refl; literal = refl }, tt);
-      apart = (new.apart, tt);
-      distinct = (tt, tt);
-      whole = λ h. absurd (cc h);
-    }
-completed front (n ∷ e ∷ []) due none =
-    let first = step_on front n (e ∷ []) none in
-    let second = step_on (front ++ n ∷ []) e [] first.1 in
-    let new = new_name front n (fit Setting front n due first.0) in
-    let turns = due_next front n e a_literal due in
-    let sign = the_sign (front ++ n ∷ []) e (fit Equals (front ++ n ∷ []) e turns.sign second.0) in
-    record {
-      behind = a_literal ∷ [];
-      settings = (record { name_sort = new.sort; own_name = new.own; sign_sort = sign.sort; sign = sign.text; literal = refl }, tt);
-      apart = (new.apart, tt);
-      distinct = (tt, tt);
-      whole = λ h. absurd (cc h);
-    }
-completed front (n ∷ e ∷ v ∷ rest) due none =
-    let first = step_on front n (e ∷ v ∷ rest) none in
-    let second = step_on (front ++ n ∷ []) e (v ∷ rest) first.1 in
-    let third = step_on ((front ++ n ∷ []) ++ e ∷ []) v rest second.1 in
-    let turns = due_next front n e v due in
-    let new = new_name front n (fit Setting front n due first.0) in
-    let sign = the_sign (front ++ n ∷ []) e (fit Equals (front ++ n ∷ []) e turns.sign second.0) in
-    let literal = text_sort v.sort (fit Value ((front ++ n ∷ []) ++ e ∷ []) v turns.value third.0) in
-    let left : first_place departs (front ++ n ∷ e ∷ v ∷ []) rest ≡ None = subst (λ (b : List Seen). first_place departs b rest ≡ None) (three front n e v) third.1 in
-    let more = completed (front ++ n ∷ e ∷ v ∷ []) rest turns.more left in
-    let apart = apart_from front n e v (names (rest ++ more.behind)) new.sort more.apart in
-    record {
-      behind = more.behind;
-      settings = (record { name_sort = new.sort; own_name = new.own; sign_sort = sign.sort; sign = sign.text; literal = literal }, more.settings);
-      apart = (new.apart, apart.0);
-      distinct = (apart.1, more.distinct);
-      whole = more.whole;
-    }
+begun : (front tokens : List Seen) → turn_behind Setting front ≡ Setting → first_place departs front tokens ≡ None → IsBegun front tokens
+unfolding turn_behind first_place an_equals a_literal
+begun front [] due none = record { behind = []; all = none_new front; whole = λ h. refl }
+begun front (n ∷ []) due none =
+    let f = fit_three front n an_equals a_literal [] due (grind (arith, turn_append)) in
+    record { behind = an_equals ∷ a_literal ∷ []; all = one_new front n an_equals a_literal [] f.0 f.1 (none_new _); whole = λ h. cc h }
+begun front (n ∷ e ∷ []) due none =
+    let f = fit_three front n e a_literal [] due (grind (arith, turn_append)) in
+    record { behind = a_literal ∷ []; all = one_new front n e a_literal [] f.0 f.1 (none_new _); whole = λ h. cc h }
+begun front (n ∷ e ∷ v ∷ rest) due none =
+    let f = fit_three front n e v rest due none in
+    let b = begun (front ++ n ∷ e ∷ v ∷ []) rest (grind (arith, turn_append)) f.2 in
+    record { behind = b.behind; all = one_new front n e v (rest ++ b.behind) f.0 f.1 b.all; whole = b.whole }
 
 -- a list departs nowhere, and a name is due behind it
-list_passes : (front tokens : List Seen) → turn_behind Setting front ≡ Setting → AreSettings tokens → IsApart front (names tokens) → IsDistinct bytes_eq (names tokens)
-    → (first_place departs front tokens ≡ None) × (turn_behind Setting tokens ≡ Setting)
-unfolding names IsApart constants_of turn_behind first_place IsDistinct
-list_passes front [] due settings apart distinct = (refl, refl)
-list_passes front (n ∷ []) due settings apart distinct = absurd settings
-list_passes front (n ∷ e ∷ []) due settings apart distinct = absurd settings
-list_passes front (n ∷ e ∷ v ∷ rest) due settings apart distinct =
-    let s = settings.0 in
-    let turns = due_next front n e v due in
-    let more = list_passes (front ++ n ∷ e ∷ v ∷ []) rest turns.more settings.1 (apart_to front n e v (names rest) s apart.1 distinct.0) distinct.1 in
-    let own : (slice_index n.text 0 == 95) ≡ false = ne_eqb _ _ s.own_name in
-    let first : fits Setting front n ≡ true = rw (ap is_name_sort s.name_sort, own, apart.0) refl in
-    let second : fits Equals (front ++ n ∷ []) e ≡ true = rw (ap is_sign_sort s.sign_sort) (ap (λ (text : List ℕ). bytes_eq text (codes "=")) s.sign) in
-    let third : fits Value ((front ++ n ∷ []) ++ e ∷ []) v ≡ true = ap is_text_sort s.literal in
-    let left : first_place departs (((front ++ n ∷ []) ++ e ∷ []) ++ v ∷ []) rest ≡ None = subst (λ (b : List Seen). first_place departs b rest ≡ None) (sym (three front n e v)) more.0 in (
-      step_back front n (e ∷ v ∷ rest) (unfit Setting front n due first)
-          (step_back (front ++ n ∷ []) e (v ∷ rest) (unfit Equals (front ++ n ∷ []) e turns.sign second)
-          (step_back ((front ++ n ∷ []) ++ e ∷ []) v rest (unfit Value ((front ++ n ∷ []) ++ e ∷ []) v turns.value third) left)),
-      more.1,
-    )
+new_fit : (front tokens : List Seen) → turn_behind Setting front ≡ Setting → AreNew front tokens → (first_place departs front tokens ≡ None) × (turn_behind Setting tokens ≡ Setting)
+unfolding names constants_of turn_behind first_place IsDistinct
+new_fit front [] due new = (refl, refl)
+new_fit front (n ∷ []) due new = absurd new.settings
+new_fit front (n ∷ e ∷ []) due new = absurd new.settings
+new_fit front (n ∷ e ∷ v ∷ rest) due new =
+    let s = new.settings.0 in
+    let apart = apart_to front n e v (names rest) s new.apart.1 new.distinct.0 in
+    let more = new_fit (front ++ n ∷ e ∷ v ∷ []) rest (grind (arith, turn_append)) (record { settings = new.settings.1; apart = apart; distinct = new.distinct.1 }) in
+    (three_fit front n e v rest due s new.apart.0 more.0, more.1)
 
-no_names_before : (texts : List (List ℕ)) → IsApart [] texts
-unfolding IsApart
-no_names_before [] = tt
-no_names_before (text ∷ texts) = (refl, no_names_before texts)
-
-passes : (tokens : List Seen) → IsConstantList tokens → (first_place departs [] tokens ≡ None) × (turn_behind Setting tokens ≡ Setting)
+pub list_passes : (tokens : List Seen) → IsConstantList tokens → (first_place departs [] tokens ≡ None) × (turn_behind Setting tokens ≡ Setting)
 unfolding names turn_behind
-passes tokens list = list_passes [] tokens refl list.settings (no_names_before (names tokens)) list.distinct
+list_passes tokens list = new_fit [] tokens refl (record { settings = list.settings; apart = apart_at_first (names tokens); distinct = list.distinct })
 
-pub begins_list : (tokens : List Seen) → HasNone departs tokens → BeginsConstantList tokens
+begin_passes : (tokens : List Seen) → BeginsConstantList tokens → first_place departs [] tokens ≡ None
+begin_passes tokens begins = grind (arith, place_append departs [] tokens begins.behind, list_passes (tokens ++ begins.behind) begins.list)
+
+begins_list : (tokens : List Seen) → first_place departs [] tokens ≡ None → BeginsConstantList tokens
 unfolding names turn_behind
 begins_list tokens none =
-    let c = completed [] tokens refl (none_place departs tokens none) in
-    record { behind = c.behind; list = record { settings = c.settings; distinct = c.distinct } }
+    let b = begun [] tokens refl none in
+    record { behind = b.behind; list = record { settings = b.all.settings; distinct = b.all.distinct } }
 
-pub whole_list : (tokens : List Seen) → HasNone departs tokens → turn_behind Setting tokens ≡ Setting → IsConstantList tokens
+pub whole_list : (tokens : List Seen) → first_place departs [] tokens ≡ None → turn_behind Setting tokens ≡ Setting → IsConstantList tokens
 unfolding names turn_behind
 whole_list tokens none due =
-    let c = completed [] tokens refl (none_place departs tokens none) in
-    subst IsConstantList (ap (λ (behind : List Seen). tokens ++ behind) (c.whole due) ∙ append-nil tokens) (record { settings = c.settings; distinct = c.distinct })
+    let b = begun [] tokens refl none in
+    let list : IsConstantList (tokens ++ b.behind) = record { settings = b.all.settings; distinct = b.all.distinct } in
+    rw (b.whole due, append-nil) at list
 
-pub list_due : (tokens : List Seen) → IsConstantList tokens → turn_behind Setting tokens ≡ Setting
-list_due tokens list = (passes tokens list).1
+-- where a list departs, or breaks off
 
-pub none_departs : (tokens : List Seen) → BeginsConstantList tokens → HasNone departs tokens
-none_departs tokens begins before token behind here =
-    none_shown departs (tokens ++ begins.behind) (passes (tokens ++ begins.behind) begins.list).0 before token (behind ++ begins.behind)
-    (ap (λ (ts : List Seen). ts ++ begins.behind) here ∙ append_assoc before (token ∷ behind) begins.behind)
-
--- one token more that doesn't depart
-none_more : (front before : List Seen) (token : Seen) → first_place departs front before ≡ None → departs (front ++ before) token ≡ false
-    → first_place departs front (before ++ token ∷ []) ≡ None
-unfolding first_place
-none_more front [] token none fine = step_back front token [] (ap (λ (b : List Seen). departs b token) (sym (append-nil front)) ∙ fine) refl
-none_more front (t ∷ before) token none fine =
-    let step = step_on front t before none in
-    step_back front t (before ++ token ∷ []) step.0
-    (none_more (front ++ t ∷ []) before token step.1 (ap (λ (b : List Seen). departs b token) (append_assoc front (t ∷ []) before) ∙ fine))
-
-pub departure_from : (tokens : List Seen) (at : ℕ) → HasFirst departs tokens at → HasDeparture tokens at
-departure_from tokens at f =
+departure_shown : (tokens : List Seen) (at : ℕ) → first_place departs [] tokens ≡ Some at → HasDeparture tokens at
+departure_shown tokens at e =
+    let f = first_shown departs tokens at e in
     record {
       before = f.before;
       token = f.token;
       behind = f.behind;
       here = f.here;
-      begins = begins_list f.before f.first;
-      departs = λ begins. false≢true (sym (none_departs (f.before ++ f.token ∷ []) begins f.before f.token [] refl) ∙ f.bad);
+      begins = begins_list f.before (none_place departs f.before f.first);
+      departs = λ begins. cc (none_shown departs (f.before ++ f.token ∷ []) (begin_passes (f.before ++ f.token ∷ []) begins) f.before f.token [] refl, f.bad);
       place = f.place;
     }
 
-pub departure_to : (tokens : List Seen) (at : ℕ) → HasDeparture tokens at → HasFirst departs tokens at
-departure_to tokens at d =
-    let none = none_departs d.before d.begins in
-    record {
-      before = d.before;
-      token = d.token;
-      behind = d.behind;
-      here = d.here;
-      bad = by (departs d.before d.token) refl (none_place departs d.before none);
-      first = none;
-      place = d.place;
-    }
+shown_departure : (tokens : List Seen) (at : ℕ) → HasDeparture tokens at → first_place departs [] tokens ≡ Some at
+unfolding first_place
+shown_departure tokens at d =
+    let none = begin_passes d.before d.begins in
+    let one = place_append departs [] d.before (d.token ∷ []) in
+    let all = place_append departs [] d.before (d.token ∷ d.behind) in
+    let departs_here : first_place departs [] (d.before ++ d.token ∷ []) ≡ None → ⊥ = λ fits. d.departs (begins_list (d.before ++ d.token ∷ []) fits) in
+    grind arith
+
+pub departs_shown : (field : Field) (at : ℕ) → departure field.tokens (Some field.label.span.start) ≡ Some at → DepartsAt field at
+unfolding departure
+departs_shown field at e = by (first_place departs [] field.tokens) refl e
   where
-    by : (b : Bool) → departs d.before d.token ≡ b → first_place departs [] d.before ≡ None → departs d.before d.token ≡ true
-    by true e none = e
-    by false e none =
-        absurd (d.departs (begins_list (d.before ++ d.token ∷ []) (none_shown departs (d.before ++ d.token ∷ []) (none_more [] d.before d.token none e))))
+    by : (o : Option ℕ) → first_place departs [] field.tokens ≡ o
+        → option_or o (end_place (Some field.label.span.start) (turn_behind Setting field.tokens)) ≡ Some at → DepartsAt field at
+    by None none h = inr (begins_list field.tokens none, (λ list. grind (arith, list_passes field.tokens list)), grind arith)
+    by (Some a) found h = inl (departure_shown field.tokens at (cc))
+
+pub shown_departs : (field : Field) (at : ℕ) → DepartsAt field at → departure field.tokens (Some field.label.span.start) ≡ Some at
+unfolding departure
+shown_departs field at (inl h) = grind (arith, shown_departure field.tokens at h)
+shown_departs field at (inr h) =
+    let none = begin_passes field.tokens h.0 in
+    let unfinished : turn_behind Setting field.tokens ≡ Setting → ⊥ = λ due. h.1 (whole_list field.tokens none due) in
+    grind arith
+
+pub no_departure : (field : Field) → departure field.tokens (Some field.label.span.start) ≡ None → IsConstantList field.tokens
+unfolding departure
+no_departure field e = whole_list field.tokens (grind arith) (grind arith)
+
+pub settings_there : (tokens : List Seen) (field : Field) → field_with 6 tokens ≡ Some field → constant_place tokens ≡ None → AreSettings field.tokens
+unfolding constant_place
+settings_there tokens field there none = (no_departure field (grind arith)).settings
+
+-- fewer than three tokens set nothing
+pub constants_over : (xs : List Seen) → length xs ≤ 2 → constants_of xs ≡ []
+unfolding constants_of
+constants_over xs few = grind arith

@@ -1,119 +1,69 @@
 -- The first place that a scan gives is that of the first bad token.
-use Rattle.std.proofs.Common.{append-nil, append_assoc, ◌≡◌, ℕ, suc, length, arith, Bool, true, false, Option, Some, None, List, [], ◌∷◌, ◌++◌, get_or, drop, refl, sym, ◌∙◌, ap}
-use Rattle.std.specs.Prelude.{if◌then◌else◌, unwrap_or}
-use Rattle.std.proofs.lemmas.Option.{none-some}
+use Rattle.std.proofs.Common.{append-nil, append_assoc, ◌≡◌, ℕ, Bool, true, false, Option, Some, None, List, [], ◌∷◌, ◌++◌, arith, length, length-append, refl, ap}
+use Rattle.std.specs.Prelude.{if◌then◌else◌}
+use Rattle.std.specs.Option.{option_or}
 use Rattle.kn_lex.specs.Cutting.{Seen}
 use Rattle.kn_fields.specs.Faults.{HasNone, HasFirst}
 use Rattle.kn_fields.specs.Scanning.{first_place}
 
--- no token is bad behind those before it, where others stand before all of these
-abbrev pub NoneBehind : (List Seen → Seen → Bool) → List Seen → List Seen → Type 0
-NoneBehind is_bad front tokens =
-    (before : List Seen) (token : Seen) (behind : List Seen) → tokens ≡ before ++ token ∷ behind → is_bad (front ++ before) token ≡ false
+-- the place is that of the first bad token, or none is bad
+abbrev IsFirstPlace : (List Seen → Seen → Bool) → List Seen → Option ℕ → Type 0
+IsFirstPlace is_bad tokens None = HasNone is_bad tokens
+IsFirstPlace is_bad tokens (Some at) = HasFirst is_bad tokens at
 
-record FirstBehind (is_bad : List Seen → Seen → Bool) (front tokens : List Seen) (at : ℕ) : Type 0 where
-  before : List Seen
-  token : Seen
-  behind : List Seen
-  here : tokens ≡ before ++ token ∷ behind
-  bad : is_bad (front ++ before) token ≡ true
-  first : NoneBehind is_bad front before
-  place : at ≡ token.span.start
+-- the tokens that are looked at stand behind others
+abbrev Behind : List Seen → (List Seen → Seen → Bool) → List Seen → Seen → Bool
+Behind front is_bad before token = is_bad (front ++ before) token
 
-pub some_same : {X : Type 0} (x y : X) → Some x ≡ Some y → x ≡ y
-some_same {X} x y e = ap (λ (o : Option X). unwrap_or o x) e
+none_on : (is_bad : List Seen → Seen → Bool) (front : List Seen) (t : Seen) (ts : List Seen) → is_bad front t ≡ false → HasNone (Behind (front ++ t ∷ []) is_bad) ts
+    → HasNone (Behind front is_bad) (t ∷ ts)
+none_on is_bad front t ts fine none [] token behind e = grind (arith, append-nil)
+none_on is_bad front t ts fine none (x ∷ before) token behind e = grind (arith, append_assoc, none before token behind)
 
-head_same : (x y : Seen) (xs ys : List Seen) → x ∷ xs ≡ y ∷ ys → x ≡ y
-head_same x y xs ys e = ap (λ (l : List Seen). get_or l 0 x) e
+none_in_nothing : (is_bad : List Seen → Seen → Bool) → HasNone is_bad []
+none_in_nothing is_bad before token behind e = absurd (omega (arith, length-append before (token ∷ behind), ap (λ (ts : List Seen). length ts) e))
 
-tail_same : (x y : Seen) (xs ys : List Seen) → x ∷ xs ≡ y ∷ ys → xs ≡ ys
-tail_same x y xs ys e = ap (λ (l : List Seen). drop 1 l) e
-
-not_nothing : {P : Type 0} (before : List Seen) (token : Seen) (behind : List Seen) → [] ≡ before ++ token ∷ behind → P
-not_nothing [] token behind e = let size : 0 ≡ suc (length behind) = ap (λ (l : List Seen). length l) e in absurd (omega (arith, size))
-not_nothing (x ∷ before) token behind e = let size : 0 ≡ suc (length (before ++ token ∷ behind)) = ap (λ (l : List Seen). length l) e in absurd (omega (arith, size))
-
--- a token that isn't bad stands before others of which none is
-one_more : (is_bad : List Seen → Seen → Bool) (front : List Seen) (t : Seen) (ts : List Seen) → is_bad front t ≡ false → NoneBehind is_bad (front ++ t ∷ []) ts
-    → NoneBehind is_bad front (t ∷ ts)
-one_more is_bad front t ts fine none [] token behind e =
-    ap (λ (b : List Seen). is_bad b token) (append-nil front) ∙ ap (is_bad front) (sym (head_same t token ts behind e)) ∙ fine
-one_more is_bad front t ts fine none (x ∷ before) token behind e =
-    ap (λ (y : Seen). is_bad (front ++ y ∷ before) token) (sym (head_same t x ts (before ++ token ∷ behind) e))
-    ∙ ap (λ (b : List Seen). is_bad b token) (sym (append_assoc front (t ∷ []) before))
-    ∙ none before token behind (tail_same t x ts (before ++ token ∷ behind) e)
-
-none_behind : (is_bad : List Seen → Seen → Bool) (front tokens : List Seen) → first_place is_bad front tokens ≡ None → NoneBehind is_bad front tokens
+place_told : (is_bad : List Seen → Seen → Bool) (front tokens : List Seen) → IsFirstPlace (Behind front is_bad) tokens (first_place is_bad front tokens)
 unfolding first_place
-none_behind is_bad front [] h = λ before token behind e. not_nothing before token behind e
-none_behind is_bad front (t ∷ ts) h = by (none_behind is_bad (front ++ t ∷ []) ts) (is_bad front t) refl h
+place_told is_bad front [] = none_in_nothing (Behind front is_bad)
+place_told is_bad front (t ∷ ts) = by (is_bad front t) refl (first_place is_bad (front ++ t ∷ []) ts) (place_told is_bad (front ++ t ∷ []) ts)
   where
-    by : (first_place is_bad (front ++ t ∷ []) ts ≡ None → NoneBehind is_bad (front ++ t ∷ []) ts) → (b : Bool) → is_bad front t ≡ b → (if b then Some t.span.start else first_place is_bad (front ++ t ∷ []) ts) ≡ None → NoneBehind is_bad front (t ∷ ts)
-    by rest true d e = absurd (none-some _ (sym e))
-    by rest false d e = one_more is_bad front t ts d (rest e)
-
-first_behind : (is_bad : List Seen → Seen → Bool) (front tokens : List Seen) (at : ℕ) → first_place is_bad front tokens ≡ Some at → FirstBehind is_bad front tokens at
-unfolding first_place
-first_behind is_bad front [] at h = absurd (none-some _ h)
-first_behind is_bad front (t ∷ ts) at h = by (first_behind is_bad (front ++ t ∷ []) ts at) (is_bad front t) refl h
-  where
-    by : (first_place is_bad (front ++ t ∷ []) ts ≡ Some at → FirstBehind is_bad (front ++ t ∷ []) ts at) → (b : Bool) → is_bad front t ≡ b → (if b then Some t.span.start else first_place is_bad (front ++ t ∷ []) ts) ≡ Some at → FirstBehind is_bad front (t ∷ ts) at
-    by rest true d e =
-        record {
-          before = [];
-          token = t;
-          behind = ts;
-          here = refl;
-          bad = ap (λ (b : List Seen). is_bad b t) (append-nil front) ∙ d;
-          first = λ before token behind k. not_nothing before token behind k;
-          place = sym (some_same _ _ e);
-        }
-    by rest false d e =
-        let f : FirstBehind is_bad (front ++ t ∷ []) ts at = rest e in
-        record {
-          before = t ∷ f.before;
-          token = f.token;
-          behind = f.behind;
-          here = ap (λ (l : List Seen). t ∷ l) f.here;
-          bad = ap (λ (b : List Seen). is_bad b f.token) (sym (append_assoc front (t ∷ []) f.before)) ∙ f.bad;
-          first = one_more is_bad front t f.before d f.first;
-          place = f.place;
-        }
+    by : (b : Bool) → is_bad front t ≡ b → (o : Option ℕ) → IsFirstPlace (Behind (front ++ t ∷ []) is_bad) ts o → IsFirstPlace (Behind front is_bad) (t ∷ ts) (if b then Some t.span.start else o)
+    by true bad o rest = record { before = []; token = t; behind = ts; here = refl; bad = rw append-nil bad; first = none_in_nothing (Behind front is_bad); place = refl }
+    by false fine None rest = none_on is_bad front t ts fine rest
+    by false fine (Some at) f = record {
+      before = t ∷ f.before;
+      token = f.token;
+      behind = f.behind;
+      here = cc;
+      bad = grind (arith, append_assoc);
+      first = none_on is_bad front t f.before fine f.first;
+      place = f.place;
+    }
 
 pub none_shown : (is_bad : List Seen → Seen → Bool) (tokens : List Seen) → first_place is_bad [] tokens ≡ None → HasNone is_bad tokens
-none_shown is_bad tokens h = none_behind is_bad [] tokens h
+none_shown is_bad tokens e = rw e at (place_told is_bad [] tokens)
 
 pub first_shown : (is_bad : List Seen → Seen → Bool) (tokens : List Seen) (at : ℕ) → first_place is_bad [] tokens ≡ Some at → HasFirst is_bad tokens at
-first_shown is_bad tokens at h =
-    let f : FirstBehind is_bad [] tokens at = first_behind is_bad [] tokens at h in
-    record { before = f.before; token = f.token; behind = f.behind; here = f.here; bad = f.bad; first = f.first; place = f.place }
+first_shown is_bad tokens at e = rw e at (place_told is_bad [] tokens)
 
-none_passed : (is_bad : List Seen → Seen → Bool) (front tokens : List Seen) → NoneBehind is_bad front tokens → first_place is_bad front tokens ≡ None
+-- a scan of two parts
+pub place_append : (is_bad : List Seen → Seen → Bool) (front tokens others : List Seen)
+    → first_place is_bad front (tokens ++ others) ≡ option_or (first_place is_bad front tokens) (first_place is_bad (front ++ tokens) others)
 unfolding first_place
-none_passed is_bad front [] h = refl
-none_passed is_bad front (t ∷ ts) h =
-    let fine : is_bad front t ≡ false = ap (λ (b : List Seen). is_bad b t) (sym (append-nil front)) ∙ h [] t ts refl in
-    let rest : NoneBehind is_bad (front ++ t ∷ []) ts =
-    λ before token behind e. ap (λ (b : List Seen). is_bad b token) (append_assoc front (t ∷ []) before) ∙ h (t ∷ before) token behind (ap (λ (l : List Seen). t ∷ l) e) in
-    ap (λ (b : Bool). if b then Some t.span.start else first_place is_bad (front ++ t ∷ []) ts) fine ∙ none_passed is_bad (front ++ t ∷ []) ts rest
-
-first_passed : (is_bad : List Seen → Seen → Bool) (front before : List Seen) (token : Seen) (behind : List Seen) → NoneBehind is_bad front before → is_bad (front ++ before) token ≡ true
-    → first_place is_bad front (before ++ token ∷ behind) ≡ Some token.span.start
-unfolding first_place
-first_passed is_bad front [] token behind none bad =
-    let here : is_bad front token ≡ true = ap (λ (b : List Seen). is_bad b token) (sym (append-nil front)) ∙ bad in
-    ap (λ (b : Bool). if b then Some token.span.start else first_place is_bad (front ++ token ∷ []) behind) here
-first_passed is_bad front (t ∷ before) token behind none bad =
-    let fine : is_bad front t ≡ false = ap (λ (b : List Seen). is_bad b t) (sym (append-nil front)) ∙ none [] t before refl in
-    let rest : NoneBehind is_bad (front ++ t ∷ []) before =
-    λ b o r e. ap (λ (l : List Seen). is_bad l o) (append_assoc front (t ∷ []) b) ∙ none (t ∷ b) o r (ap (λ (l : List Seen). t ∷ l) e) in
-    let last : is_bad ((front ++ t ∷ []) ++ before) token ≡ true = ap (λ (l : List Seen). is_bad l token) (append_assoc front (t ∷ []) before) ∙ bad in
-    ap (λ (b : Bool). if b then Some t.span.start else first_place is_bad (front ++ t ∷ []) (before ++ token ∷ behind)) fine
-    ∙ first_passed is_bad (front ++ t ∷ []) before token behind rest last
+place_append is_bad front [] others = grind (arith, append-nil)
+place_append is_bad front (t ∷ ts) others = grind (arith, append_assoc, place_append is_bad (front ++ t ∷ []) ts others)
 
 pub none_place : (is_bad : List Seen → Seen → Bool) (tokens : List Seen) → HasNone is_bad tokens → first_place is_bad [] tokens ≡ None
-none_place is_bad tokens h = none_passed is_bad [] tokens h
+none_place is_bad tokens none = by (first_place is_bad [] tokens) (place_told is_bad [] tokens)
+  where
+    by : (o : Option ℕ) → IsFirstPlace is_bad tokens o → o ≡ None
+    by None told = refl
+    by (Some at) f = absurd (cc (none f.before f.token f.behind f.here, f.bad))
 
 pub shown_place : (is_bad : List Seen → Seen → Bool) (tokens : List Seen) (at : ℕ) → HasFirst is_bad tokens at → first_place is_bad [] tokens ≡ Some at
+unfolding first_place
 shown_place is_bad tokens at f =
-    ap (first_place is_bad []) f.here ∙ first_passed is_bad [] f.before f.token f.behind f.first f.bad ∙ ap Some (sym f.place)
+    let none = none_place is_bad f.before f.first in
+    let parts = place_append is_bad [] f.before (f.token ∷ f.behind) in
+    grind (arith, none, parts)

@@ -1,6 +1,7 @@
 -- Reading from the front of a field's words: what a grammar's reading is made of.
 use Rattle.std.specs.Prelude.{◌≡◌, ℕ, zero, suc, List, [], ◌∷◌, ◌++◌, Option, Some, None, Result, Ok, Err}
-use Rattle.kn_fields.specs.Words.{Word, Mark, marked}
+use Rattle.kn_fields.specs.Words.{Word, Mark, with_rest, itself}
+use Rattle.kn_fields.specs.Words.Word.{name, sign}
 use Rattle.kn_fields.specs.declared.unread.Unread.{Unread}
 use Rattle.kn_fields.specs.declared.unread.Unread.TheVariants.{Syntax, NoMemory}
 
@@ -10,6 +11,20 @@ Read X = Option (X × List Word)
 
 abbrev pub Reader : Type 0 → Type 0
 Reader X = List Word → Read X
+
+-- what a sign at the front stands for, and the words behind it
+unfoldable pub taken : {S : Type 0} → (List ℕ → Option S) → Reader S
+taken which (sign text ∷ words) = with_rest (which text) words
+taken which words = None
+
+-- this sign at the front, and the words behind it
+abbrev pub marked : List ℕ → Reader Mark
+marked text words = taken (itself text) words
+
+-- this name at the front, and the words behind it
+unfoldable pub named : List ℕ → Reader Mark
+named wanted (name text ∷ words) = with_rest (itself wanted text) words
+named wanted words = None
 
 -- what is read, made into something else
 abbrev pub map_read : {X Y : Type 0} → (X → Y) → Read X → Read Y

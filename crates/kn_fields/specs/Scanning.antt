@@ -1,5 +1,6 @@
 -- What the private readers give: the first fault, computed.
 use Rattle.std.specs.Prelude.{◌≡◌, ℕ, Bool, List, [], ◌∷◌, ◌++◌, Option, Some, None, if◌then◌else◌, ◌||◌, nat_lt, false}
+use Rattle.std.specs.Option.{option_or}
 use Rattle.kn_base.specs.declared.limits.TheConstants.{OPEN_BRACKETS, PREFIX_SIGNS}
 use Rattle.kn_lex.specs.Cutting.{Seen}
 use Rattle.kn_fields.specs.Fields.{Field, field_with}
@@ -19,10 +20,6 @@ first_place is_bad before [] = None
 first_place is_bad before (token ∷ tokens) =
     if is_bad before token then Some token.span.start else first_place is_bad (before ++ token ∷ []) tokens
 
-abbrev pub else_place : Option ℕ → Option ℕ → Option ℕ
-else_place None other = other
-else_place (Some at) other = Some at
-
 abbrev pub is_wrong : Wrong → List Seen → Seen → Bool
 is_wrong NoField = is_bad_field
 is_wrong Second = is_second
@@ -30,17 +27,13 @@ is_wrong LateVersion = is_late_version
 is_wrong BehindSignature = is_behind_signature
 
 abbrev pub order_place : List Seen → Option ℕ
-order_place tokens = else_place (first_place is_late_version [] tokens) (first_place is_behind_signature [] tokens)
+order_place tokens = option_or (first_place is_late_version [] tokens) (first_place is_behind_signature [] tokens)
 
 -- no token is wrong by those before it
 pub record StandsRight (tokens : List Seen) : Type 0 where
   pub field : first_place is_bad_field [] tokens ≡ None
   pub second : first_place is_second [] tokens ≡ None
   pub order : order_place tokens ≡ None
-
-abbrev pub start_of : Option Seen → Option ℕ
-start_of None = None
-start_of (Some token) = Some token.span.start
 
 abbrev pub version_by : Option Field → Option ℕ
 version_by None = None
@@ -55,7 +48,7 @@ end_place label turn = label
 
 -- where a list of constants departs, or the label's place where it breaks off
 unfoldable pub departure : List Seen → Option ℕ → Option ℕ
-departure tokens label = else_place (first_place departs [] tokens) (end_place label (turn_behind Setting tokens))
+departure tokens label = option_or (first_place departs [] tokens) (end_place label (turn_behind Setting tokens))
 
 abbrev pub constant_by : Option Field → Option ℕ
 constant_by None = None

@@ -42,26 +42,12 @@ abbrev pub with_rest : {S : Type 0} → Option S → List Word → Option (S × 
 with_rest None words = None
 with_rest (Some found) words = Some (found, words)
 
--- what a sign at the front stands for, and the words behind it
-unfoldable pub taken : {S : Type 0} → (List ℕ → Option S) → List Word → Option (S × List Word)
-taken which (sign text ∷ words) = with_rest (which text) words
-taken which words = None
-
 -- a word that stands for itself
 abbrev pub Mark : Type 0
 Mark = Unit {0}
 
 unfoldable pub itself : List ℕ → List ℕ → Option Mark
 itself wanted text = if bytes_eq text wanted then Some tt else None
-
--- this sign at the front, and the words behind it
-abbrev pub marked : List ℕ → List Word → Option (Mark × List Word)
-marked text words = taken (itself text) words
-
--- this name at the front, and the words behind it
-unfoldable pub named : List ℕ → List Word → Option (Mark × List Word)
-named wanted (name text ∷ words) = with_rest (itself wanted text) words
-named wanted words = None
 
 -- a sign that was there or not, and the words behind it
 abbrev pub mark_if : Bool → List Word → Option (Mark × List Word)

@@ -4,10 +4,10 @@ ghost use Rattle.std.specs.List.{list_any};
 ghost use Rattle.kn_lex.specs.Cutting.{Seen};
 ghost use Rattle.kn_lex.specs.Seeing.{seen};
 ghost use Rattle.kn_fields.specs.Fields.{between, field_with};
-ghost use Rattle.kn_fields.specs.Constants.{constant_of, constants_of};
-ghost use Rattle.kn_fields.specs.Turns.{is_name, next_turn, turn_behind, fits, departs};
+ghost use Rattle.kn_fields.specs.Constants.{constant_of, constants_of, AreSettings};
+ghost use Rattle.kn_fields.specs.Turns.{is_name, next_turn, fits};
 ghost use Rattle.kn_fields.specs.Faults.{constants_in};
-ghost use Rattle.kn_fields.specs.Scanning.{first_place, end_place, departure, constant_place};
+ghost use Rattle.kn_fields.specs.Scanning.{end_place, departure, constant_place};
 
 use crate::label::LOCAL_CONSTANTS;
 use crate::part::{Part, label_start, part_of};
@@ -40,13 +40,11 @@ fn next_turn(turn: Turn) -> Turn
 fn is_name(token: &Token<'_>, name: &[u8]) -> bool
     ensures { result ≡ is_name name.now (seen token.now) }
 {
-    match token.sort {
-        Sort::Name => token.text == name,
-        _ => false,
-    }
+    matches!(token.sort, Sort::Name) && token.text == name
 }
 
 /// Whether a name stands among the tokens from one place up to another.
+#[tactic(auto, using(crate::proofs::Between::steps))]
 fn stands_among(tokens: &Tokens<'_>, from: u32, to: u32, name: &[u8]) -> bool
     requires ordered { from ≤ to }
     requires within { to ≤ length tokens.now }
@@ -69,12 +67,9 @@ fn is_new_name(tokens: &Tokens<'_>, from: u32, to: u32, token: &Token<'_>) -> bo
     requires within { to ≤ length tokens.now }
     ensures { result ≡ fits Turn.Setting (between from to tokens.now) (seen token.now) }
 {
-    match token.sort {
-        Sort::Name => {
-            first_byte(token.text) != b'_' && !stands_among(tokens, from, to, token.text)
-        }
-        _ => false,
-    }
+    matches!(token.sort, Sort::Name)
+        && first_byte(token.text) != b'_'
+        && !stands_among(tokens, from, to, token.text)
 }
 
 fn first_byte(text: &[u8]) -> u8
@@ -91,14 +86,8 @@ fn fits(tokens: &Tokens<'_>, from: u32, to: u32, turn: Turn, token: &Token<'_>) 
 {
     match turn {
         Turn::Setting => is_new_name(tokens, from, to, token),
-        Turn::Equals => match token.sort {
-            Sort::Sign => token.text == b"=".as_slice(),
-            _ => false,
-        },
-        Turn::Value => match token.sort {
-            Sort::Text => true,
-            _ => false,
-        },
+        Turn::Equals => matches!(token.sort, Sort::Sign) && token.text == b"=".as_slice(),
+        Turn::Value => matches!(token.sort, Sort::Text),
     }
 }
 
@@ -114,6 +103,7 @@ fn end_place(label: Option<u32>, turn: Turn) -> Option<u32>
 }
 
 /// Where a list of constants departs, or `label` where it breaks off at its end.
+#[tactic(auto, using(crate::proofs::Lists::turns), unfolding(crate::specs::Scanning::first_place, crate::specs::Scanning::departure))]
 fn departure(tokens: &Tokens<'_>, from: u32, to: u32, label: Option<u32>) -> Option<u32>
     requires ordered { from ≤ to }
     requires within { to ≤ length tokens.now }
@@ -152,10 +142,7 @@ fn push_constant(
         name: Octets::from_slice(alloc, name.text)?,
         value: literal(alloc, value)?,
     };
-    match list.push(constant) {
-        Ok(()) => Ok(()),
-        Err(_) => Err(NoMemory),
-    }
+    list.add(constant)
 }
 
 /// The constants of a list that is known to be right.
@@ -167,7 +154,7 @@ fn constants_between(
 ) -> Result<List<Constant>, NoMemory>
     requires ordered { from ≤ to }
     requires within { to ≤ length tokens.now }
-    requires sound { first_place departs [] (between from to tokens.now) ≡ None }
+    requires settings { AreSettings (between from to tokens.now) }
     ensures { IfOk result (λ list. list ≡ constants_of (between from to tokens.now)) }
 {
     let mut list = List::new(alloc);
@@ -180,6 +167,7 @@ fn constants_between(
 }
 
 /// The place of the first fault of the local constants, if there are any.
+#[tactic(auto, unfolding(crate::specs::Scanning::constant_place))]
 pub(crate) fn constant_place(tokens: &Tokens<'_>) -> Option<u32>
     ensures { result ≡ constant_place tokens.now }
 {

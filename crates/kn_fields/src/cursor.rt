@@ -3,8 +3,8 @@ ghost use Rattle.std.specs.Prelude.{◌≡◌, ◌+◌, ◌<◌, ◌≤◌, [], 
 ghost use Rattle.std.specs.Option.{option_map};
 ghost use Rattle.kn_lex.specs.Seeing.{seen};
 ghost use Rattle.kn_fields.specs.Fields.{between};
-ghost use Rattle.kn_fields.specs.Words.{words_of, word_of, first_sign, rest_of, marked, named, mark_if};
-ghost use Rattle.kn_fields.specs.Reading.{Reads};
+ghost use Rattle.kn_fields.specs.Words.{words_of, word_of, first_sign, rest_of, mark_if};
+ghost use Rattle.kn_fields.specs.Reading.{Reads, marked, named};
 
 use crate::part::Part;
 use crate::unread::Unread;
@@ -33,6 +33,7 @@ impl<'t, 'a> Model for Cursor<'t, 'a> {
     ghost invariant = { λ c. (c.at ≤ c.end) × (c.end ≤ length c.tokens.now) };
 }
 
+#[tactic(auto, using(crate::proofs::Words::cursor_steps), unfolding(crate::specs::Words::words_of))]
 impl<'t, 'a> Cursor<'t, 'a> {
     /// All the tokens of the field that stands there.
     pub fn of_field(tokens: &'t Tokens<'a>, part: Part) -> Cursor<'t, 'a>
@@ -96,6 +97,7 @@ impl<'t, 'a> Cursor<'t, 'a> {
     }
 
     /// Whether this sign comes next.
+    #[tactic(auto, unfolding(crate::specs::Reading::taken, crate::specs::Words::itself))]
     pub fn is_sign(&self, text: &[u8]) -> bool
         ensures { mark_if result (rest_of self.now) ≡ marked text.now self.now }
     {
@@ -129,21 +131,17 @@ impl<'t, 'a> Cursor<'t, 'a> {
     }
 
     /// Passes this name, which has to come next.
+    #[tactic(auto, unfolding(crate::specs::Reading::named, crate::specs::Words::itself))]
     pub fn expect_name(&mut self, text: &[u8]) -> Result<(), Unread>
         ensures { Reads result (named text.now self.old) self.new }
     {
         let Some(token) = self.take() else {
             return Err(Unread::Syntax);
         };
-        match token.sort {
-            Sort::Name => {
-                if token.text == text {
-                    Ok(())
-                } else {
-                    Err(Unread::Syntax)
-                }
-            }
-            _ => Err(Unread::Syntax),
+        if matches!(token.sort, Sort::Name) && token.text == text {
+            Ok(())
+        } else {
+            Err(Unread::Syntax)
         }
     }
 }

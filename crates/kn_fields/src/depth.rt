@@ -15,10 +15,7 @@ use kn_lex::{Sort, Token, Tokens};
 fn is_sign(token: &Token<'_>, byte: u8) -> bool
     ensures { result ≡ is_sign (byte ∷ []) (seen token.now) }
 {
-    match token.sort {
-        Sort::Sign => token.text.len() == 1 && token.text[0] == byte,
-        _ => false,
-    }
+    matches!(token.sort, Sort::Sign) && token.text.len() == 1 && token.text[0] == byte
 }
 
 fn is_opening(token: &Token<'_>) -> bool
@@ -70,6 +67,7 @@ fn is_past(depth: u32, run: u32) -> bool
 }
 
 /// Whether the tokens from one place up to another go too deep.
+#[tactic(auto, using(crate::proofs::Between::steps), unfolding(crate::specs::Scanning::goes_deep))]
 pub fn goes_deep(tokens: &Tokens<'_>, from: u32, to: u32) -> bool
     requires ordered { from ≤ to }
     requires within { to ≤ length tokens.now }

@@ -1,7 +1,7 @@
 //! The faults of a text that is no assertion.
 ghost use Rattle.std.specs.Prelude.{◌≡◌};
 ghost use Rattle.kn_fields.specs.Faults.{of_lexical};
-ghost use Rattle.kn_fields.specs.Numbers.{fault_number, fault_place};
+ghost use Rattle.kn_fields.specs.Numbers.{fault_code, fault_number, fault_place};
 
 use kn_lex::LexFault;
 
@@ -53,32 +53,40 @@ pub enum ReadFault {
 }
 
 impl ReadFault {
+    /// The number of the fault, from 1 to 19, and the place that is told with it. Want of memory has none.
+    fn code(&self) -> Option<(u8, usize)>
+        ensures { result ≡ fault_code self.now }
+    {
+        match self {
+            ReadFault::NotText { at } => Some((1, *at as usize)),
+            ReadFault::BadString { at } => Some((2, *at as usize)),
+            ReadFault::BadToken { at } => Some((3, *at as usize)),
+            ReadFault::Float { at } => Some((4, *at as usize)),
+            ReadFault::Regex { at } => Some((5, *at as usize)),
+            ReadFault::Number { at } => Some((6, *at as usize)),
+            ReadFault::Blank { at } => Some((7, *at as usize)),
+            ReadFault::TooLong { len } => Some((8, *len)),
+            ReadFault::BadField { at } => Some((9, *at as usize)),
+            ReadFault::FieldTwice { at } => Some((10, *at as usize)),
+            ReadFault::FieldOrder { at } => Some((11, *at as usize)),
+            ReadFault::NoAuthorizer => Some((12, 0)),
+            ReadFault::Version { at } => Some((13, *at as usize)),
+            ReadFault::Constant { at } => Some((14, *at as usize)),
+            ReadFault::TooDeep { field } => Some((15, *field as usize)),
+            ReadFault::Syntax { field } => Some((16, *field as usize)),
+            ReadFault::Kind { field } => Some((17, *field as usize)),
+            ReadFault::Threshold { field } => Some((18, *field as usize)),
+            ReadFault::Name { field } => Some((19, *field as usize)),
+            ReadFault::NoMemory => None,
+        }
+    }
+
     /// The number of the fault, from 1 to 19. Want of memory has none.
     pub fn number(&self) -> Option<u8>
         ensures { result ≡ fault_number self.now }
     {
-        match self {
-            ReadFault::NotText { .. } => Some(1),
-            ReadFault::BadString { .. } => Some(2),
-            ReadFault::BadToken { .. } => Some(3),
-            ReadFault::Float { .. } => Some(4),
-            ReadFault::Regex { .. } => Some(5),
-            ReadFault::Number { .. } => Some(6),
-            ReadFault::Blank { .. } => Some(7),
-            ReadFault::TooLong { .. } => Some(8),
-            ReadFault::BadField { .. } => Some(9),
-            ReadFault::FieldTwice { .. } => Some(10),
-            ReadFault::FieldOrder { .. } => Some(11),
-            ReadFault::NoAuthorizer => Some(12),
-            ReadFault::Version { .. } => Some(13),
-            ReadFault::Constant { .. } => Some(14),
-            ReadFault::TooDeep { .. } => Some(15),
-            ReadFault::Syntax { .. } => Some(16),
-            ReadFault::Kind { .. } => Some(17),
-            ReadFault::Threshold { .. } => Some(18),
-            ReadFault::Name { .. } => Some(19),
-            ReadFault::NoMemory => None,
-        }
+        let (number, _) = self.code()?;
+        Some(number)
     }
 
     /// The place that is told with the fault: `at`, the number of the field, the length of a text that is too
@@ -86,27 +94,9 @@ impl ReadFault {
     pub fn place(&self) -> usize
         ensures { result ≡ fault_place self.now }
     {
-        match self {
-            ReadFault::NotText { at }
-            | ReadFault::BadString { at }
-            | ReadFault::BadToken { at }
-            | ReadFault::Float { at }
-            | ReadFault::Regex { at }
-            | ReadFault::Number { at }
-            | ReadFault::Blank { at }
-            | ReadFault::BadField { at }
-            | ReadFault::FieldTwice { at }
-            | ReadFault::FieldOrder { at }
-            | ReadFault::Version { at }
-            | ReadFault::Constant { at } => *at as usize,
-            ReadFault::TooLong { len } => *len,
-            ReadFault::NoAuthorizer => 0,
-            ReadFault::TooDeep { field }
-            | ReadFault::Syntax { field }
-            | ReadFault::Kind { field }
-            | ReadFault::Threshold { field }
-            | ReadFault::Name { field } => *field as usize,
-            ReadFault::NoMemory => 0,
+        match self.code() {
+            Some((_, place)) => place,
+            None => 0,
         }
     }
 }

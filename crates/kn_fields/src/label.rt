@@ -46,10 +46,7 @@ fn field_number(label: &[u8]) -> Option<u8>
 pub(crate) fn is_label(token: &Token<'_>) -> bool
     ensures { result ≡ is_label (seen token.now) }
 {
-    match token.sort {
-        Sort::Label => true,
-        _ => false,
-    }
+    matches!(token.sort, Sort::Label)
 }
 
 /// The number of the field whose label a token is.

@@ -10,6 +10,7 @@ use crate::label::{SIGNATURE, VERSION, field_of, is_label, is_label_of};
 use kn_lex::{Token, Tokens};
 
 /// Whether the label of this field stands before a place.
+#[tactic(auto, using(crate::proofs::Between::steps))]
 fn stands_before(tokens: &Tokens<'_>, at: u32, number: u8) -> bool
     requires { at ≤ length tokens.now }
     ensures { result ≡ list_any (is_label_of number) (between 0 at tokens.now) }
@@ -25,6 +26,7 @@ fn stands_before(tokens: &Tokens<'_>, at: u32, number: u8) -> bool
 }
 
 /// Whether any label stands before a place.
+#[tactic(auto, using(crate::proofs::Between::steps))]
 fn label_before(tokens: &Tokens<'_>, at: u32) -> bool
     requires { at ≤ length tokens.now }
     ensures { result ≡ list_any is_label (between 0 at tokens.now) }
@@ -64,9 +66,9 @@ pub enum Wrong {
     BehindSignature,
 }
 
+/// Whether a label must stand at a place: it is the first one, or begins a line.
 #[inline(always)]
 #[tactic(auto, using(crate::proofs::Between::between_length))]
-/// Whether a label must stand at a place: it is the first one, or begins a line.
 fn is_label_due(tokens: &Tokens<'_>, at: u32, token: &Token<'_>) -> bool
     requires { at ≤ length tokens.now }
     ensures { result ≡ (length (between 0 at tokens.now) == 0 || token.now.first) }
@@ -90,6 +92,7 @@ fn is_wrong(wrong: Wrong, tokens: &Tokens<'_>, at: u32, token: &Token<'_>) -> bo
 
 /// Whether a token is wrong at its place in any way. No token within a line is, unless it is a label.
 #[inline(always)]
+#[tactic(auto, using(crate::proofs::Between::quiet))]
 fn is_any_wrong(tokens: &Tokens<'_>, at: u32, token: &Token<'_>) -> bool
     requires { at ≤ length tokens.now }
     ensures { result ≡ false → (wrong : Wrong) → is_wrong wrong (between 0 at tokens.now) (seen token.now) ≡ false }
@@ -104,6 +107,7 @@ fn is_any_wrong(tokens: &Tokens<'_>, at: u32, token: &Token<'_>) -> bool
 }
 
 /// Whether any token is wrong at its place. Only a text with such a token is looked through for each of the ways.
+#[tactic(auto, using(crate::proofs::Between::steps), unfolding(crate::specs::Scanning::first_place))]
 pub(crate) fn has_wrong(tokens: &Tokens<'_>) -> bool
     ensures { result ≡ false → (wrong : Wrong) → first_place (is_wrong wrong) [] tokens.now ≡ None }
 {
@@ -118,6 +122,7 @@ pub(crate) fn has_wrong(tokens: &Tokens<'_>) -> bool
 }
 
 /// The place of the first token that is wrong.
+#[tactic(auto, using(crate::proofs::Between::steps), unfolding(crate::specs::Scanning::first_place))]
 pub(crate) fn wrong_place(wrong: Wrong, tokens: &Tokens<'_>) -> Option<u32>
     ensures { result ≡ first_place (is_wrong wrong) [] tokens.now }
 {

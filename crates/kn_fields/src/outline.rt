@@ -1,10 +1,7 @@
 //! The fields of a text.
-ghost use Rattle.std.specs.Prelude.{◌≡◌, true, false, slice_get, option_and_then};
-ghost use Rattle.kn_fields.specs.Depth.{IsTooDeep};
-ghost use Rattle.kn_fields.specs.Faults.{HasField};
+ghost use Rattle.std.specs.Prelude.{◌≡◌, slice_get, option_and_then};
 ghost use Rattle.kn_fields.specs.Fields.{field_of, PartIs};
 
-use crate::depth::goes_deep;
 use crate::label::field_of;
 use crate::part::{Part, part_of};
 use kn_base::List;
@@ -39,18 +36,6 @@ impl<'a> Fields<'a> {
         match self.tokens.get(i) {
             Some(token) => field_of(token),
             None => None,
-        }
-    }
-
-    /// Whether the field of this number goes too deep: fault 15. At some token more than 64 brackets `(` and
-    /// `{` are open, or more than 8 of the signs `!`, `-`, `@` and `$` stand in a row.
-    pub fn is_too_deep(&self, number: u8) -> bool
-        ensures deep { result ≡ true → HasField number self.now.tokens (λ field. IsTooDeep field.tokens) }
-        ensures not_deep { result ≡ false → HasField number self.now.tokens (λ field. IsTooDeep field.tokens) → ⊥ }
-    {
-        match part_of(&self.tokens, number) {
-            Some(part) => goes_deep(&self.tokens, part.label + 1, part.end),
-            None => false,
         }
     }
 }

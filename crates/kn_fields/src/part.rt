@@ -1,7 +1,6 @@
 //! Where a field stands among the tokens.
-ghost use Rattle.std.specs.Prelude.{◌≡◌, slice_get};
+ghost use Rattle.std.specs.Prelude.{◌≡◌, slice_get, option_map};
 ghost use Rattle.kn_fields.specs.Fields.{PartIs};
-ghost use Rattle.kn_fields.specs.Scanning.{start_of};
 
 use crate::label::is_label_of;
 use kn_lex::Tokens;
@@ -34,7 +33,7 @@ pub(crate) fn part_of(tokens: &Tokens<'_>, number: u8) -> Option<Part>
 
 /// The place in the text of the label of a field.
 pub(crate) fn label_start(tokens: &Tokens<'_>, part: Part) -> Option<u32>
-    ensures { result ≡ start_of (slice_get tokens.now part.label) }
+    ensures { result ≡ option_map (λ label. label.span.start) (slice_get tokens.now part.label) }
 {
     match tokens.get(part.label) {
         Some(label) => Some(label.span.start),

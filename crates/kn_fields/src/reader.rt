@@ -34,6 +34,7 @@ fn read_tokens<'a>(alloc: Global, text: &'a [u8]) -> Result<Tokens<'a>, ReadFaul
 }
 
 /// The first fault by what stands where among the tokens.
+#[tactic(auto, unfolding(crate::specs::Scanning::fault_in, crate::specs::Scanning::fault_at))]
 fn wrong_fault(tokens: &Tokens<'_>) -> Option<ReadFault>
     ensures { MatchOption result (StandsRight tokens.now) (λ fault. fault_in tokens.now ≡ Some fault) }
 {
@@ -53,6 +54,7 @@ fn wrong_fault(tokens: &Tokens<'_>) -> Option<ReadFault>
 }
 
 /// The first fault that tokens show, if there is one.
+#[tactic(auto, unfolding(crate::specs::Scanning::fault_in, crate::specs::Scanning::fault_at, crate::specs::Scanning::fault_without))]
 fn fault_in(alloc: Global, tokens: &Tokens<'_>) -> Result<Option<ReadFault>, NoMemory>
     ensures { IfOk result (λ fault. fault ≡ fault_in tokens.now) }
 {

@@ -31,6 +31,7 @@ fn is_two_by(alloc: Global, token: &Token<'_>) -> Result<bool, NoMemory>
 }
 
 /// Whether the tokens of a field are the version 2 alone.
+#[tactic(auto, using(crate::proofs::Parts::version_steps))]
 fn is_version(alloc: Global, tokens: &Tokens<'_>, part: Part) -> Result<bool, NoMemory>
     requires before { part.label < part.end }
     requires within { part.end ≤ length tokens.now }
@@ -46,6 +47,7 @@ fn is_version(alloc: Global, tokens: &Tokens<'_>, part: Part) -> Result<bool, No
 }
 
 /// The place of the label of a version that isn't 2.
+#[tactic(auto, unfolding(crate::specs::Scanning::version_place))]
 pub(crate) fn version_place(alloc: Global, tokens: &Tokens<'_>) -> Result<Option<u32>, NoMemory>
     ensures { IfOk result (λ place. place ≡ version_place tokens.now) }
 {

@@ -1,41 +1,23 @@
-use Rattle.std.proofs.Common.{append-nil, ◌+◌, ◌-◌, ◌<◌, ◌≤◌, ◌++◌, sym, ◌∙◌, ap, arith, refl}
-use Rattle.kn_fields.specs.Fields.{between}
-use Rattle.kn_fields.proofs.Between.{between_length}
-use Rattle.kn_fields.proofs.Settings.{begin_left, begin_due, constant_here, constants_over, constant_kept, value_sort}
+use Rattle.std.proofs.Common.{append-nil, append_assoc, arith}
+use Rattle.std.proofs.lemmas.Grind.{common_steps}
+use Rattle.kn_fields.specs.Constants.{constants_of}
+use Rattle.kn_fields.proofs.Between.{between_length, three_here}
+use Rattle.kn_fields.proofs.Lists.{constants_over}
 use Rattle.kn_fields.proofs.constants.constants_between.Goals as goal
 
 pub loop-i-init : goal.loop-i-init
-loop-i-init c =
-    record {
-      behind = omega arith;
-      within = c.requires.ordered;
-      sound = record { left = sym (begin_left _ _ _) ∙ c.requires.sound; due = begin_due _ _ };
-      kept = rw c.new-list.ensures refl;
-    }
+loop-i-init c = grind (arith, common_steps)
 
 pub loop-i-preserved : goal.loop-i-preserved
+unfolding constants_of
 loop-i-preserved c =
-    let short : c.loop-i.i + 2 < c.args.to = omega (arith, c.loop-i-test.true) in
-    let here = constant_here c.args.tokens.now c.args.from c.loop-i.i c.args.to c.loop-i.invariant.sound c.loop-i.invariant.behind short c.requires.within in
-    record {
-      behind = omega (arith, c.loop-i.invariant.behind);
-      within = omega (arith, short);
-      sound = here.next;
-      kept = constant_kept _ _ _ _ _ here.name here.value (c.in_ok-push_constant.ensures here.name here.value here.name_there here.value_there) here.list c.loop-i.invariant.kept;
-    }
+    let here = three_here c.args.tokens.now c.loop-i.i c.args.to (omega (arith, c.loop-i-test.true)) c.requires.within in
+    grind (arith, append_assoc, here.all, c.in_ok-push_constant.ensures here.name here.value here.name_there here.value_there)
 
 pub push_constant-requires : goal.push_constant-requires
 push_constant-requires c =
-    let short : c.loop-i.i + 2 < c.args.to = omega (arith, c.loop-i-test.true) in
-    let here = constant_here c.args.tokens.now c.args.from c.loop-i.i c.args.to c.loop-i.invariant.sound c.loop-i.invariant.behind short c.requires.within in
-    record {
-      fits = omega (arith, short, c.ranges.to);
-      literal = λ value e. value_sort _ _ _ _ here value e;
-    }
+    let here = three_here c.args.tokens.now c.loop-i.i c.args.to (omega (arith, c.loop-i-test.true)) c.requires.within in
+    grind (arith, here, c.ranges.to)
 
 pub returns : goal.returns
-returns c =
-    let few : c.args.to - c.loop-i.i ≤ 2 = omega (arith, c.loop-i-test.false) in
-    let size = between_length c.args.tokens.now c.loop-i.i c.args.to c.loop-i.invariant.within c.requires.within in
-    let over = constants_over (between c.loop-i.i c.args.to c.args.tokens.now) (omega (arith, size, few)) in
-    sym (append-nil c.loop-i.list) ∙ ap (λ ys. c.loop-i.list ++ ys) (sym over) ∙ c.loop-i.invariant.kept
+returns c = grind (arith, append-nil, between_length, constants_over)

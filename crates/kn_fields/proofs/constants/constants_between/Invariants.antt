@@ -1,16 +1,14 @@
 use Rattle.std.proofs.Common.{◌≡◌, ◌-◌, ◌≤◌, ◌++◌}
 use Rattle.kn_fields.specs.Fields.{between}
-use Rattle.kn_fields.specs.Constants.{constants_of}
-use Rattle.kn_fields.proofs.Settings.{IsSound}
+use Rattle.kn_fields.specs.Constants.{constants_of, AreSettings}
 use Rattle.kn_fields.proofs.constants.constants_between.Given as goal
 
 -- the constants so far, and those that are left, are all
 abbrev pub invariant-loop-i : goal.invariant-loop-i
 invariant-loop-i l =
     record {
-      behind : l.from ≤ l.i;
       within : l.i ≤ l.to;
-      sound : IsSound l.tokens l.from l.i l.to;
+      settings : AreSettings (between l.i l.to l.tokens);
       kept : l.list ++ constants_of (between l.i l.to l.tokens) ≡ constants_of (between l.from l.to l.tokens);
     }
 

@@ -1,4 +1,4 @@
-use Rattle.std.proofs.Common.{◌≡◌, []}
+use Rattle.std.proofs.Common.{◌≡◌, ◌≤◌, []}
 use Rattle.kn_fields.specs.Fields.{between}
 use Rattle.kn_fields.specs.Turns.{departs, turn_behind}
 use Rattle.kn_fields.specs.Scanning.{first_place}
@@ -9,6 +9,7 @@ use Rattle.kn_fields.proofs.constants.departure.Given as goal
 abbrev pub invariant-loop-i : goal.invariant-loop-i
 invariant-loop-i l =
     record {
+      within : l.i ≤ l.to;
       left : first_place departs [] (between l.from l.to l.tokens) ≡ first_place departs (between l.from l.i l.tokens) (between l.i l.to l.tokens);
       due : l.turn ≡ turn_behind Setting (between l.from l.i l.tokens);
     }
