@@ -1,5 +1,5 @@
 -- What the reader answers, from what its fields are.
-use Rattle.std.proofs.Common.{◌≡◌, ℕ, ◌+◌, ◌-◌, ◌<◌, ◌≤◌, ◌⊎◌, inl, inr, Bool, true, false, ◌||◌, ◌==◌, Option, Some, None, Result, Ok, Err, List, [], ◌∷◌, length, map, take, drop, arith, refl, sym, ◌∙◌, ap, subst}
+use Rattle.std.proofs.Common.{◌≡◌, ℕ, ◌+◌, ◌<◌, ◌≤◌, ◌⊎◌, inl, inr, Bool, true, false, ◌||◌, ◌==◌, Option, Some, None, Result, Ok, Err, List, [], ◌∷◌, ◌++◌, length, map, take, drop, arith, refl, sym, ◌∙◌, ap}
 use Rattle.std.specs.Prelude.{◌↔◌, IfOk, IfErr, IfSome, MatchOption, nat_lt, nat_eq, codes, if◌then◌else◌}
 use Rattle.std.specs.List.{list_any, position_or_len, before_first, after_first, ends_with}
 use Rattle.std.proofs.lemmas.Bool.Decides.{Decides-ltb, nat_tests}
@@ -8,7 +8,7 @@ use Rattle.std.proofs.lemmas.List.{length-append, length-map, length-drop, lengt
 use Rattle.std.specs.Result.{result_err, result_ok}
 use Rattle.kn_base.specs.declared.limits.TheConstants.{ASSERTION_BYTES, PRINCIPAL_BYTES}
 use Rattle.kn_env.specs.declared.constant.Constant.{Constant as Set}
-use Rattle.kn_lex.specs.Cutting.{Seen}
+use Rattle.kn_lex.specs.Cutting.{Seen, Cuts}
 use Rattle.kn_fields.specs.Fields.{Field, fields_of, field_with, signed_to}
 use Rattle.kn_fields.specs.Faults.{IsWellFielded, IsFirstFault, HasCause, constants_in}
 use Rattle.kn_fields.specs.Computed.{fields_or_fault}
@@ -16,12 +16,10 @@ use Rattle.kn_fields.specs.Numbers.{fault_place}
 use Rattle.kn_fields.specs.declared.fault.ReadFault.{ReadFault}
 use Rattle.kn_fields.specs.declared.fault.ReadFault.TheVariants.{TooLong, NoMemory}
 use Rattle.kn_trees.specs.declared.assertion.Assertion.{Assertion}
-use Rattle.kn_trees.specs.declared.program.Program.{Program}
-use Rattle.kn_trees.specs.Kinds.{is_well_kinded}
 use Rattle.kn_trees.specs.Levels.{program_depth}
 use Rattle.kn_program.specs.Conditions.{IsConditions}
 use Rattle.kn_program.proofs.Depths.{stated_shallow}
-use Rattle.kn_principal.specs.Principals.{lower_case, is_colon, normal_rest, with_algorithm, normal_form}
+use Rattle.kn_principal.specs.Principals.{lower_case, is_colon, with_algorithm, normal_form}
 use Rattle.kn_assert.specs.Parts.{Gives, text_by, normal_in, principal_of}
 use Rattle.kn_assert.specs.Reading.{and_then, nothing, stated_by, assembled, reading_with, reading_of, assertion_of, fault_of}
 use Rattle.kn_assert.specs.Spelled.{IsShallow, IsReading, IsFirstReadFault}
@@ -32,18 +30,12 @@ colon_within : (text : List ℕ) → nat_lt (position_or_len is_colon text) (len
 colon_within [] = refl
 colon_within (b ∷ text) = grind (arith, common_steps, colon_within text)
 
-rest_length : (algorithm rest : List ℕ) → length (normal_rest algorithm rest) ≡ length rest
-rest_length algorithm rest = by (ends_with nat_eq algorithm (codes "-hex"))
-  where
-    by : (b : Bool) → length (if b then map lower_case rest else rest) ≡ length rest
-    by true = length-map rest lower_case
-    by false = refl
-
 with_length : (front rest : List ℕ) → length (with_algorithm front rest) ≡ length front + (1 + length rest)
-with_length front rest =
-    let sum = length-append front (58 ∷ normal_rest front rest) in
-    let size = rest_length front rest in
-    omega (arith, sum, size)
+with_length front rest = by (ends_with nat_eq front (codes "-hex"))
+  where
+    by : (b : Bool) → length (front ++ 58 ∷ (if b then map lower_case rest else rest)) ≡ length front + (1 + length rest)
+    by true = omega (arith, length-append front (58 ∷ map lower_case rest), length-map rest lower_case)
+    by false = omega (arith, length-append front (58 ∷ rest))
 
 pub normal_length : (text : List ℕ) → length (normal_form text) ≡ length text
 normal_length text = by (list_any is_colon text) refl
@@ -54,10 +46,14 @@ normal_length text = by (list_any is_colon text) refl
     by true e =
         let at : ℕ = position_or_len is_colon text in
         let below : at < length text = (Decides-ltb at (length text)).0 (colon_within text ∙ e) in
-        let front : length (map lower_case (take at text)) ≡ at = length-map (take at text) lower_case ∙ length-take-le at text (omega (arith, below)) in
-        let rest : length (drop (at + 1) text) ≡ length text - (at + 1) = length-drop (at + 1) text in
-        let whole = with_length (map lower_case (take at text)) (drop (at + 1) text) in
-        omega (arith, below, front, rest, whole)
+        omega (
+          arith,
+          below,
+          length-map (take at text) lower_case,
+          length-take-le at text (omega (arith, below)),
+          length-drop (at + 1) text,
+          with_length (map lower_case (take at text)) (drop (at + 1) text),
+        )
 
 -- a principal has 1 to 4,096 bytes
 normal_sized : (o : Option (List ℕ)) (a : List ℕ) → normal_in o ≡ Some a → (0 < length a) × (length a ≤ PRINCIPAL_BYTES)
@@ -69,25 +65,20 @@ normal_sized (Some text) a e = by (length text == 0) (nat_lt 4096 (length text))
     by true q none long h = absurd (cc)
     by false true none long h = absurd (cc)
     by false false none long h =
-        let some : 0 < length text = grind (arith, nat_tests) in
-        let short : length text ≤ 4096 = grind (arith, nat_tests) in
         let same : normal_form text ≡ a = cc in
-        let size : length a ≡ length text = ap (λ (l : List ℕ). length l) (sym same) ∙ normal_length text in
-        (omega (arith, some, size), omega (arith, short, size))
+        let size : length a ≡ length text = ap length (sym same) ∙ normal_length text in
+        (grind (arith, nat_tests), grind (arith, nat_tests))
 
 pub principal_sized : (constants : List Set) (token : Seen) (a : List ℕ) → principal_of constants token ≡ Some a → (0 < length a) × (length a ≤ PRINCIPAL_BYTES)
 unfolding principal_of
 principal_sized constants token a e = normal_sized (text_by constants token.sort token.text) a e
 
-stated_kinds : (tokens : List Seen) (o : Option Program) → IsConditions tokens o → IfSome o (λ program. is_well_kinded program ≡ true)
-stated_kinds tokens None h = tt
-stated_kinds tokens (Some program) h = h.kinds
-
--- a program that is spelled is well kinded
-pub spelled_kinds : (field : Option Field) (o : Option Program) → MatchOption field (o ≡ None) (λ field. IsShallow field × IsConditions field.tokens o)
-    → IfSome o (λ program. is_well_kinded program ≡ true)
-spelled_kinds None o h = subst (λ (o : Option Program). IfSome o (λ program. is_well_kinded program ≡ true)) (sym h) tt
-spelled_kinds (Some field) o h = stated_kinds field.tokens o h.1
+-- what holds of all that a field may state holds of what is stated, if anything is
+pub if_stated : {X : Type 0} (Is : Field → Option X → Type 0) (P : X → Type 0) (field : Option Field) (o : Option X) → ((f : Field) (x : X) → field ≡ Some f → IsShallow f → Is f (Some x) → P x)
+    → MatchOption field (o ≡ None) (λ f. IsShallow f × Is f o) → IfSome o P
+if_stated Is P field None go h = tt
+if_stated Is P None (Some x) go h = absurd (cc)
+if_stated Is P (Some f) (Some x) go h = go f x refl h.0 h.1
 
 well_short : (text : List ℕ) → IsWellFielded text → length text ≤ ASSERTION_BYTES
 well_short text well = by (nat_lt ASSERTION_BYTES (length text)) refl
@@ -97,13 +88,11 @@ well_short text well = by (nat_lt ASSERTION_BYTES (length text)) refl
     by true e = absurd (well (TooLong (length text)) (inl ((Decides-ltb ASSERTION_BYTES (length text)).0 e, refl)))
 
 -- what is read of the text with these tokens and constants
-pub reading_here : (text : List ℕ) (tokens : List Seen) (constants : List Set) (signed : ℕ) → fields_or_fault text ≡ Ok tokens → constants ≡ constants_in (field_with 6 tokens)
-    → signed ≡ signed_to text tokens → reading_of text ≡ and_then (stated_by constants nothing (fields_of tokens)) (λ s. assembled constants signed s s.authorizer)
+pub reading_here : (text : List ℕ) (tokens : List Seen) {constants : List Set} {signed : ℕ} → ((ts : List Seen) → (fields_or_fault text ≡ Ok ts) ↔ (Cuts text ts × IsWellFielded text)) → Cuts text tokens → IsWellFielded text
+    → constants ≡ constants_in (field_with 6 tokens) → signed ≡ signed_to text tokens
+    → reading_of text ≡ and_then (stated_by constants nothing (fields_of tokens)) (λ s. assembled constants signed s s.authorizer)
 unfolding reading_of reading_with
-reading_here text tokens constants signed e c n =
-    ap (λ r. and_then r (reading_with text)) e
-    ∙ ap (λ (k : List Set). and_then (stated_by k nothing (fields_of tokens)) (λ s. assembled k (signed_to text tokens) s s.authorizer)) (sym c)
-    ∙ ap (λ (m : ℕ). and_then (stated_by constants nothing (fields_of tokens)) (λ s. assembled constants m s s.authorizer)) (sym n)
+reading_here text tokens told cut well c n = rw (c, n, (told tokens).1 (cut, well)) refl
 
 pub fields_fault : (text : List ℕ) (fault : ReadFault) → (fields_or_fault text ≡ Err fault) ↔ IsFirstFault text fault → HasCause text fault → (fault ≡ NoMemory) ⊎ (reading_of text ≡ Err fault)
 unfolding reading_of
@@ -145,16 +134,11 @@ each_told text (Err fault) read (inr e) is = inl (sym e ∙ is)
 pub reading_short : (text : List ℕ) (assertion : Assertion) → IsReading text assertion → length text ≤ ASSERTION_BYTES
 reading_short text assertion h = well_short text h.well_fielded
 
--- a program that is spelled has at most 1,700 levels
-spelled_shallow : (field : Option Field) (conditions : Option Program) → MatchOption field (conditions ≡ None) (λ field. IsShallow field × IsConditions field.tokens conditions)
-    → IfSome conditions (λ program. program_depth program ≤ 1700)
-spelled_shallow None conditions h = subst (λ (conditions : Option Program). IfSome conditions (λ program. program_depth program ≤ 1700)) (sym h) tt
-spelled_shallow (Some field) conditions h = stated_shallow field.tokens conditions h.1 h.0
-
 pub reading_shallow : (text : List ℕ) (assertion : Assertion) → IsReading text assertion → IfSome assertion.conditions (λ program. program_depth program ≤ 1700)
-reading_shallow text assertion h = spelled_shallow (field_with 3 h.tokens) assertion.conditions h.spelled.conditions
+reading_shallow text assertion h =
+    if_stated (λ f p. IsConditions f.tokens p) _ (field_with 3 h.tokens) assertion.conditions (λ f p is shallow own. stated_shallow f.tokens (Some p) own shallow) h.spelled.conditions
 
 pub place_told : (text : List ℕ) → ((fault : ReadFault) → IsFirstReadFault text fault → fault_place fault ≤ length text) → (fault : ReadFault) → (fault ≡ NoMemory) ⊎ IsFirstReadFault text fault
     → fault_place fault ≤ length text
-place_told text law fault (inl none) = let same = ap fault_place none in omega arith
+place_told text law fault (inl none) = omega (arith, ap fault_place none)
 place_told text law fault (inr first) = law fault first

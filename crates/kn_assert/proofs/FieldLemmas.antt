@@ -1,12 +1,12 @@
 -- The one token of a field, and what is stated label by label.
-use Rattle.std.proofs.Common.{◌≡◌, ℕ, ◌+◌, ◌<◌, ◌≤◌, ◌⊎◌, Bool, true, false, inl, inr, Option, None, Result, Ok, Err, List, [], ◌∷◌, length, drop, arith, refl, sym, ◌∙◌, ap}
+use Rattle.std.proofs.Common.{◌≡◌, ℕ, ◌+◌, ◌<◌, ◌≤◌, ◌⊎◌, Bool, true, false, inl, inr, None, Result, Ok, Err, List, [], ◌∷◌, length, drop, arith, refl, ◌∙◌, ap}
 use Rattle.std.specs.Prelude.{slice_get, option_and_then, take_while, if◌then◌else◌}
 use Rattle.std.specs.List.{prefix_len}
 use Rattle.std.proofs.lemmas.Option.{slice_get_cases}
 use Rattle.std.proofs.lemmas.List.{drop_all}
 use Rattle.kn_env.specs.declared.constant.Constant.{Constant as Set}
 use Rattle.kn_lex.specs.Cutting.{Seen}
-use Rattle.kn_fields.specs.Fields.{is_label, field_number, field_of, Field, fields_of, between}
+use Rattle.kn_fields.specs.Fields.{is_label, field_number, field_of, fields_of, between}
 use Rattle.kn_fields.specs.declared.fault.ReadFault.{ReadFault}
 use Rattle.kn_fields.specs.declared.fault.ReadFault.TheVariants.{NoMemory}
 use Rattle.kn_fields.proofs.Between.{drop_here, between_here, between_none, between_length}
@@ -24,15 +24,13 @@ not_one (t ∷ u ∷ ts) h = refl
 
 pub only_none : (xs : List Seen) (i to : ℕ) → i ≤ to → to ≤ length xs → (to ≡ i + 1 → ⊥) → None ≡ only_of (between i to xs)
 only_none xs i to le fits h =
-    let size = between_length xs i to le fits in
-    not_one (between i to xs) (λ e. h (omega (arith, size, e, le)))
+    not_one (between i to xs) (λ e. h (omega (arith, between_length xs i to le fits, e, le)))
 
 pub only_some : (xs : List Seen) (i to : ℕ) → to ≡ i + 1 → to ≤ length xs → slice_get xs i ≡ only_of (between i to xs)
 only_some xs i to e fits =
     elim (slice_get_cases xs i).1 [
       | inl h ↦
-          let rest : between (i + 1) to xs ≡ [] = between_none xs (i + 1) to (omega (arith, e)) in
-          h.2 ∙ sym (ap only_of (between_here xs i to h.0 h.2 (omega (arith, e)) ∙ ap (λ (ts : List Seen). h.0 ∷ ts) rest))
+          rw (h.2, between_here xs i to h.0 h.2 (omega (arith, e)), between_none xs (i + 1) to (omega (arith, e))) refl
       | inr h ↦ absurd (omega (arith, h.0, e, fits))
     ]
 
@@ -45,7 +43,7 @@ stated_front constants s t ts = by (is_label t) refl
   where
     by : (b : Bool) → is_label t ≡ b → stated_by constants s (if b then record { label = t; tokens = take_while goes_on ts } ∷ fields_of ts else fields_of ts)
         ≡ and_then (with_field constants s (if b then field_number t.text else None) (take_while goes_on ts)) (λ next. stated_by constants next (fields_of ts))
-    by true e = ap (λ (l : Bool). and_then (with_field constants s (if l then field_number t.text else None) (take_while goes_on ts)) (λ next. stated_by constants next (fields_of ts))) e
+    by true e = rw e refl
     by false e = refl
 
 -- the field whose label stands at a place comes first of those from there on
@@ -55,10 +53,7 @@ stated_next : (constants : List Set) (s : Stated) (xs : List Seen) (label end : 
 stated_next constants s xs label end below is =
     elim (slice_get_cases xs label).1 [
       | inl h ↦
-          ap (λ (ts : List Seen). stated_by constants s (fields_of ts)) (drop_here xs label h.0 h.2) ∙ stated_front constants s h.0 (drop (label + 1) xs)
-          ∙ ap (λ (ts : List Seen). and_then (with_field constants s (field_of h.0) ts) (λ next. stated_by constants next (fields_of (drop (label + 1) xs)))) (own_tokens xs (label + 1) end is)
-          ∙ ap (λ (fs : List Field). and_then (with_field constants s (field_of h.0) (between (label + 1) end xs)) (λ next. stated_by constants next fs)) (fields_from xs (label + 1) end is)
-          ∙ ap (λ (o : Option Seen). and_then (with_field constants s (option_and_then field_of o) (between (label + 1) end xs)) (λ next. stated_by constants next (fields_of (drop end xs)))) (sym h.2)
+          rw (drop_here xs label h.0 h.2, h.2, ← own_tokens xs (label + 1) end is, ← fields_from xs (label + 1) end is) (stated_front constants s h.0 (drop (label + 1) xs))
       | inr h ↦ absurd (omega (arith, h.0, below))
     ]
 

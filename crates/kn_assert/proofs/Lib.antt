@@ -1,5 +1,4 @@
 pub mod FieldLemmas
-pub mod Agreement
 pub mod Showing
 pub mod Readings
 pub mod Answered

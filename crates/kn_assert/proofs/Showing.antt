@@ -1,13 +1,12 @@
 -- What is computed of one field is what its tokens spell, or its first fault.
-use Rattle.std.proofs.Common.{◌≡◌, ℕ, ◌<◌, ◌⊎◌, inl, inr, Bool, true, false, Option, Some, None, Result, Ok, Err, List, [], ◌∷◌, arith, refl, sym, ◌∙◌, ap, subst}
-use Rattle.std.specs.Prelude.{◌↔◌, ok_or, if◌then◌else◌}
-use Rattle.std.proofs.lemmas.Bool.{false≢true}
+use Rattle.std.proofs.Common.{◌≡◌, ℕ, ◌<◌, ◌⊎◌, inl, inr, ⊎_elim, Bool, true, false, Option, Some, None, Result, Ok, Err, List, [], ◌∷◌, arith, refl, sym, ap, subst}
+use Rattle.std.specs.Prelude.{◌↔◌, ok_or, ◌||◌, if◌then◌else◌}
 use Rattle.kn_env.specs.declared.constant.Constant.{Constant as Set}
 use Rattle.kn_lex.specs.Cutting.{Seen}
 use Rattle.kn_lex.specs.Literal.{literal_value}
 use Rattle.kn_lex.specs.declared.token.Sort.{Sort}
-use Rattle.kn_lex.specs.declared.token.Sort.TheVariants.{Label, Body, Name as NameSort, Number as NumberSort, Text, Sign}
-use Rattle.kn_fields.specs.Constants.{is_text_sort}
+use Rattle.kn_lex.specs.declared.token.Sort.TheVariants.{Name as NameSort, Text}
+use Rattle.kn_fields.specs.Constants.{is_name_sort, is_text_sort}
 use Rattle.kn_fields.specs.Faults.{fault_order}
 use Rattle.kn_fields.specs.Depth.{IsTooDeep}
 use Rattle.kn_fields.specs.Scanning.{goes_deep}
@@ -19,7 +18,7 @@ use Rattle.kn_trees.specs.declared.program.Program.{Program}
 use Rattle.kn_program.specs.Conditions.{IsConditions, Shows as ProgramShows, program_of}
 use Rattle.kn_program.specs.declared.fault.ProgramFault.{ProgramFault}
 use Rattle.kn_program.specs.declared.fault.ProgramFault.TheVariants.{Syntax as NoProgram, Kind as WrongKind, NoMemory as NoProgramMemory}
-use Rattle.kn_assert.specs.Parts.{is_principal_token, principal_of, normal_in, text_by, only_of, authorizer_by, authorizer_of, program_fault, conditions_by, formula_fault, licensees_by, signature_by, signature_of}
+use Rattle.kn_assert.specs.Parts.{is_principal_token, principal_of, normal_in, text_by, only_of, one_by, authorizer_of, conditions_by, licensees_by, signature_of}
 use Rattle.kn_assert.specs.Reading.{shallow, authorizer_in, conditions_in, licensees_in, signature_in}
 use Rattle.kn_assert.specs.Spelled.{IsOne, AuthorizerShows, ConditionsShows, LicenseesShows, SignatureShows}
 use Rattle.kn_fields.specs.declared.fault.ReadFault.{ReadFault}
@@ -35,331 +34,204 @@ pub record PartsTold : Type 0 where
   pub states_program : (tokens : List Seen) (p : Option Program) → program_of tokens ≡ Ok p ↔ IsConditions tokens p
   pub shows_program : (tokens : List Seen) (fault : ProgramFault) → program_of tokens ≡ Err fault ↔ ProgramShows tokens fault
 
-pub depth_known : PartsTold → (tokens : List Seen) → IsTooDeep tokens ⊎ (IsTooDeep tokens → ⊥)
-depth_known depth tokens = by (goes_deep 0 0 tokens) refl
+-- the fault has a lower number than the other one, or is it
+abbrev pub IsBefore : ReadFault → ReadFault → Type 0
+IsBefore fault other = (fault_order fault < fault_order other) ⊎ (fault ≡ other)
+
+-- what is computed has a fault, and of this and another one it is the first
+abbrev pub Least : {X : Type 0} → Result X ReadFault → ReadFault → Type 0
+Least read other = (fault : ReadFault) × (read ≡ Err fault) × IsBefore fault other
+
+-- what is computed is stated, or its fault is shown
+abbrev pub Tells : {X : Type 0} → (X → Type 0) → (ReadFault → Type 0) → Result X ReadFault → Type 0
+Tells States Shows (Ok x) = States x
+Tells States Shows (Err fault) = Shows fault
+
+-- and whatever is stated is computed; where a fault is shown, a first one is computed
+pub record IsTold {X : Type 0} (States : X → Type 0) (Shows : ReadFault → Type 0) (read : Result X ReadFault) : Type 0 where
+  pub tells : Tells States Shows read
+  pub stated : (x : X) → States x → read ≡ Ok x
+  pub least : (fault : ReadFault) → Shows fault → Least read fault
+
+pub tells_value : {X : Type 0} (States : X → Type 0) (Shows : ReadFault → Type 0) (read : Result X ReadFault) (x : X) → Tells States Shows read → read ≡ Ok x → States x
+tells_value States Shows read x tells e = subst (Tells States Shows) e tells
+
+pub tells_fault : {X : Type 0} (States : X → Type 0) (Shows : ReadFault → Type 0) (read : Result X ReadFault) (fault : ReadFault) → Tells States Shows read → read ≡ Err fault → Shows fault
+tells_fault States Shows read fault tells e = subst (Tells States Shows) e tells
+
+-- these tokens go too deep, or this is computed of them
+abbrev IsShown : {X : Type 0} → ℕ → List Seen → Result X ReadFault → ReadFault → Type 0
+IsShown n tokens read fault = ((fault ≡ TooDeep n) × IsTooDeep tokens) ⊎ ((read ≡ Err fault) × (15 < fault_order fault))
+
+-- what goes too deep is read no further
+shallow_told : {X : Type 0} (States : X → Type 0) (Shows : ReadFault → Type 0) (n : ℕ) (tokens : List Seen) (read : Result X ReadFault) → PartsTold
+    → Tells States Shows read → (IsTooDeep tokens → Shows (TooDeep n)) → ((x : X) → States x → read ≡ Ok x) → ((fault : ReadFault) → Shows fault → IsShown n tokens read fault)
+    → IsTold (λ x. (IsTooDeep tokens → ⊥) × States x) Shows (shallow n tokens read)
+shallow_told {X} States Shows n tokens read told tells deep stated shown = by (goes_deep 0 0 tokens) refl
   where
-    by : (b : Bool) → goes_deep 0 0 tokens ≡ b → IsTooDeep tokens ⊎ (IsTooDeep tokens → ⊥)
-    by true e = inl (depth.deep tokens e)
-    by false e = inr (depth.not_deep tokens e)
+    past : (Shallow : Type 0) → Shallow → (r : Result X ReadFault) → Tells States Shows r → Tells (λ x. Shallow × States x) Shows r
+    past Shallow h (Ok x) is = (h, is)
+    past Shallow h (Err fault) is = is
 
-pub shallow_read : {X : Type 0} → PartsTold → (n : ℕ) (tokens : List Seen) (read : Result X ReadFault) → (IsTooDeep tokens → ⊥) → shallow n tokens read ≡ read
-shallow_read depth n tokens read h = by (goes_deep 0 0 tokens) refl
-  where
-    by : (b : Bool) → goes_deep 0 0 tokens ≡ b → (if b then Err (TooDeep n) else read) ≡ read
-    by true e = absurd (h (depth.deep tokens e))
-    by false e = refl
+    by : (b : Bool) → goes_deep 0 0 tokens ≡ b → IsTold (λ x. (IsTooDeep tokens → ⊥) × States x) Shows (if b then Err (TooDeep n) else read)
+    by true e = record {
+      tells = deep (told.deep tokens e);
+      stated = λ x h. absurd (h.0 (told.deep tokens e));
+      least = λ fault h. (TooDeep n, refl, ⊎_elim (λ k. inr (sym k.0)) (λ k. inl k.1) (shown fault h));
+    }
+    by false e = record {
+      tells = past (IsTooDeep tokens → ⊥) (told.not_deep tokens e) read tells;
+      stated = λ x h. stated x h.1;
+      least = λ fault h. (fault, ⊎_elim (λ k. absurd (told.not_deep tokens e k.1)) (λ k. k.0) (shown fault h), inr refl);
+    }
 
-pub shallow_deep : {X : Type 0} → PartsTold → (n : ℕ) (tokens : List Seen) (read : Result X ReadFault) → IsTooDeep tokens → shallow n tokens read ≡ Err (TooDeep n)
-shallow_deep depth n tokens read h = by (goes_deep 0 0 tokens) refl
-  where
-    by : (b : Bool) → goes_deep 0 0 tokens ≡ b → (if b then Err (TooDeep n) else read) ≡ Err (TooDeep n)
-    by true e = refl
-    by false e = absurd (depth.not_deep tokens e h)
-
-pub ok_err : {X P : Type 0} (x : X) (fault : ReadFault) → Ok x ≡ Err fault → P
-ok_err x fault e = absurd (cc)
-
-pub same_fault : {X : Type 0} (fault other : ReadFault) (r : Result X ReadFault) → r ≡ Err fault → r ≡ Err other → fault ≡ other
-same_fault fault other r e f = cc
-
--- the value of a field that doesn't go too deep
-
-pub shallow_ok : {X : Type 0} → PartsTold → (n : ℕ) (tokens : List Seen) (read : Result X ReadFault) (x : X) → shallow n tokens read ≡ Ok x
-    → (IsTooDeep tokens → ⊥) × (read ≡ Ok x)
-shallow_ok depth n tokens read x e =
-    elim (depth_known depth tokens) [
-      | inl h ↦ ok_err x (TooDeep n) (sym e ∙ shallow_deep depth n tokens read h)
-      | inr h ↦ (h, sym (shallow_read depth n tokens read h) ∙ e)
-    ]
-
--- one token
-
-pub only_one : (tokens : List Seen) (token : Seen) → only_of tokens ≡ Some token → tokens ≡ token ∷ []
-only_one [] token e = absurd (cc)
-only_one (t ∷ []) token e = let same : t ≡ token = cc in ap (λ (x : Seen). x ∷ []) same
-only_one (t ∷ u ∷ ts) token e = absurd (cc)
-
-none_one : (tokens : List Seen) (token : Seen) → only_of tokens ≡ None → tokens ≡ token ∷ [] → ⊥
-none_one tokens token e h = absurd (none_some token (sym e ∙ ap only_of h))
-  where
-    none_some : (t : Seen) → None ≡ Some t → ⊥
-    none_some t k = absurd (cc)
+-- Authorizer
 
 -- a token that states a principal is a name or a literal
 principal_token : (constants : List Set) (token : Seen) (a : List ℕ) → principal_of constants token ≡ Some a → is_principal_token token ≡ true
 unfolding principal_of
-principal_token constants token a e = by token.sort refl
+principal_token constants token a e = by token.sort e
   where
-    none : (s : Sort) → token.sort ≡ s → normal_in (text_by constants s token.text) ≡ None → (b : Bool) → b ≡ true
-    none s t n b = absurd (none_some (sym n ∙ ap (λ (x : Sort). normal_in (text_by constants x token.text)) (sym t) ∙ e))
-      where
-        none_some : None ≡ Some a → ⊥
-        none_some k = absurd (cc)
+    by : (sort : Sort) → normal_in (text_by constants sort token.text) ≡ Some a → (is_name_sort sort || is_text_sort sort) ≡ true
+    by NameSort e = refl
+    by Text e = refl
+    by _ e = absurd (cc)
 
-    by : (s : Sort) → token.sort ≡ s → is_principal_token token ≡ true
-    by Label t = none Label t refl (is_principal_token token)
-    by Body t = none Body t refl (is_principal_token token)
-    by NameSort t = rw t refl
-    by NumberSort t = none NumberSort t refl (is_principal_token token)
-    by Text t = rw t refl
-    by Sign t = none Sign t refl (is_principal_token token)
-
-named_some : (o : Option (List ℕ)) (a : List ℕ) → ok_or o (Name 1) ≡ Ok a → o ≡ Some a
-named_some None a e = absurd (cc)
-named_some (Some p) a e = let same : p ≡ a = cc in ap Some same
-
-pub authorizer_spelled : (constants : List Set) (tokens : List Seen) (a : List ℕ) → authorizer_of constants tokens ≡ Ok a
-    → IsOne tokens (λ token. principal_of constants token ≡ Some a)
-unfolding authorizer_of
-authorizer_spelled constants tokens a e = by (only_of tokens) refl e
+-- what one token states that passes a test, or a fault
+one_tells : {X : Type 0} (States : X → Type 0) (Shows : ReadFault → Type 0) (n : ℕ) (test : Seen → Bool) (read : Seen → Result X ReadFault) (tokens : List Seen)
+    → ((IsOne tokens (λ token. test token ≡ true) → ⊥) → Shows (Syntax n))
+    → ((token : Seen) → tokens ≡ token ∷ [] → test token ≡ true → Tells States Shows (read token))
+    → Tells States Shows (one_by n test read (only_of tokens))
+one_tells States Shows n test read [] none one = none (λ h. cc)
+one_tells States Shows n test read (t ∷ u ∷ ts) none one = none (λ h. cc)
+one_tells States Shows n test read (token ∷ []) none one = by (test token) refl
   where
-    of : (token : Seen) (b : Bool) → (if b then ok_or (principal_of constants token) (Name 1) else Err (Syntax 1)) ≡ Ok a → principal_of constants token ≡ Some a
-    of token true h = named_some (principal_of constants token) a h
-    of token false h = ok_err a (Syntax 1) (sym h)
+    by : (b : Bool) → test token ≡ b → Tells States Shows (if b then read token else Err (Syntax n))
+    by true e = one token refl e
+    by false e = none (λ h. let same : h.0 ≡ token = cc (h.1) in let passes = h.2 in absurd (cc (ap test same)))
 
-    by : (o : Option Seen) → only_of tokens ≡ o → authorizer_by constants o ≡ Ok a → IsOne tokens (λ token. principal_of constants token ≡ Some a)
-    by None o h = ok_err a (Syntax 1) (sym h)
-    by (Some token) o h = (token, only_one tokens token o, of token (is_principal_token token) h)
-
-pub spelled_authorizer : (constants : List Set) (tokens : List Seen) (a : List ℕ) → IsOne tokens (λ token. principal_of constants token ≡ Some a)
-    → authorizer_of constants tokens ≡ Ok a
-unfolding authorizer_of
-spelled_authorizer constants tokens a h =
-    ap (λ (ts : List Seen). authorizer_by constants (only_of ts)) h.1
-    ∙ ap (λ (b : Bool). if b then ok_or (principal_of constants h.0) (Name 1) else Err (Syntax 1)) (principal_token constants h.0 a h.2)
-    ∙ ap (λ (o : Option (List ℕ)). ok_or o (Name 1)) h.2
-
-text_sort : (s : Sort) → is_text_sort s ≡ true → s ≡ Text
-text_sort Label e = absurd (false≢true e)
-text_sort Body e = absurd (false≢true e)
-text_sort NameSort e = absurd (false≢true e)
-text_sort NumberSort e = absurd (false≢true e)
-text_sort Text e = refl
-text_sort Sign e = absurd (false≢true e)
-
-pub signature_spelled : (tokens : List Seen) (s : Option (List ℕ)) → signature_of tokens ≡ Ok s
-    → IsOne tokens (λ token. (token.sort ≡ Text) × (s ≡ Some (literal_value token.text)))
-unfolding signature_of
-signature_spelled tokens s e = by (only_of tokens) refl e
+none_passes : {X : Type 0} (n : ℕ) (test : Seen → Bool) (read : Seen → Result X ReadFault) (tokens : List Seen) → (IsOne tokens (λ token. test token ≡ true) → ⊥)
+    → one_by n test read (only_of tokens) ≡ Err (Syntax n)
+none_passes n test read [] none = refl
+none_passes n test read (t ∷ u ∷ ts) none = refl
+none_passes {X} n test read (token ∷ []) none = by (test token) refl
   where
-    of : (token : Seen) (b : Bool) → is_text_sort token.sort ≡ b → (if b then Ok (Some (literal_value token.text)) else Err (Syntax 7)) ≡ Ok s
-        → (token.sort ≡ Text) × (s ≡ Some (literal_value token.text))
-    of token true t h = (text_sort token.sort t, cc)
-    of token false t h = ok_err s (Syntax 7) (sym h)
+    by : (b : Bool) → test token ≡ b → ◌≡◌ {A = Result X ReadFault} (if b then read token else Err (Syntax n)) (Err (Syntax n))
+    by true e = absurd (none (token, refl, e))
+    by false e = refl
 
-    by : (o : Option Seen) → only_of tokens ≡ o → signature_by o ≡ Ok s → IsOne tokens (λ token. (token.sort ≡ Text) × (s ≡ Some (literal_value token.text)))
-    by None o h = ok_err s (Syntax 7) (sym h)
-    by (Some token) o h = (token, only_one tokens token o, of token (is_text_sort token.sort) refl h)
+abbrev AuthorizerStates : List Set → List Seen → List ℕ → Type 0
+AuthorizerStates constants tokens a = IsOne tokens (λ token. principal_of constants token ≡ Some a)
 
-pub spelled_signature : (tokens : List Seen) (s : Option (List ℕ)) → IsOne tokens (λ token. (token.sort ≡ Text) × (s ≡ Some (literal_value token.text)))
-    → signature_of tokens ≡ Ok s
-unfolding signature_of
-spelled_signature tokens s h =
-    ap (λ (ts : List Seen). signature_by (only_of ts)) h.1
-    ∙ ap (λ (b : Bool). if b then Ok (Some (literal_value h.0.text)) else Err (Syntax 7)) (ap is_text_sort h.2.0)
-    ∙ ap Ok (sym h.2.1)
-
-pub licensees_spelled : (r : Result (Option Formula) FormulaFault) (l : Option Formula) → licensees_by r ≡ Ok l → r ≡ Ok l
-licensees_spelled (Ok x) l e = let same : x ≡ l = cc in ap Ok same
-licensees_spelled (Err fault) l e = ok_err l (formula_fault fault) (sym e)
-
-pub conditions_spelled : (r : Result (Option Program) ProgramFault) (p : Option Program) → conditions_by r ≡ Ok p → r ≡ Ok p
-conditions_spelled (Ok x) p e = let same : x ≡ p = cc in ap Ok same
-conditions_spelled (Err fault) p e = ok_err p (program_fault fault) (sym e)
-
--- the fault of a field that is computed is shown, and any other one has a greater number
-
--- the computed fault has a lower number than this one, or is it
-unfoldable pub Least : {X : Type 0} → Result X ReadFault → ReadFault → Type 0
-Least (Ok x) other = ⊥
-Least (Err fault) other = (fault_order fault < fault_order other) ⊎ (fault ≡ other)
-
-is_least : {X : Type 0} (r : Result X ReadFault) (fault other : ReadFault) → r ≡ Err fault → (fault_order fault < fault_order other) ⊎ (fault ≡ other) → Least r other
-unfolding Least
-is_least r fault other e h = subst (λ x. Least x other) (sym e) h
-
-least_deep : {X : Type 0} → PartsTold → (n : ℕ) (tokens : List Seen) (read : Result X ReadFault) (other : ReadFault)
-    → 15 < fault_order other → ((IsTooDeep tokens → ⊥) → Least read other) → Least (shallow n tokens read) other
-least_deep depth n tokens read other above rest =
-    elim (depth_known depth tokens) [
-      | inl h ↦ is_least _ (TooDeep n) other (shallow_deep depth n tokens read h) (inl above)
-      | inr h ↦ subst (λ x. Least x other) (sym (shallow_read depth n tokens read h)) (rest h)
-    ]
-
-least_itself : {X : Type 0} → PartsTold → (n number : ℕ) (tokens : List Seen) (read : Result X ReadFault) → number ≡ n → IsTooDeep tokens
-    → Least (shallow n tokens read) (TooDeep number)
-least_itself depth n number tokens read e h = is_least _ (TooDeep n) (TooDeep number) (shallow_deep depth n tokens read h) (inr (ap TooDeep (sym e)))
-
--- Authorizer
-
-not_principal : (constants : List Set) (tokens : List Seen) (f : ReadFault) (o : Option Seen) → only_of tokens ≡ o → authorizer_by constants o ≡ Err f
-    → AuthorizerShows constants tokens f
-not_principal constants tokens f None o e =
-    let same : Syntax 1 ≡ f = same_fault (Syntax 1) f (Err (Syntax 1)) refl e in
-    subst (AuthorizerShows constants tokens) same (refl, λ one. none_one tokens one.0 o one.1)
-not_principal constants tokens f (Some token) o e = by (is_principal_token token) refl e
+authorizer_tells : (constants : List Set) (tokens : List Seen) → Tells (AuthorizerStates constants tokens) (AuthorizerShows constants tokens) (authorizer_of constants tokens)
+unfolding authorizer_of
+authorizer_tells constants tokens =
+    one_tells (AuthorizerStates constants tokens) (AuthorizerShows constants tokens) 1 is_principal_token _ tokens (λ none. (refl, none))
+    (λ token is passes. by token is passes (principal_of constants token) refl)
   where
-    name : (p : Option (List ℕ)) → principal_of constants token ≡ p → is_principal_token token ≡ true → ok_or p (Name 1) ≡ Err f → AuthorizerShows constants tokens f
-    name None p b h =
-        let same : Name 1 ≡ f = same_fault (Name 1) f (Err (Name 1)) refl h in
-        subst (AuthorizerShows constants tokens) same (refl, (token, only_one tokens token o, (b, p)))
-    name (Some a) p b h = ok_err a f h
+    by : (token : Seen) → tokens ≡ token ∷ [] → is_principal_token token ≡ true → (o : Option (List ℕ)) → principal_of constants token ≡ o
+        → Tells (AuthorizerStates constants tokens) (AuthorizerShows constants tokens) (ok_or o (Name 1))
+    by token is passes (Some a) named = (token, is, named)
+    by token is passes None named = (refl, (token, is, (passes, named)))
 
-    by : (b : Bool) → is_principal_token token ≡ b → (if b then ok_or (principal_of constants token) (Name 1) else Err (Syntax 1)) ≡ Err f → AuthorizerShows constants tokens f
-    by true b h = name (principal_of constants token) refl b h
-    by false b h =
-        let same : Syntax 1 ≡ f = same_fault (Syntax 1) f (Err (Syntax 1)) refl h in
-        subst (AuthorizerShows constants tokens) same (refl, other)
-      where
-        other : IsOne tokens (λ t. is_principal_token t ≡ true) → ⊥
-        other one =
-            let there : Some token ≡ Some one.0 = sym o ∙ ap only_of one.1 in
-            let t : token ≡ one.0 = cc in
-            false≢true (sym b ∙ ap is_principal_token t ∙ one.2)
-
-pub authorizer_shown : PartsTold → (constants : List Set) (tokens : List Seen) (f : ReadFault) → authorizer_in constants tokens ≡ Err f
-    → AuthorizerShows constants tokens f
+authorizer_shown : (constants : List Set) (tokens : List Seen) (fault : ReadFault) → AuthorizerShows constants tokens fault
+    → IsShown 1 tokens (authorizer_of constants tokens) fault
 unfolding authorizer_of
-authorizer_shown depth constants tokens f e =
-    elim (depth_known depth tokens) [
-      | inl h ↦
-          subst (AuthorizerShows constants tokens) (same_fault (TooDeep 1) f _ (shallow_deep depth 1 tokens (authorizer_of constants tokens) h) e) (refl, h)
-      | inr h ↦
-          not_principal constants tokens f (only_of tokens) refl (sym (shallow_read depth 1 tokens (authorizer_of constants tokens) h) ∙ e)
-    ]
+authorizer_shown constants tokens (TooDeep number) h = inl (ap TooDeep h.0, h.1)
+authorizer_shown constants tokens (Syntax number) h = inr (rw h.0 (none_passes 1 is_principal_token _ tokens h.1), omega arith)
+authorizer_shown constants tokens (Name number) h = inr (rw (h.1.1, h.1.2.0, h.1.2.1, h.0) refl, omega arith)
+authorizer_shown constants tokens _ h = absurd h
 
-misspelled_least : (constants : List Set) (tokens : List Seen) (number : ℕ) → number ≡ 1 → (IsOne tokens (λ token. is_principal_token token ≡ true) → ⊥)
-    → Least (authorizer_of constants tokens) (Syntax number)
+authorizer_stated : (constants : List Set) (tokens : List Seen) (a : List ℕ) → AuthorizerStates constants tokens a → authorizer_of constants tokens ≡ Ok a
 unfolding authorizer_of
-misspelled_least constants tokens number n h = by (only_of tokens) refl
-  where
-    of : (token : Seen) → only_of tokens ≡ Some token → (b : Bool) → is_principal_token token ≡ b → authorizer_by constants (Some token) ≡ Err (Syntax 1)
-    of token o true b = absurd (h (token, only_one tokens token o, b))
-    of token o false b = ap (λ (x : Bool). if x then ok_or (principal_of constants token) (Name 1) else Err (Syntax 1)) b
+authorizer_stated constants tokens a h = rw (h.1, principal_token constants h.0 a h.2, h.2) refl
 
-    by : (o : Option Seen) → only_of tokens ≡ o → Least (authorizer_by constants o) (Syntax number)
-    by None o = is_least _ (Syntax 1) (Syntax number) refl (inr (ap Syntax (sym n)))
-    by (Some token) o = is_least _ (Syntax 1) (Syntax number) (of token o (is_principal_token token) refl) (inr (ap Syntax (sym n)))
-
-unnamed_least : (constants : List Set) (tokens : List Seen) (number : ℕ) → number ≡ 1
-    → IsOne tokens (λ token. (is_principal_token token ≡ true) × (principal_of constants token ≡ None)) → Least (authorizer_of constants tokens) (Name number)
-unfolding authorizer_of
-unnamed_least constants tokens number n h =
-    let is : authorizer_by constants (only_of tokens) ≡ Err (Name 1) =
-    ap (λ (ts : List Seen). authorizer_by constants (only_of ts)) h.1
-    ∙ ap (λ (b : Bool). if b then ok_or (principal_of constants h.0) (Name 1) else Err (Syntax 1)) h.2.0
-    ∙ ap (λ (o : Option (List ℕ)). ok_or o (Name 1)) h.2.1 in
-    is_least _ (Name 1) (Name number) is (inr (ap Name (sym n)))
-
-pub authorizer_least : PartsTold → (constants : List Set) (tokens : List Seen) (other : ReadFault) → AuthorizerShows constants tokens other
-    → Least (authorizer_in constants tokens) other
-authorizer_least depth constants tokens (TooDeep number) h = least_itself depth 1 number tokens _ h.0 h.1
-authorizer_least depth constants tokens (Syntax number) h =
-    least_deep depth 1 tokens _ (Syntax number) (omega arith) (λ s. misspelled_least constants tokens number h.0 h.1)
-authorizer_least depth constants tokens (Name number) h =
-    least_deep depth 1 tokens _ (Name number) (omega arith) (λ s. unnamed_least constants tokens number h.0 h.1)
-authorizer_least depth constants tokens _ h = absurd h
+pub authorizer_told : PartsTold → (constants : List Set) (tokens : List Seen)
+    → IsTold (λ a. (IsTooDeep tokens → ⊥) × AuthorizerStates constants tokens a) (AuthorizerShows constants tokens) (authorizer_in constants tokens)
+authorizer_told told constants tokens =
+    shallow_told (AuthorizerStates constants tokens) (AuthorizerShows constants tokens) 1 tokens (authorizer_of constants tokens) told
+    (authorizer_tells constants tokens) (λ deep. (refl, deep)) (authorizer_stated constants tokens) (authorizer_shown constants tokens)
 
 -- Conditions
 
-program_shown : PartsTold → (tokens : List Seen) (f : ReadFault) (r : Result (Option Program) ProgramFault) → program_of tokens ≡ r → conditions_by r ≡ Err f → ConditionsShows tokens f
-program_shown told tokens f (Ok p) o e = ok_err p f e
-program_shown told tokens f (Err NoProgram) o e = subst (ConditionsShows tokens) (same_fault (Syntax 3) f (Err (Syntax 3)) refl e) (refl, (told.shows_program tokens NoProgram).0 o)
-program_shown told tokens f (Err WrongKind) o e = subst (ConditionsShows tokens) (same_fault (Kind 3) f (Err (Kind 3)) refl e) (refl, (told.shows_program tokens WrongKind).0 o)
-program_shown told tokens f (Err NoProgramMemory) o e = absurd ((told.shows_program tokens NoProgramMemory).0 o)
+conditions_tells : PartsTold → (tokens : List Seen) → Tells (IsConditions tokens) (ConditionsShows tokens) (conditions_by (program_of tokens))
+conditions_tells told tokens = by (program_of tokens) refl
+  where
+    by : (r : Result (Option Program) ProgramFault) → program_of tokens ≡ r → Tells (IsConditions tokens) (ConditionsShows tokens) (conditions_by r)
+    by (Ok p) e = (told.states_program tokens p).0 e
+    by (Err NoProgram) e = (refl, (told.shows_program tokens NoProgram).0 e)
+    by (Err WrongKind) e = (refl, (told.shows_program tokens WrongKind).0 e)
+    by (Err NoProgramMemory) e = (told.shows_program tokens NoProgramMemory).0 e
 
-pub conditions_shown : PartsTold → (tokens : List Seen) (f : ReadFault) → conditions_in tokens ≡ Err f → ConditionsShows tokens f
-conditions_shown depth tokens f e =
-    elim (depth_known depth tokens) [
-      | inl h ↦
-          subst (ConditionsShows tokens) (same_fault (TooDeep 3) f _ (shallow_deep depth 3 tokens (conditions_by (program_of tokens)) h) e) (refl, h)
-      | inr h ↦
-          program_shown depth tokens f (program_of tokens) refl (sym (shallow_read depth 3 tokens (conditions_by (program_of tokens)) h) ∙ e)
-    ]
+conditions_shown : PartsTold → (tokens : List Seen) (fault : ReadFault) → ConditionsShows tokens fault → IsShown 3 tokens (conditions_by (program_of tokens)) fault
+conditions_shown told tokens (TooDeep number) h = inl (ap TooDeep h.0, h.1)
+conditions_shown told tokens (Syntax number) h = inr (rw ((told.shows_program tokens NoProgram).1 h.1, h.0) refl, omega arith)
+conditions_shown told tokens (Kind number) h = inr (rw ((told.shows_program tokens WrongKind).1 h.1, h.0) refl, omega arith)
+conditions_shown told tokens _ h = absurd h
 
-pub conditions_least : PartsTold → (tokens : List Seen) (other : ReadFault) → ConditionsShows tokens other → Least (conditions_in tokens) other
-conditions_least depth tokens (TooDeep number) h = least_itself depth 3 number tokens _ h.0 h.1
-conditions_least depth tokens (Syntax number) h =
-    least_deep depth 3 tokens _ (Syntax number) (omega arith) (λ s. is_least _ (Syntax 3) (Syntax number) (ap conditions_by ((depth.shows_program tokens NoProgram).1 h.1)) (inr (ap Syntax (sym h.0))))
-conditions_least depth tokens (Kind number) h =
-    least_deep depth 3 tokens _ (Kind number) (omega arith) (λ s. is_least _ (Kind 3) (Kind number) (ap conditions_by ((depth.shows_program tokens WrongKind).1 h.1)) (inr (ap Kind (sym h.0))))
-conditions_least depth tokens _ h = absurd h
+pub conditions_told : PartsTold → (tokens : List Seen)
+    → IsTold (λ p. (IsTooDeep tokens → ⊥) × IsConditions tokens p) (ConditionsShows tokens) (conditions_in tokens)
+conditions_told told tokens =
+    shallow_told (IsConditions tokens) (ConditionsShows tokens) 3 tokens (conditions_by (program_of tokens)) told
+    (conditions_tells told tokens) (λ deep. (refl, deep)) (λ p h. ap conditions_by ((told.states_program tokens p).1 h)) (conditions_shown told tokens)
 
 -- Licensees
 
-formula_shown : PartsTold → (constants : List Set) (tokens : List Seen) (f : ReadFault) (r : Result (Option Formula) FormulaFault) → licensees_of constants tokens ≡ r
-    → licensees_by r ≡ Err f → LicenseesShows constants tokens f
-formula_shown told constants tokens f (Ok l) o e = ok_err l f e
-formula_shown told constants tokens f (Err NoFormula) o e = subst (LicenseesShows constants tokens) (same_fault (Syntax 5) f (Err (Syntax 5)) refl e) (refl, (told.shows constants tokens NoFormula).0 o)
-formula_shown told constants tokens f (Err WrongThreshold) o e = subst (LicenseesShows constants tokens) (same_fault (Threshold 5) f (Err (Threshold 5)) refl e) (refl, (told.shows constants tokens WrongThreshold).0 o)
-formula_shown told constants tokens f (Err NoName) o e = subst (LicenseesShows constants tokens) (same_fault (Name 5) f (Err (Name 5)) refl e) (refl, (told.shows constants tokens NoName).0 o)
-formula_shown told constants tokens f (Err NoFormulaMemory) o e = absurd ((told.shows constants tokens NoFormulaMemory).0 o)
+licensees_tells : PartsTold → (constants : List Set) (tokens : List Seen)
+    → Tells (AreLicensees constants tokens) (LicenseesShows constants tokens) (licensees_by (licensees_of constants tokens))
+licensees_tells told constants tokens = by (licensees_of constants tokens) refl
+  where
+    by : (r : Result (Option Formula) FormulaFault) → licensees_of constants tokens ≡ r
+        → Tells (AreLicensees constants tokens) (LicenseesShows constants tokens) (licensees_by r)
+    by (Ok l) e = (told.states constants tokens l).0 e
+    by (Err NoFormula) e = (refl, (told.shows constants tokens NoFormula).0 e)
+    by (Err WrongThreshold) e = (refl, (told.shows constants tokens WrongThreshold).0 e)
+    by (Err NoName) e = (refl, (told.shows constants tokens NoName).0 e)
+    by (Err NoFormulaMemory) e = (told.shows constants tokens NoFormulaMemory).0 e
 
-pub licensees_shown : PartsTold → (constants : List Set) (tokens : List Seen) (f : ReadFault) → licensees_in constants tokens ≡ Err f
-    → LicenseesShows constants tokens f
-licensees_shown depth constants tokens f e =
-    elim (depth_known depth tokens) [
-      | inl h ↦
-          subst (LicenseesShows constants tokens)
-          (same_fault (TooDeep 5) f _ (shallow_deep depth 5 tokens (licensees_by (licensees_of constants tokens)) h) e) (refl, h)
-      | inr h ↦
-          formula_shown depth constants tokens f (licensees_of constants tokens) refl
-          (sym (shallow_read depth 5 tokens (licensees_by (licensees_of constants tokens)) h) ∙ e)
-    ]
+licensees_shown : PartsTold → (constants : List Set) (tokens : List Seen) (fault : ReadFault) → LicenseesShows constants tokens fault
+    → IsShown 5 tokens (licensees_by (licensees_of constants tokens)) fault
+licensees_shown told constants tokens (TooDeep number) h = inl (ap TooDeep h.0, h.1)
+licensees_shown told constants tokens (Syntax number) h = inr (rw ((told.shows constants tokens NoFormula).1 h.1, h.0) refl, omega arith)
+licensees_shown told constants tokens (Threshold number) h = inr (rw ((told.shows constants tokens WrongThreshold).1 h.1, h.0) refl, omega arith)
+licensees_shown told constants tokens (Name number) h = inr (rw ((told.shows constants tokens NoName).1 h.1, h.0) refl, omega arith)
+licensees_shown told constants tokens _ h = absurd h
 
-pub licensees_least : PartsTold → (constants : List Set) (tokens : List Seen) (other : ReadFault) → LicenseesShows constants tokens other
-    → Least (licensees_in constants tokens) other
-licensees_least depth constants tokens (TooDeep number) h = least_itself depth 5 number tokens _ h.0 h.1
-licensees_least depth constants tokens (Syntax number) h =
-    least_deep depth 5 tokens _ (Syntax number) (omega arith) (λ s. is_least _ (Syntax 5) (Syntax number) (ap licensees_by ((depth.shows constants tokens NoFormula).1 h.1)) (inr (ap Syntax (sym h.0))))
-licensees_least depth constants tokens (Threshold number) h =
-    least_deep depth 5 tokens _ (Threshold number) (omega arith) (λ s. is_least _ (Threshold 5) (Threshold number) (ap licensees_by ((depth.shows constants tokens WrongThreshold).1 h.1)) (inr (ap Threshold (sym h.0))))
-licensees_least depth constants tokens (Name number) h =
-    least_deep depth 5 tokens _ (Name number) (omega arith) (λ s. is_least _ (Name 5) (Name number) (ap licensees_by ((depth.shows constants tokens NoName).1 h.1)) (inr (ap Name (sym h.0))))
-licensees_least depth constants tokens _ h = absurd h
+pub licensees_told : PartsTold → (constants : List Set) (tokens : List Seen)
+    → IsTold (λ l. (IsTooDeep tokens → ⊥) × AreLicensees constants tokens l) (LicenseesShows constants tokens) (licensees_in constants tokens)
+licensees_told told constants tokens =
+    shallow_told (AreLicensees constants tokens) (LicenseesShows constants tokens) 5 tokens (licensees_by (licensees_of constants tokens)) told
+    (licensees_tells told constants tokens) (λ deep. (refl, deep)) (λ l h. ap licensees_by ((told.states constants tokens l).1 h))
+    (licensees_shown told constants tokens)
 
 -- Signature
 
-not_text : (tokens : List Seen) (f : ReadFault) (o : Option Seen) → only_of tokens ≡ o → signature_by o ≡ Err f → SignatureShows tokens f
-not_text tokens f None o e =
-    let same : Syntax 7 ≡ f = same_fault (Syntax 7) f (Err (Syntax 7)) refl e in
-    subst (SignatureShows tokens) same (refl, λ one. none_one tokens one.0 o one.1)
-not_text tokens f (Some token) o e = by (is_text_sort token.sort) refl e
-  where
-    by : (b : Bool) → is_text_sort token.sort ≡ b → (if b then Ok (Some (literal_value token.text)) else Err (Syntax 7)) ≡ Err f → SignatureShows tokens f
-    by true b h = ok_err _ f h
-    by false b h =
-        let same : Syntax 7 ≡ f = same_fault (Syntax 7) f (Err (Syntax 7)) refl h in
-        subst (SignatureShows tokens) same (refl, other)
-      where
-        other : IsOne tokens (λ t. t.sort ≡ Text) → ⊥
-        other one =
-            let there : Some token ≡ Some one.0 = sym o ∙ ap only_of one.1 in
-            let t : token ≡ one.0 = cc in
-            false≢true (sym b ∙ ap (λ (x : Seen). is_text_sort x.sort) t ∙ ap is_text_sort one.2)
+text_sort : (sort : Sort) → is_text_sort sort ≡ true → sort ≡ Text
+text_sort Text e = refl
+text_sort _ e = absurd (cc)
 
-pub signature_shown : PartsTold → (tokens : List Seen) (f : ReadFault) → signature_in tokens ≡ Err f → SignatureShows tokens f
+abbrev SignatureStates : List Seen → Option (List ℕ) → Type 0
+SignatureStates tokens s = IsOne tokens (λ token. (token.sort ≡ Text) × (s ≡ Some (literal_value token.text)))
+
+signature_tells : (tokens : List Seen) → Tells (SignatureStates tokens) (SignatureShows tokens) (signature_of tokens)
 unfolding signature_of
-signature_shown depth tokens f e =
-    elim (depth_known depth tokens) [
-      | inl h ↦ subst (SignatureShows tokens) (same_fault (TooDeep 7) f _ (shallow_deep depth 7 tokens (signature_of tokens) h) e) (refl, h)
-      | inr h ↦ not_text tokens f (only_of tokens) refl (sym (shallow_read depth 7 tokens (signature_of tokens) h) ∙ e)
-    ]
+signature_tells tokens =
+    one_tells (SignatureStates tokens) (SignatureShows tokens) 7 (λ token. is_text_sort token.sort) _ tokens
+    (λ none. (refl, λ one. none (one.0, one.1, ap is_text_sort one.2))) (λ token is text. (token, is, (text_sort token.sort text, refl)))
 
-no_text_least : (tokens : List Seen) (number : ℕ) → number ≡ 7 → (IsOne tokens (λ token. token.sort ≡ Text) → ⊥) → Least (signature_of tokens) (Syntax number)
+signature_shown : (tokens : List Seen) (fault : ReadFault) → SignatureShows tokens fault → IsShown 7 tokens (signature_of tokens) fault
 unfolding signature_of
-no_text_least tokens number n h = by (only_of tokens) refl
-  where
-    of : (token : Seen) → only_of tokens ≡ Some token → (b : Bool) → is_text_sort token.sort ≡ b → signature_by (Some token) ≡ Err (Syntax 7)
-    of token o true b = absurd (h (token, only_one tokens token o, text_sort token.sort b))
-    of token o false b = ap (λ (x : Bool). if x then Ok (Some (literal_value token.text)) else Err (Syntax 7)) b
+signature_shown tokens (TooDeep number) h = inl (ap TooDeep h.0, h.1)
+signature_shown tokens (Syntax number) h =
+    inr (rw h.0 (none_passes 7 (λ token. is_text_sort token.sort) _ tokens (λ one. h.1 (one.0, one.1, text_sort one.0.sort one.2))), omega arith)
+signature_shown tokens _ h = absurd h
 
-    by : (o : Option Seen) → only_of tokens ≡ o → Least (signature_by o) (Syntax number)
-    by None o = is_least _ (Syntax 7) (Syntax number) refl (inr (ap Syntax (sym n)))
-    by (Some token) o = is_least _ (Syntax 7) (Syntax number) (of token o (is_text_sort token.sort) refl) (inr (ap Syntax (sym n)))
+signature_stated : (tokens : List Seen) (s : Option (List ℕ)) → SignatureStates tokens s → signature_of tokens ≡ Ok s
+unfolding signature_of
+signature_stated tokens s h = rw (h.1, h.2.0, h.2.1) refl
 
-pub signature_least : PartsTold → (tokens : List Seen) (other : ReadFault) → SignatureShows tokens other → Least (signature_in tokens) other
-signature_least depth tokens (TooDeep number) h = least_itself depth 7 number tokens _ h.0 h.1
-signature_least depth tokens (Syntax number) h =
-    least_deep depth 7 tokens _ (Syntax number) (omega arith) (λ s. no_text_least tokens number h.0 h.1)
-signature_least depth tokens _ h = absurd h
+pub signature_told : PartsTold → (tokens : List Seen)
+    → IsTold (λ s. (IsTooDeep tokens → ⊥) × SignatureStates tokens s) (SignatureShows tokens) (signature_in tokens)
+signature_told told tokens =
+    shallow_told (SignatureStates tokens) (SignatureShows tokens) 7 tokens (signature_of tokens) told
+    (signature_tells tokens) (λ deep. (refl, deep)) (signature_stated tokens) (signature_shown tokens)

@@ -46,9 +46,13 @@ abbrev pub only_of : List Seen → Option Seen
 only_of (token ∷ []) = Some token
 only_of tokens = None
 
+-- what is read of the one token of the field of this number, where it passes a test
+abbrev pub one_by : {X : Type 0} → ℕ → (Seen → Bool) → (Seen → Result X ReadFault) → Option Seen → Result X ReadFault
+one_by number test read None = Err (Syntax number)
+one_by number test read (Some token) = if test token then read token else Err (Syntax number)
+
 abbrev pub authorizer_by : List Constant → Option Seen → Result (List ℕ) ReadFault
-authorizer_by constants None = Err (Syntax 1)
-authorizer_by constants (Some token) = if is_principal_token token then ok_or (principal_of constants token) (Name 1) else Err (Syntax 1)
+authorizer_by constants token = one_by 1 is_principal_token (λ t. ok_or (principal_of constants t) (Name 1)) token
 
 -- the principal of an Authorizer field
 unfoldable pub authorizer_of : List Constant → List Seen → Result (List ℕ) ReadFault
@@ -76,8 +80,7 @@ licensees_by (Ok licensees) = Ok licensees
 licensees_by (Err fault) = Err (formula_fault fault)
 
 abbrev pub signature_by : Option Seen → Result (Option (List ℕ)) ReadFault
-signature_by None = Err (Syntax 7)
-signature_by (Some token) = if is_text_sort token.sort then Ok (Some (literal_value token.text)) else Err (Syntax 7)
+signature_by token = one_by 7 (λ t. is_text_sort t.sort) (λ t. Ok (Some (literal_value t.text))) token
 
 -- the value of a Signature field
 unfoldable pub signature_of : List Seen → Result (Option (List ℕ)) ReadFault

@@ -1,17 +1,16 @@
 //! What each field of an assertion states.
-ghost use Rattle.std.specs.Prelude.{◌≡◌, ◌+◌, ◌≤◌, ◌<◌, true, false, length, find, ok_or, OnOk, IfErr, MatchResult, None, Some};
+ghost use Rattle.std.specs.Prelude.{◌≡◌, ◌+◌, ◌≤◌, ◌<◌, true, false, length, ok_or, OnOk, IfErr, MatchResult, None, Some};
 ghost use Rattle.std.specs.Option.{option_copied, option_map};
-ghost use Rattle.std.specs.Str.{bytes_eq};
 ghost use Rattle.kn_lex.specs.Seeing.{seen};
 ghost use Rattle.kn_fields.specs.Fields.{between};
 ghost use Rattle.kn_fields.specs.Scanning.{goes_deep};
-ghost use Rattle.kn_formula.specs.Trees.{constant_value, principal_text};
+ghost use Rattle.kn_formula.specs.Trees.{principal_text};
 ghost use Rattle.kn_formula.specs.declared.written.Principal.TheVariants.{Name as Unquoted};
 ghost use Rattle.kn_assert.specs.Parts.{normal_in, only_of, authorizer_by, signature_by, Gives};
 ghost use Rattle.kn_assert.specs.Reading.{authorizer_in, conditions_in, licensees_in, signature_in};
 
 use kn_base::{List, Octets};
-use kn_env::Constant;
+use kn_env::{Constant, constant_value};
 use kn_fields::{AUTHORIZER, CONDITIONS, Fields, LICENSEES, Part, ReadFault, SIGNATURE, goes_deep};
 use kn_formula::FormulaFault;
 use kn_lex::{Sort, Token, Tokens, literal};
@@ -58,27 +57,8 @@ fn principal_in(alloc: Global, text: &[u8]) -> Result<Octets, ReadFault>
     }
 }
 
-/// The local constant of this name.
-fn constant_of<'a>(constants: &'a List<Constant>, name: &[u8]) -> Option<&'a Constant>
-    ensures { option_copied result ≡ find (λ constant. bytes_eq name.now constant.name) constants.now }
-{
-    constants
-        .as_slice()
-        .iter()
-        .find(|constant| name == constant.name.as_slice())
-}
-
-/// The value of the local constant of this name.
-fn constant_value<'a>(constants: &'a List<Constant>, name: &[u8]) -> Option<&'a [u8]>
-    ensures { option_map (λ value. value.now) result ≡ constant_value constants.now name.now }
-{
-    match constant_of(constants, name) {
-        Some(constant) => Some(constant.value.as_slice()),
-        None => None,
-    }
-}
-
 /// The principal that a name without quotes stands for.
+#[tactic(auto, unfolding(kn_formula::specs::Trees::constant_value))]
 fn principal_named(
     alloc: Global,
     constants: &List<Constant>,
@@ -89,7 +69,7 @@ fn principal_named(
     if name == b"POLICY".as_slice() {
         return principal_in(alloc, name);
     }
-    match constant_value(constants, name) {
+    match constant_value(constants.as_slice(), name) {
         Some(value) => principal_in(alloc, value),
         None => Err(ReadFault::Name { field: AUTHORIZER }),
     }

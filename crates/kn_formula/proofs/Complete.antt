@@ -1,6 +1,7 @@
 -- What is spelled is read.
 use Rattle.std.proofs.Common.{◌≡◌, ℕ, zero, suc, ◌+◌, ◌*◌, ◌≤◌, List, [], ◌∷◌, ◌++◌, length, codes, Some, None, refl, arith, length-append}
-use Rattle.kn_fields.specs.Words.{Word, taken, itself, marked, named}
+use Rattle.kn_fields.specs.Words.{Word, itself}
+use Rattle.kn_fields.specs.Reading.{taken, marked, named}
 use Rattle.kn_fields.specs.Words.Word.{sign as sign_word}
 use Rattle.kn_fields.proofs.Levels.{IsComplete, level_complete, closed_complete}
 use Rattle.kn_formula.specs.Trees.{need_of}

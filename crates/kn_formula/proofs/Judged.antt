@@ -1,6 +1,5 @@
 -- What the code gives of a field is what its tokens state.
 use Rattle.std.proofs.Common.{◌≡◌, true, false, List, [], ◌∷◌, length, Option, Some, None, Result, Ok, Err, refl, sym, ap, subst, ◌∙◌, arith}
-use Rattle.std.proofs.lemmas.Bool.{cond-true, cond-false}
 use Rattle.kn_env.specs.declared.constant.Constant.{Constant}
 use Rattle.kn_lex.specs.Cutting.{Seen}
 use Rattle.kn_fields.specs.Words.{Word, words_of}
@@ -8,12 +7,12 @@ use Rattle.kn_fields.specs.Reading.{ReadsWhole}
 use Rattle.kn_fields.specs.declared.unread.Unread.{Unread}
 use Rattle.kn_fields.specs.declared.unread.Unread.TheVariants.{Syntax as unread_Syntax, NoMemory as unread_NoMemory}
 use Rattle.kn_trees.specs.declared.formula.Formula.{Formula}
-use Rattle.kn_formula.specs.Trees.{has_bad_threshold, has_bad_name}
+use Rattle.kn_formula.specs.Trees.{has_bad_threshold}
 use Rattle.kn_formula.specs.Reading.{read_words}
 use Rattle.kn_formula.specs.Naming.{Names}
-use Rattle.kn_formula.specs.Licensing.{named, judged_read, licensees_of, Gives, of_unread}
+use Rattle.kn_formula.specs.Licensing.{judged_read, licensees_of, Gives, of_unread}
 use Rattle.kn_formula.specs.declared.fault.FormulaFault.{FormulaFault}
-use Rattle.kn_formula.specs.declared.fault.FormulaFault.TheVariants.{Syntax, Threshold, Name, NoMemory}
+use Rattle.kn_formula.specs.declared.fault.FormulaFault.TheVariants.{Threshold, Name, NoMemory}
 use Rattle.kn_formula.specs.declared.written.Written.{Written}
 
 -- a field without tokens
@@ -35,22 +34,14 @@ unread_given constants found read unread_NoMemory fault judged none is = subst (
 
 pub threshold_given : (constants : List Constant) (found : Result (Option Formula) FormulaFault) (read : Option Written) (written : Written) → found ≡ judged_read constants read → read ≡ Some written
     → has_bad_threshold written ≡ true → found ≡ Err Threshold
-threshold_given constants found read written judged is bad = judged ∙ ap (judged_read constants) is ∙ cond-true (has_bad_threshold written) _ _ bad
-
-named_read : (constants : List Constant) (found : Result (Option Formula) FormulaFault) (read : Option Written) (written : Written) → found ≡ judged_read constants read → read ≡ Some written
-    → has_bad_threshold written ≡ false → found ≡ named constants written
-named_read constants found read written judged is sound = judged ∙ ap (judged_read constants) is ∙ cond-false (has_bad_threshold written) _ _ sound
+threshold_given constants found read written judged is bad = rw (judged, is, bad) refl
 
 pub formula_given : (constants : List Constant) (found : Result (Option Formula) FormulaFault) (read : Option Written) (written : Written) (formula : Formula) → found ≡ judged_read constants read → read ≡ Some written
     → has_bad_threshold written ≡ false → Names constants written (Ok formula) → found ≡ Ok (Some formula)
-formula_given constants found read written formula judged is sound names =
-    named_read constants found read written judged is sound
-    ∙ cond-false (has_bad_name constants written) _ _ names.0
-    ∙ ap (λ (formula : Formula). Ok (Some formula)) (sym names.1)
+formula_given constants found read written formula judged is sound names = rw (judged, is, sound, names.0, names.1) refl
 
 pub fault_given : (constants : List Constant) (found : Result (Option Formula) FormulaFault) (read : Option Written) (written : Written) (fault : FormulaFault) → found ≡ judged_read constants read → read ≡ Some written
     → has_bad_threshold written ≡ false → Names constants written (Err fault) → Gives {X = Option Formula} (Err fault) found
-fault_given constants found read written Syntax judged is sound names = absurd names
-fault_given constants found read written Threshold judged is sound names = absurd names
-fault_given constants found read written Name judged is sound names = named_read constants found read written judged is sound ∙ cond-true (has_bad_name constants written) _ _ names
+fault_given constants found read written Name judged is sound names = rw (judged, is, sound, names) refl
 fault_given constants found read written NoMemory judged is sound names = tt
+fault_given constants found read written _ judged is sound names = absurd names

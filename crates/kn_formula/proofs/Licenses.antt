@@ -1,16 +1,15 @@
 -- What the tokens of a field state is what is read of them.
 use Rattle.std.proofs.Common.{◌≡◌, ℕ, ◌*◌, Bool, true, false, List, [], ◌∷◌, length, Option, Some, None, Result, Ok, Err, ◌⊎◌, inl, inr, IfOk, IfErr, refl, sym, ap, subst, ◌∙◌, arith, append-nil}
-use Rattle.std.proofs.lemmas.Bool.{cond-true, cond-false}
+use Rattle.std.specs.Prelude.{if◌then◌else◌}
 use Rattle.kn_env.specs.declared.constant.Constant.{Constant}
 use Rattle.kn_lex.specs.Cutting.{Seen}
 use Rattle.kn_fields.specs.Words.{Word, words_of}
-use Rattle.kn_fields.specs.Reading.{Read, whole}
 use Rattle.kn_fields.proofs.Steps.{whole_read}
 use Rattle.kn_trees.specs.declared.formula.Formula.{Formula}
 use Rattle.kn_formula.specs.Trees.{has_bad_threshold, has_bad_name, formula_of}
-use Rattle.kn_formula.specs.Grammar.{form_words, Spells}
+use Rattle.kn_formula.specs.Grammar.{form_words, form_tree, Spells}
 use Rattle.kn_formula.specs.Reading.{parts_at, read_words}
-use Rattle.kn_formula.specs.Licensing.{AreLicensees, HasNoForm, Shows, named, judged, judged_read, licensees_of, Gives}
+use Rattle.kn_formula.specs.Licensing.{AreLicensees, HasNoForm, Shows, judged, judged_read, licensees_of, Gives}
 use Rattle.kn_formula.specs.declared.fault.FormulaFault.{FormulaFault}
 use Rattle.kn_formula.specs.declared.fault.FormulaFault.TheVariants.{Syntax, Threshold, Name, NoMemory}
 use Rattle.kn_formula.specs.declared.written.Rule.TheVariants.{Any}
@@ -32,9 +31,8 @@ unfolding read_words
 spelled_read tokens written s =
     let n : ℕ = 3 * length (form_words s.form) in
     let all = complete_form n s.form [] (omega arith) nil_stops in
-    ap (λ (words : List Word). whole (parts_at (3 * length words) Any words)) (sym s.words)
-    ∙ ap (λ (read : Read Written). whole read) (sym (ap (parts_at n Any) (append-nil (form_words s.form))) ∙ all)
-    ∙ ap (λ (part : Written). Some part) s.tree
+    let same : parts_at n Any (form_words s.form) ≡ Some (form_tree s.form, []) = rw append-nil at all in
+    rw (← s.words, same, s.tree) refl
 
 -- tokens spell at most one formula
 pub spelled_once : (tokens : List Seen) (a b : Written) → Spells tokens a → Spells tokens b → a ≡ b
@@ -44,12 +42,6 @@ spelled_once tokens a b s t = let first = spelled_read tokens a s in let second 
 nothing_spelled : (written : Written) → Spells [] written → ⊥
 unfolding words_of
 nothing_spelled written s = let none : length (form_words s.form) ≡ 0 = ap length s.words in absurd (omega (arith, form_some s.form))
-
-judged_name : (constants : List Constant) (w : Written) → has_bad_threshold w ≡ false → has_bad_name constants w ≡ true → judged constants w ≡ Err Name
-judged_name constants w t n = cond-false (has_bad_threshold w) _ _ t ∙ cond-true (has_bad_name constants w) _ _ n
-
-judged_formula : (constants : List Constant) (w : Written) → has_bad_threshold w ≡ false → has_bad_name constants w ≡ false → judged constants w ≡ Ok (Some (formula_of constants w))
-judged_formula constants w t n = cond-false (has_bad_threshold w) _ _ t ∙ cond-false (has_bad_name constants w) _ _ n
 
 -- what is found of tokens, by what is spelled
 of_spelled : (constants : List Constant) (tokens : List Seen) (w : Written) → Spells tokens w → licensees_of constants tokens ≡ judged constants w
@@ -62,9 +54,7 @@ pub formula_found : (constants : List Constant) (tokens : List Seen) (f : Option
 unfolding licensees_of
 formula_found constants tokens None none = ap (licensees_of constants) none
 formula_found constants tokens (Some formula) is =
-    of_spelled constants tokens is.written is.spelled
-    ∙ judged_formula constants is.written is.thresholds is.names
-    ∙ ap (λ (formula : Formula). Ok (Some formula)) is.means
+    rw (of_spelled constants tokens is.written is.spelled, is.thresholds, is.names, is.means) refl
 
 -- so is the fault
 pub fault_found : (constants : List Constant) (tokens : List Seen) (fault : FormulaFault) → Shows constants tokens fault → licensees_of constants tokens ≡ Err fault
@@ -78,8 +68,8 @@ fault_found constants tokens Syntax h = no_form constants tokens h
     no_form : (constants : List Constant) (tokens : List Seen) → HasNoForm tokens → licensees_of constants tokens ≡ Err Syntax
     no_form constants [] h = absurd (h.some refl)
     no_form constants (token ∷ tokens) h = ap (judged_read constants) (unread (token ∷ tokens) (read_words (words_of (token ∷ tokens))) refl h.none)
-fault_found constants tokens Threshold h = of_spelled constants tokens h.written h.spelled ∙ cond-true (has_bad_threshold h.written) _ _ h.bad
-fault_found constants tokens Name h = of_spelled constants tokens h.written h.spelled ∙ judged_name constants h.written h.thresholds h.bad
+fault_found constants tokens Threshold h = rw (of_spelled constants tokens h.written h.spelled, h.bad) refl
+fault_found constants tokens Name h = rw (of_spelled constants tokens h.written h.spelled, h.thresholds, h.bad) refl
 fault_found constants tokens NoMemory h = absurd h
 
 -- what a finding says of the tokens
@@ -87,13 +77,11 @@ abbrev Says : List Constant → List Seen → Result (Option Formula) FormulaFau
 Says constants tokens (Ok formula) = AreLicensees constants tokens formula
 Says constants tokens (Err fault) = Shows constants tokens fault
 
-judged_says : (constants : List Constant) (tokens : List Seen) (w : Written) (t n : Bool) → Spells tokens w → has_bad_threshold w ≡ t → has_bad_name constants w ≡ n → Says constants tokens (judged constants w)
-judged_says constants tokens w true n s t_is n_is =
-    subst (Says constants tokens) (sym (cond-true (has_bad_threshold w) (Err Threshold) (named constants w) t_is)) (record { written = w; spelled = s; bad = t_is })
-judged_says constants tokens w false true s t_is n_is =
-    subst (Says constants tokens) (sym (judged_name constants w t_is n_is)) (record { written = w; spelled = s; thresholds = t_is; bad = n_is })
-judged_says constants tokens w false false s t_is n_is =
-    subst (Says constants tokens) (sym (judged_formula constants w t_is n_is)) (record { written = w; spelled = s; thresholds = t_is; names = n_is; means = refl })
+judged_says : (constants : List Constant) (tokens : List Seen) (w : Written) → Spells tokens w → (t n : Bool) → has_bad_threshold w ≡ t → has_bad_name constants w ≡ n
+    → Says constants tokens (if t then Err Threshold else if n then Err Name else Ok (Some (formula_of constants w)))
+judged_says constants tokens w s true n t_is n_is = record { written = w; spelled = s; bad = t_is }
+judged_says constants tokens w s false true t_is n_is = record { written = w; spelled = s; thresholds = t_is; bad = n_is }
+judged_says constants tokens w s false false t_is n_is = record { written = w; spelled = s; thresholds = t_is; names = n_is; means = refl }
 
 found_says : (constants : List Constant) (tokens : List Seen) → Says constants tokens (licensees_of constants tokens)
 unfolding licensees_of
@@ -101,11 +89,8 @@ found_says constants [] = refl
 found_says constants (token ∷ tokens) = by (read_words (words_of (token ∷ tokens))) refl
   where
     by : (read : Option Written) → read_words (words_of (token ∷ tokens)) ≡ read → Says constants (token ∷ tokens) (judged_read constants read)
-    by None none = record {
-      some = λ e. absurd (cc);
-      none = λ w s. let read = spelled_read (token ∷ tokens) w s in absurd (cc);
-    }
-    by (Some w) some = judged_says constants (token ∷ tokens) w (has_bad_threshold w) (has_bad_name constants w) (read_spelled (token ∷ tokens) w some) refl refl
+    by None none = record { some = λ e. cc; none = λ w s. cc (spelled_read (token ∷ tokens) w s) }
+    by (Some w) some = judged_says constants (token ∷ tokens) w (read_spelled (token ∷ tokens) w some) (has_bad_threshold w) (has_bad_name constants w) refl refl
 
 pub formula_stands : (constants : List Constant) (tokens : List Seen) (f : Option Formula) → licensees_of constants tokens ≡ Ok f → AreLicensees constants tokens f
 formula_stands constants tokens f e = subst (Says constants tokens) e (found_says constants tokens)
@@ -122,7 +107,7 @@ given_stated constants tokens (Err fault) h = tt
 pub given_shown : (constants : List Constant) (tokens : List Seen) (r : Result (Option Formula) FormulaFault) → Gives r (licensees_of constants tokens)
     → IfErr r (λ fault. (fault ≡ NoMemory) ⊎ Shows constants tokens fault)
 given_shown constants tokens (Ok formula) h = tt
-given_shown constants tokens (Err Syntax) h = inr (fault_stands constants tokens Syntax h)
-given_shown constants tokens (Err Threshold) h = inr (fault_stands constants tokens Threshold h)
-given_shown constants tokens (Err Name) h = inr (fault_stands constants tokens Name h)
 given_shown constants tokens (Err NoMemory) h = inl refl
+given_shown constants tokens (Err Syntax) h = inr (fault_stands constants tokens _ h)
+given_shown constants tokens (Err Threshold) h = inr (fault_stands constants tokens _ h)
+given_shown constants tokens (Err Name) h = inr (fault_stands constants tokens _ h)

@@ -1,5 +1,5 @@
 -- A formula that tokens spell is no deeper than their brackets allow.
-use Rattle.std.proofs.Common.{rules, ◌≡◌, ℕ, ◌+◌, ◌*◌, ◌≤◌, max, List, [], ◌∷◌, ◌++◌, map, codes, refl, sym, ap, subst, ◌∙◌, arith}
+use Rattle.std.proofs.Common.{rules, ◌≡◌, ℕ, ◌+◌, ◌*◌, ◌≤◌, List, [], ◌∷◌, ◌++◌, map, codes, refl, sym, ap, subst, ◌∙◌, arith}
 use Rattle.kn_env.specs.declared.constant.Constant.{Constant}
 use Rattle.kn_lex.specs.Cutting.{Seen}
 use Rattle.kn_fields.specs.Depth.{IsTooDeep}
@@ -24,26 +24,6 @@ use Rattle.kn_formula.specs.declared.written.Rule.TheVariants.{All, Any, AtLeast
 use Rattle.kn_formula.specs.declared.written.Written.{Written}
 use Rattle.kn_formula.specs.declared.written.Written.TheVariants.{Who, Several}
 use Rattle.kn_formula.proofs.TreeLemmas.{formula_who, formula_several}
-
--- how many brackets are open in one another
-mutual
-  form_nest : Form → ℕ
-  form_nest (both b) = both_nest b
-  form_nest (either b f) = max (both_nest b) (form_nest f)
-
-  both_nest : Both → ℕ
-  both_nest (one o) = one_nest o
-  both_nest (each o b) = max (one_nest o) (both_nest b)
-
-  one_nest : One → ℕ
-  one_nest (group f) = 1 + form_nest f
-  one_nest (literal value) = 0
-  one_nest (name text) = 0
-  one_nest (some_of digits fs) = 1 + forms_nest fs
-
-  forms_nest : Forms → ℕ
-  forms_nest (last f) = form_nest f
-  forms_nest (further f fs) = max (form_nest f) (forms_nest fs)
 
 mutual
   unfolding after form_words both_words one_words forms_words
@@ -71,46 +51,6 @@ fits_list : (depth run : ℕ) (digits : List ℕ) (inner : List Word)
     → Fits depth run (number_word digits ∷ sign_word (codes "-") ∷ name_word (codes "of") ∷ sign_word (codes "(") ∷ inner ++ sign_word (codes ")") ∷ []) → Fits (depth + 1) 0 inner
 unfolding Fits
 fits_list depth run digits inner fits = fits_group depth 0 inner fits.2.2.2
-
-mutual
-  unfolding form_words both_words one_words forms_words form_nest both_nest one_nest forms_nest
-
-  form_low : (depth run : ℕ) (f : Form) → Fits depth run (form_words f) → depth + form_nest f ≤ 64
-  form_low depth run (both b) fits = both_low depth run b fits
-  form_low depth run (either b f) fits =
-      omega (
-        arith,
-        both_low depth run b (fits_front depth run (both_words b) (sign_word (codes "||") ∷ form_words f) fits),
-        form_low depth 0 f (fits_between depth run (both_words b) (form_words f) (sign_word (codes "||")) (both_closes b) (λ depth. refl) fits),
-      )
-
-  both_low : (depth run : ℕ) (b : Both) → Fits depth run (both_words b) → depth + both_nest b ≤ 64
-  both_low depth run (one o) fits = one_low depth run o fits
-  both_low depth run (each o b) fits =
-      omega (
-        arith,
-        one_low depth run o (fits_front depth run (one_words o) (sign_word (codes "&&") ∷ both_words b) fits),
-        both_low depth 0 b (fits_between depth run (one_words o) (both_words b) (sign_word (codes "&&")) (one_closes o) (λ depth. refl) fits),
-      )
-
-  one_low : (depth run : ℕ) (o : One) → Fits depth run (one_words o) → depth + one_nest o ≤ 64
-  one_low depth run (group f) fits = omega (arith, form_low (depth + 1) 0 f (fits_group depth run (form_words f) fits))
-  one_low depth run (literal value) fits = omega (arith, (fits_here depth run (one_words (literal value)) fits).0)
-  one_low depth run (name text) fits = omega (arith, (fits_here depth run (one_words (name text)) fits).0)
-  one_low depth run (some_of digits fs) fits = omega (arith, forms_low (depth + 1) 0 fs (fits_list depth run digits (forms_words fs) fits))
-
-  forms_low : (depth run : ℕ) (fs : Forms) → Fits depth run (forms_words fs) → depth + forms_nest fs ≤ 64
-  forms_low depth run (last f) fits = form_low depth run f fits
-  forms_low depth run (further f fs) fits =
-      omega (
-        arith,
-        form_low depth run f (fits_front depth run (form_words f) (sign_word (codes ",") ∷ forms_words fs) fits),
-        forms_low depth 0 fs (fits_between depth run (form_words f) (forms_words fs) (sign_word (codes ",")) (form_closes f) (λ depth. refl) fits),
-      )
-
--- at most 64 brackets are open in one another, where the tokens don't go too deep
-form_shallow : (tokens : List Seen) (f : Form) → form_words f ≡ words_of tokens → (IsTooDeep tokens → ⊥) → form_nest f ≤ 64
-form_shallow tokens f spelled shallow = omega (arith, form_low 0 0 f (subst (Fits 0 0) (sym spelled) (shallow_fits tokens shallow)))
 
 -- the levels of a formula by the brackets
 
@@ -142,29 +82,49 @@ depth_joined constants rule [] = omega (arith, depth_several constants rule [])
 depth_joined constants rule (part ∷ []) = omega arith
 depth_joined constants rule (part ∷ next ∷ parts) = omega (arith, depth_several constants rule (part ∷ next ∷ parts))
 
+-- three levels for each bracket that is many, and for what stands in the innermost
 mutual
-  unfolding form_parts both_parts one_tree forms_parts form_nest both_nest one_nest forms_nest
+  unfolding form_words both_words one_words forms_words form_parts both_parts one_tree forms_parts
 
-  form_depth : (constants : List Constant) (f : Form) → parts_depth constants (form_parts f) ≤ 3 * form_nest f + 2
-  form_depth constants (both b) = omega (arith, depth_joined constants All (both_parts b), both_depth constants b)
-  form_depth constants (either b f) = omega (arith, depth_joined constants All (both_parts b), both_depth constants b, form_depth constants f)
+  form_levels : (constants : List Constant) (many run : ℕ) (f : Form) → Fits many run (form_words f) → parts_depth constants (form_parts f) + 3 * many ≤ 194
+  form_levels constants many run (both b) fits = omega (arith, depth_joined constants All (both_parts b), both_levels constants many run b fits)
+  form_levels constants many run (either b f) fits =
+      omega (
+        arith,
+        depth_joined constants All (both_parts b),
+        both_levels constants many run b (fits_front many run (both_words b) (sign_word (codes "||") ∷ form_words f) fits),
+        form_levels constants many 0 f (fits_between many run (both_words b) (form_words f) (sign_word (codes "||")) (both_closes b) (λ depth. refl) fits),
+      )
 
-  both_depth : (constants : List Constant) (b : Both) → parts_depth constants (both_parts b) ≤ 3 * both_nest b + 1
-  both_depth constants (one o) = omega (arith, one_depth constants o)
-  both_depth constants (each o b) = omega (arith, one_depth constants o, both_depth constants b)
+  both_levels : (constants : List Constant) (many run : ℕ) (b : Both) → Fits many run (both_words b) → parts_depth constants (both_parts b) + 3 * many ≤ 193
+  both_levels constants many run (one o) fits = omega (arith, one_levels constants many run o fits)
+  both_levels constants many run (each o b) fits =
+      omega (
+        arith,
+        one_levels constants many run o (fits_front many run (one_words o) (sign_word (codes "&&") ∷ both_words b) fits),
+        both_levels constants many 0 b (fits_between many run (one_words o) (both_words b) (sign_word (codes "&&")) (one_closes o) (λ depth. refl) fits),
+      )
 
-  one_depth : (constants : List Constant) (o : One) → depth constants (one_tree o) ≤ 3 * one_nest o + 1
-  one_depth constants (group f) = omega (arith, depth_joined constants Any (form_parts f), form_depth constants f)
-  one_depth constants (literal value) = omega (arith, depth_principal constants (Literal value))
-  one_depth constants (name text) = omega (arith, depth_principal constants (Name text))
-  one_depth constants (some_of digits fs) = omega (arith, depth_several constants (AtLeast (need_of digits)) (forms_parts fs), forms_depth constants fs)
+  one_levels : (constants : List Constant) (many run : ℕ) (o : One) → Fits many run (one_words o) → depth constants (one_tree o) + 3 * many ≤ 193
+  one_levels constants many run (group f) fits =
+      omega (arith, depth_joined constants Any (form_parts f), form_levels constants (many + 1) 0 f (fits_group many run (form_words f) fits))
+  one_levels constants many run (literal value) fits = omega (arith, depth_principal constants (Literal value), (fits_here many run (one_words (literal value)) fits).0)
+  one_levels constants many run (name text) fits = omega (arith, depth_principal constants (Name text), (fits_here many run (one_words (name text)) fits).0)
+  one_levels constants many run (some_of digits fs) fits =
+      omega (arith, depth_several constants (AtLeast (need_of digits)) (forms_parts fs), forms_levels constants (many + 1) 0 fs (fits_list many run digits (forms_words fs) fits))
 
-  forms_depth : (constants : List Constant) (fs : Forms) → parts_depth constants (forms_parts fs) ≤ 3 * forms_nest fs + 3
-  forms_depth constants (last f) = omega (arith, depth_joined constants Any (form_parts f), form_depth constants f)
-  forms_depth constants (further f fs) = omega (arith, depth_joined constants Any (form_parts f), form_depth constants f, forms_depth constants fs)
+  forms_levels : (constants : List Constant) (many run : ℕ) (fs : Forms) → Fits many run (forms_words fs) → parts_depth constants (forms_parts fs) + 3 * many ≤ 195
+  forms_levels constants many run (last f) fits = omega (arith, depth_joined constants Any (form_parts f), form_levels constants many run f fits)
+  forms_levels constants many run (further f fs) fits =
+      omega (
+        arith,
+        depth_joined constants Any (form_parts f),
+        form_levels constants many run f (fits_front many run (form_words f) (sign_word (codes ",") ∷ forms_words fs) fits),
+        forms_levels constants many 0 fs (fits_between many run (form_words f) (forms_words fs) (sign_word (codes ",")) (form_closes f) (λ depth. refl) fits),
+      )
 
 -- at most 195 levels
 pub tree_depth : (constants : List Constant) (tokens : List Seen) (f : Form) → form_words f ≡ words_of tokens → (IsTooDeep tokens → ⊥)
     → formula_depth (formula_of constants (joined Any (form_parts f))) ≤ 195
 tree_depth constants tokens f spelled shallow =
-    omega (arith, depth_joined constants Any (form_parts f), form_depth constants f, form_shallow tokens f spelled shallow)
+    omega (arith, depth_joined constants Any (form_parts f), form_levels constants 0 0 f (subst (Fits 0 0) (sym spelled) (shallow_fits tokens shallow)))

@@ -161,30 +161,28 @@ two_parts n = grind (arith, nat_tests)
 need_sound : (need count : ℕ) → (need == 0 || nat_lt count need) ≡ false → (nat_le 1 need && nat_le need count) ≡ true
 need_sound need count e = grind (arith, nat_tests)
 
+-- a list without a bad threshold is sound where its parts are
+good_sound : (constants : List Constant) (rule : Rule) (parts : List Written) → ((n : ℕ) → rule_sound rule (suc (suc n)) ≡ true) → 1 ≤ length parts → has_bad_threshold (joined rule parts) ≡ false
+    → (any_bad parts ≡ false → all_sound constants parts ≡ true) → sound constants (joined rule parts) ≡ true
+good_sound constants rule parts fits some good all = sound_joined constants rule parts fits some (all (good_joined rule parts good))
+
 mutual
   unfolding form_parts both_parts one_tree forms_parts
 
   form_sound : (constants : List Constant) (f : Form) → any_bad (form_parts f) ≡ false → all_sound constants (form_parts f) ≡ true
-  form_sound constants (both b) e =
-      let good = or_false (has_bad_threshold (joined All (both_parts b))) false e in
-      and_from (sound constants (joined All (both_parts b))) true
-      (sound_joined constants All (both_parts b) two_parts (both_few b) (both_sound constants b (good_joined All (both_parts b) good.0))) refl
+  form_sound constants (both b) e = rw (good_sound constants All (both_parts b) two_parts (both_few b) (or_false _ false e).0 (both_sound constants b)) refl
   form_sound constants (either b f) e =
       let good = or_false (has_bad_threshold (joined All (both_parts b))) (any_bad (form_parts f)) e in
-      and_from (sound constants (joined All (both_parts b))) (all_sound constants (form_parts f))
-      (sound_joined constants All (both_parts b) two_parts (both_few b) (both_sound constants b (good_joined All (both_parts b) good.0)))
-      (form_sound constants f good.1)
+      rw (good_sound constants All (both_parts b) two_parts (both_few b) good.0 (both_sound constants b)) (form_sound constants f good.1)
 
   both_sound : (constants : List Constant) (b : Both) → any_bad (both_parts b) ≡ false → all_sound constants (both_parts b) ≡ true
-  both_sound constants (one o) e =
-      let good = or_false (has_bad_threshold (one_tree o)) false e in
-      and_from (sound constants (one_tree o)) true (one_sound constants o good.0) refl
+  both_sound constants (one o) e = rw (one_sound constants o (or_false _ false e).0) refl
   both_sound constants (each o b) e =
       let good = or_false (has_bad_threshold (one_tree o)) (any_bad (both_parts b)) e in
-      and_from (sound constants (one_tree o)) (all_sound constants (both_parts b)) (one_sound constants o good.0) (both_sound constants b good.1)
+      rw (one_sound constants o good.0) (both_sound constants b good.1)
 
   one_sound : (constants : List Constant) (o : One) → has_bad_threshold (one_tree o) ≡ false → sound constants (one_tree o) ≡ true
-  one_sound constants (group f) e = sound_joined constants Any (form_parts f) two_parts (form_few f) (form_sound constants f (good_joined Any (form_parts f) e))
+  one_sound constants (group f) e = good_sound constants Any (form_parts f) two_parts (form_few f) e (form_sound constants f)
   one_sound constants (literal value) e = ap is_sound (formula_who constants (Literal value)) ∙ sound_who _
   one_sound constants (name text) e = ap is_sound (formula_who constants (Name text)) ∙ sound_who _
   one_sound constants (some_of digits fs) e =
@@ -193,16 +191,11 @@ mutual
       sound_several constants rule (forms_parts fs) (need_sound (need_of digits) (length (forms_parts fs)) good.1) (forms_sound constants fs good.0)
 
   forms_sound : (constants : List Constant) (fs : Forms) → any_bad (forms_parts fs) ≡ false → all_sound constants (forms_parts fs) ≡ true
-  forms_sound constants (last f) e =
-      let good = or_false (has_bad_threshold (joined Any (form_parts f))) false e in
-      and_from (sound constants (joined Any (form_parts f))) true
-      (sound_joined constants Any (form_parts f) two_parts (form_few f) (form_sound constants f (good_joined Any (form_parts f) good.0))) refl
+  forms_sound constants (last f) e = rw (good_sound constants Any (form_parts f) two_parts (form_few f) (or_false _ false e).0 (form_sound constants f)) refl
   forms_sound constants (further f fs) e =
       let good = or_false (has_bad_threshold (joined Any (form_parts f))) (any_bad (forms_parts fs)) e in
-      and_from (sound constants (joined Any (form_parts f))) (all_sound constants (forms_parts fs))
-      (sound_joined constants Any (form_parts f) two_parts (form_few f) (form_sound constants f (good_joined Any (form_parts f) good.0)))
-      (forms_sound constants fs good.1)
+      rw (good_sound constants Any (form_parts f) two_parts (form_few f) good.0 (form_sound constants f)) (forms_sound constants fs good.1)
 
 -- a formula without a bad threshold is sound
 pub tree_sound : (constants : List Constant) (f : Form) → has_bad_threshold (joined Any (form_parts f)) ≡ false → is_sound (formula_of constants (joined Any (form_parts f))) ≡ true
-tree_sound constants f e = sound_joined constants Any (form_parts f) two_parts (form_few f) (form_sound constants f (good_joined Any (form_parts f) e))
+tree_sound constants f e = good_sound constants Any (form_parts f) two_parts (form_few f) e (form_sound constants f)

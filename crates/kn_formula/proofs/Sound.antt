@@ -1,8 +1,8 @@
 -- What is read is spelled by what is read of.
-use Rattle.std.proofs.Common.{◌≡◌, ℕ, zero, suc, List, [], ◌∷◌, ◌++◌, codes, Option, Some, refl, sym, ap, ◌∙◌}
-use Rattle.kn_fields.specs.Words.{Word, Mark, marked, named}
+use Rattle.std.proofs.Common.{◌≡◌, ℕ, zero, suc, List, [], ◌∷◌, codes, Option, Some, refl, sym, ap, ◌∙◌}
+use Rattle.kn_fields.specs.Words.{Word, Mark}
 use Rattle.kn_fields.specs.Words.Word.{literal as literal_word, name as name_word, number as number_word, sign as sign_word, other as other_word}
-use Rattle.kn_fields.specs.Reading.{Reader, then_read, closed_by}
+use Rattle.kn_fields.specs.Reading.{Reader, then_read, closed_by, marked, named}
 use Rattle.kn_fields.proofs.Words.{read_parts, marked_before, named_before}
 use Rattle.kn_fields.proofs.Steps.{behind}
 use Rattle.kn_fields.proofs.Levels.{Spelled, IsSound, none_sound, level_sound, closed_sound}
@@ -21,9 +21,11 @@ of_before : (words left : List Word) (mark : Mark) → of_front words ≡ Some (
 of_before words left mark e =
     let first = behind (marked (codes "-") words) (λ mark words. then_read (named (codes "of") words) (λ mark words. marked (codes "(") words)) mark left e in
     let second = behind (named (codes "of") first.middle) (λ mark words. marked (codes "(") words) mark left first.then_is in
-    marked_before (codes "-") words first.middle first.first first.is
-    ∙ ap (λ (words : List Word). sign_word (codes "-") ∷ words) (named_before (codes "of") first.middle second.middle second.first second.is)
-    ∙ ap (λ (words : List Word). sign_word (codes "-") ∷ name_word (codes "of") ∷ words) (marked_before (codes "(") second.middle left mark second.then_is)
+    rw (
+      marked_before (codes "-") words first.middle first.first first.is,
+      named_before (codes "of") first.middle second.middle second.first second.is,
+      marked_before (codes "(") second.middle left mark second.then_is,
+    ) refl
 
 abbrev pub list_tree : ℕ → Forms → Written
 list_tree need fs = Several (AtLeast need) (forms_parts fs)
@@ -35,7 +37,7 @@ word_sound o word words rest x is e =
     let same = read_parts (one_tree o) x words rest e in
     record {
       form = o;
-      spelled = ap (λ (spelled : List Word). spelled ++ rest) is ∙ ap (λ (words : List Word). word ∷ words) (sym same.1);
+      spelled = rw (is, same.1) refl;
       means = same.0;
     }
 

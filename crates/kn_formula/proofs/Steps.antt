@@ -1,9 +1,9 @@
 -- Reading step by step.
-use Rattle.std.proofs.Common.{◌≡◌, ℕ, zero, suc, ◌-◌, ◌*◌, List, [], ◌∷◌, ◌++◌, length, codes, Option, None, true, false, refl, sym, ap, subst, ◌∙◌, arith}
+use Rattle.std.proofs.Common.{◌≡◌, ℕ, zero, suc, ◌-◌, ◌*◌, List, [], ◌∷◌, ◌++◌, length, codes, Option, None, true, false, refl, sym, ap, subst}
 use Rattle.kn_lex.specs.declared.token.Sort.{Sort}
 use Rattle.kn_lex.specs.declared.token.Sort.TheVariants.{Label, Body, Name as SortName, Number, Text, Sign}
-use Rattle.kn_fields.specs.Words.{Word, Mark, with_rest, word_by, itself, taken, marked}
-use Rattle.kn_fields.specs.Reading.{Read, then_read, closed_by, one_part, whole}
+use Rattle.kn_fields.specs.Words.{Word, Mark, with_rest, word_by, itself}
+use Rattle.kn_fields.specs.Reading.{Read, then_read, closed_by, one_part, whole, taken, marked}
 use Rattle.kn_fields.proofs.Steps.{Going, going_list, list_none, less_one}
 use Rattle.kn_formula.specs.Trees.{joined, need_of}
 use Rattle.kn_formula.specs.Reading.{rule_text, is_whole, finished, parts_of, of_front, one_front, parts_at, item_at, one_at, read_words}
@@ -33,9 +33,7 @@ pub whole_alone : (rule : Rule) (list : List Written) (last : Written) → is_wh
 unfolding joined
 whole_alone All [] last whole = refl
 whole_alone Any [] last whole = refl
-whole_alone All (part ∷ list) last whole = absurd (cc)
-whole_alone Any (part ∷ list) last whole = absurd (cc)
-whole_alone (AtLeast need) list last whole = absurd (cc)
+whole_alone _ list last whole = absurd (cc)
 
 -- it isn't
 pub whole_several : (rule : Rule) (list : List Written) (last : Written) → is_whole rule list ≡ false → Several rule (list ++ last ∷ []) ≡ finished rule (list ++ last ∷ [])
@@ -44,14 +42,7 @@ whole_several All [] last more = absurd (cc)
 whole_several Any [] last more = absurd (cc)
 whole_several All (part ∷ []) last more = refl
 whole_several Any (part ∷ []) last more = refl
-whole_several All (part ∷ next ∷ list) last more = refl
-whole_several Any (part ∷ next ∷ list) last more = refl
-whole_several (AtLeast need) list last more = refl
-
-pub one_over : (budget : ℕ) (words : List Word) → budget ≡ 0 → one_at budget words ≡ None
-unfolding one_at
-one_over zero words is = refl
-one_over (suc n) words is = absurd (omega arith)
+whole_several _ list last more = refl
 
 one_step : (budget : ℕ) (words : List Word) → (budget ≡ 0 → ⊥) → one_at budget words ≡ one_front words (parts_at (budget - 1))
 unfolding one_at
@@ -59,28 +50,24 @@ one_step zero words some = absurd (some refl)
 one_step (suc n) words some = ap (λ m. one_front words (parts_at m)) (less_one n)
 
 pub one_end : (budget : ℕ) (words : List Word) → (budget ≡ 0 → ⊥) → words ≡ [] → one_at budget words ≡ None
-one_end budget words some is = one_step budget words some ∙ ap (λ words. one_front words (parts_at (budget - 1))) is
+one_end budget words some is = rw (one_step budget words some, is) refl
 
 -- one word of this sort
 pub one_word : (budget : ℕ) (words rest : List Word) (sort wanted : Sort) (text : List ℕ) → (budget ≡ 0 → ⊥) → words ≡ word_by sort text ∷ rest → sort ≡ wanted
     → one_at budget words ≡ one_front (word_by wanted text ∷ rest) (parts_at (budget - 1))
-one_word budget words rest sort wanted text some is sort_is =
-    one_step budget words some ∙ ap (λ words. one_front words (parts_at (budget - 1))) (is ∙ ap (λ sort. word_by sort text ∷ rest) sort_is)
+one_word budget words rest sort wanted text some is sort_is = rw (one_step budget words some, is, sort_is) refl
 
 -- the list of a threshold, or none
 pub one_number : (budget : ℕ) (words rest : List Word) (sort : Sort) (text : List ℕ) (opening : Read Mark) → (budget ≡ 0 → ⊥) → words ≡ word_by sort text ∷ rest → sort ≡ Number → of_front rest ≡ opening
     → one_at budget words ≡ then_read opening (λ mark words. then_read (parts_at (budget - 1) (AtLeast (need_of text)) words) (closed_by (codes ")")))
 one_number budget words rest sort text opening some is sort_is of_is =
-    one_word budget words rest sort Number text some is sort_is
-    ∙ ap (λ (opening : Read Mark). then_read opening (λ mark words. then_read (parts_at (budget - 1) (AtLeast (need_of text)) words) (closed_by (codes ")")))) of_is
+    rw (one_word budget words rest sort Number text some is sort_is, of_is) refl
 
 -- a formula in brackets, or none
 pub one_sign : (budget : ℕ) (words rest : List Word) (sort : Sort) (text : List ℕ) (opens : Option Mark) → (budget ≡ 0 → ⊥) → words ≡ word_by sort text ∷ rest → sort ≡ Sign → opens ≡ itself (codes "(") text
     → one_at budget words ≡ then_read (with_rest opens rest) (λ mark words. then_read (parts_at (budget - 1) Any words) (closed_by (codes ")")))
 unfolding taken
-one_sign budget words rest sort text opens some is sort_is opens_is =
-    one_word budget words rest sort Sign text some is sort_is
-    ∙ ap (λ (opens : Option Mark). then_read (with_rest opens rest) (λ mark words. then_read (parts_at (budget - 1) Any words) (closed_by (codes ")")))) (sym opens_is)
+one_sign budget words rest sort text opens some is sort_is opens_is = rw (one_word budget words rest sort Sign text some is sort_is, opens_is) refl
 
 pub one_other : (budget : ℕ) (words rest : List Word) (sort : Sort) (text : List ℕ) → (budget ≡ 0 → ⊥) → words ≡ word_by sort text ∷ rest
     → (sort ≡ Text → ⊥) → (sort ≡ SortName → ⊥) → (sort ≡ Number → ⊥) → (sort ≡ Sign → ⊥) → one_at budget words ≡ None
@@ -94,4 +81,4 @@ one_other budget words rest Sign text some is t n d s = absurd (s refl)
 -- the formula of all the words
 pub read_is : (words : List Word) (budget : ℕ) (read : Read Written) → budget ≡ 3 * length words → parts_at budget Any words ≡ read → read_words words ≡ whole read
 unfolding read_words
-read_is words budget read enough is = ap (λ n. whole (parts_at n Any words)) (sym enough) ∙ ap (λ (read : Read Written). whole read) is
+read_is words budget read enough is = rw (← enough, is) refl

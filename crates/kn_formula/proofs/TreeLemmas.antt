@@ -1,21 +1,15 @@
 -- The folds over formulas as they are written by their variants, and along the parts of a list.
-use Rattle.std.proofs.Common.{rules, ◌≡◌, ℕ, zero, suc, ◌+◌, ◌-◌, ◌*◌, ◌^◌, ◌<◌, ◌≤◌, Bool, true, false, ◌||◌, ◌==◌, nat_lt, List, [], ◌∷◌, ◌++◌, length, map, take, drop, get_or, Option, Some, None, Ok, Err, take_all, if◌then◌else◌, refl, sym, ap, ◌∙◌, arith, lit<, lt-ltb}
+use Rattle.std.proofs.Common.{rules, ◌≡◌, ℕ, zero, suc, ◌+◌, ◌<◌, ◌≤◌, Bool, true, false, ◌||◌, ◌==◌, nat_lt, List, [], ◌∷◌, ◌++◌, length, map, take, get_or, Option, Some, Ok, Err, take_all, refl, sym, ap, ◌∙◌, arith, lt-ltb}
 use Rattle.std.specs.List.{list_any}
-use Rattle.std.specs.Str.{bytes_eq}
-use Rattle.std.specs.Prelude.{slice_index}
-use Rattle.std.proofs.Math.Nat.{pow-le-pow_right, le-mul_of_pos_right}
-use Rattle.std.proofs.lemmas.Bool.{cond-true, cond-false, or_from}
-use Rattle.std.proofs.lemmas.Bool.Decides.{nat_tests}
-use Rattle.std.proofs.lemmas.List.{map-append, length-map, drop_all, drop_more, take_more}
-use Rattle.kn_base.specs.Decimal.{digits_value}
-use Rattle.kn_base.proofs.Digits.{digit_read_at}
+use Rattle.std.proofs.lemmas.Bool.{or_from}
+use Rattle.std.proofs.lemmas.List.{map-append, length-map, take_more}
 use Rattle.kn_env.specs.declared.constant.Constant.{Constant}
 use Rattle.kn_trees.specs.declared.formula.Formula.{Formula}
 use Rattle.kn_trees.specs.declared.formula.Formula.TheVariants.{Who as who_formula}
-use Rattle.kn_formula.specs.Trees.{need_of, itself, is_bad_rule, has_bad_threshold, principal_text, is_bad_text, normal_text, has_bad_name, constant_value, ruled, formula_of}
+use Rattle.kn_formula.specs.Trees.{itself, is_bad_rule, has_bad_threshold, principal_text, is_bad_text, normal_text, has_bad_name, ruled, formula_of}
 use Rattle.kn_formula.specs.Naming.{NamesText, Names}
 use Rattle.kn_formula.specs.declared.fault.FormulaFault.{FormulaFault}
-use Rattle.kn_formula.specs.declared.fault.FormulaFault.TheVariants.{Syntax, Threshold, Name, NoMemory}
+use Rattle.kn_formula.specs.declared.fault.FormulaFault.TheVariants.{Name, NoMemory}
 use Rattle.kn_formula.specs.declared.written.Principal.{Principal}
 use Rattle.kn_formula.specs.declared.written.Rule.{Rule}
 use Rattle.kn_formula.specs.declared.written.Written.{Written}
@@ -80,119 +74,45 @@ pub formulas_more : (f : Written → Formula) (parts : List Written) (i : ℕ) (
 formulas_more f parts i part within is =
     sym (map-append f (take i parts) (part ∷ [])) ∙ ap (map f) (ap (λ x. take i parts ++ x ∷ []) is ∙ sym (take_more parts i part within))
 
--- the constant at a place has the name, or leaves it to those behind it
-constant_here : (constants : List Constant) (name : List ℕ) (i : ℕ) (constant : Constant) → i < length constants → constant ≡ get_or constants i constant
-    → constant_value (drop i constants) name ≡ (if bytes_eq constant.name name then Some constant.value else constant_value (drop (i + 1) constants) name)
-unfolding constant_value
-constant_here constants name i constant within is =
-    ap (λ constants. constant_value constants name) (drop_more constants i constant within ∙ ap (λ (c : Constant). c ∷ drop (i + 1) constants) (sym is))
-
--- the constant at a place has the name
-pub constant_found : (constants : List Constant) (name : List ℕ) (i : ℕ) (constant : Constant) (value : List ℕ) → i < length constants → constant ≡ get_or constants i constant
-    → bytes_eq constant.name name ≡ true → value ≡ constant.value → constant_value (drop i constants) name ≡ constant_value constants name
-    → Some value ≡ constant_value constants name
-constant_found constants name i constant value within is same value_is left =
-    ap (λ (value : List ℕ). Some value) value_is
-    ∙ sym (constant_here constants name i constant within is ∙ cond-true (bytes_eq constant.name name) _ _ same)
-    ∙ left
-
--- it leaves it to those behind it
-pub constant_passed : (constants : List Constant) (name : List ℕ) (i : ℕ) (constant : Constant) → i < length constants → constant ≡ get_or constants i constant
-    → bytes_eq constant.name name ≡ false → constant_value (drop i constants) name ≡ constant_value constants name
-    → constant_value (drop (i + 1) constants) name ≡ constant_value constants name
-constant_passed constants name i constant within is other left =
-    sym (constant_here constants name i constant within is ∙ cond-false (bytes_eq constant.name name) _ _ other) ∙ left
-
--- none is left
-pub constant_none : (constants : List Constant) (name : List ℕ) (i : ℕ) → length constants ≤ i → constant_value (drop i constants) name ≡ constant_value constants name
-    → None ≡ constant_value constants name
-unfolding constant_value
-constant_none constants name i past left = sym (ap (λ constants. constant_value constants name) (drop_all i constants past)) ∙ left
-
--- the first digit of what is left is added to what is read, and never makes it less
-pub read_over : (limit : ℕ) (digits : List ℕ) (i value : ℕ) → i < length digits
-    → value * 10 ^ length (drop i digits) + digits_value (drop i digits) ≡ digits_value digits
-    → limit < value * 10 + (get_or digits i 0 - 48) → nat_lt limit (digits_value digits) ≡ true
-read_over limit digits i value within e over =
-    let read = digit_read_at digits i value (digits_value digits) within e in
-    let k = length (drop (i + 1) digits) in
-    let some : 10 ^ 0 ≤ 10 ^ k = pow-le-pow_right {n = 10} (lit< tt) {i = 0} (omega arith) in
-    let le : value * 10 + (get_or digits i 0 - 48) ≤ (value * 10 + (get_or digits i 0 - 48)) * 10 ^ k = le-mul_of_pos_right _ (omega arith) in
-    let above : limit < digits_value digits = omega (arith, read, le, over) in
-    lt-ltb _ _ above
-
-pub need_zero : (digits : List ℕ) → slice_index digits 0 ≡ 48 → 0 ≡ need_of digits
-unfolding need_of
-need_zero digits is = sym (cond-true _ _ _ (ap (λ b. b == 48 || nat_lt 4294967295 (digits_value digits)) is))
-
-pub need_over : (digits : List ℕ) → nat_lt 4294967295 (digits_value digits) ≡ true → 0 ≡ need_of digits
-unfolding need_of
-need_over digits over = sym (cond-true _ _ _ (any_true (slice_index digits 0 == 48) (nat_lt 4294967295 (digits_value digits)) over))
-
-pub need_within : (digits : List ℕ) → (slice_index digits 0 ≡ 48 → ⊥) → digits_value digits ≤ 4294967295 → digits_value digits ≡ need_of digits
-unfolding need_of
-need_within digits first within = grind (arith, nat_tests)
-
 -- a part has a bad threshold
 pub threshold_found : (written : Written) (rule : Rule) (parts items : List Written) (i : ℕ) (part : Written) → written ≡ Several rule parts → items ≡ parts
     → i < length items → part ≡ get_or items i part → has_bad_threshold part ≡ true → true ≡ has_bad_threshold written
 threshold_found written rule parts items i part is seen within at bad =
-    let all = some_here has_bad_threshold items i part within at bad in
-    sym (ap has_bad_threshold is ∙ bad_threshold_several rule parts
-    ∙ ap (λ b. b || is_bad_rule rule (length parts)) (ap (λ ps. list_any itself (map has_bad_threshold ps)) (sym seen) ∙ all))
+    rw (is, bad_threshold_several rule parts, ← seen, some_here has_bad_threshold items i part within at bad) refl
 
 -- no part has
 pub threshold_over : (written : Written) (rule : Rule) (parts items : List Written) (i : ℕ) → written ≡ Several rule parts → items ≡ parts
     → length items ≤ i → list_any itself (map has_bad_threshold (take i items)) ≡ false → is_bad_rule rule (length parts) ≡ has_bad_threshold written
 threshold_over written rule parts items i is seen past none =
-    let all = sym (ap (λ ps. list_any itself (map has_bad_threshold ps)) (take_all i items past)) ∙ none in
-    sym (ap has_bad_threshold is ∙ bad_threshold_several rule parts
-    ∙ ap (λ b. b || is_bad_rule rule (length parts)) (ap (λ ps. list_any itself (map has_bad_threshold ps)) (sym seen) ∙ all))
+    let none_of : list_any itself (map has_bad_threshold items) ≡ false = rw (take_all i items past) at none in
+    rw (is, bad_threshold_several rule parts, ← seen, none_of) refl
 
 -- the fault of a principal is that of the formula which it is
 pub who_fault : (constants : List Constant) (written : Written) (principal : Principal) (fault : FormulaFault) → written ≡ Who principal
     → NamesText (principal_text constants principal) (Err fault) → Names constants written (Err fault)
-who_fault constants written principal Syntax is h = absurd h
-who_fault constants written principal Threshold is h = absurd h
-who_fault constants written principal Name is h = ap (has_bad_name constants) is ∙ bad_name_who constants principal ∙ h
+who_fault constants written principal Name is h = rw (is, bad_name_who constants principal) h
 who_fault constants written principal NoMemory is h = tt
+who_fault constants written principal _ is h = absurd h
 
 pub who_formula_is : (constants : List Constant) (written : Written) (principal : Principal) (form : List ℕ) → written ≡ Who principal
     → NamesText (principal_text constants principal) (Ok form) → Names constants written (Ok (who_formula form))
-who_formula_is constants written principal form is h = (
-  ap (has_bad_name constants) is ∙ bad_name_who constants principal ∙ h.0,
-  ap who_formula h.1 ∙ sym (ap (formula_of constants) is ∙ formula_who constants principal),
-)
+who_formula_is constants written principal form is h = rw is (bad_name_who constants principal ∙ h.0, ap who_formula h.1 ∙ sym (formula_who constants principal))
 
 -- the fault of a part is that of the formula
 pub part_fault : (constants : List Constant) (written : Written) (rule : Rule) (parts items : List Written) (i : ℕ) (part : Written) (fault : FormulaFault)
     → written ≡ Several rule parts → items ≡ parts → i < length items → part ≡ get_or items i part → Names constants part (Err fault) → Names constants written (Err fault)
-part_fault constants written rule parts items i part Syntax is seen within at h = absurd h
-part_fault constants written rule parts items i part Threshold is seen within at h = absurd h
 part_fault constants written rule parts items i part Name is seen within at h =
-    ap (has_bad_name constants) is ∙ bad_name_several constants rule parts
-    ∙ ap (λ ps. list_any itself (map (has_bad_name constants) ps)) (sym seen)
-    ∙ some_here (has_bad_name constants) items i part within at h
+    rw (is, bad_name_several constants rule parts, ← seen) (some_here (has_bad_name constants) items i part within at h)
 part_fault constants written rule parts items i part NoMemory is seen within at h = tt
+part_fault constants written rule parts items i part _ is seen within at h = absurd h
 
 -- all parts have formulas
 pub parts_formula : (constants : List Constant) (written : Written) (rule : Rule) (parts items : List Written) (i : ℕ) (list : List Formula) (formula : Formula)
     → written ≡ Several rule parts → items ≡ parts → length items ≤ i → list ≡ map (formula_of constants) (take i items)
     → list_any itself (map (has_bad_name constants) (take i items)) ≡ false → formula ≡ ruled rule list → Names constants written (Ok formula)
 parts_formula constants written rule parts items i list formula is seen past formulas none ruled_is =
-    let all = take_all i items past ∙ seen in (
-      ap (has_bad_name constants) is ∙ bad_name_several constants rule parts
-          ∙ sym (ap (λ ps. list_any itself (map (has_bad_name constants) ps)) all) ∙ none,
-      ruled_is ∙ ap (ruled rule) (formulas ∙ ap (map (formula_of constants)) all)
-          ∙ sym (ap (formula_of constants) is ∙ formula_several constants rule parts),
-    )
-
--- all digits are read
-pub read_all : (digits : List ℕ) (i value : ℕ) → length digits ≤ i → value * 10 ^ length (drop i digits) + digits_value (drop i digits) ≡ digits_value digits → value ≡ digits_value digits
-read_all digits i value past e =
-    let none = drop_all i digits past in
-    let last : value * 10 ^ length (drop i digits) + digits_value (drop i digits) ≡ value * 1 + 0 = ap (λ rest. value * 10 ^ length rest + digits_value rest) none in
-    omega (arith, last, e)
+    let all : take i items ≡ parts = take_all i items past ∙ seen in
+    rw is (bad_name_several constants rule parts ∙ rw all at none, ruled_is ∙ ap (ruled rule) (rw all at formulas) ∙ sym (formula_several constants rule parts))
 
 -- a text of more than 4,096 bytes
 pub long_text : (text : List ℕ) (found : Option (List ℕ)) → Some text ≡ found → 4096 < length text → is_bad_text found ≡ true

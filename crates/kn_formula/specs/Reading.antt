@@ -1,9 +1,9 @@
 -- Reading a formula from the front of a field's words: the bridge between the grammar and the code. The number bounds
 -- the steps, of which three for each word are enough.
 use Rattle.std.specs.Prelude.{ℕ, zero, suc, ◌*◌, Bool, true, false, List, [], ◌∷◌, length, codes, Option, Some, None}
-use Rattle.kn_fields.specs.Words.{Word, Mark, marked, named}
+use Rattle.kn_fields.specs.Words.{Word, Mark}
 use Rattle.kn_fields.specs.Words.Word.{literal, name, number, sign, other}
-use Rattle.kn_fields.specs.Reading.{Read, Reader, then_read, closed_by, list_at, one_part, whole}
+use Rattle.kn_fields.specs.Reading.{Read, Reader, then_read, closed_by, list_at, one_part, whole, marked, named}
 use Rattle.kn_formula.specs.Trees.{joined, need_of}
 use Rattle.kn_formula.specs.declared.written.Principal.TheVariants.{Literal, Name}
 use Rattle.kn_formula.specs.declared.written.Rule.{Rule}

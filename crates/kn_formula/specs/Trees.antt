@@ -3,6 +3,7 @@ use Rattle.std.specs.Prelude.{ℕ, Bool, true, false, ◌||◌, ◌==◌, nat_lt
 use Rattle.std.specs.List.{list_any}
 use Rattle.std.specs.Str.{bytes_eq}
 use Rattle.kn_base.specs.Decimal.{digits_value}
+use Rattle.kn_env.specs.Environment.{constant_value as value_of}
 use Rattle.kn_env.specs.declared.constant.Constant.{Constant}
 use Rattle.kn_principal.specs.Principals.{policy, normal_form}
 use Rattle.kn_trees.specs.declared.formula.Formula.{Formula}
@@ -46,9 +47,7 @@ has_bad_threshold = fold-Written Bool threshold_step
 
 -- the value of the first constant of this name
 unfoldable pub constant_value : List Constant → List ℕ → Option (List ℕ)
-constant_value [] name = None
-constant_value (constant ∷ constants) name =
-    if bytes_eq constant.name name then Some constant.value else constant_value constants name
+constant_value constants name = value_of name constants
 
 -- The text of a principal: the value of a literal; the local policy, where its name stands without quotes, whatever the constants; and
 -- else the value of the constant of that name, which is keynoted's own choice.

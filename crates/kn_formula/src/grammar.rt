@@ -43,10 +43,8 @@ fn finished(rule: Rule, list: List<Written>, last: Written) -> Result<Written, N
         return Ok(last);
     }
     let mut parts = list;
-    match parts.push(last) {
-        Ok(()) => Ok(Written::Several { rule, parts }),
-        Err(_) => Err(NoMemory),
-    }
+    parts.add(last)?;
+    Ok(Written::Several { rule, parts })
 }
 
 /// A list under a rule.
@@ -67,10 +65,7 @@ fn parts(
             let whole = finished(rule, list, part)?;
             return Ok(whole);
         }
-        match list.push(part) {
-            Ok(()) => {}
-            Err(_) => return Err(Unread::NoMemory),
-        }
+        list.add(part)?;
         left -= 1;
     }
     Err(Unread::Syntax)

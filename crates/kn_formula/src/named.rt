@@ -1,30 +1,19 @@
 //! The formula with its principals in normal form.
 ghost use Rattle.std.specs.Prelude.{◌≡◌, codes};
 ghost use Rattle.std.specs.Option.{option_map};
-ghost use Rattle.kn_formula.specs.Trees.{constant_value, principal_text, normal_text, is_bad_text, ruled};
+ghost use Rattle.kn_formula.specs.Trees.{principal_text, normal_text, is_bad_text, ruled};
 ghost use Rattle.kn_formula.specs.Naming.{NamesText, Names};
 
 use crate::fault::FormulaFault;
 use crate::written::{Principal, Rule, Written};
 use kn_base::{List, Octets};
-use kn_env::Constant;
+use kn_env::{Constant, constant_value};
 use kn_principal::{PrincipalFault, normal};
 use kn_trees::Formula;
 use std::alloc::Global;
 
-/// The value of the first constant of a name.
-fn constant_value<'a>(constants: &'a [Constant], name: &[u8]) -> Option<&'a [u8]>
-    ensures { option_map (λ value. value.now) result ≡ constant_value constants.now name.now }
-{
-    for constant in constants {
-        if constant.name.as_slice() == name {
-            return Some(constant.value.as_slice());
-        }
-    }
-    None
-}
-
 /// The text of a principal, or None where it is a name that no constant has.
+#[tactic(auto, unfolding(crate::specs::Trees::constant_value))]
 fn principal_text<'a>(constants: &'a [Constant], principal: &'a Principal) -> Option<&'a [u8]>
     ensures { option_map (λ text. text.now) result ≡ principal_text constants.now principal.now }
 {

@@ -3,9 +3,7 @@ ghost use Rattle.std.specs.Prelude.{◌≡◌, slice_index};
 ghost use Rattle.kn_formula.specs.Trees.{need_of, is_bad_rule, has_bad_threshold};
 
 use crate::written::{Rule, Written};
-
-/// The greatest number that a threshold's field holds.
-const NEED_MAX: u64 = 4_294_967_295;
+use kn_base::digits_within;
 
 fn first_byte(text: &[u8]) -> u8
     ensures { result ≡ slice_index text.now 0 }
@@ -14,20 +12,14 @@ fn first_byte(text: &[u8]) -> u8
 }
 
 /// The number of a threshold by its digits, or 0 where it isn't one that a threshold may have.
+#[tactic(auto, unfolding(crate::specs::Trees::need_of))]
 pub(crate) fn need_of(digits: &[u8]) -> u32
     ensures { result ≡ need_of digits.now }
 {
     if first_byte(digits) == b'0' {
         return 0;
     }
-    let mut value: u64 = 0;
-    for byte in digits {
-        value = value * 10 + u64::from(byte.saturating_sub(b'0'));
-        if value > NEED_MAX {
-            return 0;
-        }
-    }
-    value as u32
+    digits_within(u32::MAX, digits).unwrap_or(0)
 }
 
 /// Whether so many parts are no list for a rule.

@@ -12,8 +12,8 @@ use Rattle.kn_fields.specs.Faults.{constants_in}
 use Rattle.kn_fields.specs.Scanning.{fault_in, first_place, fault_at, fault_without, version_place, constant_place, departure, goes_deep}
 use Rattle.kn_fields.specs.Depth.{depth_behind, run_behind}
 use Rattle.kn_fields.specs.Words as L
-use Rattle.kn_fields.specs.Words.{taken, named, itself}
-use Rattle.kn_fields.specs.Reading.{tail_at, list_at}
+use Rattle.kn_fields.specs.Words.{itself}
+use Rattle.kn_fields.specs.Reading.{tail_at, list_at, taken, named}
 use Rattle.kn_fields.specs.Computed.{fields_or_fault}
 use Rattle.kn_principal.specs.Principals.{normal_form}
 use Rattle.kn_trees.specs.declared.program.Program.{Program}

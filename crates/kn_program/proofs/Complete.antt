@@ -1,35 +1,23 @@
 -- What is spelled is read.
-use Rattle.std.proofs.Common.{◌≡◌, ℕ, zero, suc, ◌≤◌, true, Bool, List, [], ◌∷◌, ◌++◌, length, codes, Option, Some, None, refl, ap, ◌∙◌, arith, length-append}
+use Rattle.std.proofs.Common.{◌≡◌, ℕ, zero, suc, ◌≤◌, true, List, [], ◌∷◌, ◌++◌, length, codes, None, refl, arith, length-append}
 use Rattle.std.proofs.lemmas.List.{append_assoc}
-use Rattle.kn_trees.specs.declared.program.Expr.{Expr}
-use Rattle.kn_trees.specs.declared.program.Expr.TheVariants as E
 use Rattle.kn_trees.specs.declared.program.Comparison.{Comparison}
-use Rattle.kn_trees.specs.declared.program.Comparison.TheVariants.{Eq, Ne, Lt, Gt, Le, Ge}
+use Rattle.kn_trees.specs.declared.program.Comparison.TheVariants.{Eq}
 use Rattle.kn_trees.specs.declared.program.Operation.{Operation}
-use Rattle.kn_trees.specs.declared.program.Operation.TheVariants.{Plus, Less, Join, Times, Divide, Rest, Power as Powered}
-use Rattle.kn_fields.specs.Words.{Word, Mark, taken, itself, marked}
-use Rattle.kn_fields.specs.Words.Word.{number as number_word, sign as sign_word}
+use Rattle.kn_trees.specs.declared.program.Operation.TheVariants.{Plus, Less, Join, Power as Powered}
+use Rattle.kn_fields.specs.Words.{Word, itself}
+use Rattle.kn_fields.specs.Reading.{taken, marked}
+use Rattle.kn_fields.specs.Words.Word.{sign as sign_word}
 use Rattle.kn_program.specs.Signs.{operation_text, operation_of, comparison_text, comparison_of, prefix_text, prefix_of, is_at}
-use Rattle.kn_program.specs.Trees.{prefixed}
 use Rattle.kn_program.specs.Grammar.{Or, And, Not, Cmp, Sum, Product, Power, Unary, Atom, or_words, and_words, not_words, cmp_words, sum_words, product_words, power_words, unary_words, atom_words, or_parts, and_parts, not_tree, cmp_tree, sum_first, sum_links, product_first, product_links, power_first, power_links, unary_tree, atom_tree, or_tree}
-use Rattle.kn_program.specs.Grammar.Or.{ands, either}
-use Rattle.kn_program.specs.Grammar.And.{nots, each}
-use Rattle.kn_program.specs.Grammar.Not.{cmp, negated}
-use Rattle.kn_program.specs.Grammar.Cmp.{sum, compared}
-use Rattle.kn_program.specs.Grammar.Sum.{product, added}
-use Rattle.kn_program.specs.Grammar.Product.{power, multiplied}
-use Rattle.kn_program.specs.Grammar.Power.{unary, raised}
-use Rattle.kn_program.specs.Grammar.Unary.{atom, signed}
-use Rattle.kn_program.specs.Grammar.Atom.{group, literal, number, truth, name}
-use Rattle.kn_fields.specs.Reading.{Read, map_read, then_read, behind_sign, closed_by}
-use Rattle.kn_program.specs.Reading.{name_tree, number_tree, atom_by, tests_at, negation_at, comparison_at, chain_at, operand_at, atom_at}
+use Rattle.kn_program.proofs.Derivations.{cmp, negated, sum, compared, atom, signed, group, literal, number, truth, name}
+use Rattle.kn_program.specs.Reading.{tests_at, negation_at, comparison_at, chain_at, operand_at, atom_at}
 use Rattle.kn_program.specs.declared.signs.Joint.TheVariants as joint
 use Rattle.kn_program.specs.declared.signs.Level.TheVariants as level
-use Rattle.kn_program.specs.declared.signs.Prefix.{Prefix}
 use Rattle.kn_program.proofs.SignLemmas.{comparison_there, prefix_there}
 use Rattle.kn_fields.proofs.Words.{taken_there, marked_there}
 use Rattle.kn_fields.proofs.Levels.{IsComplete, level_complete, closed_complete}
-use Rattle.kn_program.proofs.Fronts.{cmp_no_not, atom_no_prefix}
+use Rattle.kn_program.proofs.Fronts.{begins_some, any_word, any_operands, atom_begins, unary_begins, power_begins, product_begins, sum_begins, cmp_begins, not_begins, and_begins, or_begins, cmp_no_not, atom_no_prefix}
 use Rattle.kn_program.proofs.Lists.{and_tree, sum_tree, product_tree, power_tree, or_level, and_level, sum_level, product_level, power_level}
 
 -- no operand, power .. goes on with these words
@@ -56,32 +44,20 @@ StopsOr rest = StopsAnd rest × (marked (codes "||") rest ≡ None)
 
 product_stops : (s : Operation) (rest : List Word) → is_at level.Product s ≡ true → StopsPower (sign_word (operation_text s) ∷ rest)
 unfolding taken operation_of
-product_stops Plus rest e = refl
-product_stops Less rest e = refl
-product_stops Join rest e = refl
-product_stops Times rest e = refl
-product_stops Divide rest e = refl
-product_stops Rest rest e = refl
 product_stops Powered rest e = absurd (cc)
+product_stops _ rest e = refl
 
 sum_stops : (s : Operation) (rest : List Word) → is_at level.Sum s ≡ true → StopsProduct (sign_word (operation_text s) ∷ rest)
 unfolding taken operation_of
 sum_stops Plus rest e = (refl, refl)
 sum_stops Less rest e = (refl, refl)
 sum_stops Join rest e = (refl, refl)
-sum_stops Times rest e = absurd (cc)
-sum_stops Divide rest e = absurd (cc)
-sum_stops Rest rest e = absurd (cc)
-sum_stops Powered rest e = absurd (cc)
+sum_stops _ rest e = absurd (cc)
 
 comparison_stops : (s : Comparison) (rest : List Word) → StopsSum (sign_word (comparison_text s) ∷ rest)
 unfolding taken operation_of
 comparison_stops Eq rest = ((refl, refl), refl)
-comparison_stops Ne rest = ((refl, refl), refl)
-comparison_stops Lt rest = ((refl, refl), refl)
-comparison_stops Gt rest = ((refl, refl), refl)
-comparison_stops Le rest = ((refl, refl), refl)
-comparison_stops Ge rest = ((refl, refl), refl)
+comparison_stops _ rest = ((refl, refl), refl)
 
 and_stops : (rest : List Word) → StopsCmp (sign_word (codes "&&") ∷ rest)
 unfolding taken operation_of comparison_of
@@ -114,101 +90,69 @@ brace_stops rest = (((((refl, refl), refl), refl), refl), refl)
 -- a derivation has words
 
 atom_some : (a : Atom) → 1 ≤ length (atom_words a)
-unfolding atom_words
-atom_some (group o) = omega arith
-atom_some (literal value) = omega arith
-atom_some (number digits value is) = omega arith
-atom_some (truth text value is) = omega arith
-atom_some (name text is) = omega arith
+atom_some a = begins_some (atom_begins any_word any_operands a)
 
 unary_some : (u : Unary) → 1 ≤ length (unary_words u)
-unfolding unary_words
-unary_some (atom a) = atom_some a
-unary_some (signed sign u) = omega arith
+unary_some u = begins_some (unary_begins any_word any_operands u)
 
 power_some : (p : Power) → 1 ≤ length (power_words p)
-unfolding power_words
-power_some (unary u) = unary_some u
-power_some (raised u sign is p) = omega (arith, unary_some u, length-append (unary_words u) (sign_word (operation_text sign) ∷ power_words p))
+power_some p = begins_some (power_begins any_word any_operands p)
 
 product_some : (p : Product) → 1 ≤ length (product_words p)
-unfolding product_words
-product_some (power p) = power_some p
-product_some (multiplied p sign is q) = omega (arith, power_some p, length-append (power_words p) (sign_word (operation_text sign) ∷ product_words q))
+product_some p = begins_some (product_begins any_word any_operands p)
 
 sum_some : (s : Sum) → 1 ≤ length (sum_words s)
-unfolding sum_words
-sum_some (product p) = product_some p
-sum_some (added p sign is s) = omega (arith, product_some p, length-append (product_words p) (sign_word (operation_text sign) ∷ sum_words s))
+sum_some s = begins_some (sum_begins any_word any_operands s)
 
 cmp_some : (c : Cmp) → 1 ≤ length (cmp_words c)
-unfolding cmp_words
-cmp_some (sum s) = sum_some s
-cmp_some (compared s sign t) = omega (arith, sum_some s, length-append (sum_words s) (sign_word (comparison_text sign) ∷ sum_words t))
+cmp_some c = begins_some (cmp_begins any_word any_operands c)
 
 not_some : (n : Not) → 1 ≤ length (not_words n)
-unfolding not_words
-not_some (cmp c) = cmp_some c
-not_some (negated n) = omega arith
+not_some n = begins_some (not_begins n)
 
 and_some : (a : And) → 1 ≤ length (and_words a)
-unfolding and_words
-and_some (nots n) = not_some n
-and_some (each n a) = omega (arith, not_some n, length-append (not_words n) (sign_word (codes "&&") ∷ and_words a))
+and_some a = begins_some (and_begins a)
 
 pub or_some : (o : Or) → 1 ≤ length (or_words o)
-unfolding or_words
-or_some (ands a) = and_some a
-or_some (either a o) = omega (arith, and_some a, length-append (and_words a) (sign_word (codes "||") ∷ or_words o))
+or_some o = begins_some (or_begins o)
 
 not_complete : (n : ℕ) → IsComplete 10 n 3 cmp_words cmp_tree StopsCmp (comparison_at n) → IsComplete 10 n 2 not_words not_tree StopsCmp (negation_at n)
     → IsComplete 10 (suc n) 2 not_words not_tree StopsCmp (negation_at (suc n))
 unfolding negation_at not_words not_tree
-not_complete n below same (cmp c) rest few stops =
-    ap (λ (found : Read Mark). behind_sign found (comparison_at n (cmp_words c ++ rest)) (λ mark rest. map_read E.Not (negation_at n rest))) (cmp_no_not c rest)
-    ∙ below c rest (omega (arith, few)) stops
+not_complete n below same (cmp c) rest few stops = rw (cmp_no_not c rest) (below c rest (omega (arith, few)) stops)
 not_complete n below same (negated m) rest few stops =
-    ap (λ (found : Read Mark). behind_sign found (comparison_at n (sign_word (codes "!") ∷ (not_words m ++ rest))) (λ mark rest. map_read E.Not (negation_at n rest))) (marked_there (codes "!") (not_words m ++ rest))
-    ∙ ap (map_read E.Not) (same m rest (omega (arith, few)) stops)
+    rw (marked_there (codes "!") (not_words m ++ rest), same m rest (omega (arith, few)) stops) refl
 
 cmp_complete : (n : ℕ) → IsComplete 10 n 4 sum_words sum_tree StopsSum (chain_at n level.Sum) → IsComplete 10 (suc n) 3 cmp_words cmp_tree StopsCmp (comparison_at (suc n))
 unfolding comparison_at cmp_words cmp_tree
-cmp_complete n below (sum s) rest few stops =
-    ap (λ (read : Read Expr). then_read read (λ left rest.
-    behind_sign (taken comparison_of rest) (Some (left, rest)) (λ found behind. map_read (E.Compare found left) (chain_at n level.Sum behind)))) (below s rest (omega (arith, few)) stops.0)
-    ∙ ap (λ (found : Read Comparison). behind_sign found (Some (sum_tree s, rest)) (λ found behind. map_read (E.Compare found (sum_tree s)) (chain_at n level.Sum behind))) stops.1
+cmp_complete n below (sum s) rest few stops = rw (below s rest (omega (arith, few)) stops.0, stops.1) refl
 cmp_complete n below (compared s sign t) rest few stops =
     let size = length-append (sum_words s) (sign_word (comparison_text sign) ∷ sum_words t) in
     let left : List Word = sum_words t ++ rest in
-    ap (comparison_at (suc n)) (append_assoc (sum_words s) (sign_word (comparison_text sign) ∷ sum_words t) rest)
-    ∙ ap (λ (read : Read Expr). then_read read (λ left rest.
-    behind_sign (taken comparison_of rest) (Some (left, rest)) (λ found behind. map_read (E.Compare found left) (chain_at n level.Sum behind))))
-    (below s (sign_word (comparison_text sign) ∷ left) (omega (arith, few, size)) (comparison_stops sign left))
-    ∙ ap (λ (found : Read Comparison). behind_sign found (Some (sum_tree s, sign_word (comparison_text sign) ∷ left)) (λ found behind. map_read (E.Compare found (sum_tree s)) (chain_at n level.Sum behind)))
-    (taken_there comparison_of (comparison_text sign) left sign (comparison_there sign))
-    ∙ ap (map_read (E.Compare sign (sum_tree s))) (below t rest (omega (arith, few, size)) stops.0)
+    rw (
+      append_assoc (sum_words s) (sign_word (comparison_text sign) ∷ sum_words t) rest,
+      below s (sign_word (comparison_text sign) ∷ left) (omega (arith, few, size)) (comparison_stops sign left),
+      taken_there comparison_of (comparison_text sign) left sign (comparison_there sign),
+      below t rest (omega (arith, few, size)) stops.0,
+    ) refl
 
 unary_complete : (n : ℕ) → IsComplete 10 n 8 atom_words atom_tree StopsOperand (atom_at n) → IsComplete 10 n 7 unary_words unary_tree StopsOperand (operand_at n)
     → IsComplete 10 (suc n) 7 unary_words unary_tree StopsOperand (operand_at (suc n))
 unfolding operand_at unary_words unary_tree
-unary_complete n below same (atom a) rest few stops =
-    ap (λ (found : Read Prefix). behind_sign found (atom_at n (atom_words a ++ rest)) (λ found rest. map_read (prefixed found) (operand_at n rest))) (atom_no_prefix a rest)
-    ∙ below a rest (omega (arith, few)) stops
+unary_complete n below same (atom a) rest few stops = rw (atom_no_prefix a rest) (below a rest (omega (arith, few)) stops)
 unary_complete n below same (signed sign u) rest few stops =
-    ap (λ (found : Read Prefix). behind_sign found (atom_at n (sign_word (prefix_text sign) ∷ (unary_words u ++ rest))) (λ found rest. map_read (prefixed found) (operand_at n rest)))
-    (taken_there prefix_of (prefix_text sign) (unary_words u ++ rest) sign (prefix_there sign))
-    ∙ ap (map_read (prefixed sign)) (same u rest (omega (arith, few)) stops)
+    rw (taken_there prefix_of (prefix_text sign) (unary_words u ++ rest) sign (prefix_there sign), same u rest (omega (arith, few)) stops) refl
 
 atom_complete : (n : ℕ) → IsComplete 10 n 0 or_words or_tree StopsOr (tests_at n joint.Or) → IsComplete 10 (suc n) 8 atom_words atom_tree StopsOperand (atom_at (suc n))
 unfolding atom_at atom_words atom_tree
 atom_complete n below (group o) rest few stops =
     let size = length-append (or_words o) (sign_word (codes ")") ∷ []) in
-    ap (λ (found : Read Mark). then_read found (λ mark inner. then_read (tests_at n joint.Or inner) (closed_by (codes ")")))) (marked_there (codes "(") ((or_words o ++ sign_word (codes ")") ∷ []) ++ rest))
-    ∙ closed_complete (codes ")") (tests_at n joint.Or) (or_words o) rest (or_tree o) (below o (sign_word (codes ")") ∷ rest) (omega (arith, few, size)) (bracket_stops rest))
+    rw (marked_there (codes "(") ((or_words o ++ sign_word (codes ")") ∷ []) ++ rest))
+    (closed_complete (codes ")") (tests_at n joint.Or) (or_words o) rest (or_tree o) (below o (sign_word (codes ")") ∷ rest) (omega (arith, few, size)) (bracket_stops rest)))
 atom_complete n below (literal value) rest few stops = refl
-atom_complete n below (number digits value is) rest few stops = ap (λ (found : Option ℕ). atom_by (number_tree found) (number_word digits) rest (tests_at n joint.Or)) is
-atom_complete n below (truth text value is) rest few stops = ap (λ (found : Option Bool). Some (name_tree found text, rest)) is
-atom_complete n below (name text is) rest few stops = ap (λ (found : Option Bool). Some (name_tree found text, rest)) is
+atom_complete n below (number digits value is) rest few stops = rw is refl
+atom_complete n below (truth text value is) rest few stops = rw is refl
+atom_complete n below (name text is) rest few stops = rw is refl
 
 mutual
   unfolding tests_at negation_at comparison_at chain_at operand_at atom_at or_words or_parts and_words and_parts sum_words sum_first sum_links product_words product_first product_links power_words power_first power_links

@@ -17,18 +17,7 @@ use Rattle.kn_fields.specs.Words.{Word}
 use Rattle.kn_fields.specs.Words.Word.{sign as sign_word}
 use Rattle.kn_program.specs.Trees.{joined, chained, prefixed}
 use Rattle.kn_program.specs.Grammar.{Or, And, Not, Cmp, Sum, Product, Power, Unary, Atom, or_words, and_words, not_words, cmp_words, sum_words, product_words, power_words, unary_words, atom_words, or_parts, and_parts, not_tree, cmp_tree, sum_first, sum_links, product_first, product_links, power_first, power_links, unary_tree, atom_tree, or_tree, Program, Clause, program_words, entry_words, clause_words, program_with, program_clauses, entry_clauses, clause_tree, program_tree, IsProgram}
-use Rattle.kn_program.specs.Grammar.Or.{ands, either}
-use Rattle.kn_program.specs.Grammar.And.{nots, each}
-use Rattle.kn_program.specs.Grammar.Not.{cmp, negated}
-use Rattle.kn_program.specs.Grammar.Cmp.{sum, compared}
-use Rattle.kn_program.specs.Grammar.Sum.{product, added}
-use Rattle.kn_program.specs.Grammar.Product.{power, multiplied}
-use Rattle.kn_program.specs.Grammar.Power.{unary, raised}
-use Rattle.kn_program.specs.Grammar.Unary.{atom, signed}
-use Rattle.kn_program.specs.Grammar.Atom.{group, literal, number, truth, name}
-use Rattle.kn_program.specs.Grammar.Program.{ends, goes_on}
-use Rattle.kn_program.specs.Grammar.Entry.{nothing, something}
-use Rattle.kn_program.specs.Grammar.Clause.{bare, valued, nested}
+use Rattle.kn_program.proofs.Derivations.{ands, either, nots, each, cmp, negated, sum, compared, product, added, power, multiplied, unary, raised, atom, signed, group, literal, number, truth, name, ends, goes_on, nothing, something, bare, valued, nested}
 use Rattle.kn_program.specs.Conditions.{IsConditions, program_of, Gives}
 use Rattle.kn_program.specs.declared.fault.ProgramFault.{ProgramFault}
 use Rattle.kn_program.specs.declared.signs.Joint.{Joint}
@@ -65,6 +54,10 @@ depth_prefixed Minus part = depth-Minus part
 depth_prefixed Number part = depth-Number part
 depth_prefixed Deref part = depth-Deref part
 
+-- a first side and the links behind it, where so many levels are left
+abbrev ChainFits : ℕ → Expr → List Link2 → ℕ → Type 0
+ChainFits depth first links most = (expr_depth first + 25 * depth ≤ most) × (links_depth links + 25 * depth ≤ most + 1)
+
 mutual
   unfolding or_words and_words not_words cmp_words sum_words product_words power_words unary_words atom_words or_parts and_parts not_tree cmp_tree sum_first sum_links product_first product_links power_first power_links unary_tree atom_tree
 
@@ -88,78 +81,64 @@ mutual
       )
 
   not_levels : (depth run : ℕ) (n : Not) → Fits depth run (not_words n) → expr_depth (not_tree n) + run + 25 * depth ≤ 1624
-  not_levels depth run (cmp c) fits =
-      let here = (fits_here depth run (cmp_words c) fits).1 in
-      omega (arith, here, cmp_levels depth run c fits)
+  not_levels depth run (cmp c) fits = omega (arith, (fits_here depth run (cmp_words c) fits).1, cmp_levels depth run c fits)
   not_levels depth run (negated n) fits = omega (arith, depth-Not (not_tree n), not_levels depth (run + 1) n (fits_not depth run (not_words n) fits))
 
   cmp_levels : (depth run : ℕ) (c : Cmp) → Fits depth run (cmp_words c) → expr_depth (cmp_tree c) + 25 * depth ≤ 1616
-  cmp_levels depth run (sum s) fits = omega (arith, depth_chained (sum_first s) (sum_links s), sum_first_levels depth run s fits, sum_links_levels depth run s fits)
+  cmp_levels depth run (sum s) fits = omega (arith, depth_chained (sum_first s) (sum_links s), sum_levels depth run s fits)
   cmp_levels depth run (compared s sign t) fits =
-      let left = fits_front depth run (sum_words s) (sign_word (comparison_text sign) ∷ sum_words t) fits in
-      let right = fits_between depth run (sum_words s) (sum_words t) (sign_word (comparison_text sign)) (sum_closes s) (plain_comparison sign) fits in
       omega (
         arith,
         depth-Compare sign (chained (sum_first s) (sum_links s)) (chained (sum_first t) (sum_links t)),
         depth_chained (sum_first s) (sum_links s),
         depth_chained (sum_first t) (sum_links t),
-        sum_first_levels depth run s left,
-        sum_links_levels depth run s left,
-        sum_first_levels depth 0 t right,
-        sum_links_levels depth 0 t right,
+        sum_levels depth run s (fits_front depth run (sum_words s) (sign_word (comparison_text sign) ∷ sum_words t) fits),
+        sum_levels depth 0 t (fits_between depth run (sum_words s) (sum_words t) (sign_word (comparison_text sign)) (sum_closes s) (plain_comparison sign) fits),
       )
 
-  sum_first_levels : (depth run : ℕ) (s : Sum) → Fits depth run (sum_words s) → expr_depth (sum_first s) + 25 * depth ≤ 1613
-  sum_first_levels depth run (product p) fits =
-      omega (arith, depth_chained (product_first p) (product_links p), product_first_levels depth run p fits, product_links_levels depth run p fits)
-  sum_first_levels depth run (added p sign is s) fits =
-      let left = fits_front depth run (product_words p) (sign_word (operation_text sign) ∷ sum_words s) fits in
-      omega (arith, depth_chained (product_first p) (product_links p), product_first_levels depth run p left, product_links_levels depth run p left)
+  sum_levels : (depth run : ℕ) (s : Sum) → Fits depth run (sum_words s) → ChainFits depth (sum_first s) (sum_links s) 1613
+  sum_levels depth run (product p) fits =
+      (omega (arith, depth_chained (product_first p) (product_links p), product_levels depth run p fits), omega (arith, (fits_here depth run (product_words p) fits).0))
+  sum_levels depth run (added p sign is s) fits = (
+    omega (
+      arith,
+      depth_chained (product_first p) (product_links p),
+      product_levels depth run p (fits_front depth run (product_words p) (sign_word (operation_text sign) ∷ sum_words s) fits),
+    ),
+    omega (arith, sum_levels depth 0 s (fits_between depth run (product_words p) (sum_words s) (sign_word (operation_text sign)) (product_closes p) (plain_operation sign) fits)),
+  )
 
-  sum_links_levels : (depth run : ℕ) (s : Sum) → Fits depth run (sum_words s) → links_depth (sum_links s) + 25 * depth ≤ 1614
-  sum_links_levels depth run (product p) fits = let here = (fits_here depth run (product_words p) fits).0 in omega (arith, here)
-  sum_links_levels depth run (added p sign is s) fits =
-      let right = fits_between depth run (product_words p) (sum_words s) (sign_word (operation_text sign)) (product_closes p) (plain_operation sign) fits in
-      omega (arith, sum_first_levels depth 0 s right, sum_links_levels depth 0 s right)
+  product_levels : (depth run : ℕ) (p : Product) → Fits depth run (product_words p) → ChainFits depth (product_first p) (product_links p) 1611
+  product_levels depth run (power p) fits =
+      (omega (arith, depth_chained (power_first p) (power_links p), power_levels depth run p fits), omega (arith, (fits_here depth run (power_words p) fits).0))
+  product_levels depth run (multiplied p sign is q) fits = (
+    omega (
+      arith,
+      depth_chained (power_first p) (power_links p),
+      power_levels depth run p (fits_front depth run (power_words p) (sign_word (operation_text sign) ∷ product_words q) fits),
+    ),
+    omega (arith, product_levels depth 0 q (fits_between depth run (power_words p) (product_words q) (sign_word (operation_text sign)) (power_closes p) (plain_operation sign) fits)),
+  )
 
-  product_first_levels : (depth run : ℕ) (p : Product) → Fits depth run (product_words p) → expr_depth (product_first p) + 25 * depth ≤ 1611
-  product_first_levels depth run (power p) fits =
-      omega (arith, depth_chained (power_first p) (power_links p), power_first_levels depth run p fits, power_links_levels depth run p fits)
-  product_first_levels depth run (multiplied p sign is q) fits =
-      let left = fits_front depth run (power_words p) (sign_word (operation_text sign) ∷ product_words q) fits in
-      omega (arith, depth_chained (power_first p) (power_links p), power_first_levels depth run p left, power_links_levels depth run p left)
-
-  product_links_levels : (depth run : ℕ) (p : Product) → Fits depth run (product_words p) → links_depth (product_links p) + 25 * depth ≤ 1612
-  product_links_levels depth run (power p) fits = let here = (fits_here depth run (power_words p) fits).0 in omega (arith, here)
-  product_links_levels depth run (multiplied p sign is q) fits =
-      let right = fits_between depth run (power_words p) (product_words q) (sign_word (operation_text sign)) (power_closes p) (plain_operation sign) fits in
-      omega (arith, product_first_levels depth 0 q right, product_links_levels depth 0 q right)
-
-  power_first_levels : (depth run : ℕ) (p : Power) → Fits depth run (power_words p) → expr_depth (power_first p) + 25 * depth ≤ 1609
-  power_first_levels depth run (unary u) fits = omega (arith, unary_levels depth run u fits)
-  power_first_levels depth run (raised u sign is p) fits =
-      omega (arith, unary_levels depth run u (fits_front depth run (unary_words u) (sign_word (operation_text sign) ∷ power_words p) fits))
-
-  power_links_levels : (depth run : ℕ) (p : Power) → Fits depth run (power_words p) → links_depth (power_links p) + 25 * depth ≤ 1610
-  power_links_levels depth run (unary u) fits = let here = (fits_here depth run (unary_words u) fits).0 in omega (arith, here)
-  power_links_levels depth run (raised u sign is p) fits =
-      let right = fits_between depth run (unary_words u) (power_words p) (sign_word (operation_text sign)) (unary_closes u) (plain_operation sign) fits in
-      omega (arith, power_first_levels depth 0 p right, power_links_levels depth 0 p right)
+  power_levels : (depth run : ℕ) (p : Power) → Fits depth run (power_words p) → ChainFits depth (power_first p) (power_links p) 1609
+  power_levels depth run (unary u) fits = (omega (arith, unary_levels depth run u fits), omega (arith, (fits_here depth run (unary_words u) fits).0))
+  power_levels depth run (raised u sign is p) fits = (
+    omega (arith, unary_levels depth run u (fits_front depth run (unary_words u) (sign_word (operation_text sign) ∷ power_words p) fits)),
+    omega (arith, power_levels depth 0 p (fits_between depth run (unary_words u) (power_words p) (sign_word (operation_text sign)) (unary_closes u) (plain_operation sign) fits)),
+  )
 
   unary_levels : (depth run : ℕ) (u : Unary) → Fits depth run (unary_words u) → expr_depth (unary_tree u) + run + 25 * depth ≤ 1609
-  unary_levels depth run (atom a) fits =
-      let here = (fits_here depth run (atom_words a) fits).1 in
-      omega (arith, here, atom_levels depth run a fits)
+  unary_levels depth run (atom a) fits = omega (arith, (fits_here depth run (atom_words a) fits).1, atom_levels depth run a fits)
   unary_levels depth run (signed sign u) fits =
       omega (arith, depth_prefixed sign (unary_tree u), unary_levels depth (run + 1) u (fits_prefix depth run sign (unary_words u) fits))
 
   atom_levels : (depth run : ℕ) (a : Atom) → Fits depth run (atom_words a) → expr_depth (atom_tree a) + 25 * depth ≤ 1601
   atom_levels depth run (group o) fits =
       omega (arith, depth_joined joint.Or (or_parts o), or_levels (depth + 1) 0 o (fits_group depth run (or_words o) fits))
-  atom_levels depth run (literal value) fits = let here = (fits_here depth run _ fits).0 in omega (arith, here, depth-Text value)
-  atom_levels depth run (number digits value is) fits = let here = (fits_here depth run _ fits).0 in omega (arith, here, depth-Whole (pos value))
-  atom_levels depth run (truth text value is) fits = let here = (fits_here depth run _ fits).0 in omega (arith, here, depth-Truth value)
-  atom_levels depth run (name text is) fits = let here = (fits_here depth run _ fits).0 in omega (arith, here, depth-Name text)
+  atom_levels depth run (literal value) fits = omega (arith, (fits_here depth run _ fits).0, depth-Text value)
+  atom_levels depth run (number digits value is) fits = omega (arith, (fits_here depth run _ fits).0, depth-Whole (pos value))
+  atom_levels depth run (truth text value is) fits = omega (arith, (fits_here depth run _ fits).0, depth-Truth value)
+  atom_levels depth run (name text is) fits = omega (arith, (fits_here depth run _ fits).0, depth-Name text)
 
 test_levels : (depth run : ℕ) (o : Or) → Fits depth run (or_words o) → expr_depth (or_tree o) + 25 * depth ≤ 1626
 test_levels depth run o fits = omega (arith, depth_joined joint.Or (or_parts o), or_levels depth run o fits)
@@ -171,7 +150,7 @@ mutual
   unfolding program_words entry_words clause_words program_clauses entry_clauses clause_tree
 
   clauses_levels : (depth run : ℕ) (p : Program) → Fits depth run (program_words p) → clauses_depth (program_clauses p) + 25 * depth ≤ 1628
-  clauses_levels depth run (ends nothing) fits = let here = (fits_here depth run [] fits).0 in omega (arith, here)
+  clauses_levels depth run (ends nothing) fits = omega (arith, (fits_here depth run [] fits).0)
   clauses_levels depth run (ends (something c)) fits = omega (arith, clause_levels depth run c fits)
   clauses_levels depth run (goes_on nothing p) fits =
       omega (arith, clauses_levels depth 0 p (fits_between depth run [] (program_words p) (sign_word (codes ";")) (entry_closes nothing) (λ depth. refl) fits))
@@ -184,8 +163,7 @@ mutual
 
   clause_levels : (depth run : ℕ) (c : Clause) → Fits depth run (clause_words c) → clause_depth (clause_tree c) + 25 * depth ≤ 1628
   clause_levels depth run (bare test) fits =
-      let here = (fits_here depth run (or_words test) fits).0 in
-      omega (arith, here, depth-clause (clause_tree (bare test)), depth-Top, test_levels depth run test fits)
+      omega (arith, (fits_here depth run (or_words test) fits).0, depth-clause (clause_tree (bare test)), depth-Top, test_levels depth run test fits)
   clause_levels depth run (valued test value) fits =
       let left = fits_front depth run (or_words test) (sign_word (codes "->") ∷ or_words value) fits in
       let right = fits_between depth run (or_words test) (or_words value) (sign_word (codes "->")) (or_closes test) (λ depth. refl) fits in

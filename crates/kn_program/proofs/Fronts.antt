@@ -1,19 +1,12 @@
 -- With which word an expression begins.
-use Rattle.std.proofs.Common.{◌≡◌, ℕ, Bool, true, false, ◌&&◌, List, [], ◌∷◌, ◌++◌, codes, Option, Some, None, refl, ap, ◌∙◌}
+use Rattle.std.proofs.Common.{◌≡◌, ℕ, ◌≤◌, Bool, true, false, ◌&&◌, length, arith, List, [], ◌∷◌, ◌++◌, codes, Option, Some, None, refl, ap, ◌∙◌}
 use Rattle.std.specs.Option.{is_none}
-use Rattle.kn_fields.specs.Words.{Word, with_rest, taken, itself, marked}
+use Rattle.kn_fields.specs.Words.{Word, with_rest, itself}
+use Rattle.kn_fields.specs.Reading.{taken, marked}
 use Rattle.kn_fields.specs.Words.Word.{literal as literal_word, name as name_word, number as number_word, sign as sign_word, other as other_word}
 use Rattle.kn_program.specs.Signs.{operation_text, comparison_text, prefix_text, prefix_of}
 use Rattle.kn_program.specs.Grammar.{Or, And, Not, Cmp, Sum, Product, Power, Unary, Atom, or_words, and_words, not_words, cmp_words, sum_words, product_words, power_words, unary_words, atom_words}
-use Rattle.kn_program.specs.Grammar.Or.{ands, either}
-use Rattle.kn_program.specs.Grammar.And.{nots, each}
-use Rattle.kn_program.specs.Grammar.Not.{cmp, negated}
-use Rattle.kn_program.specs.Grammar.Cmp.{sum, compared}
-use Rattle.kn_program.specs.Grammar.Sum.{product, added}
-use Rattle.kn_program.specs.Grammar.Product.{power, multiplied}
-use Rattle.kn_program.specs.Grammar.Power.{unary, raised}
-use Rattle.kn_program.specs.Grammar.Unary.{atom, signed}
-use Rattle.kn_program.specs.Grammar.Atom.{group, literal, number, truth, name}
+use Rattle.kn_program.proofs.Derivations.{ands, either, nots, each, cmp, negated, sum, compared, product, added, power, multiplied, unary, raised, atom, signed, group, literal, number, truth, name}
 use Rattle.kn_program.specs.Reading.{has_clause}
 use Rattle.kn_program.specs.declared.signs.Prefix.{Prefix}
 use Rattle.kn_program.specs.declared.signs.Prefix.TheVariants.{Minus, Number, Deref}
@@ -31,7 +24,9 @@ pub record PassesOperands (passes : Word → Bool) : Type 0 where
   pub of_number : (digits : List ℕ) → passes (number_word digits) ≡ true
   pub of_name : (text : List ℕ) → passes (name_word text) ≡ true
   pub of_open : passes (sign_word (codes "(")) ≡ true
-  pub of_prefix : (prefix : Prefix) → passes (sign_word (prefix_text prefix)) ≡ true
+  pub of_minus : passes (sign_word (codes "-")) ≡ true
+  pub of_at : passes (sign_word (codes "@")) ≡ true
+  pub of_dollar : passes (sign_word (codes "$")) ≡ true
 
 begins_more : (passes : Word → Bool) (front rest : List Word) → Begins passes front → Begins passes (front ++ rest)
 begins_more passes front rest b =
@@ -40,7 +35,7 @@ begins_more passes front rest b =
 begins_by : (passes : Word → Bool) (word : Word) (behind : List Word) → passes word ≡ true → Begins passes (word ∷ behind)
 begins_by passes word behind pass = record { word = word; behind = behind; words_are = refl; pass = pass }
 
-atom_begins : (passes : Word → Bool) → PassesOperands passes → (a : Atom) → Begins passes (atom_words a)
+pub atom_begins : (passes : Word → Bool) → PassesOperands passes → (a : Atom) → Begins passes (atom_words a)
 unfolding atom_words
 atom_begins passes p (group o) = begins_by passes _ _ p.of_open
 atom_begins passes p (literal value) = begins_by passes _ _ (p.of_literal value)
@@ -48,30 +43,44 @@ atom_begins passes p (number digits value is) = begins_by passes _ _ (p.of_numbe
 atom_begins passes p (truth text value is) = begins_by passes _ _ (p.of_name text)
 atom_begins passes p (name text is) = begins_by passes _ _ (p.of_name text)
 
-unary_begins : (passes : Word → Bool) → PassesOperands passes → (u : Unary) → Begins passes (unary_words u)
+pub unary_begins : (passes : Word → Bool) → PassesOperands passes → (u : Unary) → Begins passes (unary_words u)
 unfolding unary_words
 unary_begins passes p (atom a) = atom_begins passes p a
-unary_begins passes p (signed sign u) = begins_by passes _ _ (p.of_prefix sign)
+unary_begins passes p (signed sign u) = begins_by passes _ _ (prefix_passes sign)
+  where
+    prefix_passes : (prefix : Prefix) → passes (sign_word (prefix_text prefix)) ≡ true
+    prefix_passes Minus = p.of_minus
+    prefix_passes Number = p.of_at
+    prefix_passes Deref = p.of_dollar
 
-power_begins : (passes : Word → Bool) → PassesOperands passes → (q : Power) → Begins passes (power_words q)
+pub power_begins : (passes : Word → Bool) → PassesOperands passes → (q : Power) → Begins passes (power_words q)
 unfolding power_words
 power_begins passes p (unary u) = unary_begins passes p u
 power_begins passes p (raised u sign is q) = begins_more passes (unary_words u) (sign_word (operation_text sign) ∷ power_words q) (unary_begins passes p u)
 
-product_begins : (passes : Word → Bool) → PassesOperands passes → (q : Product) → Begins passes (product_words q)
+pub product_begins : (passes : Word → Bool) → PassesOperands passes → (q : Product) → Begins passes (product_words q)
 unfolding product_words
 product_begins passes p (power q) = power_begins passes p q
 product_begins passes p (multiplied q sign is r) = begins_more passes (power_words q) (sign_word (operation_text sign) ∷ product_words r) (power_begins passes p q)
 
-sum_begins : (passes : Word → Bool) → PassesOperands passes → (s : Sum) → Begins passes (sum_words s)
+pub sum_begins : (passes : Word → Bool) → PassesOperands passes → (s : Sum) → Begins passes (sum_words s)
 unfolding sum_words
 sum_begins passes p (product q) = product_begins passes p q
 sum_begins passes p (added q sign is s) = begins_more passes (product_words q) (sign_word (operation_text sign) ∷ sum_words s) (product_begins passes p q)
 
-cmp_begins : (passes : Word → Bool) → PassesOperands passes → (c : Cmp) → Begins passes (cmp_words c)
+pub cmp_begins : (passes : Word → Bool) → PassesOperands passes → (c : Cmp) → Begins passes (cmp_words c)
 unfolding cmp_words
 cmp_begins passes p (sum s) = sum_begins passes p s
 cmp_begins passes p (compared s sign t) = begins_more passes (sum_words s) (sign_word (comparison_text sign) ∷ sum_words t) (sum_begins passes p s)
+
+pub begins_some : {passes : Word → Bool} {words : List Word} → Begins passes words → 1 ≤ length words
+begins_some b = omega (arith, ap length b.words_are)
+
+abbrev pub any_word : Word → Bool
+any_word word = true
+
+pub any_operands : PassesOperands any_word
+any_operands = record { of_literal = λ value. refl; of_number = λ digits. refl; of_name = λ text. refl; of_open = refl; of_minus = refl; of_at = refl; of_dollar = refl }
 
 -- no `!`
 abbrev is_no_not : Word → Bool
@@ -79,18 +88,7 @@ is_no_not word = is_none (marked (codes "!") (word ∷ []))
 
 no_not_operands : PassesOperands is_no_not
 unfolding taken itself
-no_not_operands = record {
-  of_literal = λ value. refl;
-  of_number = λ digits. refl;
-  of_name = λ text. refl;
-  of_open = refl;
-  of_prefix = prefix;
-}
-  where
-    prefix : (p : Prefix) → is_no_not (sign_word (prefix_text p)) ≡ true
-    prefix Minus = refl
-    prefix Number = refl
-    prefix Deref = refl
+no_not_operands = record { of_literal = λ value. refl; of_number = λ digits. refl; of_name = λ text. refl; of_open = refl; of_minus = refl; of_at = refl; of_dollar = refl }
 
 -- neither `;` nor `}`, nor `{`
 abbrev is_no_end : Word → Bool
@@ -98,30 +96,19 @@ is_no_end word = has_clause (word ∷ []) && is_none (marked (codes "{") (word �
 
 no_end_operands : PassesOperands is_no_end
 unfolding taken itself
-no_end_operands = record {
-  of_literal = λ value. refl;
-  of_number = λ digits. refl;
-  of_name = λ text. refl;
-  of_open = refl;
-  of_prefix = prefix;
-}
-  where
-    prefix : (p : Prefix) → is_no_end (sign_word (prefix_text p)) ≡ true
-    prefix Minus = refl
-    prefix Number = refl
-    prefix Deref = refl
+no_end_operands = record { of_literal = λ value. refl; of_number = λ digits. refl; of_name = λ text. refl; of_open = refl; of_minus = refl; of_at = refl; of_dollar = refl }
 
-not_begins : (n : Not) → Begins is_no_end (not_words n)
+pub not_begins : (n : Not) → Begins is_no_end (not_words n)
 unfolding not_words taken itself
 not_begins (cmp c) = cmp_begins is_no_end no_end_operands c
 not_begins (negated n) = begins_by is_no_end _ _ refl
 
-and_begins : (a : And) → Begins is_no_end (and_words a)
+pub and_begins : (a : And) → Begins is_no_end (and_words a)
 unfolding and_words
 and_begins (nots n) = not_begins n
 and_begins (each n a) = begins_more is_no_end (not_words n) (sign_word (codes "&&") ∷ and_words a) (not_begins n)
 
-or_begins : (o : Or) → Begins is_no_end (or_words o)
+pub or_begins : (o : Or) → Begins is_no_end (or_words o)
 unfolding or_words
 or_begins (ands a) = and_begins a
 or_begins (either a o) = begins_more is_no_end (and_words a) (sign_word (codes "||") ∷ or_words o) (and_begins a)
@@ -152,10 +139,7 @@ cmp_no_not c rest =
 pub atom_no_prefix : (a : Atom) (rest : List Word) → taken prefix_of (atom_words a ++ rest) ≡ None
 unfolding taken prefix_of atom_words
 atom_no_prefix (group o) rest = refl
-atom_no_prefix (literal value) rest = refl
-atom_no_prefix (number digits value is) rest = refl
-atom_no_prefix (truth text value is) rest = refl
-atom_no_prefix (name text is) rest = refl
+atom_no_prefix _ rest = refl
 
 both : (a b : Bool) → (a && b) ≡ true → (a ≡ true) × (b ≡ true)
 both true true e = (refl, refl)
@@ -165,10 +149,7 @@ both false b e = absurd (cc)
 -- a clause begins with no `;` and no `}`
 clause_there : (words rest : List Word) → Begins is_no_end words → has_clause (words ++ rest) ≡ true
 clause_there words rest b =
-    ap (λ (words : List Word). has_clause (words ++ rest)) b.words_are
-    ∙ ap (λ (semicolon : Bool). semicolon && is_none (marked (codes "}") (b.word ∷ (b.behind ++ rest)))) (taken_first (itself (codes ";")) b.word (b.behind ++ rest))
-    ∙ ap (λ (brace : Bool). is_none (marked (codes ";") (b.word ∷ [])) && brace) (taken_first (itself (codes "}")) b.word (b.behind ++ rest))
-    ∙ (both (has_clause (b.word ∷ [])) _ b.pass).0
+    rw (b.words_are, taken_first (itself (codes ";")) b.word (b.behind ++ rest), taken_first (itself (codes "}")) b.word (b.behind ++ rest)) (both (has_clause (b.word ∷ [])) _ b.pass).0
 
 pub or_clause : (o : Or) (rest : List Word) → has_clause (or_words o ++ rest) ≡ true
 or_clause o rest = clause_there (or_words o) rest (or_begins o)

@@ -5,8 +5,8 @@ pub mod Fronts
 pub mod Complete
 pub mod Programs
 pub mod Stated
-pub mod Numbers
 pub mod TreeLemmas
 pub mod Steps
 pub mod Nesting
 pub mod Depths
+pub mod Derivations

@@ -1,8 +1,8 @@
 -- The levels of the grammar that are lists.
 use Rattle.std.proofs.Common.{◌≡◌, ℕ, true, List, [], ◌∷◌, ◌++◌, codes, Option, Some, None, ◌⊎◌, inl, inr, refl, ap, ◌∙◌}
-use Rattle.kn_fields.specs.Words.{Word, Mark, taken}
+use Rattle.kn_fields.specs.Words.{Word, Mark}
 use Rattle.kn_fields.specs.Words.Word.{sign as sign_word}
-use Rattle.kn_fields.specs.Reading.{one_part}
+use Rattle.kn_fields.specs.Reading.{one_part, taken}
 use Rattle.kn_fields.proofs.Words.{taken_before, taken_there}
 use Rattle.kn_fields.proofs.Levels.{Level, mark_level}
 use Rattle.kn_trees.specs.declared.program.Expr.{Expr}
@@ -12,13 +12,7 @@ use Rattle.kn_trees.specs.declared.program.Clause.{Clause as ClauseTree}
 use Rattle.kn_program.specs.Signs.{operation_text, operation_of, is_at}
 use Rattle.kn_program.specs.Trees.{joined, chained}
 use Rattle.kn_program.specs.Grammar.{Or, And, Not, Sum, Product, Power, Unary, or_words, and_words, not_words, sum_words, product_words, power_words, unary_words, or_parts, and_parts, not_tree, link, sum_first, sum_links, product_first, product_links, power_first, power_links, unary_tree, Program, Entry, program_words, entry_words, program_clauses, entry_clauses, clause_tree}
-use Rattle.kn_program.specs.Grammar.Or.{ands, either}
-use Rattle.kn_program.specs.Grammar.And.{nots, each}
-use Rattle.kn_program.specs.Grammar.Sum.{product, added}
-use Rattle.kn_program.specs.Grammar.Product.{power, multiplied}
-use Rattle.kn_program.specs.Grammar.Power.{unary, raised}
-use Rattle.kn_program.specs.Grammar.Program.{ends, goes_on}
-use Rattle.kn_program.specs.Grammar.Entry.{nothing, something}
+use Rattle.kn_program.proofs.Derivations.{ands, either, nots, each, product, added, power, multiplied, unary, raised, ends, goes_on, nothing, something}
 use Rattle.kn_program.specs.Reading.{one_link, one_entry, listed}
 use Rattle.kn_program.specs.declared.signs.Joint.TheVariants as joint
 use Rattle.kn_program.specs.declared.signs.Level.{Level as Tier}

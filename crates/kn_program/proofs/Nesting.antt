@@ -4,42 +4,22 @@ use Rattle.kn_fields.specs.Words.{Word}
 use Rattle.kn_fields.specs.Words.Word.{sign as sign_word}
 use Rattle.kn_fields.proofs.Nesting.{word_run, Fits, after, Closes, IsPlain, closes_between, closes_group}
 use Rattle.kn_trees.specs.declared.program.Comparison.{Comparison}
-use Rattle.kn_trees.specs.declared.program.Comparison.TheVariants.{Eq, Ne, Lt, Gt, Le, Ge}
+use Rattle.kn_trees.specs.declared.program.Comparison.TheVariants.{Eq}
 use Rattle.kn_trees.specs.declared.program.Operation.{Operation}
-use Rattle.kn_trees.specs.declared.program.Operation.TheVariants.{Plus, Less, Join, Times, Divide, Rest, Power as Raise}
+use Rattle.kn_trees.specs.declared.program.Operation.TheVariants.{Plus}
 use Rattle.kn_program.specs.Signs.{operation_text, comparison_text, prefix_text}
 use Rattle.kn_program.specs.Grammar.{Or, And, Not, Cmp, Sum, Product, Power, Unary, Atom, or_words, and_words, not_words, cmp_words, sum_words, product_words, power_words, unary_words, atom_words, Program, Entry, Clause, program_words, entry_words, clause_words}
-use Rattle.kn_program.specs.Grammar.Or.{ands, either}
-use Rattle.kn_program.specs.Grammar.And.{nots, each}
-use Rattle.kn_program.specs.Grammar.Not.{cmp, negated}
-use Rattle.kn_program.specs.Grammar.Cmp.{sum, compared}
-use Rattle.kn_program.specs.Grammar.Sum.{product, added}
-use Rattle.kn_program.specs.Grammar.Product.{power, multiplied}
-use Rattle.kn_program.specs.Grammar.Power.{unary, raised}
-use Rattle.kn_program.specs.Grammar.Unary.{atom, signed}
-use Rattle.kn_program.specs.Grammar.Atom.{group, literal, number, truth, name}
-use Rattle.kn_program.specs.Grammar.Program.{ends, goes_on}
-use Rattle.kn_program.specs.Grammar.Entry.{nothing, something}
-use Rattle.kn_program.specs.Grammar.Clause.{bare, valued, nested}
+use Rattle.kn_program.proofs.Derivations.{ands, either, nots, each, cmp, negated, sum, compared, product, added, power, multiplied, unary, raised, atom, signed, group, literal, number, truth, name, ends, goes_on, nothing, something, bare, valued, nested}
 use Rattle.kn_program.specs.declared.signs.Prefix.{Prefix}
 use Rattle.kn_program.specs.declared.signs.Prefix.TheVariants.{Minus, Number as At, Deref}
 
 pub plain_operation : (sign : Operation) → IsPlain (sign_word (operation_text sign))
 plain_operation Plus depth = refl
-plain_operation Less depth = refl
-plain_operation Join depth = refl
-plain_operation Times depth = refl
-plain_operation Divide depth = refl
-plain_operation Rest depth = refl
-plain_operation Raise depth = refl
+plain_operation _ depth = refl
 
 pub plain_comparison : (sign : Comparison) → IsPlain (sign_word (comparison_text sign))
 plain_comparison Eq depth = refl
-plain_comparison Ne depth = refl
-plain_comparison Lt depth = refl
-plain_comparison Gt depth = refl
-plain_comparison Le depth = refl
-plain_comparison Ge depth = refl
+plain_comparison _ depth = refl
 
 plain_prefix : (sign : Prefix) → IsPlain (sign_word (prefix_text sign))
 plain_prefix Minus depth = refl

@@ -5,12 +5,12 @@ use Rattle.kn_trees.specs.declared.program.Expr.{Expr}
 use Rattle.kn_trees.specs.declared.program.Clause.{Clause as ClauseTree}
 use Rattle.kn_trees.specs.declared.program.Then.{Then}
 use Rattle.kn_trees.specs.declared.program.Then.TheVariants.{Top, Value}
-use Rattle.kn_fields.specs.Words.{Word, Mark, taken, itself, marked}
+use Rattle.kn_fields.specs.Words.{Word, itself}
 use Rattle.kn_fields.specs.Words.Word.{sign as sign_word}
 use Rattle.kn_program.specs.Grammar.{Or, or_words, or_tree, Program, Entry, Clause, program_words, entry_words, clause_words, program_clauses, clause_tree}
 use Rattle.kn_program.specs.Grammar.Entry.{nothing, something}
 use Rattle.kn_program.specs.Grammar.Clause.{bare, valued, nested}
-use Rattle.kn_fields.specs.Reading.{Read, Reader, map_read, then_read, behind_sign, closed_by}
+use Rattle.kn_fields.specs.Reading.{Read, Reader, map_read, then_read, behind_sign, closed_by, taken, marked}
 use Rattle.kn_fields.proofs.Words.{read_parts, marked_before, marked_there}
 use Rattle.kn_fields.proofs.Steps.{mapped, behind, chosen}
 use Rattle.kn_fields.proofs.Levels.{Spelled, IsSound, none_sound, level_sound, level_complete, closed_sound, closed_complete}
@@ -53,29 +53,16 @@ value_sound tests program tested programmed o left value rest words middle x tes
           let v = tested left m.from rest m.is in
           record {
             form = valued o v.form;
-            spelled = append_assoc (or_words o) (sign_word (codes "->") ∷ or_words v.form) rest
-                ∙ ap (λ (inner : List Word). or_words o ++ sign_word (codes "->") ∷ inner) v.spelled
-                ∙ ap (λ (middle : List Word). or_words o ++ middle) (sym middle_is)
-                ∙ front;
-            means = ap (λ (test : Expr). clause_with test (Value (or_tree v.form))) test_is
-                ∙ ap (λ (value : Expr). clause_with test (Value value)) v.means
-                ∙ ap (clause_with test) m.made
-                ∙ made;
+            spelled = rw (append_assoc, v.spelled, ← middle_is) front;
+            means = rw (test_is, v.means, m.made) made;
           }
       | inr t ↦
           let m = mapped block (then_read (program t.left) (closed_by (codes "}"))) value rest t.is in
           let p = closed_sound (codes "}") program_words program_clauses program programmed t.left m.from rest m.is in
           record {
             form = nested o p.form;
-            spelled = append_assoc (or_words o) (sign_word (codes "->") ∷ sign_word (codes "{") ∷ (program_words p.form ++ sign_word (codes "}") ∷ [])) rest
-                ∙ ap (λ (inner : List Word). or_words o ++ sign_word (codes "->") ∷ sign_word (codes "{") ∷ inner) p.spelled
-                ∙ ap (λ (left : List Word). or_words o ++ sign_word (codes "->") ∷ left) (sym (marked_before (codes "{") left t.left t.found t.there))
-                ∙ ap (λ (middle : List Word). or_words o ++ middle) (sym middle_is)
-                ∙ front;
-            means = ap (λ (test : Expr). clause_with test (block (program_clauses p.form))) test_is
-                ∙ ap (λ (clauses : List ClauseTree). clause_with test (block clauses)) p.means
-                ∙ ap (clause_with test) m.made
-                ∙ made;
+            spelled = rw (append_assoc, p.spelled, ← marked_before (codes "{") left t.left t.found t.there, ← middle_is) front;
+            means = rw (test_is, p.means, m.made) made;
           }
     ]
 
@@ -92,7 +79,7 @@ clause_sound tests program tested programmed words x rest e =
           record {
             form = bare o.form;
             spelled = ap (λ (rest : List Word). or_words o.form ++ rest) (sym same.1) ∙ o.spelled;
-            means = ap (λ (test : Expr). clause_with test Top) o.means ∙ same.0;
+            means = rw o.means same.0;
           }
       | inr t ↦
           let m = mapped (clause_with b.first) (value_after t.left tests program) x rest t.is in
@@ -155,43 +142,36 @@ IsProgramComplete n =
 entry_complete : (n : ℕ) → IsClauseComplete n → (e : Entry) (rest : List Word) → 12 * length (entry_words e) ≤ n → StopsEntry rest
     → entry_at (clause_at n) (entry_words e ++ rest) ≡ Some (entry_tree e, rest)
 unfolding entry_words
-entry_complete n below nothing rest few stops = ap (λ (b : Bool). entry_by b (clause_at n) rest) stops.1
-entry_complete n below (something c) rest few stops =
-    ap (λ (b : Bool). entry_by b (clause_at n) (clause_words c ++ rest)) (clause_front c rest)
-    ∙ ap (map_read Some) (below c rest few stops.0)
+entry_complete n below nothing rest few stops = rw stops.1 refl
+entry_complete n below (something c) rest few stops = rw (clause_front c rest, below c rest few stops.0) refl
 
 clause_complete : (n : ℕ) → IsProgramComplete n → IsClauseComplete (suc n)
 unfolding clause_at clause_words clause_tree
-clause_complete n below (bare test) rest few stops =
-    ap (λ (read : Read Expr). then_read read (clause_go (tests_at n joint.Or) (program_at n))) (complete_or n test rest (omega (arith, few, or_some test)) stops.0)
-    ∙ ap (λ (found : Read Mark). behind_sign found (Some (clause_with (or_tree test) Top, rest))
-    (λ mark behind. map_read (clause_with (or_tree test)) (value_after behind (tests_at n joint.Or) (program_at n)))) stops.1
+clause_complete n below (bare test) rest few stops = rw (complete_or n test rest (omega (arith, few, or_some test)) stops.0, stops.1) refl
 clause_complete n below (valued test value) rest few stops =
     let size = length-append (or_words test) (sign_word (codes "->") ∷ or_words value) in
     let left : List Word = or_words value ++ rest in
-    ap (clause_at (suc n)) (append_assoc (or_words test) (sign_word (codes "->") ∷ or_words value) rest)
-    ∙ ap (λ (read : Read Expr). then_read read (clause_go (tests_at n joint.Or) (program_at n)))
-    (complete_or n test (sign_word (codes "->") ∷ left) (omega (arith, few, size, or_some test)) (arrow_stops left))
-    ∙ ap (λ (found : Read Mark). behind_sign found (Some (clause_with (or_tree test) Top, sign_word (codes "->") ∷ left))
-    (λ mark behind. map_read (clause_with (or_tree test)) (value_after behind (tests_at n joint.Or) (program_at n)))) (marked_there (codes "->") left)
-    ∙ ap (λ (found : Read Mark). map_read (clause_with (or_tree test)) (behind_sign found (map_read Value (tests_at n joint.Or left))
-    (λ mark inner. map_read block (then_read (program_at n inner) (closed_by (codes "}")))))) (or_no_brace value rest)
-    ∙ ap (λ (read : Read Expr). map_read (clause_with (or_tree test)) (map_read Value read)) (complete_or n value rest (omega (arith, few, size, or_some test)) stops.0)
+    rw (
+      append_assoc (or_words test) (sign_word (codes "->") ∷ or_words value) rest,
+      complete_or n test (sign_word (codes "->") ∷ left) (omega (arith, few, size, or_some test)) (arrow_stops left),
+      marked_there (codes "->") left,
+      or_no_brace value rest,
+      complete_or n value rest (omega (arith, few, size, or_some test)) stops.0,
+    ) refl
 clause_complete n below (nested test p) rest few stops =
     let inner : List Word = program_words p ++ sign_word (codes "}") ∷ [] in
     let size = length-append (or_words test) (sign_word (codes "->") ∷ sign_word (codes "{") ∷ inner) in
     let inner_size = length-append (program_words p) (sign_word (codes "}") ∷ []) in
     let left : List Word = inner ++ rest in
-    ap (clause_at (suc n)) (append_assoc (or_words test) (sign_word (codes "->") ∷ sign_word (codes "{") ∷ inner) rest)
-    ∙ ap (λ (read : Read Expr). then_read read (clause_go (tests_at n joint.Or) (program_at n)))
-    (complete_or n test (sign_word (codes "->") ∷ sign_word (codes "{") ∷ left) (omega (arith, few, size, inner_size, or_some test)) (arrow_stops (sign_word (codes "{") ∷ left)))
-    ∙ ap (λ (found : Read Mark). behind_sign found (Some (clause_with (or_tree test) Top, sign_word (codes "->") ∷ sign_word (codes "{") ∷ left))
-    (λ mark behind. map_read (clause_with (or_tree test)) (value_after behind (tests_at n joint.Or) (program_at n)))) (marked_there (codes "->") (sign_word (codes "{") ∷ left))
-    ∙ ap (λ (found : Read Mark). map_read (clause_with (or_tree test)) (behind_sign found (map_read Value (tests_at n joint.Or (sign_word (codes "{") ∷ left)))
-    (λ mark inner. map_read block (then_read (program_at n inner) (closed_by (codes "}")))))) (marked_there (codes "{") left)
-    ∙ ap (λ (read : Read (List ClauseTree)). map_read (clause_with (or_tree test)) (map_read block read))
+    rw (
+      append_assoc (or_words test) (sign_word (codes "->") ∷ sign_word (codes "{") ∷ inner) rest,
+      complete_or n test (sign_word (codes "->") ∷ sign_word (codes "{") ∷ left) (omega (arith, few, size, inner_size, or_some test)) (arrow_stops (sign_word (codes "{") ∷ left)),
+      marked_there (codes "->") (sign_word (codes "{") ∷ left),
+      marked_there (codes "{") left,
+    )
+    (ap (λ (read : Read (List ClauseTree)). map_read (clause_with (or_tree test)) (map_read block read))
     (closed_complete (codes "}") (program_at n) (program_words p) rest (program_clauses p)
-    (below p (sign_word (codes "}") ∷ rest) (omega (arith, few, size, inner_size, or_some test)) (brace_entry rest) (brace_last rest)))
+    (below p (sign_word (codes "}") ∷ rest) (omega (arith, few, size, inner_size, or_some test)) (brace_entry rest) (brace_last rest))))
 
 mutual
   unfolding program_at program_words program_clauses

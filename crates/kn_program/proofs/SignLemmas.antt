@@ -43,32 +43,18 @@ operation_before Product text found e =
 operation_before Power text found e =
     row (IsOperation Power text) text (codes "^") Powered found _ (λ is. (is, refl)) (nothing (IsOperation Power text) found) e
 
-not_at : {A : Type 0} → false ≡ true → A
-not_at e = absurd (cc)
-
 pub operation_there : (level : Level) (found : Operation) → is_at level found ≡ true → operation_of level (operation_text found) ≡ Some found
 unfolding operation_of
 operation_there Sum Plus e = refl
 operation_there Sum Less e = refl
 operation_there Sum Join e = refl
-operation_there Sum Times e = not_at e
-operation_there Sum Divide e = not_at e
-operation_there Sum Rest e = not_at e
-operation_there Sum Powered e = not_at e
-operation_there Product Plus e = not_at e
-operation_there Product Less e = not_at e
-operation_there Product Join e = not_at e
 operation_there Product Times e = refl
 operation_there Product Divide e = refl
 operation_there Product Rest e = refl
-operation_there Product Powered e = not_at e
-operation_there Power Plus e = not_at e
-operation_there Power Less e = not_at e
-operation_there Power Join e = not_at e
-operation_there Power Times e = not_at e
-operation_there Power Divide e = not_at e
-operation_there Power Rest e = not_at e
 operation_there Power Powered e = refl
+operation_there Sum _ e = absurd (cc)
+operation_there Product _ e = absurd (cc)
+operation_there Power _ e = absurd (cc)
 
 abbrev IsComparison : List ℕ → Comparison → Type 0
 IsComparison text found = text ≡ comparison_text found
@@ -86,11 +72,7 @@ comparison_before text found e =
 pub comparison_there : (found : Comparison) → comparison_of (comparison_text found) ≡ Some found
 unfolding comparison_of
 comparison_there Eq = refl
-comparison_there Ne = refl
-comparison_there Lt = refl
-comparison_there Gt = refl
-comparison_there Le = refl
-comparison_there Ge = refl
+comparison_there _ = refl
 
 abbrev IsPrefix : List ℕ → Prefix → Type 0
 IsPrefix text found = text ≡ prefix_text found

@@ -3,16 +3,13 @@ use Rattle.std.proofs.Common.{◌≡◌, ℕ, zero, suc, Bool, List, [], ◌∷�
 use Rattle.std.proofs.lemmas.List.{append_assoc}
 use Rattle.kn_trees.specs.declared.program.Expr.{Expr}
 use Rattle.kn_trees.specs.declared.program.Expr.TheVariants as E
-use Rattle.kn_fields.specs.Words.{Word, taken, marked}
+use Rattle.kn_fields.specs.Words.{Word}
 use Rattle.kn_fields.specs.Words.Word.{literal as literal_word, name as name_word, number as number_word, sign as sign_word, other as other_word}
 use Rattle.kn_program.specs.Signs.{comparison_text, comparison_of, prefix_text, prefix_of, truth_of, number_of}
 use Rattle.kn_program.specs.Trees.{prefixed}
 use Rattle.kn_program.specs.Grammar.{Atom, or_words, and_words, not_words, cmp_words, sum_words, product_words, power_words, unary_words, atom_words, or_parts, and_parts, not_tree, cmp_tree, sum_first, sum_links, product_first, product_links, power_first, power_links, unary_tree, atom_tree, or_tree}
-use Rattle.kn_program.specs.Grammar.Not.{cmp, negated}
-use Rattle.kn_program.specs.Grammar.Cmp.{sum, compared}
-use Rattle.kn_program.specs.Grammar.Unary.{atom, signed}
-use Rattle.kn_program.specs.Grammar.Atom.{group, literal, number, truth, name}
-use Rattle.kn_fields.specs.Reading.{Read, Reader, map_read, then_read, behind_sign, closed_by}
+use Rattle.kn_program.proofs.Derivations.{cmp, negated, sum, compared, atom, signed, group, literal, number, truth, name}
+use Rattle.kn_fields.specs.Reading.{Read, Reader, map_read, then_read, behind_sign, closed_by, taken, marked}
 use Rattle.kn_fields.proofs.Words.{read_parts, taken_before, marked_before}
 use Rattle.kn_fields.proofs.Steps.{mapped, behind, chosen}
 use Rattle.kn_fields.proofs.Levels.{Spelled, IsSound, none_sound, level_sound, closed_sound}
@@ -35,7 +32,7 @@ not_sound comparison negation below same words x rest e =
           let n = same t.left m.from rest m.is in
           record {
             form = negated n.form;
-            spelled = ap (λ (words : List Word). sign_word (codes "!") ∷ words) n.spelled ∙ sym (marked_before (codes "!") words t.left t.found t.there);
+            spelled = rw (marked_before (codes "!") words t.left t.found t.there, n.spelled) refl;
             means = ap E.Not n.means ∙ m.made;
           }
     ]
@@ -63,13 +60,8 @@ cmp_sound sums sound words x rest e =
           sign.words_are ∙ ap (λ (text : List ℕ). sign_word text ∷ t.left) (comparison_before sign.text t.found sign.stands_for) in
           record {
             form = compared l.form t.found r.form;
-            spelled = append_assoc (sum_words l.form) (sign_word (comparison_text t.found) ∷ sum_words r.form) rest
-                ∙ ap (λ (inner : List Word). sum_words l.form ++ sign_word (comparison_text t.found) ∷ inner) r.spelled
-                ∙ ap (λ (middle : List Word). sum_words l.form ++ middle) (sym middle)
-                ∙ l.spelled;
-            means = ap (λ (left : Expr). E.Compare t.found left (sum_tree r.form)) l.means
-                ∙ ap (λ (right : Expr). E.Compare t.found b.first right) r.means
-                ∙ m.made;
+            spelled = rw (append_assoc, r.spelled, ← middle) l.spelled;
+            means = rw (l.means, r.means) m.made;
           }
     ]
 
@@ -89,7 +81,7 @@ unary_sound atoms operands below same words x rest e =
           sign.words_are ∙ ap (λ (text : List ℕ). sign_word text ∷ t.left) (prefix_before sign.text t.found sign.stands_for) in
           record {
             form = signed t.found u.form;
-            spelled = ap (λ (words : List Word). sign_word (prefix_text t.found) ∷ words) u.spelled ∙ sym words_are;
+            spelled = rw (words_are, u.spelled) refl;
             means = ap (prefixed t.found) u.means ∙ m.made;
           }
     ]

@@ -1,17 +1,15 @@
 -- What the tokens of a field state is what is read of them.
 use Rattle.std.proofs.Common.{◌≡◌, ℕ, ◌+◌, ◌*◌, ◌⊎◌, inl, inr, Bool, true, false, List, [], ◌∷◌, length, Option, Some, None, Result, Ok, Err, refl, sym, ap, subst, ◌∙◌, arith, append-nil}
-use Rattle.std.specs.Prelude.{IfOk, IfErr}
-use Rattle.std.proofs.lemmas.Bool.{cond-true, cond-false}
+use Rattle.std.specs.Prelude.{IfOk, IfErr, if◌then◌else◌}
 use Rattle.kn_lex.specs.Cutting.{Seen}
-use Rattle.kn_fields.specs.Words.{Word, taken, words_of}
-use Rattle.kn_fields.specs.Reading.{Read, map_read, whole, ReadsWhole}
+use Rattle.kn_fields.specs.Words.{Word, words_of}
+use Rattle.kn_fields.specs.Reading.{map_read, ReadsWhole, taken}
 use Rattle.kn_fields.specs.declared.unread.Unread.{Unread}
 use Rattle.kn_fields.specs.declared.unread.Unread.TheVariants.{Syntax as unread_Syntax, NoMemory as unread_NoMemory}
 use Rattle.kn_fields.proofs.Steps.{mapped, whole_read}
 use Rattle.kn_trees.specs.Kinds.{is_well_kinded}
 use Rattle.kn_trees.specs.declared.program.Program.{Program as ProgramTree}
-use Rattle.kn_trees.specs.declared.program.Clause.{Clause as ClauseTree}
-use Rattle.kn_program.specs.Grammar.{Program, program_words, program_with, program_tree, IsProgram}
+use Rattle.kn_program.specs.Grammar.{Program, program_words, program_clauses, program_with, program_tree, IsProgram}
 use Rattle.kn_program.specs.Reading.{program_at, read_program}
 use Rattle.kn_program.specs.Conditions.{IsConditions, HasNoProgram, Shows, judged, judged_read, program_of, Gives, of_unread}
 use Rattle.kn_program.specs.declared.fault.ProgramFault.{ProgramFault}
@@ -40,10 +38,11 @@ unfolding read_program taken
 form_read form =
     let n : ℕ = 12 * length (program_words form) + 1 in
     let all = complete_program n form [] (omega arith) nothing_stops refl in
-    ap (λ (read : Read (List ClauseTree)). whole (map_read program_with read)) (sym (ap (program_at n) (append-nil (program_words form))) ∙ all)
+    let same : program_at n (program_words form) ≡ Some (program_clauses form, []) = rw append-nil at all in
+    rw same refl
 
 pub spelled_read : (tokens : List Seen) (program : ProgramTree) → IsProgram tokens program → read_program (words_of tokens) ≡ Some program
-spelled_read tokens program s = ap read_program (sym s.words) ∙ form_read s.form ∙ ap (λ (program : ProgramTree). Some program) s.tree
+spelled_read tokens program s = rw (← s.words, form_read s.form, s.tree) refl
 
 -- tokens spell at most one program
 pub spelled_once : (tokens : List Seen) (a b : ProgramTree) → IsProgram tokens a → IsProgram tokens b → a ≡ b
@@ -55,17 +54,11 @@ unfolding program_of
 of_spelled [] program some s = absurd (some refl)
 of_spelled (token ∷ tokens) program some s = ap judged_read (spelled_read (token ∷ tokens) program s)
 
-judged_well : (program : ProgramTree) → is_well_kinded program ≡ true → judged program ≡ Ok (Some program)
-judged_well program well = cond-true (is_well_kinded program) _ _ well
-
-judged_bad : (program : ProgramTree) → is_well_kinded program ≡ false → judged program ≡ Err Kind
-judged_bad program bad = cond-false (is_well_kinded program) _ _ bad
-
 -- the program, if there is one, is what is found
 pub program_is_found : (tokens : List Seen) (p : Option ProgramTree) → IsConditions tokens p → program_of tokens ≡ Ok p
 unfolding program_of
 program_is_found tokens None none = ap program_of none
-program_is_found tokens (Some program) is = of_spelled tokens program is.some is.spelled ∙ judged_well program is.kinds
+program_is_found tokens (Some program) is = rw (of_spelled tokens program is.some is.spelled, is.kinds) refl
 
 -- so is the fault
 pub fault_is_found : (tokens : List Seen) (fault : ProgramFault) → Shows tokens fault → program_of tokens ≡ Err fault
@@ -79,7 +72,7 @@ fault_is_found tokens Syntax h = no_program tokens h
     no_program : (tokens : List Seen) → HasNoProgram tokens → program_of tokens ≡ Err Syntax
     no_program [] h = absurd (h.some refl)
     no_program (token ∷ tokens) h = ap judged_read (unread (token ∷ tokens) (read_program (words_of (token ∷ tokens))) refl h.none)
-fault_is_found tokens Kind h = of_spelled tokens h.program h.some h.spelled ∙ judged_bad h.program h.bad
+fault_is_found tokens Kind h = rw (of_spelled tokens h.program h.some h.spelled, h.bad) refl
 fault_is_found tokens NoMemory h = absurd h
 
 -- what a finding says of the tokens
@@ -87,14 +80,10 @@ abbrev Says : List Seen → Result (Option ProgramTree) ProgramFault → Type 0
 Says tokens (Ok program) = IsConditions tokens program
 Says tokens (Err fault) = Shows tokens fault
 
-some_token : (token : Seen) (tokens : List Seen) → token ∷ tokens ≡ [] → ⊥
-some_token token tokens e = absurd (cc)
-
-judged_says : (token : Seen) (tokens : List Seen) (program : ProgramTree) (well : Bool) → is_well_kinded program ≡ well → IsProgram (token ∷ tokens) program → Says (token ∷ tokens) (judged program)
-judged_says token tokens program true well s =
-    subst (Says (token ∷ tokens)) (sym (judged_well program well)) (record { some = some_token token tokens; spelled = s; kinds = well })
-judged_says token tokens program false bad s =
-    subst (Says (token ∷ tokens)) (sym (judged_bad program bad)) (record { some = some_token token tokens; program = program; spelled = s; bad = bad })
+judged_says : (tokens : List Seen) (program : ProgramTree) → (tokens ≡ [] → ⊥) → IsProgram tokens program → (well : Bool) → is_well_kinded program ≡ well
+    → Says tokens (if well then Ok (Some program) else Err Kind)
+judged_says tokens program some s true well = record { some = some; spelled = s; kinds = well }
+judged_says tokens program some s false bad = record { some = some; program = program; spelled = s; bad = bad }
 
 found_says : (tokens : List Seen) → Says tokens (program_of tokens)
 unfolding program_of
@@ -102,11 +91,8 @@ found_says [] = refl
 found_says (token ∷ tokens) = by (read_program (words_of (token ∷ tokens))) refl
   where
     by : (read : Option ProgramTree) → read_program (words_of (token ∷ tokens)) ≡ read → Says (token ∷ tokens) (judged_read read)
-    by None none = record {
-      some = some_token token tokens;
-      none = λ program s. let read = spelled_read (token ∷ tokens) program s in absurd (cc);
-    }
-    by (Some program) some = judged_says token tokens program (is_well_kinded program) refl (read_spelled (token ∷ tokens) program some)
+    by None none = record { some = λ e. cc; none = λ program s. cc (spelled_read (token ∷ tokens) program s) }
+    by (Some program) some = judged_says (token ∷ tokens) program (λ e. cc) (read_spelled (token ∷ tokens) program some) (is_well_kinded program) refl
 
 pub program_stands : (tokens : List Seen) (p : Option ProgramTree) → program_of tokens ≡ Ok p → IsConditions tokens p
 program_stands tokens p e = subst (Says tokens) e (found_says tokens)
@@ -134,11 +120,11 @@ unread_given found read unread_NoMemory fault judged none is = subst (λ fault. 
 
 pub program_given : (found : Result (Option ProgramTree) ProgramFault) (read : Option ProgramTree) (program : ProgramTree) → found ≡ judged_read read → read ≡ Some program → is_well_kinded program ≡ true
     → found ≡ Ok (Some program)
-program_given found read program is some well = is ∙ ap judged_read some ∙ judged_well program well
+program_given found read program is some well = rw (is, some, well) refl
 
 pub kind_given : (found : Result (Option ProgramTree) ProgramFault) (read : Option ProgramTree) (program : ProgramTree) → found ≡ judged_read read → read ≡ Some program → is_well_kinded program ≡ false
     → found ≡ Err Kind
-kind_given found read program is some bad = is ∙ ap judged_read some ∙ judged_bad program bad
+kind_given found read program is some bad = rw (is, some, bad) refl
 
 -- what is given, in the words of the grammar
 

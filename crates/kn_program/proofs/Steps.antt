@@ -1,7 +1,7 @@
 -- Reading step by step.
 use Rattle.std.proofs.Common.{◌≡◌, ℕ, zero, suc, ◌+◌, ◌-◌, ◌*◌, ◌<◌, ◌≤◌, List, [], ◌∷◌, length, codes, Option, Some, None, refl, sym, ap, subst, ◌∙◌, arith}
-use Rattle.kn_fields.specs.Words.{Word, Mark, taken, marked}
-use Rattle.kn_fields.specs.Reading.{Read, Reader, map_read, then_read, behind_sign, closed_by, list_at, one_part, whole}
+use Rattle.kn_fields.specs.Words.{Word, Mark}
+use Rattle.kn_fields.specs.Reading.{Read, Reader, map_read, then_read, behind_sign, closed_by, list_at, one_part, whole, taken, marked}
 use Rattle.kn_fields.proofs.Steps.{Going, going_list, going_tail, tail_none, list_none, less_one}
 use Rattle.kn_trees.specs.declared.program.Expr.{Expr}
 use Rattle.kn_trees.specs.declared.program.Expr.TheVariants as E
@@ -57,9 +57,7 @@ then_twice (Some read) go on = refl
 
 product_is : (budget : ℕ) (words : List Word) → chain_at budget Product words ≡ then_read (operand_at (budget - 1 - 1) words) (climb_at budget Product)
 product_is budget words =
-    chain_step budget Product words
-    ∙ ap (λ (read : Read Expr). then_read read (links_at budget Product)) (chain_step (budget - 1) Power words)
-    ∙ then_twice (operand_at (budget - 1 - 1) words) (links_at (budget - 1) Power) (links_at budget Product)
+    rw (chain_step budget Product words, chain_step (budget - 1) Power words) (then_twice (operand_at (budget - 1 - 1) words) (links_at (budget - 1) Power) (links_at budget Product))
 
 -- a first operand, and the operations behind it
 pub chain_is : (level : Level) (budget : ℕ) (words : List Word) → chain_at budget level words ≡ then_read (operand_at (budget - height level) words) (climb_at budget level)
@@ -77,9 +75,7 @@ chain_is Sum budget words =
 -- the first operand is read with so many steps fewer, or it isn't there
 pub chain_read : (level : Level) (budget fewer : ℕ) (words : List Word) (read : Read Expr) → fewer ≡ height level → operand_at (budget - fewer) words ≡ read → chain_at budget level words ≡ then_read read (climb_at budget level)
 chain_read level budget fewer words read same is =
-    chain_is level budget words
-    ∙ ap (λ n. then_read (operand_at (budget - n) words) (climb_at budget level)) (sym same)
-    ∙ ap (λ (read : Read Expr). then_read read (climb_at budget level)) is
+    rw (chain_is level budget words, ← same, is) refl
 
 -- the operations of the tighter levels come first
 pub climb_step : (budget : ℕ) (level : Level) (operand : Expr) (words : List Word) (read : Read Expr) → first_at (budget - 1) level operand words ≡ read → climb_at budget level operand words ≡ then_read read (links_at budget level)
@@ -129,23 +125,12 @@ negation_step zero words some = absurd (some refl)
 negation_step (suc n) words some =
     ap (λ m. behind_sign (marked (codes "!") words) (comparison_at m words) (λ mark rest. map_read E.Not (negation_at m rest))) (less_one n)
 
-pub negation_over : (budget : ℕ) (words : List Word) → budget ≡ 0 → negation_at budget words ≡ None
-unfolding negation_at
-negation_over zero words none = refl
-negation_over (suc n) words none = absurd (omega arith)
-
 pub negation_none : (budget : ℕ) (words left : List Word) → (budget ≡ 0 → ⊥) → marked (codes "!") words ≡ None → left ≡ words → negation_at budget words ≡ comparison_at (budget - 1) left
-negation_none budget words left some none same =
-    negation_step budget words some
-    ∙ ap (λ (found : Read Mark). behind_sign found (comparison_at (budget - 1) words) (λ mark rest. map_read E.Not (negation_at (budget - 1) rest))) none
-    ∙ ap (comparison_at (budget - 1)) (sym same)
+negation_none budget words left some none same = rw (negation_step budget words some, none, same) refl
 
 pub negation_some : (budget : ℕ) (words inner : List Word) (part : Read Expr) → (budget ≡ 0 → ⊥) → marked (codes "!") words ≡ Some (tt, inner) → negation_at (budget - 1) inner ≡ part
     → negation_at budget words ≡ map_read E.Not part
-negation_some budget words inner part some mark read =
-    negation_step budget words some
-    ∙ ap (λ (found : Read Mark). behind_sign found (comparison_at (budget - 1) words) (λ mark rest. map_read E.Not (negation_at (budget - 1) rest))) mark
-    ∙ ap (map_read E.Not) read
+negation_some budget words inner part some mark read = rw (negation_step budget words some, mark, read) refl
 
 -- comparisons
 
@@ -157,24 +142,15 @@ unfolding comparison_at
 comparison_step zero words some = absurd (some refl)
 comparison_step (suc n) words some = ap (λ m. then_read (chain_at m Sum words) (behind_left m)) (less_one n)
 
-pub comparison_over : (budget : ℕ) (words : List Word) → budget ≡ 0 → comparison_at budget words ≡ None
-unfolding comparison_at
-comparison_over zero words none = refl
-comparison_over (suc n) words none = absurd (omega arith)
-
 pub comparison_read : (budget : ℕ) (words : List Word) (left : Read Expr) → (budget ≡ 0 → ⊥) → chain_at (budget - 1) Sum words ≡ left → comparison_at budget words ≡ then_read left (behind_left (budget - 1))
-comparison_read budget words left some read = comparison_step budget words some ∙ ap (λ (read : Read Expr). then_read read (behind_left (budget - 1))) read
+comparison_read budget words left some read = rw (comparison_step budget words some, read) refl
 
 pub left_alone : (n : ℕ) (left : Expr) (words rest : List Word) → None ≡ taken comparison_of words → rest ≡ words → behind_left n left words ≡ Some (left, rest)
-left_alone n left words rest none same =
-    ap (λ (found : Read Comparison). behind_sign found (Some (left, words)) (λ found behind. map_read (E.Compare found left) (chain_at n Sum behind))) (sym none)
-    ∙ ap (λ (words : List Word). Some (left, words)) (sym same)
+left_alone n left words rest none same = rw (← none, same) refl
 
 pub left_two : (n : ℕ) (left : Expr) (words further : List Word) (compared : Comparison) (right : Read Expr) → Some (compared, further) ≡ taken comparison_of words → chain_at n Sum further ≡ right
     → behind_left n left words ≡ map_read (E.Compare compared left) right
-left_two n left words further compared right found read =
-    ap (λ (found : Read Comparison). behind_sign found (Some (left, words)) (λ found behind. map_read (E.Compare found left) (chain_at n Sum behind))) (sym found)
-    ∙ ap (map_read (E.Compare compared left)) read
+left_two n left words further compared right found read = rw (← found, read) refl
 
 -- operands
 
@@ -185,23 +161,12 @@ operand_step zero words some = absurd (some refl)
 operand_step (suc n) words some =
     ap (λ m. behind_sign (taken prefix_of words) (atom_at m words) (λ found rest. map_read (prefixed found) (operand_at m rest))) (less_one n)
 
-pub operand_over : (budget : ℕ) (words : List Word) → budget ≡ 0 → operand_at budget words ≡ None
-unfolding operand_at
-operand_over zero words none = refl
-operand_over (suc n) words none = absurd (omega arith)
-
 pub operand_none : (budget : ℕ) (words left : List Word) → (budget ≡ 0 → ⊥) → None ≡ taken prefix_of words → left ≡ words → operand_at budget words ≡ atom_at (budget - 1) left
-operand_none budget words left some none same =
-    operand_step budget words some
-    ∙ ap (λ (found : Read Prefix). behind_sign found (atom_at (budget - 1) words) (λ found rest. map_read (prefixed found) (operand_at (budget - 1) rest))) (sym none)
-    ∙ ap (atom_at (budget - 1)) (sym same)
+operand_none budget words left some none same = rw (operand_step budget words some, ← none, same) refl
 
 pub operand_some : (budget : ℕ) (words inner : List Word) (prefix : Prefix) (part : Read Expr) → (budget ≡ 0 → ⊥) → Some (prefix, inner) ≡ taken prefix_of words → operand_at (budget - 1) inner ≡ part
     → operand_at budget words ≡ map_read (prefixed prefix) part
-operand_some budget words inner prefix part some found read =
-    operand_step budget words some
-    ∙ ap (λ (found : Read Prefix). behind_sign found (atom_at (budget - 1) words) (λ found rest. map_read (prefixed found) (operand_at (budget - 1) rest))) (sym found)
-    ∙ ap (map_read (prefixed prefix)) read
+operand_some budget words inner prefix part some found read = rw (operand_step budget words some, ← found, read) refl
 
 -- atoms
 
@@ -210,20 +175,12 @@ unfolding atom_at
 atom_step zero words some = absurd (some refl)
 atom_step (suc n) words some = ap (λ m. atom_front words (tests_at m Or)) (less_one n)
 
-pub atom_over : (budget : ℕ) (words : List Word) → budget ≡ 0 → atom_at budget words ≡ None
-unfolding atom_at
-atom_over zero words none = refl
-atom_over (suc n) words none = absurd (omega arith)
-
 pub atom_end : (budget : ℕ) (words : List Word) → (budget ≡ 0 → ⊥) → words ≡ [] → atom_at budget words ≡ None
-atom_end budget words some none = atom_step budget words some ∙ ap (λ words. atom_front words (tests_at (budget - 1) Or)) none
+atom_end budget words some none = rw (atom_step budget words some, none) refl
 
 atom_word : (budget : ℕ) (words rest : List Word) (word : Word) (found : Option Expr) → (budget ≡ 0 → ⊥) → words ≡ word ∷ rest → constant_of word ≡ found
     → atom_at budget words ≡ atom_by found word rest (tests_at (budget - 1) Or)
-atom_word budget words rest word found some is constant =
-    atom_step budget words some
-    ∙ ap (λ words. atom_front words (tests_at (budget - 1) Or)) is
-    ∙ ap (λ (found : Option Expr). atom_by found word rest (tests_at (budget - 1) Or)) constant
+atom_word budget words rest word found some is constant = rw (atom_step budget words some, is, constant) refl
 
 pub atom_constant : (budget : ℕ) (words rest : List Word) (word : Word) (found : Expr) → (budget ≡ 0 → ⊥) → words ≡ word ∷ rest → constant_of word ≡ Some found → atom_at budget words ≡ Some (found, rest)
 atom_constant budget words rest word found some is constant = atom_word budget words rest word (Some found) some is constant
@@ -232,8 +189,7 @@ pub atom_group : (budget : ℕ) (words rest : List Word) (word : Word) (text : L
     → atom_at budget words ≡ then_read opening (λ mark inner. then_read (tests_at (budget - 1) Or inner) (closed_by (codes ")")))
 atom_group budget words rest word text opening some is constant same opens =
     atom_word budget words rest word None some is constant
-    ∙ ap (λ (opening : Read Mark). then_read opening (λ mark inner. then_read (tests_at (budget - 1) Or inner) (closed_by (codes ")"))))
-    (ap (marked (codes "(")) (sym is) ∙ ap (λ text. marked text words) (sym same) ∙ opens)
+    ∙ ap (λ (opening : Read Mark). then_read opening (λ mark inner. then_read (tests_at (budget - 1) Or inner) (closed_by (codes ")")))) (rw (← is, ← same) opens)
 
 -- what is read in the brackets, and the closing one
 pub group_read : (atom tests : Read Expr) → atom ≡ then_read tests (closed_by (codes ")")) → (read : Read Expr) → tests ≡ read → atom ≡ then_read read (closed_by (codes ")"))
@@ -242,8 +198,7 @@ group_read atom tests is read same = is ∙ ap (λ (read : Read Expr). then_read
 pub group_closed : (atom tests : Read Expr) (whole : Expr) (left : List Word) (text : List ℕ) → atom ≡ then_read tests (closed_by (codes ")")) → tests ≡ Some (whole, left) → text ≡ codes ")" → (closing : Read Mark) → marked text left ≡ closing
     → atom ≡ map_read (λ mark. whole) closing
 group_closed atom tests whole left text is read same closing closes =
-    group_read atom tests is (Some (whole, left)) read
-    ∙ ap (λ text. map_read (λ mark. whole) (marked text left)) (sym same) ∙ ap (λ (closing : Read Mark). map_read (λ mark. whole) closing) closes
+    group_read atom tests is (Some (whole, left)) read ∙ rw (← same, closes) refl
 
 -- programs
 
@@ -273,26 +228,16 @@ clause_step zero words some = absurd (some refl)
 clause_step (suc n) words some = ap (λ m. then_read (tests_at m Or words) (behind_test m)) (less_one n)
 
 pub clause_read : (budget : ℕ) (words : List Word) (test : Read Expr) → (budget ≡ 0 → ⊥) → tests_at (budget - 1) Or words ≡ test → clause_at budget words ≡ then_read test (behind_test (budget - 1))
-clause_read budget words test some read = clause_step budget words some ∙ ap (λ (read : Read Expr). then_read read (behind_test (budget - 1))) read
+clause_read budget words test some read = rw (clause_step budget words some, read) refl
 
 pub test_alone : (n : ℕ) (test : Expr) (words rest : List Word) → marked (codes "->") words ≡ None → rest ≡ words → behind_test n test words ≡ Some (clause_with test Top, rest)
-test_alone n test words rest none same =
-    ap (λ (found : Read Mark). behind_sign found (Some (clause_with test Top, words)) (λ mark behind. map_read (clause_with test) (value_after behind (tests_at n Or) (program_at n)))) none
-    ∙ ap (λ (words : List Word). Some (clause_with test Top, words)) (sym same)
+test_alone n test words rest none same = rw (none, same) refl
 
 pub test_valued : (n : ℕ) (test : Expr) (words further : List Word) (value : Read Then) → marked (codes "->") words ≡ Some (tt, further) → value_after further (tests_at n Or) (program_at n) ≡ value
     → behind_test n test words ≡ map_read (clause_with test) value
-test_valued n test words further value arrow read =
-    ap (λ (found : Read Mark). behind_sign found (Some (clause_with test Top, words)) (λ mark behind. map_read (clause_with test) (value_after behind (tests_at n Or) (program_at n)))) arrow
-    ∙ ap (map_read (clause_with test)) read
-
-pub clause_over : (budget : ℕ) (words : List Word) → budget ≡ 0 → clause_at budget words ≡ None
-unfolding clause_at
-clause_over zero words none = refl
-clause_over (suc n) words none = absurd (omega arith)
+test_valued n test words further value arrow read = rw (arrow, read) refl
 
 -- the program of all the words
 pub read_is : (words : List Word) (budget : ℕ) (read : Read (List Clause)) → budget ≡ 12 * length words + 1 → program_at budget words ≡ read → read_program words ≡ whole (map_read program_with read)
 unfolding read_program
-read_is words budget read enough is =
-    ap (λ n. whole (map_read program_with (program_at n words))) (sym enough) ∙ ap (λ (read : Read (List Clause)). whole (map_read program_with read)) is
+read_is words budget read enough is = rw (← enough, is) refl

@@ -2,9 +2,9 @@
 -- the steps, of which twelve for each word and one more are enough.
 use Rattle.std.specs.Prelude.{◌≡◌, ℕ, zero, suc, pos, ◌+◌, ◌-◌, ◌*◌, Bool, true, false, ◌&&◌, List, [], ◌∷◌, ◌++◌, length, codes, Option, Some, None, Result, Ok, Err}
 use Rattle.std.specs.Option.{is_none}
-use Rattle.kn_fields.specs.Words.{Word, Mark, taken, marked}
+use Rattle.kn_fields.specs.Words.{Word, Mark}
 use Rattle.kn_fields.specs.Words.Word.{literal, name, number}
-use Rattle.kn_fields.specs.Reading.{Read, Reader, map_read, then_read, behind_sign, closed_by, tail_at, list_at, one_part, whole}
+use Rattle.kn_fields.specs.Reading.{Read, Reader, map_read, then_read, behind_sign, closed_by, tail_at, list_at, one_part, whole, taken, marked}
 use Rattle.kn_fields.specs.declared.unread.Unread.{Unread}
 use Rattle.kn_fields.specs.declared.unread.Unread.TheVariants.{Syntax, NoMemory}
 use Rattle.kn_trees.specs.declared.program.Expr.{Expr}

@@ -1,7 +1,8 @@
 -- The signs of the grammar of conditions (RFC 2704, section 4), and the words that are no names.
-use Rattle.std.specs.Prelude.{ℕ, Bool, true, false, nat_lt, List, codes, Option, Some, None, if◌then◌else◌}
+use Rattle.std.specs.Prelude.{ℕ, Bool, true, false, List, codes, Option, Some, None, if◌then◌else◌}
 use Rattle.std.specs.Str.{bytes_eq, str_eq_ignore_ascii_case}
-use Rattle.kn_base.specs.Decimal.{digits_value}
+use Rattle.kn_base.specs.Decimal.{digits_within}
+use Rattle.kn_base.specs.declared.limits.TheConstants.{WHOLE_NUMBER}
 use Rattle.kn_trees.specs.declared.program.Comparison.{Comparison}
 use Rattle.kn_trees.specs.declared.program.Comparison.TheVariants.{Eq, Ne, Lt, Gt, Le, Ge}
 use Rattle.kn_trees.specs.declared.program.Operation.{Operation}
@@ -101,4 +102,4 @@ truth_of name =
 
 -- the number of digits, where it isn't above 2147483647; the lexer gives no such number
 unfoldable pub number_of : List ℕ → Option ℕ
-number_of digits = if nat_lt 2147483647 (digits_value digits) then None else Some (digits_value digits)
+number_of digits = digits_within WHOLE_NUMBER digits

@@ -19,10 +19,7 @@ fn add(list: &mut List<Clause>, entry: Option<Clause>) -> Result<(), NoMemory>
     let Some(clause) = entry else {
         return Ok(());
     };
-    match list.push(clause) {
-        Ok(()) => Ok(()),
-        Err(_) => Err(NoMemory),
-    }
+    list.add(clause)
 }
 
 /// The clauses with `;` between them.

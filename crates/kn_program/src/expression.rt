@@ -36,10 +36,7 @@ pub(crate) fn tests(
             let whole = joined(joint, parts, part)?;
             return Ok(whole);
         }
-        match parts.push(part) {
-            Ok(()) => {}
-            Err(_) => return Err(Unread::NoMemory),
-        }
+        parts.add(part)?;
         left -= 1;
     }
     Err(Unread::Syntax)
@@ -173,10 +170,7 @@ fn links(
     let mut left = budget - 1;
     while left > 0 {
         let right = side(alloc, cursor, level, budget - 1)?;
-        match links.push(Link2 { sign, right }) {
-            Ok(()) => {}
-            Err(_) => return Err(Unread::NoMemory),
-        }
+        links.add(Link2 { sign, right })?;
         let Some(next) = take_operation(cursor, level) else {
             let whole = chained(alloc, first, links)?;
             return Ok(whole);

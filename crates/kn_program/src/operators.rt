@@ -1,6 +1,7 @@
 //! The signs of operations, comparisons and prefixes where they come next.
 ghost use Rattle.std.specs.Prelude.{◌≡◌, false, None};
-ghost use Rattle.kn_fields.specs.Words.{with_rest, taken};
+ghost use Rattle.kn_fields.specs.Words.{with_rest};
+ghost use Rattle.kn_fields.specs.Reading.{taken};
 ghost use Rattle.kn_program.specs.Signs.{operation_of, comparison_of, prefix_of};
 ghost use Rattle.kn_program.specs.declared.signs.Level.{Level as Tier};
 

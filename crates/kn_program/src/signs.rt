@@ -1,8 +1,11 @@
 //! The signs of the grammar of conditions, and the words that are no names.
 ghost use Rattle.std.specs.Prelude.{◌≡◌, ◌≤◌, false, None, IfSome};
+ghost use Rattle.kn_base.specs.declared.limits.TheConstants.{WHOLE_NUMBER};
 ghost use Rattle.kn_program.specs.Signs.{joint_text, height, operation_of, comparison_of, prefix_of, truth_of, number_of};
 ghost use Rattle.kn_program.specs.declared.signs.Level.{Level as Tier};
 
+use kn_base::digits_within;
+use kn_base::limits::WHOLE_NUMBER;
 use kn_trees::{Comparison, Operation};
 
 /// What stands between tests.
@@ -35,9 +38,6 @@ pub enum Prefix {
     /// `$`
     Deref,
 }
-
-/// The greatest number that an expression holds.
-const WHOLE_MAX: u64 = 2_147_483_647;
 
 /// How many levels an operand is below this one.
 pub(crate) fn height(level: Level) -> u64
@@ -169,16 +169,10 @@ pub(crate) fn truth_of(name: &[u8]) -> Option<bool>
 }
 
 /// The number of digits, or None where it is above 2147483647, which no token is.
+#[tactic(auto, unfolding(crate::specs::Signs::number_of))]
 pub(crate) fn number_of(digits: &[u8]) -> Option<u32>
     ensures value { result ≡ number_of digits.now }
-    ensures small { IfSome result (λ value. value ≤ 2147483647) }
+    ensures small { IfSome result (λ value. value ≤ WHOLE_NUMBER) }
 {
-    let mut value: u64 = 0;
-    for byte in digits {
-        value = value * 10 + u64::from(byte.saturating_sub(b'0'));
-        if value > WHOLE_MAX {
-            return None;
-        }
-    }
-    Some(value as u32)
+    digits_within(WHOLE_NUMBER, digits)
 }

@@ -24,10 +24,8 @@ pub(crate) fn joined(joint: Joint, list: List<Expr>, last: Expr) -> Result<Expr,
         return Ok(last);
     }
     let mut parts = list;
-    match parts.push(last) {
-        Ok(()) => Ok(several(joint, parts)),
-        Err(_) => Err(NoMemory),
-    }
+    parts.add(last)?;
+    Ok(several(joint, parts))
 }
 
 /// A first part with operations behind it; alone it is itself.

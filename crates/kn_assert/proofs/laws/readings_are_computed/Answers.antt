@@ -1,4 +1,6 @@
-use Rattle.kn_assert.proofs.Readings.{FieldsTold, reading_spelled, spelled_reading, reading_fault, fault_reading, never_memory}
+use Rattle.kn_assert.specs.Spelled.{IsReading, IsFirstReadFault}
+use Rattle.kn_assert.proofs.Readings.{FieldsTold, text_tells, spelled_reading, fault_reading, no_memory}
+use Rattle.kn_assert.proofs.Showing.{tells_value, tells_fault}
 use Rattle.kn_assert.proofs.laws.readings_are_computed.Goals as goal
 
 pub returns : goal.returns
@@ -18,7 +20,7 @@ returns c =
       authorizer = c.one_field_of_each_number.ensures.authorizer;
     } in
     record {
-      reading = λ text assertion. (reading_spelled told text assertion, spelled_reading told text assertion);
-      fault = λ text fault. (reading_fault told text fault, fault_reading told text fault);
-      not_memory = λ text e. never_memory told text e;
+      reading = λ text x. (tells_value (IsReading text) (IsFirstReadFault text) _ x (text_tells told text), spelled_reading told text x);
+      fault = λ text f. (tells_fault (IsReading text) (IsFirstReadFault text) _ f (text_tells told text), fault_reading told text f);
+      not_memory = λ text e. no_memory text (tells_fault (IsReading text) (IsFirstReadFault text) _ _ (text_tells told text) e);
     }

@@ -1,10 +1,11 @@
-use Rattle.std.proofs.Common.{ℕ, List, Some, None, ap, sym, ◌∙◌, arith}
+use Rattle.std.proofs.Common.{ℕ, refl, List, Some, None, ap, sym, ◌∙◌, arith}
 use Rattle.kn_fields.proofs.Words.{took, passed, is_itself, not_itself}
 use Rattle.kn_fields.proofs.Steps.{going_more, going_last, going_over, fault_handed_on, reads_along}
 use Rattle.kn_formula.specs.declared.written.Principal.TheVariants.{Literal, Name}
 use Rattle.kn_formula.specs.declared.written.Written.TheVariants.{Who}
 use Rattle.kn_lex.specs.declared.token.Sort.TheVariants.{Name as SortName, Text}
-use Rattle.kn_formula.proofs.Steps.{parts_start, one_over, one_end, one_word, one_number, one_sign, one_other}
+use Rattle.kn_formula.specs.Reading.{one_at}
+use Rattle.kn_formula.proofs.Steps.{parts_start, one_end, one_word, one_number, one_sign, one_other}
 use Rattle.kn_formula.proofs.grammar.+form.Goals as goal
 
 pub parts-loop-left-init : goal.parts-loop-left-init
@@ -18,7 +19,7 @@ parts-returns-then-not-take_sign t c =
 pub parts-loop-left-preserved : goal.parts-loop-left-preserved
 parts-loop-left-preserved t c = record {
   fewer = omega (arith, c.loop-left.invariant.fewer);
-  going = going_more c.loop-left.invariant.going c.loop-left-test.true c.in_ok-part.ensures c.in-Ok.ensures.ok
+  going = going_more c.loop-left.invariant.going c.loop-left-test.true c.in_ok-part.ensures c.in_ok-add.ensures.ok
       (took _ _ _ _ _ c.if-not-take_sign.false c.take_sign.ensures.taken c.rule_text.ensures);
 }
 
@@ -26,7 +27,8 @@ pub parts-returns : goal.parts-returns
 parts-returns t c = going_over c.loop-left.invariant.going c.loop-left-test.false
 
 pub one-returns-then-budget-eq0 : goal.one-returns-then-budget-eq0
-one-returns-then-budget-eq0 t c = one_over c.args.budget _ c.if-budget-eq0.true
+unfolding one_at
+one-returns-then-budget-eq0 t c = rw c.if-budget-eq0.true refl
 
 pub one-returns-in_default : goal.one-returns-in_default
 one-returns-in_default t c = one_end c.args.budget _ c.if-budget-eq0.false c.in_default.ensures

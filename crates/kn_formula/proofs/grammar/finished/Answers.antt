@@ -6,6 +6,6 @@ use Rattle.kn_formula.proofs.grammar.finished.Goals as goal
 pub returns-then-is_whole : goal.returns-then-is_whole
 returns-then-is_whole c = whole_alone c.args.rule c.args.list c.args.last (sym c.is_whole.ensures ∙ c.if-is_whole.true)
 
-pub returns-in-Ok : goal.returns-in-Ok
-returns-in-Ok c =
-    ap (Several c.args.rule) c.in-Ok.ensures.ok ∙ whole_several c.args.rule c.args.list c.args.last (sym c.is_whole.ensures ∙ c.if-is_whole.false)
+pub returns : goal.returns
+returns c =
+    ap (Several c.args.rule) c.in_ok-add.ensures.ok ∙ whole_several c.args.rule c.args.list c.args.last (sym c.is_whole.ensures ∙ c.if-is_whole.false)

@@ -1,7 +1,8 @@
-use Rattle.std.proofs.Common.{None, ◌∙◌, arith}
+use Rattle.std.proofs.Common.{None, refl, ◌∙◌, arith}
 use Rattle.kn_fields.proofs.Words.{took, passed}
 use Rattle.kn_fields.proofs.Steps.{going_more, going_last, going_over, fault_handed_on}
-use Rattle.kn_program.proofs.Steps.{program_start, clause_over, clause_read, test_alone, test_valued}
+use Rattle.kn_program.specs.Reading.{clause_at}
+use Rattle.kn_program.proofs.Steps.{program_start, clause_read, test_alone, test_valued}
 use Rattle.kn_program.proofs.clauses.+program.Goals as goal
 
 pub clauses-loop-left-init : goal.clauses-loop-left-init
@@ -23,7 +24,8 @@ pub clauses-returns : goal.clauses-returns
 clauses-returns t c = going_over c.loop-left.invariant.going c.loop-left-test.false
 
 pub clause-returns-then-budget-eq0 : goal.clause-returns-then-budget-eq0
-clause-returns-then-budget-eq0 t c = clause_over c.args.budget _ c.if-budget-eq0.true
+unfolding clause_at
+clause-returns-then-budget-eq0 t c = rw c.if-budget-eq0.true refl
 
 pub clause-returns-in_err-test : goal.clause-returns-in_err-test
 clause-returns-in_err-test t c = fault_handed_on _ _ _ _ c.from_residual.ensures.1 c.in_err-test.ensures (clause_read c.args.budget _ None c.if-budget-eq0.false)

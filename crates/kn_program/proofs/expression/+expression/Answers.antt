@@ -1,11 +1,12 @@
-use Rattle.std.proofs.Common.{◌-◌, List, Some, None, refl, sym, ap, ◌∙◌, arith}
+use Rattle.std.proofs.Common.{◌≡◌, ◌-◌, List, Some, None, refl, sym, ap, ◌∙◌, arith}
 use Rattle.kn_lex.specs.Seeing.{seen}
 use Rattle.kn_trees.specs.declared.program.Expr.{Expr}
 use Rattle.kn_fields.specs.Words.{Word, word_of}
 use Rattle.kn_fields.proofs.Words.{took, passed}
 use Rattle.kn_fields.proofs.Steps.{going_more, going_last, going_none, going_over, fault_handed_on, reads_along}
+use Rattle.kn_program.specs.Reading.{negation_at, comparison_at, operand_at, atom_at}
 use Rattle.kn_program.specs.Trees.{chained}
-use Rattle.kn_program.proofs.Steps.{tests_start, chain_read, climb_step, climb_none, links_none, links_start, negation_over, negation_none, negation_some, comparison_over, comparison_read, left_alone, left_two, operand_over, operand_none, operand_some, atom_over, atom_end, atom_constant, atom_group, group_read, group_closed}
+use Rattle.kn_program.proofs.Steps.{tests_start, chain_read, climb_step, climb_none, links_none, links_start, negation_none, negation_some, comparison_read, left_alone, left_two, operand_none, operand_some, atom_end, atom_constant, atom_group, group_read, group_closed}
 use Rattle.kn_program.proofs.expression.+expression.Goals as goal
 
 pub tests-loop-left-init : goal.tests-loop-left-init
@@ -19,7 +20,7 @@ tests-returns-then-not-take_sign t c =
 pub tests-loop-left-preserved : goal.tests-loop-left-preserved
 tests-loop-left-preserved t c = record {
   fewer = omega (arith, c.loop-left.invariant.fewer);
-  going = going_more c.loop-left.invariant.going c.loop-left-test.true c.in_ok-part.ensures c.in-Ok.ensures.ok
+  going = going_more c.loop-left.invariant.going c.loop-left-test.true c.in_ok-part.ensures c.in_ok-add.ensures.ok
       (took _ _ _ _ _ c.if-not-take_sign.false c.take_sign.ensures.taken c.joint_text.ensures);
 }
 
@@ -27,7 +28,8 @@ pub tests-returns : goal.tests-returns
 tests-returns t c = going_over c.loop-left.invariant.going c.loop-left-test.false
 
 pub negation-returns-then-budget-eq0 : goal.negation-returns-then-budget-eq0
-negation-returns-then-budget-eq0 t c = negation_over c.args.budget _ c.if-budget-eq0.true
+unfolding negation_at
+negation-returns-then-budget-eq0 t c = rw c.if-budget-eq0.true refl
 
 pub negation-returns-then-not-take_sign : goal.negation-returns-then-not-take_sign
 negation-returns-then-not-take_sign t c =
@@ -46,7 +48,8 @@ negation-returns t c =
     ∙ ap (λ (whole : Expr). Some (whole, c.negation.new.cursor)) (sym c.in_ok-whole.ensures)
 
 pub comparison-returns-then-budget-eq0 : goal.comparison-returns-then-budget-eq0
-comparison-returns-then-budget-eq0 t c = comparison_over c.args.budget _ c.if-budget-eq0.true
+unfolding comparison_at
+comparison-returns-then-budget-eq0 t c = rw c.if-budget-eq0.true refl
 
 pub comparison-returns-in_err-left : goal.comparison-returns-in_err-left
 comparison-returns-in_err-left t c = fault_handed_on _ _ _ _ c.from_residual.ensures.1 c.in_err-left.ensures (comparison_read c.args.budget _ None c.if-budget-eq0.false)
@@ -67,8 +70,10 @@ comparison-returns t c =
     ∙ ap (λ (whole : Expr). Some (whole, c.chain-2.new.cursor)) (sym c.in_ok-whole.ensures)
 
 pub chain-returns-then-budget-levels : goal.chain-returns-then-budget-levels
+unfolding operand_at
 chain-returns-then-budget-levels t c =
-    chain_read c.args.level c.args.budget c.height-levels.result _ None c.height-levels.ensures (operand_over (c.args.budget - c.height-levels.result) _ (omega (arith, c.if-budget-levels.true)))
+    let none : c.args.budget - c.height-levels.result ≡ 0 = omega (arith, c.if-budget-levels.true) in
+    chain_read c.args.level c.args.budget c.height-levels.result _ None c.height-levels.ensures (rw none refl)
 
 pub chain-returns-in_err-first : goal.chain-returns-in_err-first
 chain-returns-in_err-first t c =
@@ -104,19 +109,20 @@ links-returns-in_err-right t c = fault_handed_on _ _ _ _ c.from_residual.ensures
 pub links-returns-in_default-take_operation : goal.links-returns-in_default-take_operation
 links-returns-in_default-take_operation t c =
     going_last c.loop-left.invariant.going c.loop-left-test.true c.in_ok-right.ensures
-    (sym c.in_default-take_operation.ensures.taken) (c.in_default-take_operation.ensures.kept refl) (c.in_ok-whole.ensures ∙ ap (chained _) c.in-Ok.ensures.ok)
+    (sym c.in_default-take_operation.ensures.taken) (c.in_default-take_operation.ensures.kept refl) (c.in_ok-whole.ensures ∙ ap (chained _) c.in_ok-add.ensures.ok)
 
 pub links-loop-left-preserved : goal.links-loop-left-preserved
 links-loop-left-preserved t c = record {
   fewer = omega (arith, c.loop-left.invariant.fewer);
-  going = going_more c.loop-left.invariant.going c.loop-left-test.true c.in_ok-right.ensures c.in-Ok.ensures.ok (sym c.in-Some-take_operation.ensures.taken);
+  going = going_more c.loop-left.invariant.going c.loop-left-test.true c.in_ok-right.ensures c.in_ok-add.ensures.ok (sym c.in-Some-take_operation.ensures.taken);
 }
 
 pub links-returns : goal.links-returns
 links-returns t c = going_over c.loop-left.invariant.going c.loop-left-test.false
 
 pub operand-returns-then-budget-eq0 : goal.operand-returns-then-budget-eq0
-operand-returns-then-budget-eq0 t c = operand_over c.args.budget _ c.if-budget-eq0.true
+unfolding operand_at
+operand-returns-then-budget-eq0 t c = rw c.if-budget-eq0.true refl
 
 pub operand-returns-in_default : goal.operand-returns-in_default
 operand-returns-in_default t c =
@@ -132,7 +138,8 @@ operand-returns t c =
     ∙ ap (λ (whole : Expr). Some (whole, c.operand.new.cursor)) (sym c.in_ok-whole.ensures)
 
 pub atom-returns-then-budget-eq0 : goal.atom-returns-then-budget-eq0
-atom-returns-then-budget-eq0 t c = atom_over c.args.budget _ c.if-budget-eq0.true
+unfolding atom_at
+atom-returns-then-budget-eq0 t c = rw c.if-budget-eq0.true refl
 
 pub atom-returns-in_default : goal.atom-returns-in_default
 atom-returns-in_default t c = atom_end c.args.budget _ c.if-budget-eq0.false c.in_default.ensures

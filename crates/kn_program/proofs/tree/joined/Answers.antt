@@ -6,5 +6,5 @@ use Rattle.kn_program.proofs.tree.joined.Goals as goal
 pub returns-then-is_empty : goal.returns-then-is_empty
 returns-then-is_empty c = joined_alone c.args.joint c.args.list c.args.last (c.is_empty.ensures.0 c.if-is_empty.true)
 
-pub returns-in-Ok : goal.returns-in-Ok
-returns-in-Ok c = c.several.ensures ∙ ap (several c.args.joint) c.in-Ok.ensures.ok ∙ joined_more c.args.joint c.args.list c.args.last (λ none. not_both c.is_empty.result c.if-is_empty.false (c.is_empty.ensures.1 none))
+pub returns : goal.returns
+returns c = c.several.ensures ∙ ap (several c.args.joint) c.in_ok-add.ensures.ok ∙ joined_more c.args.joint c.args.list c.args.last (λ none. not_both c.is_empty.result c.if-is_empty.false (c.is_empty.ensures.1 none))
