@@ -7,12 +7,11 @@ use Rattle.kn_outside.specs.Asked.{HasAsked}
 use Rattle.kn_auth.specs.declared.key_file.KeyFile.{KeyFile}
 use Rattle.kn_files.specs.Pieces.{pieces_of}
 use Rattle.kn_store.specs.declared.update.Update.{Update}
-use Rattle.kn_store.specs.History.{loaded_history}
+use Rattle.kn_store.specs.History.{loaded_history, own_updates}
 use Rattle.kn_daemon.specs.Daemon.{Grounds}
 use Rattle.kn_daemon.specs.Alone.{IsServedAlone}
 use Rattle.kn_daemon.specs.Served.{IsServed}
 use Rattle.kn_daemon.specs.Laws.{ServedAlone}
-use Rattle.kn_daemon.specs.Linearized.{own_updates}
 use Rattle.kn_daemon.specs.declared.ended.Ended.{Ended}
 use Rattle.kn_daemon.specs.declared.ended.Ended.TheVariants as E
 use Rattle.kn_registry.specs.Passes.{PassSeen, IsSoundPass}

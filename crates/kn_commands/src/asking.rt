@@ -19,6 +19,7 @@ use kn_registry::{Pass, Registry};
 use kn_serve::{Ended, serve_connection};
 use std::alloc::Global;
 use std::marker::Model;
+use std::mem;
 use std::sync::Wait;
 
 /// The files of `ask`, by their names.
@@ -56,7 +57,12 @@ pub fn ask<R: Wait, F: Files, L: Link, G: Gate>(
         Err(stop) => return AskEnding::PolicyStopped(stop),
     };
     match load(rt, alloc, file.as_slice()) {
-        Ok((registry, root)) => ask_loaded(rt, alloc, &registry, root, names, files, own, gate),
+        Ok((registry, root)) => {
+            let ending = ask_loaded(rt, alloc, &registry, root, names, files, own, gate);
+            // the program ends behind this, and the system takes all memory back at once
+            mem::forget(registry);
+            ending
+        }
         Err(stop) => AskEnding::PolicyStopped(stop),
     }
 }

@@ -5,10 +5,11 @@ use Rattle.std.proofs.lemmas.List.{take_rest}
 use Rattle.kn_store.specs.declared.update.Update.{Update}
 use Rattle.kn_daemon.specs.declared.ended.Ended.{Ended}
 use Rattle.kn_daemon.specs.Daemon.{Grounds, State, Permits, first_state}
-use Rattle.kn_daemon.specs.Linearized.{Exchange, Along, InOrder, IsBehind, update_of, own_updates}
+use Rattle.kn_daemon.specs.Linearized.{Exchange, Along, InOrder, IsBehind, update_of}
 use Rattle.kn_daemon.specs.Served.{IsServed}
 use Rattle.kn_daemon.specs.Alone.{RunsAlone, IsServedAlone}
 use Rattle.kn_daemon.proofs.Runs.{order-ends}
+use Rattle.kn_store.specs.History.{own_updates}
 
 -- there is room for all the updates
 room : (caller low : ℕ) (es : List Exchange) (high : ℕ) → InOrder caller low es high → low + length (filter_map (update_of caller) es) ≤ high

@@ -7,11 +7,11 @@ use Rattle.kn_wire.specs.declared.fault.WireFault.TheVariants as F
 use Rattle.kn_store.specs.declared.update.Update.{Update}
 use Rattle.kn_wire.specs.Requests.{Request, Open, Close, Pin, Assert, Retract, Set, SetHex, Unset, Auth, Unauth, Clear, Query, Admin, Add, Drop, Bye, Faulty, Takes, first_of, is_newline}
 use Rattle.kn_reply.specs.Replies.{Reply, reply_text}
-use Rattle.kn_store.specs.History.{is_valid_history}
+use Rattle.kn_store.specs.History.{is_valid_history, own_updates}
 use Rattle.kn_daemon.specs.declared.ended.Ended.{Ended}
 use Rattle.kn_daemon.specs.declared.ended.Ended.TheVariants as E
 use Rattle.kn_daemon.specs.Daemon.{Grounds, State, first_state, Permits}
-use Rattle.kn_daemon.specs.Linearized.{Exchange, Along, InOrder, IsBehind, StopsAt, own_updates, update_of, update_by, requests_in, texts_in}
+use Rattle.kn_daemon.specs.Linearized.{Exchange, Along, InOrder, IsBehind, StopsAt, update_of, update_by, requests_in, texts_in}
 use Rattle.kn_wire.specs.Feeding.{Held, Bytes, InLong, Shut, held_bytes, pushed, held_after, next_of, is_shut}
 use Rattle.kn_daemon.specs.Served.{IsDrained, IsCut, IsWritten, HasEnd, IsServed, is_bye, is_block}
 use Rattle.kn_daemon.specs.Underway.{IsUnderway, IsReplied}

@@ -12,11 +12,11 @@ use Rattle.kn_store.specs.declared.update.Change.TheVariants as C
 use Rattle.kn_store.specs.declared.update.Update.{Update}
 use Rattle.kn_wire.specs.Requests.{Request, Bye, Faulty}
 use Rattle.kn_reply.specs.Replies.{Reply, NoMemory, reply_text}
-use Rattle.kn_store.specs.History.{is_valid_history}
+use Rattle.kn_store.specs.History.{is_valid_history, own_updates}
 use Rattle.kn_daemon.specs.declared.ended.Ended.{Ended}
 use Rattle.kn_daemon.specs.declared.ended.Ended.TheVariants as E
 use Rattle.kn_daemon.specs.Daemon.{Grounds, State, first_state, refusal_of_reading, Permits}
-use Rattle.kn_daemon.specs.Linearized.{Exchange, Along, own_updates, requests_in}
+use Rattle.kn_daemon.specs.Linearized.{Exchange, Along, requests_in}
 use Rattle.kn_session.specs.Sessions.{Session}
 use Rattle.kn_daemon.specs.Played.{after_request, played, IsMeant}
 use Rattle.kn_daemon.specs.Alone.{IsServedAlone}

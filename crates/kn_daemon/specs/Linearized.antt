@@ -1,12 +1,11 @@
 -- A caller's requests at legal places of one history (keynoted's own).
-use Rattle.std.specs.Prelude.{ℕ, ◌≡◌, ◌≤◌, ◌<◌, Bool, true, false, ◌==◌, List, [], ◌∷◌, ◌++◌, length, map, take, filter, filter_map, slice_range, Option, Some, None}
+use Rattle.std.specs.Prelude.{ℕ, ◌≡◌, ◌≤◌, ◌<◌, Bool, true, false, List, [], ◌∷◌, ◌++◌, length, map, take, filter_map, slice_range, Option, Some, None}
 use Rattle.kn_reply.specs.declared.refusal.Refusal.TheVariants as R
 use Rattle.kn_store.specs.declared.update.Update.{Update}
 use Rattle.kn_wire.specs.Requests.{Request, Open, Close, Pin, Assert, Retract, Set, SetHex, Unset, Auth, Unauth, Clear, Query, Admin, Add, Drop, Bye, Faulty}
 use Rattle.kn_reply.specs.Replies.{Reply, Started, Number, Added, No, reply_text}
-use Rattle.kn_store.specs.History.{is_valid_history}
+use Rattle.kn_store.specs.History.{is_valid_history, addition_by, removal_by, own_updates}
 use Rattle.kn_daemon.specs.Daemon.{Grounds, State, Permits}
-use Rattle.kn_store.specs.History.{addition_by, removal_by}
 
 -- a request, its reply, and the place in the history where it stands: after so many updates
 pub record Exchange : Type 0 where
@@ -91,10 +90,6 @@ StandsFor false place entries = length entries ≤ 1
 abbrev pub StopsAt : List Exchange → List ℕ → Type 0
 StopsAt [] stops = stops ≡ []
 StopsAt (e ∷ es) stops = (entries : List ℕ) × (later : List ℕ) × StandsFor (is_placed e.request e.reply) e.place entries × StopsAt es later × (stops ≡ entries ++ later)
-
--- the updates that name the caller
-abbrev pub own_updates : ℕ → List Update → List Update
-own_updates caller updates = filter (λ u. u.caller == caller) updates
 
 -- The exchanges stand at legal places of one history, the caller's own updates between `start` and `end` are those of its
 -- accepted requests, and the turn was had at `stops`.

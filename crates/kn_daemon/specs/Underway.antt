@@ -5,9 +5,10 @@ use Rattle.kn_wire.specs.Requests.{Request, Takes}
 use Rattle.kn_reply.specs.Replies.{Reply}
 use Rattle.kn_daemon.specs.Daemon.{Grounds, State, first_state, session_of, Permits}
 use Rattle.kn_session.specs.Sessions.{Session}
-use Rattle.kn_daemon.specs.Linearized.{Exchange, Along, InOrder, StopsAt, StandsFor, is_placed, own_updates, update_of, update_by, requests_in, texts_in}
+use Rattle.kn_daemon.specs.Linearized.{Exchange, Along, InOrder, StopsAt, StandsFor, is_placed, update_of, update_by, requests_in, texts_in}
 use Rattle.kn_wire.specs.Feeding.{Held, held_bytes, pushed, is_shut}
 use Rattle.kn_daemon.specs.Served.{GoesOn}
+use Rattle.kn_store.specs.History.{own_updates}
 
 -- One request was answered while the caller saw these updates behind the history: the reply is permitted behind them, the
 -- caller's own among them is that of the request, and the turn was had at the entries.

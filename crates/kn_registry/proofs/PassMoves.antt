@@ -5,18 +5,18 @@ use mathlib.Core.List.{IsPrefix}
 use Rattle.kn_store.specs.declared.update.Update.{Update}
 use Rattle.kn_store.specs.declared.fault.StoreFault.{StoreFault}
 use Rattle.kn_store.specs.declared.fault.StoreFault.TheVariants.{Unknown, LiveFull, BytesFull, HistoryFull, LogFull, NoMemory}
-use Rattle.kn_store.specs.History.{all_changes, update_may_follow, refusal_of_text, refusal_of_id, addition_by, removal_by}
+use Rattle.kn_store.specs.History.{all_changes, update_may_follow, refusal_of_text, refusal_of_id, addition_by, removal_by, own_updates}
 use Rattle.kn_turn.specs.Passes.{after_take, after_look, after_append, after_give}
-use Rattle.kn_registry.specs.Passes.{PassSeen, IsSoundPass, updates_by, Moves, Looks, Stays, Commits, Adds, Removes, IsRefused, RefusesText, RefusesId}
+use Rattle.kn_registry.specs.Passes.{PassSeen, IsSoundPass, Moves, Looks, Stays, Commits, Adds, Removes, IsRefused, RefusesText, RefusesId}
 
 append_left : {A : Type 0} (xs ys zs : List A) → xs ++ ys ≡ xs ++ zs → ys ≡ zs
 append_left [] ys zs e = e
 append_left (x ∷ xs) ys zs e = append_left xs ys zs (cc e)
 
 -- what is named in more of a list, where its beginning and the whole are known
-pub named_more : (n : ℕ) (seen more mine own : List Update) → updates_by n seen ≡ mine → updates_by n (seen ++ more) ≡ mine ++ own → updates_by n more ≡ own
+pub named_more : (n : ℕ) (seen more mine own : List Update) → own_updates n seen ≡ mine → own_updates n (seen ++ more) ≡ mine ++ own → own_updates n more ≡ own
 named_more n seen more mine own first whole =
-    append_left mine (updates_by n more) own (sym (filter-append (λ (u : Update). u.caller == n) seen more ∙ ap (λ w. w ++ updates_by n more) first) ∙ whole)
+    append_left mine (own_updates n more) own (sym (filter-append (λ (u : Update). u.caller == n) seen more ∙ ap (λ w. w ++ own_updates n more) first) ∙ whole)
 
 -- nothing was seen, added or waited for
 pub moves-nothing : (v : PassSeen) → Moves v v [] [] []
@@ -35,7 +35,7 @@ pub moves-more : (u v w : PassSeen) (a b p q : List Update) (s t : List ℕ) →
 moves-more u v w a b p q s t m n = record {
   number = n.number ∙ m.number;
   seen = n.seen ∙ ap (λ x. x ++ b) m.seen ∙ append_assoc u.seen a b;
-  named = filter-append (λ (x : Update). x.caller == u.number) a b ∙ ap (λ x. x ++ updates_by u.number b) m.named ∙ ap (λ x. p ++ x) (subst (λ (k : ℕ). updates_by k b ≡ q) m.number n.named);
+  named = filter-append (λ (x : Update). x.caller == u.number) a b ∙ ap (λ x. x ++ own_updates u.number b) m.named ∙ ap (λ x. p ++ x) (subst (λ (k : ℕ). own_updates k b ≡ q) m.number n.named);
   mine = n.mine ∙ ap (λ x. x ++ q) m.mine ∙ append_assoc u.mine p q;
   stops = n.stops ∙ ap (λ x. x ++ t) m.stops ∙ append_assoc u.stops s t;
   splits = n.splits ∙ m.splits;
@@ -48,7 +48,7 @@ looks_once v log p sound sound' = record {
   moves = record {
     number = refl;
     seen = sym p.1;
-    named = named_more v.number v.seen p.0 v.mine [] sound.own (ap (updates_by v.number) p.1 ∙ (sound'.own ∙ sym (append-nil v.mine)));
+    named = named_more v.number v.seen p.0 v.mine [] sound.own (ap (own_updates v.number) p.1 ∙ (sound'.own ∙ sym (append-nil v.mine)));
     mine = sym (append-nil v.mine);
     stops = refl;
     splits = refl;
@@ -78,7 +78,7 @@ commits_once v before update version p sound sound' follows version_is =
       moves = record {
         number = refl;
         seen = seen;
-        named = named_more v.number v.seen (p.0 ++ update ∷ []) v.mine (update ∷ []) sound.own (ap (updates_by v.number) (sym seen) ∙ sound'.own);
+        named = named_more v.number v.seen (p.0 ++ update ∷ []) v.mine (update ∷ []) sound.own (ap (own_updates v.number) (sym seen) ∙ sound'.own);
         mine = refl;
         stops = ap (λ (n : ℕ). v.stops ++ n ∷ []) (sym (length-append before (update ∷ [])));
         splits = refl;

@@ -2,7 +2,7 @@
 -- here, since the tests of kn_store, which are compiled with it, have no such facts of its own types.
 use denote.Param.Send.{IsSend, IsSync, sendable}
 use Rattle.std.proofs.Crossing.{crosses}
-use Rattle.kn_base.specs.contracts.octets.Octets as octets
+use Rattle.kn_base.proofs.Crossing.{octets_send, octets_sync}
 use Rattle.kn_base.proofs.list.List.TheSendSync as list
 use Rattle.kn_base.proofs.boxed.Boxed.TheSendSync as boxed
 use Rattle.kn_trees.specs.contracts.formula.Formula as formula
@@ -19,12 +19,6 @@ use Rattle.kn_store.proofs.pages.Pages.TheSendSync as pages
 use Rattle.kn_store.specs.contracts.live_set.LiveSet as set
 use Rattle.kn_store.specs.contracts.version.Version as version
 use Rattle.kn_store.specs.contracts.book.Book as book
-
-octets_send : IsSend (octets.the_field).row
-octets_send = search (sendable, crosses) depth 20
-
-octets_sync : IsSync (octets.the_field).row
-octets_sync = search (sendable, crosses) depth 20
 
 formula_send : IsSend (formula.the_field).row
 formula_send = send-Formula octets_send list.the_send (search sendable)

@@ -4,18 +4,13 @@ use Rattle.atomic_table.specs.Seated.{TableId}
 use Rattle.kn_store.specs.declared.update.Update.{Update}
 use Rattle.kn_store.specs.declared.fault.StoreFault.{StoreFault}
 use Rattle.kn_store.specs.declared.fault.StoreFault.TheVariants.{Unknown, LiveFull, BytesFull, HistoryFull, LogFull, NoMemory}
-use Rattle.kn_store.specs.History.{all_changes, is_valid_history, update_may_follow, refusal_of_text, refusal_of_id, addition_by, removal_by}
-use Rattle.kn_turn.specs.Entries.{entries_of}
+use Rattle.kn_store.specs.History.{all_changes, is_valid_history, update_may_follow, refusal_of_text, refusal_of_id, addition_by, removal_by, own_updates}
 use Rattle.kn_turn.specs.Passes.{PassView}
 use Rattle.kn_turn.specs.Passes as T
 use Rattle.kn_registry.specs.Callers.{caller_of}
 
 abbrev pub PassSeen : Type 0
 PassSeen = PassView Update
-
--- the updates that name a caller
-abbrev pub updates_by : ℕ → List Update → List Update
-updates_by caller updates = entries_of caller_of caller updates
 
 -- its own updates in what it has seen are those that it made, and so on for each pass that ended in it
 abbrev pub IsSoundPass : PassSeen → Type 0
@@ -31,7 +26,7 @@ pub record IsReady (registry : TableId) (pass : PassSeen) : Type 0 where
 pub record Moves (old new : PassSeen) (more own : List Update) (entries : List ℕ) : Type 0 where
   pub number : new.number ≡ old.number
   pub seen : new.seen ≡ old.seen ++ more
-  pub named : updates_by old.number more ≡ own
+  pub named : own_updates old.number more ≡ own
   pub mine : new.mine ≡ old.mine ++ own
   pub stops : new.stops ≡ old.stops ++ entries
   pub splits : new.splits ≡ old.splits

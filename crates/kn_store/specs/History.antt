@@ -1,5 +1,5 @@
 -- Histories of updates to the shared credentials (keynoted's own).
-use Rattle.std.specs.Prelude.{ℕ, ◌+◌, Bool, true, false, ◌==◌, ◌&&◌, not, nat_le, nat_lt, List, [], ◌∷◌, ◌++◌, length, sum_by, flat_map, Option, Some, None, is_none, is_some, if◌then◌else◌}
+use Rattle.std.specs.Prelude.{ℕ, ◌+◌, Bool, true, false, ◌==◌, ◌&&◌, not, nat_le, nat_lt, List, [], ◌∷◌, ◌++◌, length, filter, sum_by, flat_map, Option, Some, None, is_none, is_some, if◌then◌else◌}
 use Rattle.std.specs.List.{list_any}
 use Rattle.kn_base.specs.declared.limits.TheConstants.{LIVE_CREDENTIALS, LIVE_BYTES, UPDATES, LOGGED_BYTES}
 use Rattle.kn_assert.specs.Reading.{assertion_of}
@@ -102,6 +102,10 @@ updates_may_follow past (u ∷ us) = update_may_follow past u && updates_may_fol
 -- no update was refused at its place, all ids are right, and each text that was added has a reading
 abbrev pub is_valid_history : List Update → Bool
 is_valid_history updates = updates_may_follow [] updates
+
+-- the updates that name the caller
+abbrev pub own_updates : ℕ → List Update → List Update
+own_updates caller updates = filter (λ u. u.caller == caller) updates
 
 -- the update of this caller that adds one text under this id
 abbrev pub addition_by : ℕ → List ℕ → ℕ → Update

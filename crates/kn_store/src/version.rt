@@ -173,8 +173,6 @@ fn one_change(alloc: Global, caller: u32, change: Change, id: u32) -> Result<Upd
     ensures changes { IfOk result (λ update. update.changes ≡ record { change = change; id = id } ∷ []) }
 {
     let mut changes = List::new(alloc);
-    match changes.push(Numbered { change, id }) {
-        Ok(()) => Ok(Update { caller, changes }),
-        Err(_) => Err(NoMemory),
-    }
+    changes.add(Numbered { change, id })?;
+    Ok(Update { caller, changes })
 }

@@ -10,12 +10,12 @@ use Rattle.atomic_table.specs.Seated.{TableId}
 use Rattle.kn_base.specs.declared.limits.TheConstants.{CONNECTIONS}
 use Rattle.kn_outside.specs.Seen.{LinkSeen}
 use Rattle.kn_store.specs.declared.update.Update.{Update}
-use Rattle.kn_store.specs.History.{is_valid_history}
+use Rattle.kn_store.specs.History.{is_valid_history, own_updates}
 use Rattle.kn_turn.specs.declared.view.EndedPass.{EndedPass}
 use Rattle.kn_turn.specs.Passes.{split_of, after_split, after_join}
 use Rattle.kn_daemon.specs.Daemon.{Grounds}
 use Rattle.kn_daemon.specs.Laws.{ServedLonger}
-use Rattle.kn_registry.specs.Passes.{PassSeen, IsReady, IsSoundPass, updates_by}
+use Rattle.kn_registry.specs.Passes.{PassSeen, IsReady, IsSoundPass}
 use Rattle.kn_registry.proofs.PassMoves.{named_more}
 use Rattle.kn_workers.specs.Connections.{ServedSeen, IsConnection, own_in}
 use Rattle.kn_workers.specs.Doors.{DoorSeen, WorksAt, HasGiven}
@@ -59,13 +59,13 @@ is_joined root (p ∷ passes) none =
 
 -- a root that made nothing has no update of its own behind what it had seen
 none_own : (root new : PassSeen) → IsSoundPass root → IsSoundPass new → new.number ≡ root.number → new.mine ≡ root.mine → IsPrefix root.seen new.seen →
-    updates_by root.number (drop (length root.seen) new.seen) ≡ []
+    own_updates root.number (drop (length root.seen) new.seen) ≡ []
 none_own root new was is number mine front =
     let more = front.0 in
     let behind : drop (length root.seen) new.seen ≡ more = ap (drop (length root.seen)) (sym front.1) ∙ drop-append_seam root.seen more in
-    let all : updates_by root.number new.seen ≡ root.mine = ap (λ (n : ℕ). updates_by n new.seen) (sym number) ∙ is.own ∙ mine in
-    ap (updates_by root.number) behind
-    ∙ named_more root.number root.seen more root.mine [] was.own (ap (updates_by root.number) front.1 ∙ all ∙ sym (append-nil root.mine))
+    let all : own_updates root.number new.seen ≡ root.mine = ap (λ (n : ℕ). own_updates n new.seen) (sym number) ∙ is.own ∙ mine in
+    ap (own_updates root.number) behind
+    ∙ named_more root.number root.seen more root.mine [] was.own (ap (own_updates root.number) front.1 ∙ all ∙ sym (append-nil root.mine))
 
 module _ {C D : Type 0} (registry : TableId) (door : D → DoorSeen (ServedSeen C)) (seen : C → LinkSeen) (g : Grounds) where
   less_is : (failed : Bool) (d : DoorSeen (ServedSeen C)) (d' : D) → HasGiven failed d (door d') → failed ≡ gave_less door d'

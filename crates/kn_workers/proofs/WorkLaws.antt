@@ -8,11 +8,11 @@ use Rattle.std.proofs.lemmas.List.Elements.{All-append}
 use Rattle.kn_outside.specs.Seen.{LinkSeen}
 use Rattle.kn_outside.specs.Faults.{Rose}
 use Rattle.kn_store.specs.declared.update.Update.{Update}
-use Rattle.kn_store.specs.History.{is_valid_history}
+use Rattle.kn_store.specs.History.{is_valid_history, own_updates}
 use Rattle.kn_daemon.specs.Daemon.{Grounds}
 use Rattle.kn_daemon.specs.Laws.{ServedLonger}
 use Rattle.kn_base.specs.declared.limits.TheConstants.{CONNECTIONS}
-use Rattle.kn_registry.specs.Passes.{PassSeen, Moves, updates_by}
+use Rattle.kn_registry.specs.Passes.{PassSeen, Moves}
 use Rattle.kn_registry.proofs.PassMoves.{moves-nothing, moves-more}
 use Rattle.kn_workers.specs.Connections.{ServedSeen, IsConnection, FollowEachOther, stops_of, own_in}
 use Rattle.kn_workers.specs.Doors.{DoorSeen, with_more, after_finish, WorksAt, HasGiven}
@@ -64,17 +64,17 @@ module _ {C : Type 0} where
   own-grows h more caller [] within = refl
   own-grows h more caller (s ∷ connections) within =
       ap (λ (x : List Update × List Update). x.0 ++ x.1)
-      (λ i. (ap (updates_by caller) (range-grows h more s.from s.to (within 0 s (omega arith))) i, own-grows h more caller connections (λ k x lt. within (suc k) x (omega (arith, lt))) i))
+      (λ i. (ap (own_updates caller) (range-grows h more s.from s.to (within 0 s (omega arith))) i, own-grows h more caller connections (λ k x lt. within (suc k) x (omega (arith, lt))) i))
 
   -- the caller's own updates, with those of one connection more
   own-one-more : (h more : List Update) (caller : ℕ) (connections : List (ServedSeen C)) (s : ServedSeen C) (own : List Update) → All (λ s. s.to ≤ length h) connections → own ≡ own_in h caller connections →
-      s.from ≡ length h → s.to ≡ length (h ++ more) → own ++ updates_by caller more ≡ own_in (h ++ more) caller (connections ++ s ∷ [])
+      s.from ≡ length h → s.to ≡ length (h ++ more) → own ++ own_updates caller more ≡ own_in (h ++ more) caller (connections ++ s ∷ [])
   own-one-more h more caller connections s own within own_are from to =
       let last : slice_range (h ++ more) s.from s.to ≡ more = ap (λ (x : ℕ × ℕ). slice_range (h ++ more) x.0 x.1) (λ i. (from i, to i)) ∙ range-added h more in
-      ap (λ (x : List Update). x ++ updates_by caller more) (own_are ∙ sym (own-grows h more caller connections within))
-      ∙ ap (λ (x : List Update). own_in (h ++ more) caller connections ++ updates_by caller x) (sym last)
-      ∙ ap (λ (x : List Update). own_in (h ++ more) caller connections ++ x) (sym (append-nil (updates_by caller (slice_range (h ++ more) s.from s.to))))
-      ∙ sym (flat_map-append (λ (x : ServedSeen C). updates_by caller (slice_range (h ++ more) x.from x.to)) connections (s ∷ []))
+      ap (λ (x : List Update). x ++ own_updates caller more) (own_are ∙ sym (own-grows h more caller connections within))
+      ∙ ap (λ (x : List Update). own_in (h ++ more) caller connections ++ own_updates caller x) (sym last)
+      ∙ ap (λ (x : List Update). own_in (h ++ more) caller connections ++ x) (sym (append-nil (own_updates caller (slice_range (h ++ more) s.from s.to))))
+      ∙ sym (flat_map-append (λ (x : ServedSeen C). own_updates caller (slice_range (h ++ more) x.from x.to)) connections (s ∷ []))
 
   follow-one-more : (start middle end : ℕ) (connections : List (ServedSeen C)) (s : ServedSeen C) → FollowEachOther start connections middle → s.from ≡ middle → s.to ≡ end →
       FollowEachOther start (connections ++ s ∷ []) end
@@ -145,7 +145,7 @@ module _ {C : Type 0} where
               (all-one (IsConnection seen g w.seen u.number) s (subst (λ (n : ℕ). IsConnection seen g w.seen n s) k.moves.number c));
           follow = follow-one-more (length u.seen) (length v.seen) (length w.seen) k.connections s k.follow from to;
           own_are = subst (λ (h : List Update). k.own ++ moves.1 ≡ own_in h u.number (k.connections ++ s ∷ [])) (sym seen_more)
-              (ap (λ (x : List Update). k.own ++ x) (sym (subst (λ (n : ℕ). updates_by n moves.0 ≡ moves.1) k.moves.number moves.2.named))
+              (ap (λ (x : List Update). k.own ++ x) (sym (subst (λ (n : ℕ). own_updates n moves.0 ≡ moves.1) k.moves.number moves.2.named))
               ∙ own-one-more v.seen moves.0 u.number k.connections s k.own (λ i x lt. (k.each i x lt).served.places.within) k.own_are from (to ∙ ap (λ (h : List Update). length h) seen_more));
           counted = ap (λ (n : ℕ). n + 1) counted ∙ sym (length-append k.connections (s ∷ []));
           still = λ none. absurd (omega (arith, none));

@@ -6,8 +6,8 @@ use Rattle.kn_daemon.specs.declared.ended.Ended.{Ended}
 use Rattle.kn_daemon.specs.declared.ended.Ended.TheVariants as E
 use Rattle.kn_daemon.specs.Daemon.{Grounds}
 use Rattle.kn_daemon.specs.Served.{IsServed}
-use Rattle.kn_registry.specs.Passes.{updates_by}
 use Rattle.kn_serve.specs.Serving.{is_over, IsOrderly}
+use Rattle.kn_store.specs.History.{own_updates}
 
 -- A connection: its link, how it ended, the number of the pass that served it, the lengths of what that pass had seen before
 -- and after, and those at which it had the turn.
@@ -58,4 +58,4 @@ module _ {C : Type 0} where
 
   -- the caller's own updates that a history has between the lengths of its connections
   abbrev pub own_in : List Update → ℕ → List (ServedSeen C) → List Update
-  own_in history caller connections = flat_map (λ s. updates_by caller (slice_range history s.from s.to)) connections
+  own_in history caller connections = flat_map (λ s. own_updates caller (slice_range history s.from s.to)) connections

@@ -7,10 +7,11 @@ use Rattle.kn_store.specs.declared.update.Update.{Update}
 use Rattle.kn_turn.specs.declared.view.EndedPass.{EndedPass}
 use Rattle.kn_turn.specs.Passes.{split_of, after_split, after_join}
 use Rattle.kn_daemon.specs.Daemon.{Grounds}
-use Rattle.kn_registry.specs.Passes.{PassSeen, IsSoundPass, updates_by}
+use Rattle.kn_registry.specs.Passes.{PassSeen, IsSoundPass}
 use Rattle.kn_workers.specs.Connections.{ServedSeen, IsConnection, FollowEachOther, stops_of, own_in}
 use Rattle.kn_workers.specs.Doors.{DoorSeen, with_more, HasGiven}
 use Rattle.kn_workers.specs.declared.worker.ServeEnd.{ServeEnd}
+use Rattle.kn_store.specs.History.{own_updates}
 
 -- the passes that are split from a root, so many
 abbrev pub splits_from : PassSeen → ℕ → List PassSeen
@@ -74,7 +75,7 @@ module _ {C D : Type 0} (door : D → DoorSeen (ServedSeen C)) where
     pub after : map (λ work. work.after) works ≡ doors'
     pub each : EachWorked link g (length v.seen) w.seen (v.splits + 1) works
     pub seen : IsPrefix v.seen w.seen
-    pub own : updates_by v.number (drop (length v.seen) w.seen) ≡ []
+    pub own : own_updates v.number (drop (length v.seen) w.seen) ≡ []
     pub sound : IsSoundPass w
     pub number : w.number ≡ v.number
     pub mine : w.mine ≡ v.mine
