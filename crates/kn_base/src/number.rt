@@ -47,7 +47,7 @@ fn digit(byte: u8) -> Option<u8>
     }
 }
 
-/// The number that digits spell, or None above a limit. What is below the digit 0 counts as one.
+/// The number that digits spell, or None above a limit. A byte below the digit 0 counts as that digit.
 pub fn digits_within(limit: u32, digits: &[u8]) -> Option<u32>
     ensures { result ≡ digits_within limit digits.now }
 {
