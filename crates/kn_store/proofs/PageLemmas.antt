@@ -132,23 +132,35 @@ module _ {T : Type 0} where
       le_ltb : (a b : ℕ) → b ≤ a → nat_lt a b ≡ false
       le_ltb a b h = search (arith)
 
+  -- the same of pages that are seen so
+  pub seen-room : {A : Type 0} (f : A → List T) (most : ℕ) (pages front : List A) (last : A) (item : T)
+      → pages ≡ front ++ last ∷ [] → length (f last) < most → map f front ++ (f last ++ item ∷ []) ∷ [] ≡ with_item most (map f pages) item
+  seen-room f most pages front last item cut room =
+      let whole = ap (map f) cut ∙ map-append f front (last ∷ []) in
+      sym (with_item-room most (map f front) (f last) item room) ∙ ap (λ l. with_item most l item) (sym whole)
+
+  pub seen-full : {A : Type 0} (f : A → List T) (most : ℕ) (pages front : List A) (last : A) (item : T)
+      → pages ≡ front ++ last ∷ [] → most ≤ length (f last) → map f pages ++ (item ∷ []) ∷ [] ≡ with_item most (map f pages) item
+  seen-full f most pages front last item cut full =
+      let whole = ap (map f) cut ∙ map-append f front (last ∷ []) in
+      ap (λ l. l ++ (item ∷ []) ∷ []) whole ∙ sym (with_item-full most (map f front) (f last) item full) ∙ ap (λ l. with_item most l item) (sym whole)
+
   -- the same of a spine, whose last page has these items
   pub spine-room : (most : ℕ) (spine front : List (Arc (List (Arc T Global)) Global)) (last : Arc (List (Arc T Global)) Global) (items : List (Arc T Global)) (item : T)
       → spine ≡ front ++ last ∷ [] → items ≡ arc_value last → length items < most
       → pages_of front ++ (map arc_value items ++ item ∷ []) ∷ [] ≡ with_item most (pages_of spine) item
   spine-room most spine front last items item cut same room =
-      let whole = ap pages_of cut ∙ pages_of-push front last in
       let sizes = length-map items (arc_value {X = T} {Z = Global}) in
-      let longer = with_item-room most (pages_of front) (map arc_value items) item (omega arith) in
-      sym longer ∙ ap (λ (l : List (Arc T Global)). with_item most (pages_of front ++ map arc_value l ∷ []) item) same ∙ ap (λ pages. with_item most pages item) (sym whole)
+      let seen : map (arc_value {X = T} {Z = Global}) items ≡ map arc_value (arc_value last) = ap (map arc_value) same in
+      let sizes_seen = ap length seen in
+      ap (λ page. pages_of front ++ (page ++ item ∷ []) ∷ []) seen
+      ∙ seen-room (λ page. map arc_value (arc_value page)) most spine front last item cut (omega arith)
 
   pub spine-full : (most : ℕ) (spine front : List (Arc (List (Arc T Global)) Global)) (last : Arc (List (Arc T Global)) Global) (item : T)
       → spine ≡ front ++ last ∷ [] → most ≤ length (arc_value last) → pages_of spine ++ (item ∷ []) ∷ [] ≡ with_item most (pages_of spine) item
   spine-full most spine front last item cut full =
-      let whole = ap pages_of cut ∙ pages_of-push front last in
       let sizes = length-map (arc_value last) (arc_value {X = T} {Z = Global}) in
-      let longer = with_item-full most (pages_of front) (map arc_value (arc_value last)) item (omega arith) in
-      ap (λ (pages : List (List T)). pages ++ (item ∷ []) ∷ []) whole ∙ sym longer ∙ ap (λ pages. with_item most pages item) (sym whole)
+      seen-full (λ page. map arc_value (arc_value page)) most spine front last item cut (omega arith)
 
   -- the same of a spine, whose page has these items
   pub spine-without : (spine : List (Arc (List (Arc T Global)) Global)) (page place : ℕ) (items : List (Arc T Global))

@@ -1,7 +1,7 @@
 -- A version after one more update.
 use Rattle.std.proofs.Common.{◌≡◌, ◌+◌, true, List, [], ◌∷◌, ◌++◌, length, sym, ap, ◌∙◌, subst, arith, length-append}
 use Rattle.kn_store.specs.declared.update.Update.{Update}
-use Rattle.kn_store.specs.declared.version.TheConstants.{UPDATES_PAGE}
+use Rattle.kn_store.specs.declared.log.TheConstants.{UPDATES_PAGE}
 use Rattle.kn_store.specs.declared.version.Version.TheInside.{Inside}
 use Rattle.kn_store.specs.History.{all_changes, is_valid_history, update_may_follow}
 use Rattle.kn_store.specs.LiveView.{LiveView, live_view}

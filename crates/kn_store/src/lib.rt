@@ -7,6 +7,7 @@ mod fault;
 mod items;
 pub mod laws;
 mod live_set;
+mod log;
 mod pages;
 mod update;
 mod version;

@@ -144,24 +144,35 @@ fn with_page<'a, T: Drop>(
 ) -> Result<Pages<T>, NoMemory>
     ensures { IfOk result (λ pages. pages ≡ pages_of front.now ++ (map arc_value items.now ++ item ∷ []) ∷ []) }
 {
+    around(alloc, front, longer_page(alloc, items, item)?, &[])
+}
+
+/// The page of these items and one more.
+pub(crate) fn longer_page<'a, T: Drop>(
+    alloc: Global,
+    items: &'a [Arc<T>],
+    item: T,
+) -> Result<Page<T>, NoMemory>
+    ensures { IfOk result (λ page. map arc_value page ≡ map arc_value items.now ++ item ∷ []) }
+{
     let Ok(item) = Arc::new(alloc, item) else {
         return Err(NoMemory);
     };
-    let mut room = room_for(alloc, items.len())?;
+    let mut room = room_for(alloc, items, &[])?;
     share(&mut room, items)?;
-    put(&mut room, item)?;
-    around(alloc, front, room.finish(), &[])
+    room.put(item);
+    Ok(room.finish())
 }
 
 /// The page of these items, one list behind the other.
-fn joined_page<T: Drop>(
+fn joined_page<'a, T: Drop>(
     alloc: Global,
-    before: &[Arc<T>],
-    after: &[Arc<T>],
+    before: &'a [Arc<T>],
+    after: &'a [Arc<T>],
 ) -> Result<Page<T>, NoMemory>
     ensures { IfOk result (λ page. map arc_value page ≡ map arc_value before.now ++ map arc_value after.now) }
 {
-    let mut room = room_for(alloc, before.len().saturating_add(after.len()))?;
+    let mut room = room_for(alloc, before, after)?;
     share(&mut room, before)?;
     share(&mut room, after)?;
     Ok(room.finish())
@@ -176,7 +187,7 @@ fn around<'a, T: Drop>(
 ) -> Result<Pages<T>, NoMemory>
     ensures { IfOk result (λ pages. pages ≡ pages_of front.now ++ unless_empty (map arc_value page) ++ pages_of back.now) }
 {
-    let mut room = room_for(alloc, front.len().saturating_add(back.len()))?;
+    let mut room = room_for(alloc, front, back)?;
     share_pages(&mut room, front)?;
     put_page(alloc, &mut room, page)?;
     share_pages(&mut room, back)?;
@@ -185,63 +196,66 @@ fn around<'a, T: Drop>(
     })
 }
 
-/// Adds these pages at the end.
+/// Adds these pages at the end, for which there is room.
 fn share_pages<T: Drop>(
     spine: &mut Reserved<Arc<Page<T>>>,
     pages: &[Arc<Page<T>>],
 ) -> Result<(), NoMemory>
-    ensures { OnOk result (pages_of spine.new.items ≡ pages_of spine.old.items ++ pages_of pages.now) }
+    requires room { length pages.now ≤ spine.old.spare }
+    ensures pages { OnOk result (pages_of spine.new.items ≡ pages_of spine.old.items ++ pages_of pages.now) }
+    ensures spare { OnOk result (spine.old.spare ≤ spine.new.spare + length pages.now) }
 {
     share(spine, pages)
 }
 
-/// Adds a page at the end, unless it is empty.
+/// Adds a page at the end, for which there is room, unless it is empty.
 fn put_page<T: Drop>(
     alloc: Global,
     spine: &mut Reserved<Arc<Page<T>>>,
     page: Page<T>,
 ) -> Result<(), NoMemory>
-    ensures { OnOk result (pages_of spine.new.items ≡ pages_of spine.old.items ++ unless_empty (map arc_value page)) }
+    requires room { 0 < spine.old.spare }
+    ensures pages { OnOk result (pages_of spine.new.items ≡ pages_of spine.old.items ++ unless_empty (map arc_value page)) }
+    ensures spare { OnOk result (spine.old.spare ≤ spine.new.spare + 1) }
 {
     if page.is_empty() {
         return Ok(());
     }
-    match Arc::new(alloc, page) {
-        Ok(page) => put(spine, page),
-        Err(_) => Err(NoMemory),
-    }
+    let Ok(page) = Arc::new(alloc, page) else {
+        return Err(NoMemory);
+    };
+    spine.put(page);
+    Ok(())
 }
 
-/// No items, with room for so many and one more.
-fn room_for<T: Drop>(alloc: Global, items: usize) -> Result<Reserved<T>, NoMemory>
-    ensures { IfOk result (λ room. room.items ≡ []) }
+/// No items, with room for these and one more.
+fn room_for<'a, T: Drop>(
+    alloc: Global,
+    before: &'a [Arc<T>],
+    after: &'a [Arc<T>],
+) -> Result<Reserved<Arc<T>>, NoMemory>
+    ensures items { IfOk result (λ room. room.items ≡ []) }
+    ensures spare { IfOk result (λ room. length before.now + length after.now < room.spare) }
 {
     let mut room = Reserved::new(alloc);
-    let Ok(more) = u32::try_from(items.saturating_add(1)) else {
+    let Ok(more) = u32::try_from(before.len() + after.len() + 1) else {
         return Err(NoMemory);
     };
     room.reserve(more)?;
     Ok(room)
 }
 
-/// Adds a share of each of these at the end.
+/// Adds a share of each of these at the end, for which there is room.
 fn share<T: Drop>(room: &mut Reserved<Arc<T>>, items: &[Arc<T>]) -> Result<(), NoMemory>
-    ensures { OnOk result (map arc_value room.new.items ≡ map arc_value room.old.items ++ map arc_value items.now) }
+    requires room { length items.now ≤ room.old.spare }
+    ensures items { OnOk result (map arc_value room.new.items ≡ map arc_value room.old.items ++ map arc_value items.now) }
+    ensures spare { OnOk result (room.old.spare ≤ room.new.spare + length items.now) }
 {
     for item in items {
         match Arc::try_clone(item) {
-            Ok(item) => put(room, item)?,
+            Ok(item) => room.put(item),
             Err(_) => return Err(NoMemory),
         }
     }
     Ok(())
-}
-
-fn put<T: Drop>(room: &mut Reserved<T>, item: T) -> Result<(), NoMemory>
-    ensures { OnOk result (room.new.items ≡ room.old.items ++ item ∷ []) }
-{
-    match room.push(item) {
-        Ok(()) => Ok(()),
-        Err(_) => Err(NoMemory),
-    }
 }

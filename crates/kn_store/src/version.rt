@@ -11,15 +11,12 @@ use crate::credential::{Credential, LiveCredential, Ready};
 use crate::fault::StoreFault;
 use crate::items::Items;
 use crate::live_set::LiveSet;
-use crate::pages::Pages;
+use crate::log::Log;
 use crate::update::{Change, Numbered, Update};
 use kn_base::{List, NoMemory, Octets};
 use std::alloc::Global;
 use std::marker::Model;
 use std::sync::Arc;
-
-/// The updates of a page of the log, of which the last page may have fewer.
-pub(crate) const UPDATES_PAGE: u32 = 256;
 
 /// What the first updates of a book made: the credentials that are live after them. It is seen as these updates.
 ///
@@ -27,7 +24,7 @@ pub(crate) const UPDATES_PAGE: u32 = 256;
 #[derive(Drop)]
 pub struct Version {
     live: LiveSet,
-    updates: Pages<Update>,
+    updates: Log,
     number: u32,
 }
 
@@ -53,7 +50,7 @@ impl Version {
     {
         Version {
             live: LiveSet::empty(alloc),
-            updates: Pages::empty(alloc),
+            updates: Log::empty(alloc),
             number: 0,
         }
     }
@@ -147,7 +144,7 @@ impl Version {
     {
         Ok(Version {
             live,
-            updates: self.updates.with_item(alloc, UPDATES_PAGE, update)?,
+            updates: self.updates.with_update(alloc, update)?,
             number: self.number() + 1,
         })
     }
