@@ -17,6 +17,8 @@ use Rattle.kn_store.specs.contracts.credential.LiveCredential as live
 use Rattle.kn_store.specs.contracts.update.Update as update
 use Rattle.kn_store.proofs.pages.Pages.TheSendSync as pages
 use Rattle.kn_store.specs.contracts.live_set.LiveSet as set
+use Rattle.kn_store.specs.contracts.log.LogPage as page
+use Rattle.kn_store.specs.contracts.log.Log as log
 use Rattle.kn_store.specs.contracts.version.Version as version
 use Rattle.kn_store.specs.contracts.book.Book as book
 
@@ -68,11 +70,23 @@ set_send = search (sendable, live_send, live_sync, pages.the_send) depth 20
 set_sync : IsSync (set.the_field).row
 set_sync = search (sendable, live_send, live_sync, pages.the_sync) depth 20
 
+page_send : IsSend (page.the_field).row
+page_send = search (sendable, update_send, update_sync, pages.the_send) depth 20
+
+page_sync : IsSync (page.the_field).row
+page_sync = search (sendable, update_send, update_sync, pages.the_sync) depth 20
+
+log_send : IsSend (log.the_field).row
+log_send = search (sendable, crosses, page_send, page_sync, list.the_send) depth 20
+
+log_sync : IsSync (log.the_field).row
+log_sync = search (sendable, crosses, page_send, page_sync, list.the_sync) depth 20
+
 pub version_send : IsSend (version.the_field).row
-version_send = search (sendable, set_send, update_send, update_sync, pages.the_send) depth 20
+version_send = search (sendable, set_send, log_send) depth 20
 
 pub version_sync : IsSync (version.the_field).row
-version_sync = search (sendable, set_sync, update_send, update_sync, pages.the_sync) depth 20
+version_sync = search (sendable, set_sync, log_sync) depth 20
 
 pub book_send : IsSend (book.the_field).row
 book_send = search (sendable, crosses, version_send, version_sync) depth 20
