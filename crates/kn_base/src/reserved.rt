@@ -98,10 +98,7 @@ impl<T> Reserved<T> {
         ensures items { self.new.items ≡ self.old.items ++ item ∷ [] }
         ensures spare { self.old.spare ≤ self.new.spare + 1 }
     {
-        match self.items.push(item) {
-            Ok(()) => {}
-            Err(_failed) => unreachable!(),
-        }
+        self.items.push_reserved(item);
     }
 
     pub fn len(&self) -> u32
