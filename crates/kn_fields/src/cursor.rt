@@ -36,6 +36,7 @@ impl<'t, 'a> Model for Cursor<'t, 'a> {
 #[tactic(auto, using(crate::proofs::Words::cursor_steps), unfolding(crate::specs::Words::words_of))]
 impl<'t, 'a> Cursor<'t, 'a> {
     /// All the tokens of the field that stands there.
+    #[inline(always)]
     pub fn of_field(tokens: &'t Tokens<'a>, part: Part) -> Cursor<'t, 'a>
         requires before { part.label < part.end }
         requires within { part.end ≤ length tokens.now }
@@ -47,6 +48,7 @@ impl<'t, 'a> Cursor<'t, 'a> {
     }
 
     /// How many tokens are left.
+    #[inline(always)]
     pub fn len(&self) -> u32
         ensures { result ≡ length self.now }
     {
@@ -54,6 +56,7 @@ impl<'t, 'a> Cursor<'t, 'a> {
     }
 
     /// The next token, or None at the end of the field.
+    #[inline(always)]
     pub fn peek(&self) -> Option<&'t Token<'a>>
         ensures { MatchOption result (self.now ≡ []) (λ token. self.now ≡ word_of (seen token.now) ∷ rest_of self.now) }
     {
@@ -68,6 +71,7 @@ impl<'t, 'a> Cursor<'t, 'a> {
     }
 
     /// Passes the next token, if there is one.
+    #[inline(always)]
     pub fn step(&mut self)
         ensures { self.new ≡ rest_of self.old }
     {
@@ -77,6 +81,7 @@ impl<'t, 'a> Cursor<'t, 'a> {
     }
 
     /// Takes the next token, or None at the end of the field.
+    #[inline(always)]
     pub fn take(&mut self) -> Option<&'t Token<'a>>
         ensures { MatchOption result (self.old ≡ []) (λ token. self.old ≡ word_of (seen token.now) ∷ self.new) }
     {
@@ -86,6 +91,7 @@ impl<'t, 'a> Cursor<'t, 'a> {
     }
 
     /// The next token where it is a sign.
+    #[inline(always)]
     pub fn sign(&self) -> Option<&'a [u8]>
         ensures { option_map (λ text. text.now) result ≡ first_sign self.now }
     {
@@ -97,6 +103,7 @@ impl<'t, 'a> Cursor<'t, 'a> {
     }
 
     /// Whether this sign comes next.
+    #[inline(always)]
     #[tactic(auto, unfolding(crate::specs::Reading::taken, crate::specs::Words::itself))]
     pub fn is_sign(&self, text: &[u8]) -> bool
         ensures { mark_if result (rest_of self.now) ≡ marked text.now self.now }
@@ -104,10 +111,15 @@ impl<'t, 'a> Cursor<'t, 'a> {
         let Some(next) = self.sign() else {
             return false;
         };
-        next == text
+        match (next, text) {
+            ([next], [byte]) => next == byte,
+            ([next, after], [first, second]) => next == first && after == second,
+            _ => next == text,
+        }
     }
 
     /// Whether this sign came next; then it is passed.
+    #[inline(always)]
     pub fn take_sign(&mut self, text: &[u8]) -> bool
         ensures taken { mark_if result self.new ≡ marked text.now self.old }
         ensures kept { result ≡ false → self.new ≡ self.old }
@@ -120,6 +132,7 @@ impl<'t, 'a> Cursor<'t, 'a> {
     }
 
     /// Passes this sign, which has to come next.
+    #[inline(always)]
     pub fn expect_sign(&mut self, text: &[u8]) -> Result<(), Unread>
         ensures { Reads result (marked text.now self.old) self.new }
     {

@@ -10,6 +10,7 @@ use kn_fields::Cursor;
 use kn_trees::{Comparison, Operation};
 
 /// Takes the sign of an operation of a level, if it comes next.
+#[inline(always)]
 pub(crate) fn take_operation(cursor: &mut Cursor<'_, '_>, level: Level) -> Option<Operation>
     ensures taken { with_rest result cursor.new ≡ taken (operation_of level) cursor.old }
     ensures kept { result ≡ None → cursor.new ≡ cursor.old }
@@ -21,6 +22,7 @@ pub(crate) fn take_operation(cursor: &mut Cursor<'_, '_>, level: Level) -> Optio
 }
 
 /// Whether an operation of some level comes next.
+#[inline(always)]
 pub(crate) fn has_operation(cursor: &Cursor<'_, '_>) -> bool
     ensures { result ≡ false → (level : Tier) → None ≡ taken (operation_of level) cursor.now }
 {
@@ -31,6 +33,7 @@ pub(crate) fn has_operation(cursor: &Cursor<'_, '_>) -> bool
 }
 
 /// Takes the sign of a comparison, if it comes next.
+#[inline(always)]
 pub(crate) fn take_comparison(cursor: &mut Cursor<'_, '_>) -> Option<Comparison>
     ensures taken { with_rest result cursor.new ≡ taken comparison_of cursor.old }
     ensures kept { result ≡ None → cursor.new ≡ cursor.old }
@@ -42,6 +45,7 @@ pub(crate) fn take_comparison(cursor: &mut Cursor<'_, '_>) -> Option<Comparison>
 }
 
 /// Takes the sign before an operand, if it comes next.
+#[inline(always)]
 pub(crate) fn take_prefix(cursor: &mut Cursor<'_, '_>) -> Option<Prefix>
     ensures taken { with_rest result cursor.new ≡ taken prefix_of cursor.old }
     ensures kept { result ≡ None → cursor.new ≡ cursor.old }

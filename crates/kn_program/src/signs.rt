@@ -40,6 +40,7 @@ pub enum Prefix {
 }
 
 /// How many levels an operand is below this one.
+#[inline(always)]
 pub(crate) fn height(level: Level) -> u64
     ensures { result ≡ height level }
 {
@@ -50,6 +51,7 @@ pub(crate) fn height(level: Level) -> u64
     }
 }
 
+#[inline(always)]
 pub(crate) fn joint_text(joint: Joint) -> &'static [u8]
     ensures { result.now ≡ joint_text joint }
 {
@@ -59,55 +61,34 @@ pub(crate) fn joint_text(joint: Joint) -> &'static [u8]
     }
 }
 
-#[tactic(auto, unfolding(crate::specs::Signs::operation_of))]
-fn sum_of(text: &[u8]) -> Option<Operation>
-    ensures { result ≡ operation_of Level.Sum text.now }
-{
-    if text == b"+".as_slice() {
-        Some(Operation::Plus)
-    } else if text == b"-".as_slice() {
-        Some(Operation::Less)
-    } else if text == b".".as_slice() {
-        Some(Operation::Join)
-    } else {
-        None
-    }
-}
-
-#[tactic(auto, unfolding(crate::specs::Signs::operation_of))]
-fn product_of(text: &[u8]) -> Option<Operation>
-    ensures { result ≡ operation_of Level.Product text.now }
-{
-    if text == b"*".as_slice() {
-        Some(Operation::Times)
-    } else if text == b"/".as_slice() {
-        Some(Operation::Divide)
-    } else if text == b"%".as_slice() {
-        Some(Operation::Rest)
-    } else {
-        None
-    }
-}
-
 /// The operation of a level that a sign stands for.
+#[inline(always)]
 #[tactic(auto, unfolding(crate::specs::Signs::operation_of))]
 pub(crate) fn operation_of(level: Level, text: &[u8]) -> Option<Operation>
     ensures { result ≡ operation_of level text.now }
 {
     match level {
-        Level::Sum => sum_of(text),
-        Level::Product => product_of(text),
-        Level::Power => {
-            if text == b"^".as_slice() {
-                Some(Operation::Power)
-            } else {
-                None
-            }
-        }
+        Level::Sum => match text {
+            [b'+'] => Some(Operation::Plus),
+            [b'-'] => Some(Operation::Less),
+            [b'.'] => Some(Operation::Join),
+            _ => None,
+        },
+        Level::Product => match text {
+            [b'*'] => Some(Operation::Times),
+            [b'/'] => Some(Operation::Divide),
+            [b'%'] => Some(Operation::Rest),
+            _ => None,
+        },
+        Level::Power => match text {
+            [b'^'] => Some(Operation::Power),
+            _ => None,
+        },
     }
 }
 
 /// Whether a sign stands for an operation of some level.
+#[inline(always)]
 pub(crate) fn is_operation(text: &[u8]) -> bool
     ensures { result ≡ false → (level : Tier) → operation_of level text.now ≡ None }
 {
@@ -117,40 +98,33 @@ pub(crate) fn is_operation(text: &[u8]) -> bool
 }
 
 /// The comparison that a sign stands for.
+#[inline(always)]
 #[tactic(auto, unfolding(crate::specs::Signs::comparison_of))]
 pub(crate) fn comparison_of(text: &[u8]) -> Option<Comparison>
     ensures { result ≡ comparison_of text.now }
 {
-    if text == b"==".as_slice() {
-        Some(Comparison::Eq)
-    } else if text == b"!=".as_slice() {
-        Some(Comparison::Ne)
-    } else if text == b"<".as_slice() {
-        Some(Comparison::Lt)
-    } else if text == b">".as_slice() {
-        Some(Comparison::Gt)
-    } else if text == b"<=".as_slice() {
-        Some(Comparison::Le)
-    } else if text == b">=".as_slice() {
-        Some(Comparison::Ge)
-    } else {
-        None
+    match text {
+        [b'=', b'='] => Some(Comparison::Eq),
+        [b'!', b'='] => Some(Comparison::Ne),
+        [b'<'] => Some(Comparison::Lt),
+        [b'>'] => Some(Comparison::Gt),
+        [b'<', b'='] => Some(Comparison::Le),
+        [b'>', b'='] => Some(Comparison::Ge),
+        _ => None,
     }
 }
 
 /// What a sign is before an operand.
+#[inline(always)]
 #[tactic(auto, unfolding(crate::specs::Signs::prefix_of))]
 pub(crate) fn prefix_of(text: &[u8]) -> Option<Prefix>
     ensures { result ≡ prefix_of text.now }
 {
-    if text == b"-".as_slice() {
-        Some(Prefix::Minus)
-    } else if text == b"@".as_slice() {
-        Some(Prefix::Number)
-    } else if text == b"$".as_slice() {
-        Some(Prefix::Deref)
-    } else {
-        None
+    match text {
+        [b'-'] => Some(Prefix::Minus),
+        [b'@'] => Some(Prefix::Number),
+        [b'$'] => Some(Prefix::Deref),
+        _ => None,
     }
 }
 
