@@ -82,7 +82,7 @@ going_item : {S X E Y : Type 0} {which : Reader S} {piece : S → X → List E} 
     → Going which piece item make n s list words all → item words ≡ Some (x, rest) → all ≡ map_read make (with_front (list ++ piece s x) (tail_at which piece item n rest))
 going_item {piece} {s} {list} {x} going read = grind (arith, front_twice list (piece s x), going.is)
 
-tail_step : {S X E : Type 0} (which : Reader S) (piece : S → X → List E) (item : Reader X) (n : ℕ) (words : List Word) → 0 < n
+pub tail_step : {S X E : Type 0} (which : Reader S) (piece : S → X → List E) (item : Reader X) (n : ℕ) (words : List Word) → 0 < n
     → tail_at which piece item n words ≡ behind_sign (which words) (Some ([], words)) (more_at piece item (tail_at which piece item (n - 1)))
 unfolding tail_at
 tail_step which piece item zero words some = absurd (omega arith)

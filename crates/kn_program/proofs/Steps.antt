@@ -1,8 +1,8 @@
 -- Reading step by step.
-use Rattle.std.proofs.Common.{◌≡◌, ℕ, zero, suc, ◌+◌, ◌-◌, ◌*◌, ◌<◌, ◌≤◌, List, [], ◌∷◌, length, codes, Option, Some, None, refl, sym, ap, subst, ◌∙◌, arith}
+use Rattle.std.proofs.Common.{◌≡◌, ℕ, zero, suc, ◌+◌, ◌-◌, ◌*◌, ◌<◌, ◌≤◌, List, [], ◌∷◌, ◌++◌, length, codes, Option, Some, None, refl, sym, ap, subst, ◌∙◌, arith}
 use Rattle.kn_fields.specs.Words.{Word, Mark}
-use Rattle.kn_fields.specs.Reading.{Read, Reader, map_read, then_read, behind_sign, closed_by, list_at, one_part, whole, taken, marked}
-use Rattle.kn_fields.proofs.Steps.{Going, going_list, going_tail, tail_none, list_none, less_one}
+use Rattle.kn_fields.specs.Reading.{Read, Reader, map_read, then_read, behind_sign, with_front, closed_by, more_at, tail_at, list_at, one_part, whole, taken, marked}
+use Rattle.kn_fields.proofs.Steps.{Going, going_list, tail_step, tail_none, list_none, less_one}
 use Rattle.kn_trees.specs.declared.program.Expr.{Expr}
 use Rattle.kn_trees.specs.declared.program.Expr.TheVariants as E
 use Rattle.kn_trees.specs.declared.program.Link2.{Link2}
@@ -19,9 +19,13 @@ use Rattle.kn_program.specs.declared.signs.Joint.TheVariants.{Or, And}
 use Rattle.kn_program.specs.declared.signs.Level.{Level}
 use Rattle.kn_program.specs.declared.signs.Level.TheVariants.{Sum, Product, Power}
 use Rattle.kn_program.specs.declared.signs.Prefix.{Prefix}
-use Rattle.kn_program.specs.Reading.{joined_parts, one_link, constant_of, atom_by, atom_front, tests_at, negation_at, comparison_at, chain_at, operand_at, atom_at, test_at, side_at, links_at, climb_at, first_at, entry_at, one_entry, with_entry, clause_with, value_after, program_at, clause_at, read_program}
+use Rattle.kn_program.specs.Reading.{joined_parts, one_link, constant_of, atom_by, atom_front, tests_at, negation_at, comparison_at, chain_at, operand_at, atom_at, test_at, more_tests_at, side_at, links_at, more_links_at, climb_at, first_at, entry_at, one_entry, with_entry, clause_with, value_after, program_at, clause_at, read_program}
 
 -- tests with a joint between them
+
+-- what is read behind a first test
+abbrev pub tests_behind : ℕ → Joint → Expr → Reader Expr
+tests_behind n joint first words = map_read (joined_parts joint first) (tail_at (marked (joint_text joint)) one_part (test_at (n - 1) joint) n words)
 
 tests_step : (budget : ℕ) (joint : Joint) (words : List Word) → tests_at budget joint words ≡ list_at (marked (joint_text joint)) one_part (joined_parts joint) (test_at (budget - 1) joint) budget words
 unfolding tests_at
@@ -29,14 +33,43 @@ tests_step zero joint words = sym (list_none (marked (joint_text joint)) one_par
 tests_step (suc n) Or words = ap (λ m. list_at (marked (codes "||")) one_part (joined_parts Or) (tests_at m And) (suc n) words) (less_one n)
 tests_step (suc n) And words = ap (λ m. list_at (marked (codes "&&")) one_part (joined_parts And) (negation_at m) (suc n) words) (less_one n)
 
--- tests of which so much is read
-abbrev pub Tests : Joint → ℕ → ℕ → List Expr → List Word → List Word → Type 0
-Tests joint budget left parts words all = Going (marked (joint_text joint)) one_part (test_at (budget - 1) joint) (joined joint) left tt parts words (tests_at budget joint all)
+-- a first test, and the tests behind it
+pub tests_read : (budget : ℕ) (joint : Joint) (words : List Word) (first : Read Expr) → test_at (budget - 1) joint words ≡ first
+    → tests_at budget joint words ≡ then_read first (tests_behind budget joint)
+unfolding list_at
+tests_read budget joint words first read = rw (tests_step budget joint words, read) refl
 
-pub tests_start : (budget : ℕ) (joint : Joint) (parts : List Expr) (words : List Word) → parts ≡ [] → Tests joint budget budget parts words words
-tests_start budget joint parts words none =
-    subst (Going (marked (joint_text joint)) one_part (test_at (budget - 1) joint) (joined joint) budget tt parts words) (sym (tests_step budget joint words))
-    (going_list (marked (joint_text joint)) one_part (test_at (budget - 1) joint) (joined joint) (joined_parts joint) budget tt parts words none (λ part parts. refl))
+pub tests_more : (budget : ℕ) (joint : Joint) (first : Expr) (words further : List Word) → (budget ≡ 0 → ⊥) → marked (joint_text joint) words ≡ Some (tt, further)
+    → tests_behind budget joint first words ≡ more_tests_at (budget - 1) joint first further
+tests_more budget joint first words further some there =
+    rw (tail_step (marked (joint_text joint)) one_part (test_at (budget - 1) joint) budget words (omega (arith, some)), there) refl
+
+pub tests_alone : (budget : ℕ) (joint : Joint) (first : Expr) (words rest : List Word) → (budget ≡ 0 → ⊥) → marked (joint_text joint) words ≡ None → rest ≡ words
+    → tests_behind budget joint first words ≡ Some (first, rest)
+unfolding joined
+tests_alone budget joint first words rest some none same =
+    tail_none (marked (joint_text joint)) one_part (test_at (budget - 1) joint) (joined_parts joint first) budget words (omega (arith, some)) none ∙ ap (λ (words : List Word). Some (first, words)) (sym same)
+
+-- a list that begins with these is read on
+front_made : {E Y : Type 0} (make : List E → Y) (front : List E) (read : Read (List E)) → map_read make (with_front front read) ≡ map_read (λ others. make (front ++ others)) read
+front_made make front None = refl
+front_made make front (Some read) = refl
+
+going_on : {S X E Y : Type 0} (which : Reader S) (piece : S → X → List E) (item : Reader X) (make : List E → Y) (n : ℕ) (s : S) (front list : List E) (words : List Word) → list ≡ front
+    → Going which piece item make n s list words (map_read (λ others. make (front ++ others)) (more_at piece item (tail_at which piece item n) s words))
+going_on which piece item make n s front list words same = record { is = rw same (front_made make front (more_at piece item (tail_at which piece item n) s words)) }
+
+-- tests of which so much is read
+abbrev pub Tests : Joint → ℕ → ℕ → List Expr → List Word → Read Expr → Type 0
+Tests joint budget left parts words all = Going (marked (joint_text joint)) one_part (test_at budget joint) (joined joint) left tt parts words all
+
+pub tests_start : (budget : ℕ) (joint : Joint) (first : Expr) (empty parts : List Expr) (words : List Word) → empty ≡ [] → parts ≡ empty ++ first ∷ [] → Tests joint budget budget parts words (more_tests_at budget joint first words)
+tests_start budget joint first empty parts words none is =
+    going_on (marked (joint_text joint)) one_part (test_at budget joint) (joined joint) budget tt (first ∷ []) parts words (is ∙ ap (λ (list : List Expr). list ++ first ∷ []) none)
+
+pub not_none : (list longer : List Expr) (part : Expr) → longer ≡ list ++ part ∷ [] → longer ≡ [] → ⊥
+not_none [] longer part is none = absurd (cc)
+not_none (first ∷ list) longer part is none = absurd (cc)
 
 -- operands with operations of a level between them
 
@@ -89,32 +122,44 @@ unfolding chained
 links_none budget level first words rest some none same =
     tail_none (taken (operation_of level)) one_link (side_at (budget - 1) level) (chained first) budget words some none ∙ ap (λ (words : List Word). Some (first, words)) (sym same)
 
+pub some_levels : (level : Level) (budget : ℕ) → height level ≤ budget → 0 < budget
+some_levels Sum budget enough = omega (arith, enough)
+some_levels Product budget enough = omega (arith, enough)
+some_levels Power budget enough = omega (arith, enough)
+
+-- one with an operation behind it
+pub links_more : (budget : ℕ) (level : Level) (first : Expr) (sign : Operation) (words further : List Word) → 0 < budget → Some (sign, further) ≡ taken (operation_of level) words
+    → links_at budget level first words ≡ more_links_at (budget - 1) level first sign further
+links_more budget level first sign words further some there =
+    rw (tail_step (taken (operation_of level)) one_link (side_at (budget - 1) level) budget words some, ← there) refl
+
 -- the links of which so much is read
 abbrev pub Links : Level → Expr → ℕ → ℕ → Operation → List Link2 → List Word → Read Expr → Type 0
 Links level first budget left sign links words all =
-    Going (taken (operation_of level)) one_link (side_at (budget - 1) level) (chained first) left sign links words all
+    Going (taken (operation_of level)) one_link (side_at budget level) (chained first) left sign links words all
 
-pub links_start : (budget : ℕ) (level : Level) (first : Expr) (sign : Operation) (links : List Link2) (words further : List Word) → links ≡ [] → 0 < budget → taken (operation_of level) words ≡ Some (sign, further)
-    → Links level first budget (budget - 1) sign links further (links_at budget level first words)
-links_start budget level first sign links words further none some there =
-    going_tail (taken (operation_of level)) one_link (side_at (budget - 1) level) (chained first) budget sign links words further none some there
+pub links_start : (budget : ℕ) (level : Level) (first : Expr) (sign : Operation) (links : List Link2) (words : List Word) → links ≡ []
+    → Links level first budget budget sign links words (more_links_at budget level first sign words)
+links_start budget level first sign links words none = going_on (taken (operation_of level)) one_link (side_at budget level) (chained first) budget sign [] links words none
 
 -- an operand with no operation behind it
 
-power_none : (budget : ℕ) (operand : Expr) (words : List Word) → 1 ≤ budget → ((level : Level) → None ≡ taken (operation_of level) words) → climb_at budget Power operand words ≡ Some (operand, words)
-power_none budget operand words enough ends = links_none budget Power operand words words (omega (arith, enough)) (sym (ends Power)) refl
+power_none : (budget : ℕ) (operand : Expr) (words : List Word) → 1 ≤ budget → None ≡ taken (operation_of Power) words → climb_at budget Power operand words ≡ Some (operand, words)
+power_none budget operand words enough power = links_none budget Power operand words words (omega (arith, enough)) (sym power) refl
 
-product_none : (budget : ℕ) (operand : Expr) (words : List Word) → 2 ≤ budget → ((level : Level) → None ≡ taken (operation_of level) words) → climb_at budget Product operand words ≡ Some (operand, words)
-product_none budget operand words enough ends =
-    climb_step budget Product operand words _ (power_none (budget - 1) operand words (omega (arith, enough)) ends)
-    ∙ links_none budget Product operand words words (omega (arith, enough)) (sym (ends Product)) refl
+product_none : (budget : ℕ) (operand : Expr) (words : List Word) → 2 ≤ budget → None ≡ taken (operation_of Power) words → None ≡ taken (operation_of Product) words
+    → climb_at budget Product operand words ≡ Some (operand, words)
+product_none budget operand words enough power product =
+    climb_step budget Product operand words _ (power_none (budget - 1) operand words (omega (arith, enough)) power)
+    ∙ links_none budget Product operand words words (omega (arith, enough)) (sym product) refl
 
-pub climb_none : (level : Level) (budget : ℕ) (operand : Expr) (words : List Word) → height level ≤ budget → ((level : Level) → None ≡ taken (operation_of level) words) → climb_at budget level operand words ≡ Some (operand, words)
-climb_none Power budget operand words enough ends = power_none budget operand words enough ends
-climb_none Product budget operand words enough ends = product_none budget operand words enough ends
+pub climb_none : (level : Level) (budget : ℕ) (operand : Expr) (words : List Word) → height level ≤ budget → ((tier : Level) → height tier ≤ height level → None ≡ taken (operation_of tier) words)
+    → climb_at budget level operand words ≡ Some (operand, words)
+climb_none Power budget operand words enough ends = power_none budget operand words enough (ends Power (omega arith))
+climb_none Product budget operand words enough ends = product_none budget operand words enough (ends Power (omega arith)) (ends Product (omega arith))
 climb_none Sum budget operand words enough ends =
-    climb_step budget Sum operand words _ (product_none (budget - 1) operand words (omega (arith, enough)) ends)
-    ∙ links_none budget Sum operand words words (omega (arith, enough)) (sym (ends Sum)) refl
+    climb_step budget Sum operand words _ (product_none (budget - 1) operand words (omega (arith, enough)) (ends Power (omega arith)) (ends Product (omega arith)))
+    ∙ links_none budget Sum operand words words (omega (arith, enough)) (sym (ends Sum (omega arith))) refl
 
 -- `!`
 

@@ -1,20 +1,12 @@
 -- Expressions by their parts.
-use Rattle.std.proofs.Common.{◌≡◌, Bool, true, false, List, [], ◌∷◌, ◌++◌, length, refl, ap, arith}
+use Rattle.std.proofs.Common.{◌≡◌, List, [], ◌∷◌, ◌++◌, length, refl, ap, arith}
 use Rattle.kn_trees.specs.declared.program.Expr.{Expr}
 use Rattle.kn_trees.specs.declared.program.Expr.TheVariants as E
 use Rattle.kn_trees.specs.declared.program.Link2.{Link2}
 use Rattle.kn_program.specs.Trees.{several, joined, chained}
 use Rattle.kn_program.specs.declared.signs.Joint.{Joint}
 
-pub not_both : (b : Bool) → b ≡ false → b ≡ true → ⊥
-not_both b fails holds = absurd (cc)
-
--- one part alone, and a last one behind others
-pub joined_alone : (joint : Joint) (list : List Expr) (last : Expr) → list ≡ [] → last ≡ joined joint (list ++ last ∷ [])
-unfolding joined
-joined_alone joint [] last none = refl
-joined_alone joint (part ∷ list) last none = absurd (cc)
-
+-- a last part behind others
 pub joined_more : (joint : Joint) (list : List Expr) (last : Expr) → (list ≡ [] → ⊥) → several joint (list ++ last ∷ []) ≡ joined joint (list ++ last ∷ [])
 unfolding joined
 joined_more joint [] last some = absurd (some refl)

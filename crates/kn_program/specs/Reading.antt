@@ -4,7 +4,7 @@ use Rattle.std.specs.Prelude.{◌≡◌, ℕ, zero, suc, pos, ◌+◌, ◌-◌, 
 use Rattle.std.specs.Option.{is_none}
 use Rattle.kn_fields.specs.Words.{Word, Mark}
 use Rattle.kn_fields.specs.Words.Word.{literal, name, number}
-use Rattle.kn_fields.specs.Reading.{Read, Reader, map_read, then_read, behind_sign, closed_by, tail_at, list_at, one_part, whole, taken, marked}
+use Rattle.kn_fields.specs.Reading.{Read, Reader, map_read, then_read, behind_sign, closed_by, more_at, tail_at, list_at, one_part, whole, taken, marked}
 use Rattle.kn_fields.specs.declared.unread.Unread.{Unread}
 use Rattle.kn_fields.specs.declared.unread.Unread.TheVariants.{Syntax, NoMemory}
 use Rattle.kn_trees.specs.declared.program.Expr.{Expr}
@@ -15,7 +15,7 @@ use Rattle.kn_trees.specs.declared.program.Program.{Program}
 use Rattle.kn_trees.specs.declared.program.Clause.{Clause}
 use Rattle.kn_trees.specs.declared.program.Then.{Then}
 use Rattle.kn_trees.specs.declared.program.Then.TheVariants.{Top, Value, Block}
-use Rattle.kn_program.specs.Signs.{operation_of, comparison_of, prefix_of, truth_of, number_of}
+use Rattle.kn_program.specs.Signs.{joint_text, operation_of, comparison_of, prefix_of, truth_of, number_of}
 use Rattle.kn_program.specs.Trees.{joined, chained, prefixed}
 use Rattle.kn_program.specs.Grammar.{link, program_with}
 use Rattle.kn_program.specs.declared.signs.Joint.{Joint}
@@ -95,6 +95,14 @@ abbrev pub side_at : ℕ → Level → Reader Expr
 side_at n Sum words = chain_at n Product words
 side_at n Product words = chain_at n Power words
 side_at n Power words = operand_at n words
+
+-- the tests with a first one that is read, and a joint behind it
+abbrev pub more_tests_at : ℕ → Joint → Expr → Reader Expr
+more_tests_at n joint first words = map_read (joined_parts joint first) (more_at one_part (test_at n joint) (tail_at (marked (joint_text joint)) one_part (test_at n joint) n) tt words)
+
+-- the operations of a level with a first side that is read, and a sign behind it
+abbrev pub more_links_at : ℕ → Level → Expr → Operation → Reader Expr
+more_links_at n level first sign words = map_read (chained first) (more_at one_link (side_at n level) (tail_at (taken (operation_of level)) one_link (side_at n level) n) sign words)
 
 -- the operations of a level behind a first side
 abbrev pub links_at : ℕ → Level → Expr → Reader Expr

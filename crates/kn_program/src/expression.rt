@@ -7,15 +7,15 @@ ghost use Rattle.kn_lex.specs.Seeing.{seen};
 ghost use Rattle.kn_fields.specs.Words.{word_of};
 ghost use Rattle.kn_fields.specs.Reading.{Reads};
 ghost use Rattle.kn_program.specs.Signs.{height};
-ghost use Rattle.kn_program.specs.Reading.{ReadsWord, tests_at, test_at, negation_at, comparison_at, chain_at, side_at, links_at, climb_at, first_at, operand_at, atom_at};
+ghost use Rattle.kn_program.specs.Reading.{ReadsWord, tests_at, more_tests_at, test_at, negation_at, comparison_at, chain_at, side_at, more_links_at, climb_at, first_at, operand_at, atom_at};
 
 use crate::operators::{has_operation, take_comparison, take_operation, take_prefix};
 use crate::signs::{Joint, Level, height, joint_text, number_of, truth_of};
-use crate::tree::{chained, compared, joined, negated, prefixed};
+use crate::tree::{chained, compared, negated, prefixed, several};
 use kn_base::{List, Octets};
 use kn_fields::{Cursor, Unread};
 use kn_lex::{Sort, Token, literal};
-use kn_trees::{Expr, Link2};
+use kn_trees::{Expr, Link2, Operation};
 use std::alloc::Global;
 
 /// The tests with `||` or `&&` between them.
@@ -28,15 +28,37 @@ pub(crate) fn tests(
 ) -> Result<Expr, Unread>
     ensures { Reads result (tests_at budget joint cursor.old) cursor.new }
 {
+    if budget == 0 {
+        return Err(Unread::Syntax);
+    }
+    let first = test(alloc, cursor, joint, budget - 1)?;
+    if cursor.take_sign(joint_text(joint)) {
+        more_tests(alloc, cursor, joint, first, budget - 1)
+    } else {
+        Ok(first)
+    }
+}
+
+/// The tests with a first one that is read, and a joint behind it.
+#[cycle(expression)]
+fn more_tests(
+    alloc: Global,
+    cursor: &mut Cursor<'_, '_>,
+    joint: Joint,
+    first: Expr,
+    budget: u64,
+) -> Result<Expr, Unread>
+    ensures { Reads result (more_tests_at budget joint first cursor.old) cursor.new }
+{
     let mut parts = List::new(alloc);
+    parts.add(first)?;
     let mut left = budget;
     while left > 0 {
-        let part = test(alloc, cursor, joint, budget - 1)?;
-        if !cursor.take_sign(joint_text(joint)) {
-            let whole = joined(joint, parts, part)?;
-            return Ok(whole);
-        }
+        let part = test(alloc, cursor, joint, budget)?;
         parts.add(part)?;
+        if !cursor.take_sign(joint_text(joint)) {
+            return Ok(several(joint, parts));
+        }
         left -= 1;
     }
     Err(Unread::Syntax)
@@ -108,15 +130,12 @@ fn chain(
         return Err(Unread::Syntax);
     }
     let first = operand(alloc, cursor, budget - levels)?;
-    if has_operation(cursor) {
-        climb(alloc, cursor, level, first, budget)
-    } else {
-        Ok(first)
-    }
+    climb(alloc, cursor, level, first, budget)
 }
 
-/// The operations of a level and of the tighter ones behind a first operand.
+/// The operations of a level and of the tighter ones behind a first operand, if there are any.
 #[cycle(expression)]
+#[inline(always)]
 fn climb(
     alloc: Global,
     cursor: &mut Cursor<'_, '_>,
@@ -127,8 +146,30 @@ fn climb(
     requires enough { height level ≤ budget }
     ensures { Reads result (climb_at budget level operand cursor.old) cursor.new }
 {
+    if has_operation(cursor, level) {
+        operations(alloc, cursor, level, operand, budget)
+    } else {
+        Ok(operand)
+    }
+}
+
+/// The operations of the tighter levels behind a first operand, and then those of this one.
+#[cycle(expression)]
+fn operations(
+    alloc: Global,
+    cursor: &mut Cursor<'_, '_>,
+    level: Level,
+    operand: Expr,
+    budget: u64,
+) -> Result<Expr, Unread>
+    requires enough { height level ≤ budget }
+    ensures { Reads result (climb_at budget level operand cursor.old) cursor.new }
+{
     let first = first_side(alloc, cursor, level, operand, budget - 1)?;
-    links(alloc, cursor, level, first, budget)
+    match take_operation(cursor, level) {
+        Some(sign) => links(alloc, cursor, level, first, sign, budget - 1),
+        None => Ok(first),
+    }
 }
 
 /// The operations of the tighter levels behind a first operand.
@@ -150,26 +191,23 @@ fn first_side(
     }
 }
 
-/// The operations of a level behind a first side.
+/// The operations of a level with a first side that is read, and a sign behind it.
 #[cycle(expression)]
 fn links(
     alloc: Global,
     cursor: &mut Cursor<'_, '_>,
     level: Level,
     first: Expr,
+    sign: Operation,
     budget: u64,
 ) -> Result<Expr, Unread>
-    requires some { 0 < budget }
-    ensures { Reads result (links_at budget level first cursor.old) cursor.new }
+    ensures { Reads result (more_links_at budget level first sign cursor.old) cursor.new }
 {
-    let Some(found) = take_operation(cursor, level) else {
-        return Ok(first);
-    };
-    let mut sign = found;
     let mut links = List::new(alloc);
-    let mut left = budget - 1;
+    let mut sign = sign;
+    let mut left = budget;
     while left > 0 {
-        let right = side(alloc, cursor, level, budget - 1)?;
+        let right = side(alloc, cursor, level, budget)?;
         links.add(Link2 { sign, right })?;
         let Some(next) = take_operation(cursor, level) else {
             let whole = chained(alloc, first, links)?;

@@ -1,8 +1,8 @@
 //! The signs of operations, comparisons and prefixes where they come next.
-ghost use Rattle.std.specs.Prelude.{◌≡◌, false, None};
+ghost use Rattle.std.specs.Prelude.{◌≡◌, ◌≤◌, false, None};
 ghost use Rattle.kn_fields.specs.Words.{with_rest};
 ghost use Rattle.kn_fields.specs.Reading.{taken};
-ghost use Rattle.kn_program.specs.Signs.{operation_of, comparison_of, prefix_of};
+ghost use Rattle.kn_program.specs.Signs.{height, operation_of, comparison_of, prefix_of};
 ghost use Rattle.kn_program.specs.declared.signs.Level.{Level as Tier};
 
 use crate::signs::{Level, Prefix, comparison_of, is_operation, operation_of, prefix_of};
@@ -21,15 +21,15 @@ pub(crate) fn take_operation(cursor: &mut Cursor<'_, '_>, level: Level) -> Optio
     Some(operation)
 }
 
-/// Whether an operation of some level comes next.
+/// Whether an operation of a level or of a tighter one comes next.
 #[inline(always)]
-pub(crate) fn has_operation(cursor: &Cursor<'_, '_>) -> bool
-    ensures { result ≡ false → (level : Tier) → None ≡ taken (operation_of level) cursor.now }
+pub(crate) fn has_operation(cursor: &Cursor<'_, '_>, level: Level) -> bool
+    ensures { result ≡ false → (tier : Tier) → height tier ≤ height level → None ≡ taken (operation_of tier) cursor.now }
 {
     let Some(text) = cursor.sign() else {
         return false;
     };
-    is_operation(text)
+    is_operation(level, text)
 }
 
 /// Takes the sign of a comparison, if it comes next.

@@ -87,14 +87,18 @@ pub(crate) fn operation_of(level: Level, text: &[u8]) -> Option<Operation>
     }
 }
 
-/// Whether a sign stands for an operation of some level.
+/// Whether a sign stands for an operation of a level or of a tighter one.
 #[inline(always)]
-pub(crate) fn is_operation(text: &[u8]) -> bool
-    ensures { result ≡ false → (level : Tier) → operation_of level text.now ≡ None }
+pub(crate) fn is_operation(level: Level, text: &[u8]) -> bool
+    ensures { result ≡ false → (tier : Tier) → height tier ≤ height level → operation_of tier text.now ≡ None }
 {
-    operation_of(Level::Sum, text).is_some()
-        || operation_of(Level::Product, text).is_some()
-        || operation_of(Level::Power, text).is_some()
+    let power = operation_of(Level::Power, text).is_some();
+    let product = power || operation_of(Level::Product, text).is_some();
+    match level {
+        Level::Power => power,
+        Level::Product => product,
+        Level::Sum => product || operation_of(Level::Sum, text).is_some(),
+    }
 }
 
 /// The comparison that a sign stands for.

@@ -1,31 +1,20 @@
 //! Expressions by their parts.
-ghost use Rattle.std.specs.Prelude.{◌≡◌, [], ◌∷◌, ◌++◌, IfOk};
-ghost use Rattle.kn_program.specs.Trees.{several, joined, chained, prefixed};
+ghost use Rattle.std.specs.Prelude.{◌≡◌, IfOk};
+ghost use Rattle.kn_program.specs.Trees.{several, chained, prefixed};
 
 use crate::signs::{Joint, Prefix};
 use kn_base::{Boxed, List, NoMemory};
 use kn_trees::{Comparison, Expr, Link2};
 use std::alloc::Global;
 
-fn several(joint: Joint, parts: List<Expr>) -> Expr
+/// Two or more tests with this between them.
+pub(crate) fn several(joint: Joint, parts: List<Expr>) -> Expr
     ensures { result ≡ several joint parts }
 {
     match joint {
         Joint::Or => Expr::Or(parts),
         Joint::And => Expr::And(parts),
     }
-}
-
-/// Several tests with this between them, of which the last comes alone; one part alone is itself.
-pub(crate) fn joined(joint: Joint, list: List<Expr>, last: Expr) -> Result<Expr, NoMemory>
-    ensures { IfOk result (λ whole. whole ≡ joined joint (list ++ last ∷ [])) }
-{
-    if list.is_empty() {
-        return Ok(last);
-    }
-    let mut parts = list;
-    parts.add(last)?;
-    Ok(several(joint, parts))
 }
 
 /// A first part with operations behind it; alone it is itself.

@@ -4,28 +4,56 @@ use Rattle.kn_trees.specs.declared.program.Expr.{Expr}
 use Rattle.kn_fields.specs.Words.{Word, word_of}
 use Rattle.kn_fields.proofs.Words.{took, passed}
 use Rattle.kn_fields.proofs.Steps.{going_more, going_last, going_none, going_over, fault_handed_on, reads_along}
-use Rattle.kn_program.specs.Reading.{negation_at, comparison_at, operand_at, atom_at}
-use Rattle.kn_program.specs.Trees.{chained}
-use Rattle.kn_program.proofs.Steps.{tests_start, chain_read, climb_step, climb_none, links_none, links_start, negation_none, negation_some, comparison_read, left_alone, left_two, operand_none, operand_some, atom_end, atom_constant, atom_group, group_read, group_closed}
+use Rattle.kn_program.specs.Reading.{tests_at, negation_at, comparison_at, operand_at, atom_at}
+use Rattle.kn_program.specs.Trees.{several, chained}
+use Rattle.kn_program.proofs.Steps.{tests_read, tests_more, tests_alone, tests_start, not_none, some_levels, chain_read, climb_step, climb_none, links_none, links_more, links_start, negation_none, negation_some, comparison_read, left_alone, left_two, operand_none, operand_some, atom_end, atom_constant, atom_group, group_read, group_closed}
+use Rattle.kn_program.proofs.TreeLemmas.{joined_more}
 use Rattle.kn_program.proofs.expression.+expression.Goals as goal
 
-pub tests-loop-left-init : goal.tests-loop-left-init
-tests-loop-left-init t c = record { fewer = omega arith; going = tests_start c.args.budget c.args.joint _ _ c.new-parts.ensures }
+pub tests-returns-then-budget-eq0 : goal.tests-returns-then-budget-eq0
+unfolding tests_at
+tests-returns-then-budget-eq0 t c = rw c.if-budget-eq0.true refl
 
-pub tests-returns-then-not-take_sign : goal.tests-returns-then-not-take_sign
-tests-returns-then-not-take_sign t c =
+pub tests-returns-in_err-first : goal.tests-returns-in_err-first
+tests-returns-in_err-first t c = fault_handed_on _ _ _ _ c.from_residual.ensures.1 c.in_err-first.ensures (tests_read c.args.budget c.args.joint _ None)
+
+pub tests-returns-then-take_sign : goal.tests-returns-then-take_sign
+tests-returns-then-take_sign t c =
+    reads_along c.more_tests.result _
+    (tests_read c.args.budget c.args.joint _ _ c.in_ok-first.ensures
+    ∙ tests_more c.args.budget c.args.joint c.in_ok-first.first _ _ c.if-budget-eq0.false (took _ _ _ _ _ c.if-take_sign.true c.take_sign.ensures.taken c.joint_text.ensures))
+    c.more_tests.ensures
+
+pub tests-returns-else-take_sign : goal.tests-returns-else-take_sign
+tests-returns-else-take_sign t c =
+    tests_read c.args.budget c.args.joint _ _ c.in_ok-first.ensures
+    ∙ tests_alone c.args.budget c.args.joint c.in_ok-first.first _ _ c.if-budget-eq0.false (passed _ _ _ _ _ c.if-take_sign.false c.take_sign.ensures.taken c.joint_text.ensures)
+    (c.take_sign.ensures.kept c.if-take_sign.false)
+
+pub more_tests-loop-left-init : goal.more_tests-loop-left-init
+more_tests-loop-left-init t c = record {
+  some = not_none _ _ c.args.first c.in_ok-add.ensures.ok;
+  going = tests_start c.args.budget c.args.joint c.args.first _ _ _ c.new-parts.ensures c.in_ok-add.ensures.ok;
+}
+
+pub more_tests-returns-in_err-part : goal.more_tests-returns-in_err-part
+more_tests-returns-in_err-part t c = fault_handed_on _ _ _ _ c.from_residual-in_err-part.ensures.1 c.in_err-part.ensures (going_none c.loop-left.invariant.going)
+
+pub more_tests-returns-then-not-take_sign : goal.more_tests-returns-then-not-take_sign
+more_tests-returns-then-not-take_sign t c =
     going_last c.loop-left.invariant.going c.loop-left-test.true c.in_ok-part.ensures
-    (passed _ _ _ _ _ c.if-not-take_sign.true c.take_sign.ensures.taken c.joint_text.ensures) (c.take_sign.ensures.kept c.if-not-take_sign.true) c.in_ok-whole.ensures
+    (passed _ _ _ _ _ c.if-not-take_sign.true c.take_sign.ensures.taken c.joint_text.ensures) (c.take_sign.ensures.kept c.if-not-take_sign.true)
+    (c.several.ensures ∙ ap (several c.args.joint) c.in_ok-add-2.ensures.ok ∙ joined_more c.args.joint _ c.in_ok-part.part c.loop-left.invariant.some)
 
-pub tests-loop-left-preserved : goal.tests-loop-left-preserved
-tests-loop-left-preserved t c = record {
-  fewer = omega (arith, c.loop-left.invariant.fewer);
-  going = going_more c.loop-left.invariant.going c.loop-left-test.true c.in_ok-part.ensures c.in_ok-add.ensures.ok
+pub more_tests-loop-left-preserved : goal.more_tests-loop-left-preserved
+more_tests-loop-left-preserved t c = record {
+  some = not_none _ _ c.in_ok-part.part c.in_ok-add-2.ensures.ok;
+  going = going_more c.loop-left.invariant.going c.loop-left-test.true c.in_ok-part.ensures c.in_ok-add-2.ensures.ok
       (took _ _ _ _ _ c.if-not-take_sign.false c.take_sign.ensures.taken c.joint_text.ensures);
 }
 
-pub tests-returns : goal.tests-returns
-tests-returns t c = going_over c.loop-left.invariant.going c.loop-left-test.false
+pub more_tests-returns : goal.more_tests-returns
+more_tests-returns t c = going_over c.loop-left.invariant.going c.loop-left-test.false
 
 pub negation-returns-then-budget-eq0 : goal.negation-returns-then-budget-eq0
 unfolding negation_at
@@ -79,46 +107,45 @@ pub chain-returns-in_err-first : goal.chain-returns-in_err-first
 chain-returns-in_err-first t c =
     fault_handed_on _ _ _ _ c.from_residual.ensures.1 c.in_err-first.ensures (chain_read c.args.level c.args.budget c.height-levels.result _ None c.height-levels.ensures)
 
-pub chain-returns-then-has_operation : goal.chain-returns-then-has_operation
-chain-returns-then-has_operation t c =
+pub chain-returns : goal.chain-returns
+chain-returns t c =
     reads_along c.climb.result _ (chain_read c.args.level c.args.budget c.height-levels.result _ _ c.height-levels.ensures c.in_ok-first.ensures) c.climb.ensures
 
-pub chain-returns-else-has_operation : goal.chain-returns-else-has_operation
-chain-returns-else-has_operation t c =
-    chain_read c.args.level c.args.budget c.height-levels.result _ _ c.height-levels.ensures c.in_ok-first.ensures
-    ∙ climb_none c.args.level c.args.budget c.in_ok-first.first _ (omega (arith, c.if-budget-levels.false, c.height-levels.ensures)) (c.has_operation.ensures c.if-has_operation.false)
+pub climb-returns-else-has_operation : goal.climb-returns-else-has_operation
+climb-returns-else-has_operation t c =
+    climb_none c.args.level c.args.budget c.args.operand _ c.requires.enough (c.has_operation.ensures c.if-has_operation.false)
 
-pub climb-returns-in_err-first : goal.climb-returns-in_err-first
-climb-returns-in_err-first t c = fault_handed_on _ _ _ _ c.from_residual.ensures.1 c.in_err-first.ensures (climb_step c.args.budget c.args.level c.args.operand _ None)
+pub operations-returns-in_err-first : goal.operations-returns-in_err-first
+operations-returns-in_err-first t c = fault_handed_on _ _ _ _ c.from_residual.ensures.1 c.in_err-first.ensures (climb_step c.args.budget c.args.level c.args.operand _ None)
 
-pub climb-returns : goal.climb-returns
-climb-returns t c = reads_along c.links.result _ (climb_step c.args.budget c.args.level c.args.operand _ _ c.in_ok-first.ensures) c.links.ensures
+pub operations-returns-in-Some : goal.operations-returns-in-Some
+operations-returns-in-Some t c =
+    reads_along c.links.result _
+    (climb_step c.args.budget c.args.level c.args.operand _ _ c.in_ok-first.ensures
+    ∙ links_more c.args.budget c.args.level c.in_ok-first.first c.in-Some.sign _ _ (some_levels c.args.level c.args.budget c.requires.enough) c.in-Some.ensures.taken)
+    c.links.ensures
 
-pub links-returns-in_default : goal.links-returns-in_default
-links-returns-in_default t c = links_none c.args.budget c.args.level c.args.first _ _ c.requires.some (sym c.in_default.ensures.taken) (c.in_default.ensures.kept refl)
+pub operations-returns-in-None : goal.operations-returns-in-None
+operations-returns-in-None t c =
+    climb_step c.args.budget c.args.level c.args.operand _ _ c.in_ok-first.ensures
+    ∙ links_none c.args.budget c.args.level c.in_ok-first.first _ _ (some_levels c.args.level c.args.budget c.requires.enough) (sym c.in-None.ensures.taken) (c.in-None.ensures.kept refl)
 
 pub links-loop-left-init : goal.links-loop-left-init
-links-loop-left-init t c = record {
-  fewer = omega arith;
-  going = links_start c.args.budget c.args.level c.args.first c.in-Some.found _ _ _ c.new-links.ensures c.requires.some (sym c.in-Some.ensures.taken);
-}
+links-loop-left-init t c = links_start c.args.budget c.args.level c.args.first c.args.sign _ _ c.new-links.ensures
 
 pub links-returns-in_err-right : goal.links-returns-in_err-right
-links-returns-in_err-right t c = fault_handed_on _ _ _ _ c.from_residual.ensures.1 c.in_err-right.ensures (going_none c.loop-left.invariant.going)
+links-returns-in_err-right t c = fault_handed_on _ _ _ _ c.from_residual.ensures.1 c.in_err-right.ensures (going_none c.loop-left.invariant)
 
-pub links-returns-in_default-take_operation : goal.links-returns-in_default-take_operation
-links-returns-in_default-take_operation t c =
-    going_last c.loop-left.invariant.going c.loop-left-test.true c.in_ok-right.ensures
-    (sym c.in_default-take_operation.ensures.taken) (c.in_default-take_operation.ensures.kept refl) (c.in_ok-whole.ensures ∙ ap (chained _) c.in_ok-add.ensures.ok)
+pub links-returns-in_default : goal.links-returns-in_default
+links-returns-in_default t c =
+    going_last c.loop-left.invariant c.loop-left-test.true c.in_ok-right.ensures
+    (sym c.in_default.ensures.taken) (c.in_default.ensures.kept refl) (c.in_ok-whole.ensures ∙ ap (chained _) c.in_ok-add.ensures.ok)
 
 pub links-loop-left-preserved : goal.links-loop-left-preserved
-links-loop-left-preserved t c = record {
-  fewer = omega (arith, c.loop-left.invariant.fewer);
-  going = going_more c.loop-left.invariant.going c.loop-left-test.true c.in_ok-right.ensures c.in_ok-add.ensures.ok (sym c.in-Some-take_operation.ensures.taken);
-}
+links-loop-left-preserved t c = going_more c.loop-left.invariant c.loop-left-test.true c.in_ok-right.ensures c.in_ok-add.ensures.ok (sym c.in-Some.ensures.taken)
 
 pub links-returns : goal.links-returns
-links-returns t c = going_over c.loop-left.invariant.going c.loop-left-test.false
+links-returns t c = going_over c.loop-left.invariant c.loop-left-test.false
 
 pub operand-returns-then-budget-eq0 : goal.operand-returns-then-budget-eq0
 unfolding operand_at
