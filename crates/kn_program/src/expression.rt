@@ -5,12 +5,13 @@
 ghost use Rattle.std.specs.Prelude.{◌≡◌, ◌+◌, ◌≤◌, ◌<◌};
 ghost use Rattle.kn_lex.specs.Seeing.{seen};
 ghost use Rattle.kn_fields.specs.Words.{word_of};
-ghost use Rattle.kn_fields.specs.Reading.{Reads};
+ghost use Rattle.kn_fields.specs.Reading.{Reads, map_read};
 ghost use Rattle.kn_program.specs.Signs.{height};
+ghost use Rattle.kn_program.specs.Trees.{prefixed};
 ghost use Rattle.kn_program.specs.Reading.{ReadsWord, tests_at, more_tests_at, test_at, negation_at, comparison_at, chain_at, side_at, more_links_at, climb_at, first_at, operand_at, atom_at};
 
 use crate::operators::{has_operation, take_comparison, take_operation, take_prefix};
-use crate::signs::{Joint, Level, height, joint_text, number_of, truth_of};
+use crate::signs::{Joint, Level, Prefix, height, joint_text, number_of, truth_of};
 use crate::tree::{chained, compared, negated, prefixed, several};
 use kn_base::{List, Octets};
 use kn_fields::{Cursor, Unread};
@@ -66,6 +67,7 @@ fn more_tests(
 
 /// One of the tests that stand between joints of this sort.
 #[cycle(expression)]
+#[inline(always)]
 fn test(
     alloc: Global,
     cursor: &mut Cursor<'_, '_>,
@@ -82,22 +84,33 @@ fn test(
 
 /// A comparison, or `!` and what it stands before.
 #[cycle(expression)]
+#[inline(always)]
 fn negation(alloc: Global, cursor: &mut Cursor<'_, '_>, budget: u64) -> Result<Expr, Unread>
     ensures { Reads result (negation_at budget cursor.old) cursor.new }
 {
     if budget == 0 {
         return Err(Unread::Syntax);
     }
-    if !cursor.take_sign(b"!".as_slice()) {
-        return comparison(alloc, cursor, budget - 1);
+    if cursor.take_sign(b"!".as_slice()) {
+        denial(alloc, cursor, budget - 1)
+    } else {
+        comparison(alloc, cursor, budget - 1)
     }
-    let part = negation(alloc, cursor, budget - 1)?;
+}
+
+/// What a `!` makes of what stands behind it.
+#[cycle(expression)]
+fn denial(alloc: Global, cursor: &mut Cursor<'_, '_>, budget: u64) -> Result<Expr, Unread>
+    ensures { Reads result (map_read Expr.Not (negation_at budget cursor.old)) cursor.new }
+{
+    let part = negation(alloc, cursor, budget)?;
     let whole = negated(alloc, part)?;
     Ok(whole)
 }
 
 /// A sum, or two with a comparison between them.
 #[cycle(expression)]
+#[inline(always)]
 fn comparison(alloc: Global, cursor: &mut Cursor<'_, '_>, budget: u64) -> Result<Expr, Unread>
     ensures { Reads result (comparison_at budget cursor.old) cursor.new }
 {
@@ -117,6 +130,7 @@ fn comparison(alloc: Global, cursor: &mut Cursor<'_, '_>, budget: u64) -> Result
 ///
 /// The first operand comes before the levels, so that one with no operation behind it takes no way through them.
 #[cycle(expression)]
+#[inline(always)]
 fn chain(
     alloc: Global,
     cursor: &mut Cursor<'_, '_>,
@@ -238,21 +252,36 @@ fn side(
 
 /// An atom, or a sign and the operand behind it.
 #[cycle(expression)]
+#[inline(always)]
 fn operand(alloc: Global, cursor: &mut Cursor<'_, '_>, budget: u64) -> Result<Expr, Unread>
     ensures { Reads result (operand_at budget cursor.old) cursor.new }
 {
     if budget == 0 {
         return Err(Unread::Syntax);
     }
-    let Some(prefix) = take_prefix(cursor) else {
-        return atom(alloc, cursor, budget - 1);
-    };
-    let part = operand(alloc, cursor, budget - 1)?;
+    match take_prefix(cursor) {
+        Some(prefix) => signed(alloc, cursor, prefix, budget - 1),
+        None => atom(alloc, cursor, budget - 1),
+    }
+}
+
+/// What a sign makes of the operand behind it.
+#[cycle(expression)]
+fn signed(
+    alloc: Global,
+    cursor: &mut Cursor<'_, '_>,
+    prefix: Prefix,
+    budget: u64,
+) -> Result<Expr, Unread>
+    ensures { Reads result (map_read (prefixed prefix) (operand_at budget cursor.old)) cursor.new }
+{
+    let part = operand(alloc, cursor, budget)?;
     let whole = prefixed(alloc, prefix, part)?;
     Ok(whole)
 }
 
 /// The expression of one token, or None where it is none of its own.
+#[inline(always)]
 fn constant(alloc: Global, token: &Token<'_>) -> Result<Option<Expr>, Unread>
     ensures { ReadsWord result (word_of (seen token.now)) }
 {
@@ -278,6 +307,7 @@ fn constant(alloc: Global, token: &Token<'_>) -> Result<Option<Expr>, Unread>
 
 /// An expression of one token or in brackets.
 #[cycle(expression)]
+#[inline(always)]
 fn atom(alloc: Global, cursor: &mut Cursor<'_, '_>, budget: u64) -> Result<Expr, Unread>
     ensures { Reads result (atom_at budget cursor.old) cursor.new }
 {

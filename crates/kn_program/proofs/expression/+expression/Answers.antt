@@ -59,21 +59,17 @@ pub negation-returns-then-budget-eq0 : goal.negation-returns-then-budget-eq0
 unfolding negation_at
 negation-returns-then-budget-eq0 t c = rw c.if-budget-eq0.true refl
 
-pub negation-returns-then-not-take_sign : goal.negation-returns-then-not-take_sign
-negation-returns-then-not-take_sign t c =
+pub negation-returns-then-take_sign : goal.negation-returns-then-take_sign
+negation-returns-then-take_sign t c =
+    reads_along c.denial.result _
+    (negation_some c.args.budget _ _ _ c.if-budget-eq0.false (took _ _ _ _ _ c.if-take_sign.true c.take_sign.ensures.taken c.as_slice.ensures) refl)
+    c.denial.ensures
+
+pub negation-returns-else-take_sign : goal.negation-returns-else-take_sign
+negation-returns-else-take_sign t c =
     reads_along c.comparison.result _
-    (negation_none c.args.budget _ _ c.if-budget-eq0.false (passed _ _ _ _ _ c.if-not-take_sign.true c.take_sign.ensures.taken c.as_slice.ensures) (c.take_sign.ensures.kept c.if-not-take_sign.true))
+    (negation_none c.args.budget _ _ c.if-budget-eq0.false (passed _ _ _ _ _ c.if-take_sign.false c.take_sign.ensures.taken c.as_slice.ensures) (c.take_sign.ensures.kept c.if-take_sign.false))
     c.comparison.ensures
-
-pub negation-returns-in_err-part : goal.negation-returns-in_err-part
-negation-returns-in_err-part t c =
-    fault_handed_on _ _ _ _ c.from_residual.ensures.1 c.in_err-part.ensures
-    (negation_some c.args.budget _ _ None c.if-budget-eq0.false (took _ _ _ _ _ c.if-not-take_sign.false c.take_sign.ensures.taken c.as_slice.ensures))
-
-pub negation-returns : goal.negation-returns
-negation-returns t c =
-    negation_some c.args.budget _ _ _ c.if-budget-eq0.false (took _ _ _ _ _ c.if-not-take_sign.false c.take_sign.ensures.taken c.as_slice.ensures) c.in_ok-part.ensures
-    ∙ ap (λ (whole : Expr). Some (whole, c.negation.new.cursor)) (sym c.in_ok-whole.ensures)
 
 pub comparison-returns-then-budget-eq0 : goal.comparison-returns-then-budget-eq0
 unfolding comparison_at
@@ -151,18 +147,12 @@ pub operand-returns-then-budget-eq0 : goal.operand-returns-then-budget-eq0
 unfolding operand_at
 operand-returns-then-budget-eq0 t c = rw c.if-budget-eq0.true refl
 
-pub operand-returns-in_default : goal.operand-returns-in_default
-operand-returns-in_default t c =
-    reads_along c.atom.result _ (operand_none c.args.budget _ _ c.if-budget-eq0.false c.in_default.ensures.taken (c.in_default.ensures.kept refl)) c.atom.ensures
+pub operand-returns-in-Some : goal.operand-returns-in-Some
+operand-returns-in-Some t c = reads_along c.signed.result _ (operand_some c.args.budget _ _ c.in-Some.prefix _ c.if-budget-eq0.false c.in-Some.ensures.taken refl) c.signed.ensures
 
-pub operand-returns-in_err-part : goal.operand-returns-in_err-part
-operand-returns-in_err-part t c =
-    fault_handed_on _ _ _ _ c.from_residual.ensures.1 c.in_err-part.ensures (operand_some c.args.budget _ _ c.in-Some.prefix None c.if-budget-eq0.false c.in-Some.ensures.taken)
-
-pub operand-returns : goal.operand-returns
-operand-returns t c =
-    operand_some c.args.budget _ _ c.in-Some.prefix _ c.if-budget-eq0.false c.in-Some.ensures.taken c.in_ok-part.ensures
-    ∙ ap (λ (whole : Expr). Some (whole, c.operand.new.cursor)) (sym c.in_ok-whole.ensures)
+pub operand-returns-in-None : goal.operand-returns-in-None
+operand-returns-in-None t c =
+    reads_along c.atom.result _ (operand_none c.args.budget _ _ c.if-budget-eq0.false c.in-None.ensures.taken (c.in-None.ensures.kept refl)) c.atom.ensures
 
 pub atom-returns-then-budget-eq0 : goal.atom-returns-then-budget-eq0
 unfolding atom_at

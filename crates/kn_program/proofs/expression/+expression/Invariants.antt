@@ -15,6 +15,9 @@ decreases-more_tests l = 5 * l.budget + 2
 abbrev pub decreases-negation : goal.decreases-negation
 decreases-negation l = 5 * l.budget
 
+abbrev pub decreases-denial : goal.decreases-denial
+decreases-denial l = 5 * l.budget + 1
+
 abbrev pub decreases-comparison : goal.decreases-comparison
 decreases-comparison l = 5 * l.budget
 
@@ -38,6 +41,9 @@ decreases-side l = 5 * l.budget + 3
 
 abbrev pub decreases-operand : goal.decreases-operand
 decreases-operand l = 5 * l.budget
+
+abbrev pub decreases-signed : goal.decreases-signed
+decreases-signed l = 5 * l.budget + 1
 
 abbrev pub decreases-atom : goal.decreases-atom
 decreases-atom l = 5 * l.budget
