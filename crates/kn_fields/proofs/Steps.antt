@@ -116,10 +116,19 @@ pub going_list : {S X E Y : Type 0} (which : Reader S) (piece : S → X → List
 unfolding list_at
 going_list which piece item make finish n s list words none same = record { is = grind arith }
 
--- so behind a first part of its own, and a sign
-pub going_tail : {S X E Y : Type 0} (which : Reader S) (piece : S → X → List E) (item : Reader X) (make : List E → Y) (n : ℕ) (s : S) (list : List E) (words further : List Word)
-    → list ≡ [] → 0 < n → which words ≡ Some (s, further) → Going which piece item make (n - 1) s list further (map_read make (tail_at which piece item n words))
-going_tail which piece item make n s list words further none some sign = record { is = grind (arith, tail_step which piece item n words some) }
+-- so where a list begins with these
+front_made : {E Y : Type 0} (make : List E → Y) (front : List E) (read : Read (List E)) → map_read make (with_front front read) ≡ map_read (λ others. make (front ++ others)) read
+front_made make front None = refl
+front_made make front (Some read) = refl
+
+pub going_on : {S X E Y : Type 0} (which : Reader S) (piece : S → X → List E) (item : Reader X) (make : List E → Y) (n : ℕ) (s : S) (front list : List E) (words : List Word) → list ≡ front
+    → Going which piece item make n s list words (map_read (λ others. make (front ++ others)) (more_at piece item (tail_at which piece item n) s words))
+going_on which piece item make n s front list words same = record { is = rw same (front_made make front (more_at piece item (tail_at which piece item n) s words)) }
+
+-- a list with a part at its end has some
+pub not_none : {E : Type 0} (list longer : List E) (part : E) → longer ≡ list ++ part ∷ [] → longer ≡ [] → ⊥
+not_none [] longer part is none = absurd (cc)
+not_none (first ∷ list) longer part is none = absurd (cc)
 
 -- nothing is behind it
 pub tail_none : {S X E Y : Type 0} (which : Reader S) (piece : S → X → List E) (item : Reader X) (make : List E → Y) (n : ℕ) (words : List Word) → 0 < n → which words ≡ None

@@ -1,20 +1,20 @@
 -- Reading step by step.
-use Rattle.std.proofs.Common.{◌≡◌, ℕ, zero, suc, ◌-◌, ◌*◌, List, [], ◌∷◌, ◌++◌, length, codes, Option, None, true, false, refl, sym, ap, subst}
+use Rattle.std.proofs.Common.{◌≡◌, ℕ, zero, suc, ◌-◌, ◌*◌, List, [], ◌∷◌, ◌++◌, length, codes, Option, Some, None, refl, sym, ap, ◌∙◌, arith}
 use Rattle.kn_lex.specs.declared.token.Sort.{Sort}
 use Rattle.kn_lex.specs.declared.token.Sort.TheVariants.{Label, Body, Name as SortName, Number, Text, Sign}
 use Rattle.kn_fields.specs.Words.{Word, Mark, with_rest, word_by, itself}
-use Rattle.kn_fields.specs.Reading.{Read, then_read, closed_by, one_part, whole, taken, marked}
-use Rattle.kn_fields.proofs.Steps.{Going, going_list, list_none, less_one}
+use Rattle.kn_fields.specs.Reading.{Read, Reader, map_read, then_read, closed_by, tail_at, list_at, one_part, whole, taken, marked}
+use Rattle.kn_fields.proofs.Steps.{Going, going_on, tail_step, tail_none, list_none, less_one}
 use Rattle.kn_formula.specs.Trees.{joined, need_of}
-use Rattle.kn_formula.specs.Reading.{rule_text, is_whole, finished, parts_of, of_front, one_front, parts_at, item_at, one_at, read_words}
+use Rattle.kn_formula.specs.Reading.{rule_text, finished, parts_of, of_front, one_front, parts_at, more_parts_at, item_at, one_at, read_words}
 use Rattle.kn_formula.specs.declared.written.Rule.{Rule}
 use Rattle.kn_formula.specs.declared.written.Rule.TheVariants.{All, Any, AtLeast}
 use Rattle.kn_formula.specs.declared.written.Written.{Written}
 use Rattle.kn_formula.specs.declared.written.Written.TheVariants.{Several}
 
--- a list under a rule of which so much is read
-abbrev pub Parts : Rule → ℕ → ℕ → List Written → List Word → List Word → Type 0
-Parts rule budget left list words all = Going (marked (rule_text rule)) one_part (item_at (budget - 1) rule) (finished rule) left tt list words (parts_at budget rule all)
+-- what is read behind a first part
+abbrev pub parts_behind : ℕ → Rule → Written → Reader Written
+parts_behind n rule first words = map_read (λ parts. finished rule (first ∷ parts)) (tail_at (marked (rule_text rule)) one_part (item_at (n - 1) rule) n words)
 
 parts_step : (budget : ℕ) (rule : Rule) (words : List Word) → parts_at budget rule words ≡ parts_of rule (item_at (budget - 1) rule) budget words
 unfolding parts_at
@@ -23,26 +23,37 @@ parts_step (suc n) All words = ap (λ m. parts_of All (one_at m) (suc n) words) 
 parts_step (suc n) Any words = ap (λ m. parts_of Any (parts_at m All) (suc n) words) (less_one n)
 parts_step (suc n) (AtLeast need) words = ap (λ m. parts_of (AtLeast need) (parts_at m Any) (suc n) words) (less_one n)
 
-pub parts_start : (budget : ℕ) (rule : Rule) (list : List Written) (words : List Word) → list ≡ [] → Parts rule budget budget list words words
-parts_start budget rule list words none =
-    subst (Going (marked (rule_text rule)) one_part (item_at (budget - 1) rule) (finished rule) budget tt list words) (sym (parts_step budget rule words))
-    (going_list (marked (rule_text rule)) one_part (item_at (budget - 1) rule) (finished rule) (λ part parts. finished rule (part ∷ parts)) budget tt list words none (λ part parts. refl))
+-- a first part, and the parts behind it
+pub parts_read : (budget : ℕ) (rule : Rule) (words : List Word) (first : Read Written) → item_at (budget - 1) rule words ≡ first → parts_at budget rule words ≡ then_read first (parts_behind budget rule)
+unfolding list_at
+parts_read budget rule words first read = rw (parts_step budget rule words, read) refl
 
--- a part behind these is the whole list
-pub whole_alone : (rule : Rule) (list : List Written) (last : Written) → is_whole rule list ≡ true → last ≡ finished rule (list ++ last ∷ [])
-unfolding joined
-whole_alone All [] last whole = refl
-whole_alone Any [] last whole = refl
-whole_alone _ list last whole = absurd (cc)
+pub parts_more : (budget : ℕ) (rule : Rule) (first : Written) (words further : List Word) → (budget ≡ 0 → ⊥) → marked (rule_text rule) words ≡ Some (tt, further)
+    → parts_behind budget rule first words ≡ more_parts_at (budget - 1) rule first further
+parts_more budget rule first words further some there =
+    rw (tail_step (marked (rule_text rule)) one_part (item_at (budget - 1) rule) budget words (omega (arith, some)), there) refl
 
--- it isn't
-pub whole_several : (rule : Rule) (list : List Written) (last : Written) → is_whole rule list ≡ false → Several rule (list ++ last ∷ []) ≡ finished rule (list ++ last ∷ [])
+pub parts_alone : (budget : ℕ) (rule : Rule) (first whole : Written) (words rest : List Word) → (budget ≡ 0 → ⊥) → marked (rule_text rule) words ≡ None → rest ≡ words → whole ≡ finished rule (first ∷ [])
+    → parts_behind budget rule first words ≡ Some (whole, rest)
+parts_alone budget rule first whole words rest some none same is =
+    rw (same, is) (tail_none (marked (rule_text rule)) one_part (item_at (budget - 1) rule) (λ parts. finished rule (first ∷ parts)) budget words (omega (arith, some)) none)
+
+-- a list under a rule of which so much is read
+abbrev pub Parts : Rule → ℕ → ℕ → List Written → List Word → Read Written → Type 0
+Parts rule budget left list words all = Going (marked (rule_text rule)) one_part (item_at budget rule) (finished rule) left tt list words all
+
+pub parts_start : (budget : ℕ) (rule : Rule) (first : Written) (empty list : List Written) (words : List Word) → empty ≡ [] → list ≡ empty ++ first ∷ [] → Parts rule budget budget list words (more_parts_at budget rule first words)
+parts_start budget rule first empty list words none is =
+    going_on (marked (rule_text rule)) one_part (item_at budget rule) (finished rule) budget tt (first ∷ []) list words (is ∙ ap (λ (list : List Written). list ++ first ∷ []) none)
+
+-- a part behind others
+pub whole_several : (rule : Rule) (list : List Written) (last : Written) → (list ≡ [] → ⊥) → Several rule (list ++ last ∷ []) ≡ finished rule (list ++ last ∷ [])
 unfolding joined
-whole_several All [] last more = absurd (cc)
-whole_several Any [] last more = absurd (cc)
-whole_several All (part ∷ []) last more = refl
-whole_several Any (part ∷ []) last more = refl
-whole_several _ list last more = refl
+whole_several All [] last some = absurd (some refl)
+whole_several Any [] last some = absurd (some refl)
+whole_several All (part ∷ []) last some = refl
+whole_several Any (part ∷ []) last some = refl
+whole_several _ list last some = refl
 
 one_step : (budget : ℕ) (words : List Word) → (budget ≡ 0 → ⊥) → one_at budget words ≡ one_front words (parts_at (budget - 1))
 unfolding one_at

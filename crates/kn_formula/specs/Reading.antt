@@ -1,9 +1,9 @@
 -- Reading a formula from the front of a field's words: the bridge between the grammar and the code. The number bounds
 -- the steps, of which three for each word are enough.
-use Rattle.std.specs.Prelude.{ℕ, zero, suc, ◌*◌, Bool, true, false, List, [], ◌∷◌, length, codes, Option, Some, None}
+use Rattle.std.specs.Prelude.{ℕ, zero, suc, ◌*◌, List, [], ◌∷◌, length, codes, Option, Some, None}
 use Rattle.kn_fields.specs.Words.{Word, Mark}
 use Rattle.kn_fields.specs.Words.Word.{literal, name, number, sign, other}
-use Rattle.kn_fields.specs.Reading.{Read, Reader, then_read, closed_by, list_at, one_part, whole, marked, named}
+use Rattle.kn_fields.specs.Reading.{Read, Reader, map_read, then_read, closed_by, more_at, tail_at, list_at, one_part, whole, marked, named}
 use Rattle.kn_formula.specs.Trees.{joined, need_of}
 use Rattle.kn_formula.specs.declared.written.Principal.TheVariants.{Literal, Name}
 use Rattle.kn_formula.specs.declared.written.Rule.{Rule}
@@ -21,12 +21,6 @@ rule_text (AtLeast need) = codes ","
 abbrev pub finished : Rule → List Written → Written
 finished (AtLeast need) parts = Several (AtLeast need) parts
 finished rule parts = joined rule parts
-
--- a part behind these is the whole list
-abbrev pub is_whole : Rule → List Written → Bool
-is_whole (AtLeast need) list = false
-is_whole rule [] = true
-is_whole rule (part ∷ list) = false
 
 -- a list under a rule of these items
 abbrev pub parts_of : Rule → Reader Written → ℕ → Reader Written
@@ -59,6 +53,11 @@ abbrev pub item_at : ℕ → Rule → Reader Written
 item_at n All = one_at n
 item_at n Any = parts_at n All
 item_at n (AtLeast need) = parts_at n Any
+
+-- a list under a rule with a first part that is read, and a sign behind it
+abbrev pub more_parts_at : ℕ → Rule → Written → Reader Written
+more_parts_at n rule first words =
+    map_read (λ parts. finished rule (first ∷ parts)) (more_at one_part (item_at n rule) (tail_at (marked (rule_text rule)) one_part (item_at n rule) n) tt words)
 
 -- the formula of all these words
 unfoldable pub read_words : List Word → Option Written

@@ -2,10 +2,10 @@
 //!
 //! The budget bounds the steps of a reading: each step down the grammar takes one, and a list has fewer parts than
 //! it. Three for each token are enough.
-ghost use Rattle.std.specs.Prelude.{◌≡◌, [], ◌∷◌, ◌++◌, IfOk, codes};
+ghost use Rattle.std.specs.Prelude.{◌≡◌, [], ◌∷◌, IfOk, codes};
 ghost use Rattle.std.specs.Str.{bytes_eq};
 ghost use Rattle.kn_fields.specs.Reading.{Reads, ReadsWhole, then_read, closed_by};
-ghost use Rattle.kn_formula.specs.Reading.{rule_text, is_whole, finished, of_front, parts_at, item_at, one_at, read_words};
+ghost use Rattle.kn_formula.specs.Reading.{rule_text, finished, of_front, parts_at, more_parts_at, item_at, one_at, read_words};
 
 use crate::threshold::need_of;
 use crate::written::{Principal, Rule, Written};
@@ -15,6 +15,7 @@ use kn_lex::{Sort, literal};
 use std::alloc::Global;
 
 /// The sign between the parts of a list under a rule.
+#[inline(always)]
 fn rule_text(rule: Rule) -> &'static [u8]
     ensures { result.now ≡ rule_text rule }
 {
@@ -25,26 +26,20 @@ fn rule_text(rule: Rule) -> &'static [u8]
     }
 }
 
-/// Whether a part that no other precedes is the whole list under a rule.
-fn is_whole(rule: Rule, list: &List<Written>) -> bool
-    ensures { result ≡ is_whole rule list.now }
+/// The one part of a list under a rule: it is itself, but in a threshold.
+#[inline(always)]
+#[tactic(auto, unfolding(crate::specs::Trees::joined))]
+fn alone(alloc: Global, rule: Rule, part: Written) -> Result<Written, NoMemory>
+    ensures { IfOk result (λ whole. whole ≡ finished rule (part ∷ [])) }
 {
     match rule {
-        Rule::AtLeast(_) => false,
-        _ => list.is_empty(),
+        Rule::All | Rule::Any => Ok(part),
+        Rule::AtLeast(_) => {
+            let mut parts = List::new(alloc);
+            parts.add(part)?;
+            Ok(Written::Several { rule, parts })
+        }
     }
-}
-
-/// The parts under a rule, of which the last comes alone: without another part it is itself, but in a threshold.
-fn finished(rule: Rule, list: List<Written>, last: Written) -> Result<Written, NoMemory>
-    ensures { IfOk result (λ whole. whole ≡ finished rule (list ++ last ∷ [])) }
-{
-    if is_whole(rule, &list) {
-        return Ok(last);
-    }
-    let mut parts = list;
-    parts.add(last)?;
-    Ok(Written::Several { rule, parts })
 }
 
 /// A list under a rule.
@@ -57,15 +52,38 @@ fn parts(
 ) -> Result<Written, Unread>
     ensures { Reads result (parts_at budget rule cursor.old) cursor.new }
 {
-    let mut list = List::new(alloc);
+    if budget == 0 {
+        return Err(Unread::Syntax);
+    }
+    let first = item(alloc, cursor, rule, budget - 1)?;
+    if cursor.take_sign(rule_text(rule)) {
+        more_parts(alloc, cursor, rule, first, budget - 1)
+    } else {
+        let whole = alone(alloc, rule, first)?;
+        Ok(whole)
+    }
+}
+
+/// A list under a rule with a first part that is read, and a sign behind it.
+#[cycle(form)]
+fn more_parts(
+    alloc: Global,
+    cursor: &mut Cursor<'_, '_>,
+    rule: Rule,
+    first: Written,
+    budget: u64,
+) -> Result<Written, Unread>
+    ensures { Reads result (more_parts_at budget rule first cursor.old) cursor.new }
+{
+    let mut parts = List::new(alloc);
+    parts.add(first)?;
     let mut left = budget;
     while left > 0 {
-        let part = item(alloc, cursor, rule, budget - 1)?;
+        let part = item(alloc, cursor, rule, budget)?;
+        parts.add(part)?;
         if !cursor.take_sign(rule_text(rule)) {
-            let whole = finished(rule, list, part)?;
-            return Ok(whole);
+            return Ok(Written::Several { rule, parts });
         }
-        list.add(part)?;
         left -= 1;
     }
     Err(Unread::Syntax)
@@ -73,6 +91,7 @@ fn parts(
 
 /// A part of a list under a rule.
 #[cycle(form)]
+#[inline(always)]
 fn item(
     alloc: Global,
     cursor: &mut Cursor<'_, '_>,
@@ -88,10 +107,11 @@ fn item(
     }
 }
 
+#[inline(always)]
 fn is_opening(text: &[u8]) -> bool
     ensures { result ≡ bytes_eq text.now (codes "(") }
 {
-    text == b"(".as_slice()
+    matches!(text, [b'('])
 }
 
 /// What stands between the number of a threshold and its list.
@@ -105,6 +125,7 @@ fn of_front(cursor: &mut Cursor<'_, '_>) -> Result<(), Unread>
 
 /// A principal, a formula in brackets or a threshold.
 #[cycle(form)]
+#[inline(always)]
 fn one(alloc: Global, cursor: &mut Cursor<'_, '_>, budget: u64) -> Result<Written, Unread>
     ensures { Reads result (one_at budget cursor.old) cursor.new }
 {

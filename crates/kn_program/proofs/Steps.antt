@@ -1,8 +1,8 @@
 -- Reading step by step.
 use Rattle.std.proofs.Common.{◌≡◌, ℕ, zero, suc, ◌+◌, ◌-◌, ◌*◌, ◌<◌, ◌≤◌, List, [], ◌∷◌, ◌++◌, length, codes, Option, Some, None, refl, sym, ap, subst, ◌∙◌, arith}
 use Rattle.kn_fields.specs.Words.{Word, Mark}
-use Rattle.kn_fields.specs.Reading.{Read, Reader, map_read, then_read, behind_sign, with_front, closed_by, more_at, tail_at, list_at, one_part, whole, taken, marked}
-use Rattle.kn_fields.proofs.Steps.{Going, going_list, tail_step, tail_none, list_none, less_one}
+use Rattle.kn_fields.specs.Reading.{Read, Reader, map_read, then_read, behind_sign, closed_by, tail_at, list_at, one_part, whole, taken, marked}
+use Rattle.kn_fields.proofs.Steps.{Going, going_list, going_on, tail_step, tail_none, list_none, less_one}
 use Rattle.kn_trees.specs.declared.program.Expr.{Expr}
 use Rattle.kn_trees.specs.declared.program.Expr.TheVariants as E
 use Rattle.kn_trees.specs.declared.program.Link2.{Link2}
@@ -50,15 +50,6 @@ unfolding joined
 tests_alone budget joint first words rest some none same =
     tail_none (marked (joint_text joint)) one_part (test_at (budget - 1) joint) (joined_parts joint first) budget words (omega (arith, some)) none ∙ ap (λ (words : List Word). Some (first, words)) (sym same)
 
--- a list that begins with these is read on
-front_made : {E Y : Type 0} (make : List E → Y) (front : List E) (read : Read (List E)) → map_read make (with_front front read) ≡ map_read (λ others. make (front ++ others)) read
-front_made make front None = refl
-front_made make front (Some read) = refl
-
-going_on : {S X E Y : Type 0} (which : Reader S) (piece : S → X → List E) (item : Reader X) (make : List E → Y) (n : ℕ) (s : S) (front list : List E) (words : List Word) → list ≡ front
-    → Going which piece item make n s list words (map_read (λ others. make (front ++ others)) (more_at piece item (tail_at which piece item n) s words))
-going_on which piece item make n s front list words same = record { is = rw same (front_made make front (more_at piece item (tail_at which piece item n) s words)) }
-
 -- tests of which so much is read
 abbrev pub Tests : Joint → ℕ → ℕ → List Expr → List Word → Read Expr → Type 0
 Tests joint budget left parts words all = Going (marked (joint_text joint)) one_part (test_at budget joint) (joined joint) left tt parts words all
@@ -66,10 +57,6 @@ Tests joint budget left parts words all = Going (marked (joint_text joint)) one_
 pub tests_start : (budget : ℕ) (joint : Joint) (first : Expr) (empty parts : List Expr) (words : List Word) → empty ≡ [] → parts ≡ empty ++ first ∷ [] → Tests joint budget budget parts words (more_tests_at budget joint first words)
 tests_start budget joint first empty parts words none is =
     going_on (marked (joint_text joint)) one_part (test_at budget joint) (joined joint) budget tt (first ∷ []) parts words (is ∙ ap (λ (list : List Expr). list ++ first ∷ []) none)
-
-pub not_none : (list longer : List Expr) (part : Expr) → longer ≡ list ++ part ∷ [] → longer ≡ [] → ⊥
-not_none [] longer part is none = absurd (cc)
-not_none (first ∷ list) longer part is none = absurd (cc)
 
 -- operands with operations of a level between them
 

@@ -1,30 +1,57 @@
-use Rattle.std.proofs.Common.{ℕ, refl, List, Some, None, ap, sym, ◌∙◌, arith}
+use Rattle.std.proofs.Common.{ℕ, refl, List, Some, None, ap, sym, ◌∙◌}
 use Rattle.kn_fields.proofs.Words.{took, passed, is_itself, not_itself}
-use Rattle.kn_fields.proofs.Steps.{going_more, going_last, going_over, fault_handed_on, reads_along}
+use Rattle.kn_fields.proofs.Steps.{not_none, going_more, going_last, going_none, going_over, fault_handed_on, reads_along}
 use Rattle.kn_formula.specs.declared.written.Principal.TheVariants.{Literal, Name}
-use Rattle.kn_formula.specs.declared.written.Written.TheVariants.{Who}
+use Rattle.kn_formula.specs.declared.written.Written.TheVariants.{Who, Several}
 use Rattle.kn_lex.specs.declared.token.Sort.TheVariants.{Name as SortName, Text}
-use Rattle.kn_formula.specs.Reading.{one_at}
-use Rattle.kn_formula.proofs.Steps.{parts_start, one_end, one_word, one_number, one_sign, one_other}
+use Rattle.kn_formula.specs.Reading.{parts_at, one_at}
+use Rattle.kn_formula.proofs.Steps.{parts_read, parts_more, parts_alone, parts_start, whole_several, one_end, one_word, one_number, one_sign, one_other}
 use Rattle.kn_formula.proofs.grammar.+form.Goals as goal
 
-pub parts-loop-left-init : goal.parts-loop-left-init
-parts-loop-left-init t c = record { fewer = omega arith; going = parts_start c.args.budget c.args.rule _ _ c.new-list.ensures }
+pub parts-returns-then-budget-eq0 : goal.parts-returns-then-budget-eq0
+unfolding parts_at
+parts-returns-then-budget-eq0 t c = rw c.if-budget-eq0.true refl
 
-pub parts-returns-then-not-take_sign : goal.parts-returns-then-not-take_sign
-parts-returns-then-not-take_sign t c =
+pub parts-returns-in_err-first : goal.parts-returns-in_err-first
+parts-returns-in_err-first t c = fault_handed_on _ _ _ _ c.from_residual.ensures.1 c.in_err-first.ensures (parts_read c.args.budget c.args.rule _ None)
+
+pub parts-returns-then-take_sign : goal.parts-returns-then-take_sign
+parts-returns-then-take_sign t c =
+    reads_along c.more_parts.result _
+    (parts_read c.args.budget c.args.rule _ _ c.in_ok-first.ensures
+    ∙ parts_more c.args.budget c.args.rule c.in_ok-first.first _ _ c.if-budget-eq0.false (took _ _ _ _ _ c.if-take_sign.true c.take_sign.ensures.taken c.rule_text.ensures))
+    c.more_parts.ensures
+
+pub parts-returns-in_ok-whole : goal.parts-returns-in_ok-whole
+parts-returns-in_ok-whole t c =
+    parts_read c.args.budget c.args.rule _ _ c.in_ok-first.ensures
+    ∙ parts_alone c.args.budget c.args.rule c.in_ok-first.first _ _ _ c.if-budget-eq0.false (passed _ _ _ _ _ c.if-take_sign.false c.take_sign.ensures.taken c.rule_text.ensures)
+    (c.take_sign.ensures.kept c.if-take_sign.false) c.in_ok-whole.ensures
+
+pub more_parts-loop-left-init : goal.more_parts-loop-left-init
+more_parts-loop-left-init t c = record {
+  some = not_none _ _ c.args.first c.in_ok-add.ensures.ok;
+  going = parts_start c.args.budget c.args.rule c.args.first _ _ _ c.new-parts.ensures c.in_ok-add.ensures.ok;
+}
+
+pub more_parts-returns-in_err-part : goal.more_parts-returns-in_err-part
+more_parts-returns-in_err-part t c = fault_handed_on _ _ _ _ c.from_residual-in_err-part.ensures.1 c.in_err-part.ensures (going_none c.loop-left.invariant.going)
+
+pub more_parts-returns-then-not-take_sign : goal.more_parts-returns-then-not-take_sign
+more_parts-returns-then-not-take_sign t c =
     going_last c.loop-left.invariant.going c.loop-left-test.true c.in_ok-part.ensures
-    (passed _ _ _ _ _ c.if-not-take_sign.true c.take_sign.ensures.taken c.rule_text.ensures) (c.take_sign.ensures.kept c.if-not-take_sign.true) c.in_ok-whole.ensures
+    (passed _ _ _ _ _ c.if-not-take_sign.true c.take_sign.ensures.taken c.rule_text.ensures) (c.take_sign.ensures.kept c.if-not-take_sign.true)
+    (ap (Several c.args.rule) c.in_ok-add-2.ensures.ok ∙ whole_several c.args.rule _ c.in_ok-part.part c.loop-left.invariant.some)
 
-pub parts-loop-left-preserved : goal.parts-loop-left-preserved
-parts-loop-left-preserved t c = record {
-  fewer = omega (arith, c.loop-left.invariant.fewer);
-  going = going_more c.loop-left.invariant.going c.loop-left-test.true c.in_ok-part.ensures c.in_ok-add.ensures.ok
+pub more_parts-loop-left-preserved : goal.more_parts-loop-left-preserved
+more_parts-loop-left-preserved t c = record {
+  some = not_none _ _ c.in_ok-part.part c.in_ok-add-2.ensures.ok;
+  going = going_more c.loop-left.invariant.going c.loop-left-test.true c.in_ok-part.ensures c.in_ok-add-2.ensures.ok
       (took _ _ _ _ _ c.if-not-take_sign.false c.take_sign.ensures.taken c.rule_text.ensures);
 }
 
-pub parts-returns : goal.parts-returns
-parts-returns t c = going_over c.loop-left.invariant.going c.loop-left-test.false
+pub more_parts-returns : goal.more_parts-returns
+more_parts-returns t c = going_over c.loop-left.invariant.going c.loop-left-test.false
 
 pub one-returns-then-budget-eq0 : goal.one-returns-then-budget-eq0
 unfolding one_at

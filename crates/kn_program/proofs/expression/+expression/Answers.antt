@@ -3,10 +3,10 @@ use Rattle.kn_lex.specs.Seeing.{seen}
 use Rattle.kn_trees.specs.declared.program.Expr.{Expr}
 use Rattle.kn_fields.specs.Words.{Word, word_of}
 use Rattle.kn_fields.proofs.Words.{took, passed}
-use Rattle.kn_fields.proofs.Steps.{going_more, going_last, going_none, going_over, fault_handed_on, reads_along}
+use Rattle.kn_fields.proofs.Steps.{not_none, going_more, going_last, going_none, going_over, fault_handed_on, reads_along}
 use Rattle.kn_program.specs.Reading.{tests_at, negation_at, comparison_at, operand_at, atom_at}
 use Rattle.kn_program.specs.Trees.{several, chained}
-use Rattle.kn_program.proofs.Steps.{tests_read, tests_more, tests_alone, tests_start, not_none, some_levels, chain_read, climb_step, climb_none, links_none, links_more, links_start, negation_none, negation_some, comparison_read, left_alone, left_two, operand_none, operand_some, atom_end, atom_constant, atom_group, group_read, group_closed}
+use Rattle.kn_program.proofs.Steps.{tests_read, tests_more, tests_alone, tests_start, some_levels, chain_read, climb_step, climb_none, links_none, links_more, links_start, negation_none, negation_some, comparison_read, left_alone, left_two, operand_none, operand_some, atom_end, atom_constant, atom_group, group_read, group_closed}
 use Rattle.kn_program.proofs.TreeLemmas.{joined_more}
 use Rattle.kn_program.proofs.expression.+expression.Goals as goal
 

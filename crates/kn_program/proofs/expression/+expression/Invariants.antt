@@ -1,4 +1,4 @@
-use Rattle.std.proofs.Common.{◌≡◌, ◌+◌, ◌*◌, List, []}
+use Rattle.std.proofs.Common.{◌≡◌, ◌+◌, ◌*◌, []}
 use Rattle.kn_program.specs.Reading.{more_tests_at, more_links_at}
 use Rattle.kn_program.proofs.Steps.{Tests, Links}
 use Rattle.kn_program.proofs.expression.+expression.Given as goal
