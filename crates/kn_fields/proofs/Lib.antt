@@ -1,3 +1,4 @@
+pub mod Before
 pub mod Between
 pub mod Parts
 pub mod Lists

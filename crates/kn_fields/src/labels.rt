@@ -15,30 +15,26 @@ fn stands_before(tokens: &Tokens<'_>, at: u32, number: u8) -> bool
     requires { at ≤ length tokens.now }
     ensures { result ≡ list_any (is_label_of number) (between 0 at tokens.now) }
 {
-    for i in 0..at {
-        if let Some(token) = tokens.get(i) {
+    let mut label = tokens.next_label(0);
+    while label < at {
+        let next = tokens.next_label(label + 1);
+        if let Some(token) = tokens.get(label) {
             if is_label_of(token, number) {
                 return true;
             }
         }
+        label = next;
     }
     false
 }
 
 /// Whether any label stands before a place.
-#[tactic(auto, using(crate::proofs::Between::steps))]
+#[tactic(auto, using(crate::proofs::Before::label_stands))]
 fn label_before(tokens: &Tokens<'_>, at: u32) -> bool
     requires { at ≤ length tokens.now }
     ensures { result ≡ list_any is_label (between 0 at tokens.now) }
 {
-    for i in 0..at {
-        if let Some(token) = tokens.get(i) {
-            if is_label(token) {
-                return true;
-            }
-        }
-    }
-    false
+    tokens.next_label(0) < at
 }
 
 /// Whether this field, if any, stands before a place.
