@@ -84,6 +84,26 @@ pub plain_piece_of : (first : Bool) (rest : List ℕ) (kind : Kind) → 0 < leng
     → plain_piece first rest ≡ by_kind kind first rest
 plain_piece_of first rest kind h e = plain_piece_by_kind first rest h ∙ ap (λ k. by_kind k first rest) e
 
+-- at the beginning of a line a label begins, or what begins within one
+
+pub no_label : (rest : List ℕ) → label_len rest ≡ None → plain_piece true rest ≡ plain_piece false rest
+unfolding plain_piece
+no_label [] e = refl
+no_label (c ∷ cs) e = rw e refl
+
+pub label_here : (rest : List ℕ) (n : ℕ) → label_len rest ≡ Some n → plain_piece true rest ≡ Some (Token Label, n)
+unfolding plain_piece
+label_here [] n e = absurd (cc)
+label_here (c ∷ cs) n e =
+    let letter : is_letter c ≡ true = by (is_letter c) (colon_len (c ∷ cs)) e in
+    let white : is_white c ≡ false = grind (arith, nat_tests) in
+    let hash : (c == 35) ≡ false = grind (arith, nat_tests) in
+    let begins : begins_name c ≡ true = rw letter refl in
+    rw (white, hash, begins, e) refl
+  where
+    by : (letter : Bool) (k : Option ℕ) → (if letter then k else None) ≡ Some n → letter ≡ true
+    by letter k e = grind arith
+
 sign_found : (first : Bool) (c : ℕ) (cs : List ℕ) → not (begins_no_sign c) ≡ true → plain_piece first (c ∷ cs) ≡ with_sort Sign (sign_len (c ∷ cs))
 unfolding plain_piece
 sign_found first c cs e = by (is_white c) (c == 35) (begins_name c) (is_digit c) (c == 34) _ _ _ _ _ e

@@ -1,14 +1,14 @@
 //! The fault that a place in a text shows.
 
-ghost use Rattle.std.specs.Prelude.{◌≡◌, ◌+◌, ◌<◌, ◌≤◌, ◌^◌, true, false, nat_lt, ◌==◌, None, length, take, drop, IfSome, IfOk, IfErr, OnOk};
+ghost use Rattle.std.specs.Prelude.{◌≡◌, ◌+◌, ◌<◌, ◌≤◌, ◌^◌, true, false, nat_lt, ◌==◌, None, Some, length, take, drop, IfSome, IfOk, IfErr, OnOk, MatchOption};
 ghost use Rattle.kn_base.specs.Decimal.{digits_value};
 ghost use Rattle.kn_lex.specs.Faults.{begins_fraction, begins_match, number_max, goes_on};
-ghost use Rattle.kn_lex.specs.Scanning.{stuck_fault, number_fault, zero_place, piece_fault, fault_by, piece_at, is_bad_blank, fault_at};
+ghost use Rattle.kn_lex.specs.Scanning.{stuck_fault, number_fault, zero_place, piece_fault, fault_by, plain_piece, piece_at, is_bad_blank, fault_at};
 
 use crate::bytes::{is_digit, is_white};
 use crate::fault::LexFault;
 use crate::piece::{Context, Piece, Place, is_number};
-use crate::scan::{is_blank, piece_at};
+use crate::scan::{is_blank, piece_at, starting_piece};
 use crate::token::Sort;
 use memchr::memchr;
 
@@ -16,6 +16,7 @@ use memchr::memchr;
 const NUMBER_MAX: u64 = 2_147_483_647;
 
 /// Whether a byte stands in a text, from outside comments on, that is neither white space nor in a comment.
+#[inline(never)]
 #[tactic(auto, using(crate::proofs::Scans::goes_on_at, crate::proofs::Scans::goes_on_end))]
 pub fn goes_on(rest: &[u8]) -> bool
     ensures { result ≡ goes_on false rest.now }
@@ -144,10 +145,44 @@ fn check_blank(place: Place, at: u32, rest: &[u8], settled: bool) -> Result<bool
     Ok(true)
 }
 
+/// What stands at the beginning of a line alone.
+#[derive(Debug, Clone, Copy)]
+struct Beginning {
+    /// The label or body that begins here, with its length.
+    found: Option<(Piece, usize)>,
+    /// Whether only white space and comments are left, so far as that is known.
+    settled: bool,
+}
+
+/// Looks for what may stand at the beginning of a line alone: a label, a body, or a blank line between tokens.
+#[inline(always)]
+fn begin_line(place: Place, at: u32, rest: &[u8], settled: bool) -> Result<Beginning, LexFault>
+    requires { settled ≡ true → goes_on false rest.now ≡ false }
+    ensures piece { IfOk result (λ begun. MatchOption begun.found (piece_at place.context rest.now ≡ plain_piece false rest.now) (λ p. piece_at place.context rest.now ≡ Some p)) }
+    ensures within { IfOk result (λ begun. IfSome begun.found (λ p. p.1 ≤ length rest.now)) }
+    ensures ok { OnOk result (is_bad_blank place rest.now ≡ false) }
+    ensures known { IfOk result (λ begun. begun.settled ≡ true → goes_on false rest.now ≡ false) }
+    ensures err { IfErr result (λ fault. (fault ≡ LexFault.Blank at) × (is_bad_blank place rest.now ≡ true)) }
+{
+    if let Context::WithinLine = place.context {
+        return Ok(Beginning {
+            found: None,
+            settled,
+        });
+    }
+    match check_blank(place, at, rest, settled) {
+        Ok(settled) => Ok(Beginning {
+            found: starting_piece(place.context, rest),
+            settled,
+        }),
+        Err(fault) => Err(fault),
+    }
+}
+
 /// The piece that begins here, or the fault that what is left shows, blank lines aside.
 #[inline(always)]
 fn clean_piece(
-    context: Context,
+    found: Option<(Piece, usize)>,
     at: u32,
     rest: &[u8],
     has_zero: bool,
@@ -155,12 +190,13 @@ fn clean_piece(
     requires some { 0 < length rest.now }
     requires short { at + length rest.now < 2 ^ 32 }
     requires no_zero { has_zero ≡ false → zero_place rest.now ≡ None }
-    ensures piece { IfOk result (λ p. piece_at context rest.now ≡ Some p) }
-    ensures clean { IfOk result (λ p. fault_by at rest.now (piece_at context rest.now) ≡ None) }
+    requires within { IfSome found (λ p. p.1 ≤ length rest.now) }
+    ensures piece { (context : Context) → MatchOption found (piece_at context rest.now ≡ plain_piece false rest.now) (λ p. piece_at context rest.now ≡ Some p) → IfOk result (λ p. piece_at context rest.now ≡ Some p) }
+    ensures clean { (context : Context) → MatchOption found (piece_at context rest.now ≡ plain_piece false rest.now) (λ p. piece_at context rest.now ≡ Some p) → IfOk result (λ p. fault_by at rest.now (piece_at context rest.now) ≡ None) }
     ensures within { IfOk result (λ p. p.1 ≤ length rest.now) }
-    ensures err { IfErr result (λ fault. fault_by at rest.now (piece_at context rest.now) ≡ Some fault) }
+    ensures err { (context : Context) → MatchOption found (piece_at context rest.now ≡ plain_piece false rest.now) (λ p. piece_at context rest.now ≡ Some p) → IfErr result (λ fault. fault_by at rest.now (piece_at context rest.now) ≡ Some fault) }
 {
-    let Some((piece, len)) = piece_at(context, rest) else {
+    let Some((piece, len)) = piece_at(found, rest) else {
         return Err(stuck_fault(at, rest));
     };
     let (bytes, more) = rest.split_at(len);
@@ -199,15 +235,15 @@ pub(crate) fn read_piece(
     ensures settled { IfOk result (λ read. read.settled ≡ true → goes_on false rest.now ≡ false) }
     ensures err { IfErr result (λ fault. fault_at place at rest.now ≡ Some fault) }
 {
-    let settled = match check_blank(place, at, rest, settled) {
-        Ok(settled) => settled,
+    let begun = match begin_line(place, at, rest, settled) {
+        Ok(begun) => begun,
         Err(fault) => return Err(fault),
     };
-    match clean_piece(place.context, at, rest, has_zero) {
+    match clean_piece(begun.found, at, rest, has_zero) {
         Ok((piece, len)) => Ok(Read {
             piece,
             len,
-            settled,
+            settled: begun.settled,
         }),
         Err(fault) => Err(fault),
     }

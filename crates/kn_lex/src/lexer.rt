@@ -1,9 +1,9 @@
 //! The tokens of a text, piece by piece.
 
-ghost use Rattle.std.specs.Prelude.{◌≡◌, ◌+◌, ◌≤◌, ◌<◌, ◌^◌, ◌++◌, ◌∷◌, [], if◌then◌else◌, List, length, map, OnOk, IfOk, IfErr};
+ghost use Rattle.std.specs.Prelude.{◌≡◌, ◌+◌, ◌≤◌, ◌<◌, ◌^◌, ◌++◌, ◌∷◌, [], List, length, map, OnOk, IfOk, IfErr};
 ghost use Rattle.kn_lex.specs.Cutting.{token_of, Seen, Cuts};
 ghost use Rattle.kn_lex.specs.Faults.{IsFaultless};
-ghost use Rattle.kn_lex.specs.Seeing.{seen, is_label_sort, label_places, GivesTokens, HasCause};
+ghost use Rattle.kn_lex.specs.Seeing.{seen, label_places, GivesTokens, HasCause};
 
 use crate::fault::LexFault;
 use crate::judge::{has_zero, read_piece};
@@ -13,14 +13,11 @@ use kn_base::limits::ASSERTION_BYTES;
 use kn_base::{List, Span};
 use std::alloc::Global;
 
-/// Adds the place of a token to those of the labels, if it is one.
-fn push_label(labels: &mut List<u32>, sort: Sort, at: u32) -> Result<(), LexFault>
-    ensures ok { OnOk result (labels.new ≡ labels.old ++ (if is_label_sort sort then at ∷ [] else [])) }
+/// Adds the place of a label.
+fn push_label(labels: &mut List<u32>, at: u32) -> Result<(), LexFault>
+    ensures ok { OnOk result (labels.new ≡ labels.old ++ at ∷ []) }
     ensures err { IfErr result (λ fault. fault ≡ LexFault.NoMemory) }
 {
-    let Sort::Label = sort else {
-        return Ok(());
-    };
     match labels.push(at) {
         Ok(()) => Ok(()),
         Err(_) => Err(LexFault::NoMemory),
@@ -48,7 +45,9 @@ fn push_token<'a>(
     if bytes.is_empty() {
         return Ok(());
     }
-    push_label(labels, sort, list.len())?;
+    if let Sort::Label = sort {
+        push_label(labels, list.len())?;
+    }
     let token = Token {
         sort,
         span: Span {

@@ -1,8 +1,8 @@
 //! Which piece begins at a place, and how long it is.
 
-ghost use Rattle.std.specs.Prelude.{◌≡◌, ◌≤◌, length, IfSome, if◌then◌else◌};
+ghost use Rattle.std.specs.Prelude.{◌≡◌, ◌≤◌, ◌<◌, false, Some, length, IfSome, MatchOption};
 ghost use Rattle.kn_lex.specs.Spelling.{is_blank, is_continuation};
-ghost use Rattle.kn_lex.specs.Scanning.{white_len, line_len, label_len, colon_len, body_len, sign_len, with_sort, word_piece, plain_piece, piece_at};
+ghost use Rattle.kn_lex.specs.Scanning.{white_len, line_len, label_len, colon_len, body_len, sign_len, with_sort, plain_piece, piece_at};
 
 use crate::bytes::{Class, Kind, has_at, is_letter, is_long_sign, is_short_sign, kind_of, run_len};
 use crate::piece::{Context, Piece};
@@ -47,6 +47,7 @@ fn colon_len(rest: &[u8]) -> Option<usize>
     }
 }
 
+#[inline(never)]
 fn label_len(rest: &[u8]) -> Option<usize>
     ensures len { result ≡ label_len rest.now }
     ensures within { IfSome result (λ len. len ≤ length rest.now) }
@@ -77,6 +78,7 @@ pub fn is_continuation(rest: &[u8]) -> bool
     }
 }
 
+#[inline(never)]
 #[tactic(auto, using(crate::proofs::Scans::body_by_line, crate::proofs::Scans::body_at_line, crate::proofs::Scans::body_len_end))]
 fn body_len(rest: &[u8]) -> usize
     ensures len { result ≡ body_len rest.now }
@@ -111,19 +113,6 @@ fn sign_len(rest: &[u8]) -> Option<usize>
     }
 }
 
-#[inline(always)]
-fn word_piece(first: bool, rest: &[u8]) -> (Piece, usize)
-    ensures piece { Some result ≡ word_piece (if first then label_len rest.now else None) rest.now }
-    ensures within { result.1 ≤ length rest.now }
-{
-    if first {
-        if let Some(len) = label_len(rest) {
-            return (Piece::Token(Sort::Label), len);
-        }
-    }
-    (Piece::Token(Sort::Name), run_len(Class::Name, rest))
-}
-
 fn with_sort(sort: Sort, len: Option<usize>) -> Option<(Piece, usize)>
     ensures { result ≡ with_sort sort len }
 {
@@ -133,19 +122,18 @@ fn with_sort(sort: Sort, len: Option<usize>) -> Option<(Piece, usize)>
     }
 }
 
+/// The piece that begins here within a line.
 #[inline(always)]
-#[tactic(auto, using(crate::proofs::Pieces::plain_piece_by_kind, crate::proofs::Scans::plain_piece_end))]
-fn plain_piece(first: bool, rest: &[u8]) -> Option<(Piece, usize)>
-    ensures piece { result ≡ plain_piece first rest.now }
+#[tactic(auto, using(crate::proofs::Pieces::plain_piece_by_kind))]
+fn plain_piece(rest: &[u8]) -> Option<(Piece, usize)>
+    requires { 0 < length rest.now }
+    ensures piece { result ≡ plain_piece false rest.now }
     ensures within { IfSome result (λ p. p.1 ≤ length rest.now) }
 {
-    if rest.is_empty() {
-        return None;
-    }
     match kind_of(rest[0]) {
         Kind::Space => Some((Piece::White, white_len(rest))),
         Kind::Hash => Some((Piece::Comment, line_len(rest))),
-        Kind::Word => Some(word_piece(first, rest)),
+        Kind::Word => Some((Piece::Token(Sort::Name), run_len(Class::Name, rest))),
         Kind::Numeral => Some((Piece::Token(Sort::Number), run_len(Class::Digit, rest))),
         Kind::Quote => with_sort(Sort::Text, quote_len(rest)),
         Kind::Lone => Some((Piece::Token(Sort::Sign), 1)),
@@ -153,15 +141,30 @@ fn plain_piece(first: bool, rest: &[u8]) -> Option<(Piece, usize)>
     }
 }
 
-/// The piece that begins here, with its length.
+/// The label or body that begins here. None begins within a line.
 #[inline(always)]
-pub(crate) fn piece_at(context: Context, rest: &[u8]) -> Option<(Piece, usize)>
-    ensures piece { result ≡ piece_at context rest.now }
+#[tactic(auto, using(crate::proofs::Pieces::label_here, crate::proofs::Pieces::no_label))]
+pub(crate) fn starting_piece(context: Context, rest: &[u8]) -> Option<(Piece, usize)>
+    ensures piece { MatchOption result (piece_at context rest.now ≡ plain_piece false rest.now) (λ p. piece_at context rest.now ≡ Some p) }
     ensures within { IfSome result (λ p. p.1 ≤ length rest.now) }
 {
     match context {
-        Context::LineStart => plain_piece(true, rest),
-        Context::WithinLine => plain_piece(false, rest),
+        Context::LineStart => with_sort(Sort::Label, label_len(rest)),
+        Context::WithinLine => None,
         Context::CommentBody => Some((Piece::Token(Sort::Body), body_len(rest))),
+    }
+}
+
+/// The piece that begins here, with its length: the label or body that was found, or else one as within a line.
+#[inline(always)]
+pub(crate) fn piece_at(found: Option<(Piece, usize)>, rest: &[u8]) -> Option<(Piece, usize)>
+    requires some { 0 < length rest.now }
+    requires within { IfSome found (λ p. p.1 ≤ length rest.now) }
+    ensures piece { (context : Context) → MatchOption found (piece_at context rest.now ≡ plain_piece false rest.now) (λ p. piece_at context rest.now ≡ Some p) → result ≡ piece_at context rest.now }
+    ensures within { IfSome result (λ p. p.1 ≤ length rest.now) }
+{
+    match found {
+        Some(found) => Some(found),
+        None => plain_piece(rest),
     }
 }

@@ -11,7 +11,7 @@ returns-in-Hash-clause-piece c =
 
 pub returns-in-Numeral-clause-piece : goal.returns-in-Numeral-clause-piece
 returns-in-Numeral-clause-piece c =
-    ap (λ n. Some (Token Number, n)) c.run_len.ensures.len ∙ sym (plain_piece_of _ _ Numeral (search rules) (sym c.kind_of.ensures ∙ c.in-Numeral.is))
+    ap (λ n. Some (Token Number, n)) c.run_len-in-Numeral.ensures.len ∙ sym (plain_piece_of _ _ Numeral (search rules) (sym c.kind_of.ensures ∙ c.in-Numeral.is))
 
 pub returns-in-Quote-clause-piece : goal.returns-in-Quote-clause-piece
 returns-in-Quote-clause-piece c =
