@@ -1,6 +1,6 @@
 -- Which labels stand before a place: no other tokens need be looked at.
-use Rattle.std.proofs.Common.{◌≡◌, ℕ, ◌+◌, ◌-◌, ◌<◌, ◌≤◌, zero, suc, Bool, true, false, not, Some, List, [], ◌∷◌, length, take, drop, arith, refl, sym, inl, inr, ◌∙◌, ap}
-use Rattle.std.specs.Prelude.{nat_lt, ◌||◌, slice_get}
+use Rattle.std.proofs.Common.{◌≡◌, ℕ, ◌+◌, ◌-◌, ◌<◌, ◌≤◌, zero, suc, false, Some, List, [], ◌∷◌, length, take, drop, arith, refl, sym, inl, inr}
+use Rattle.std.specs.Prelude.{nat_lt, slice_get}
 use Rattle.std.specs.List.{prefix_len, list_any}
 use Rattle.std.proofs.lemmas.Bool.{cases_Bool}
 use Rattle.std.proofs.Math.Numerals.{one-add}

@@ -1,12 +1,14 @@
 -- The scan tells whether the tokens go too deep.
-use Rattle.std.proofs.Common.{◌≡◌, ℕ, ◌<◌, ◌⊎◌, inl, inr, true, false, ◌||◌, List, [], ◌∷◌, ◌++◌, fold, get_or, length, arith, refl}
-use Rattle.std.specs.Prelude.{◌&&◌, ◌==◌}
+use Rattle.std.proofs.Common.{◌≡◌, ℕ, ◌<◌, ◌⊎◌, inl, inr, true, false, Bool, ◌||◌, ◌+◌, ◌≤◌, Some, sym, List, [], ◌∷◌, ◌++◌, fold, get_or, length, arith, refl}
+use Rattle.std.specs.Prelude.{◌&&◌, ◌==◌, slice_get}
 use Rattle.std.specs.Str.{bytes_eq}
 use Rattle.std.proofs.lemmas.Bool.{cases_Bool}
 use Rattle.std.proofs.lemmas.Bool.Decides.{nat_tests}
 use Rattle.kn_lex.specs.Cutting.{Seen}
-use Rattle.kn_fields.specs.Depth.{depth_behind, run_behind, IsTooDeep}
+use Rattle.kn_fields.specs.Depth.{is_sign, depth_behind, run_behind, IsTooDeep}
+use Rattle.kn_fields.specs.Fields.{between}
 use Rattle.kn_fields.specs.Scanning.{is_past, goes_deep}
+use Rattle.kn_fields.proofs.Between.{between_here}
 
 -- texts of one byte
 pub one_byte : (text : List ℕ) (byte : ℕ) → bytes_eq text (byte ∷ []) ≡ (length text == 1 && get_or text 0 0 == byte)
@@ -43,3 +45,21 @@ deep_shown tokens h = let d = deep_from 0 0 tokens (cc) in record { front = d.fr
 
 pub not_deep_shown : (tokens : List Seen) → false ≡ goes_deep 0 0 tokens → IsTooDeep tokens → ⊥
 not_deep_shown tokens h d = not_from 0 0 tokens d.front d.rest (cc) d.split d.deep
+
+-- token by token
+
+pub deep_step : (xs : List Seen) (i to : ℕ) (t : Seen) (depth run more_depth more_run : ℕ) (all : Bool) → all ≡ goes_deep depth run (between i to xs) → Some t ≡ slice_get xs i → i < to
+    → more_depth ≡ depth_behind depth t → more_run ≡ run_behind run t → is_past more_depth more_run ≡ false → all ≡ goes_deep more_depth more_run (between (i + 1) to xs)
+unfolding goes_deep
+deep_step xs i to t depth run more_depth more_run all e is below d r past = grind (arith, between_here xs i to t (sym is) below)
+
+no_sign : (t : Seen) (depth run : ℕ) → ((byte : ℕ) → is_sign (byte ∷ []) t ≡ false) → (depth_behind depth t ≡ depth) × (run_behind run t ≡ 0)
+unfolding depth_behind run_behind
+no_sign t depth run none = rw (none 40, none 123, none 41, none 125, none 33, none 45, none 64, none 36) (refl, refl)
+
+-- a token that is no sign of one byte opens and closes nothing
+pub quiet_step : (xs : List Seen) (i to : ℕ) (t : Seen) (depth run : ℕ) (all : Bool) → all ≡ goes_deep depth run (between i to xs) → Some t ≡ slice_get xs i → i < to
+    → ((byte : ℕ) → is_sign (byte ∷ []) t ≡ false) → depth ≤ 64 → all ≡ goes_deep depth 0 (between (i + 1) to xs)
+quiet_step xs i to t depth run all e is below none few =
+    let still = no_sign t depth run none in
+    deep_step xs i to t depth run depth 0 all e is below (sym still.0) (sym still.1) (grind (arith, nat_tests))

@@ -1,6 +1,7 @@
 pub mod Before
 pub mod Between
 pub mod Parts
+pub mod Quiet
 pub mod Lists
 pub mod Places
 pub mod Shown

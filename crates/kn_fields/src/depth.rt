@@ -1,63 +1,53 @@
 //! How deep the tokens of a field go.
-ghost use Rattle.std.specs.Prelude.{◌≡◌, [], ◌∷◌, ◌+◌, ◌<◌, ◌≤◌, ◌^◌, length};
+ghost use Rattle.std.specs.Prelude.{◌≡◌, ◌==◌, ℕ, false, [], ◌∷◌, ◌+◌, ◌<◌, ◌≤◌, ◌^◌, length, MatchOption};
+ghost use Rattle.kn_lex.specs.Cutting.{Seen};
 ghost use Rattle.kn_lex.specs.Seeing.{seen};
 ghost use Rattle.kn_fields.specs.Constants.{is_sign_sort};
-ghost use Rattle.kn_fields.specs.Depth.{is_sign, is_opening, is_closing, is_prefix, depth_behind, run_behind};
+ghost use Rattle.kn_fields.specs.Depth.{is_sign, depth_behind, run_behind};
 ghost use Rattle.kn_fields.specs.Fields.{between};
 ghost use Rattle.kn_fields.specs.Scanning.{is_past, goes_deep};
 
 use kn_base::limits::{OPEN_BRACKETS, PREFIX_SIGNS};
 use kn_lex::{Sort, Token, Tokens};
 
-/// Whether a token is the sign of this one byte.
+/// The byte of a token that is a sign of one byte.
 #[inline(always)]
 #[tactic(auto, using(crate::proofs::Deep::one_byte))]
-fn is_sign(token: &Token<'_>, byte: u8) -> bool
-    ensures { result ≡ is_sign (byte ∷ []) (seen token.now) }
+fn sign_byte(token: &Token<'_>) -> Option<u8>
+    ensures { MatchOption result ((byte : ℕ) → is_sign (byte ∷ []) (seen token.now) ≡ false) (λ byte. (other : ℕ) → is_sign (other ∷ []) (seen token.now) ≡ (byte == other)) }
 {
-    matches!(token.sort, Sort::Sign) && token.text.len() == 1 && token.text[0] == byte
-}
-
-fn is_opening(token: &Token<'_>) -> bool
-    ensures { result ≡ is_opening (seen token.now) }
-{
-    is_sign(token, b'(') || is_sign(token, b'{')
-}
-
-fn is_closing(token: &Token<'_>) -> bool
-    ensures { result ≡ is_closing (seen token.now) }
-{
-    is_sign(token, b')') || is_sign(token, b'}')
-}
-
-fn is_prefix(token: &Token<'_>) -> bool
-    ensures { result ≡ is_prefix (seen token.now) }
-{
-    is_sign(token, b'!') || is_sign(token, b'-') || is_sign(token, b'@') || is_sign(token, b'$')
-}
-
-/// The brackets that are open behind a token.
-#[tactic(auto, unfolding(crate::specs::Depth::depth_behind))]
-fn depth_behind(depth: u32, token: &Token<'_>) -> u32
-    requires { depth + 1 < 2 ^ 32 }
-    ensures { result ≡ depth_behind depth (seen token.now) }
-{
-    if is_opening(token) {
-        depth + 1
-    } else if is_closing(token) {
-        depth.saturating_sub(1)
+    if matches!(token.sort, Sort::Sign) && token.text.len() == 1 {
+        Some(token.text[0])
     } else {
-        depth
+        None
     }
 }
 
-/// The prefix signs that stand in a row up to a token.
-#[tactic(auto, unfolding(crate::specs::Depth::run_behind))]
-fn run_behind(run: u32, token: &Token<'_>) -> u32
-    requires { run + 1 < 2 ^ 32 }
-    ensures { result ≡ run_behind run (seen token.now) }
+/// The brackets that are open behind a sign of one byte.
+#[inline(always)]
+#[tactic(auto, unfolding(crate::specs::Depth::depth_behind))]
+fn depth_behind(depth: u32, byte: u8) -> u32
+    requires { depth + 1 < 2 ^ 32 }
+    ensures { (token : Seen) → ((other : ℕ) → is_sign (other ∷ []) token ≡ (byte == other)) → result ≡ depth_behind depth token }
 {
-    if is_prefix(token) { run + 1 } else { 0 }
+    match byte {
+        b'(' | b'{' => depth + 1,
+        b')' | b'}' => depth.saturating_sub(1),
+        _ => depth,
+    }
+}
+
+/// The prefix signs that stand in a row up to a sign of one byte.
+#[inline(always)]
+#[tactic(auto, unfolding(crate::specs::Depth::run_behind))]
+fn run_behind(run: u32, byte: u8) -> u32
+    requires { run + 1 < 2 ^ 32 }
+    ensures { (token : Seen) → ((other : ℕ) → is_sign (other ∷ []) token ≡ (byte == other)) → result ≡ run_behind run token }
+{
+    match byte {
+        b'!' | b'-' | b'@' | b'$' => run + 1,
+        _ => 0,
+    }
 }
 
 fn is_past(depth: u32, run: u32) -> bool
@@ -77,10 +67,15 @@ pub fn goes_deep(tokens: &Tokens<'_>, from: u32, to: u32) -> bool
     let mut run: u32 = 0;
     for i in from..to {
         if let Some(token) = tokens.get(i) {
-            depth = depth_behind(depth, token);
-            run = run_behind(run, token);
-            if is_past(depth, run) {
-                return true;
+            match sign_byte(token) {
+                Some(byte) => {
+                    depth = depth_behind(depth, byte);
+                    run = run_behind(run, byte);
+                    if is_past(depth, run) {
+                        return true;
+                    }
+                }
+                None => run = 0,
             }
         }
     }

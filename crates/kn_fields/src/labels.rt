@@ -102,17 +102,24 @@ fn is_any_wrong(tokens: &Tokens<'_>, at: u32, token: &Token<'_>) -> bool
         || is_wrong(Wrong::BehindSignature, tokens, at, token)
 }
 
-/// Whether any token is wrong at its place. Only a text with such a token is looked through for each of the ways.
+/// Whether any token may be wrong at its place. Only a text with such a token is looked through for each of the ways.
+/// Where no token but a label begins a line, only the first token and the labels may be.
 #[tactic(auto, using(crate::proofs::Between::steps), unfolding(crate::specs::Scanning::first_place))]
 pub(crate) fn has_wrong(tokens: &Tokens<'_>) -> bool
     ensures { result ≡ false → (wrong : Wrong) → first_place (is_wrong wrong) [] tokens.now ≡ None }
 {
-    for i in 0..tokens.len() {
-        if let Some(token) = tokens.get(i) {
-            if is_any_wrong(tokens, i, token) {
+    if tokens.has_stray() {
+        return true;
+    }
+    let mut at: u32 = 0;
+    while at < tokens.len() {
+        let next = tokens.next_label(at + 1);
+        if let Some(token) = tokens.get(at) {
+            if is_any_wrong(tokens, at, token) {
                 return true;
             }
         }
+        at = next;
     }
     false
 }

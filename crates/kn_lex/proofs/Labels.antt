@@ -1,11 +1,11 @@
 -- The places of the labels among tokens.
-use Rattle.std.proofs.Common.{◌≡◌, ℕ, zero, suc, Bool, ◌+◌, ◌<◌, ◌≤◌, List, [], ◌∷◌, ◌++◌, length, drop, get_or, arith, sym, ◌∙◌, ap}
-use Rattle.std.specs.Prelude.{not}
-use Rattle.std.specs.List.{prefix_len}
+use Rattle.std.proofs.Common.{◌≡◌, ℕ, zero, suc, true, false, Bool, ◌+◌, ◌<◌, ◌≤◌, List, [], ◌∷◌, ◌++◌, length, drop, get_or, arith, refl, sym, ◌∙◌, ap}
+use Rattle.std.specs.Prelude.{not, ◌||◌}
+use Rattle.std.specs.List.{list_any, prefix_len}
 use Rattle.std.proofs.lemmas.List.{at_drop_more, at_drop_all}
 use Rattle.std.proofs.lemmas.Bool.Decides.{nat_tests}
 use Rattle.kn_lex.specs.Cutting.{Seen}
-use Rattle.kn_lex.specs.Seeing.{is_label_sort, label_places, place_from}
+use Rattle.kn_lex.specs.Seeing.{is_label_sort, is_stray, label_places, place_from}
 
 -- one behind the other
 pub places_more : (at : ℕ) (front back : List Seen) → label_places at (front ++ back) ≡ label_places at front ++ label_places (at + length front) back
@@ -19,6 +19,20 @@ places_step labels new tokens more added n here size pushed told =
     pushed ∙ ap (λ (places : List ℕ). places ++ label_places n added) here
     ∙ ap (λ (k : ℕ). label_places 0 tokens ++ label_places k added) (omega (arith, size))
     ∙ sym (places_more 0 tokens added) ∙ ap (label_places 0) (sym told)
+
+any_more : (front back : List Seen) → list_any is_stray (front ++ back) ≡ (list_any is_stray front || list_any is_stray back)
+any_more [] back = refl
+any_more (t ∷ ts) back = grind (arith, any_more ts back)
+
+-- a stray stays one of the tokens
+
+pub stray_kept : (had : Bool) (tokens more added : List Seen) → had ≡ list_any is_stray tokens → had ≡ true → more ≡ tokens ++ added → list_any is_stray more ≡ true
+stray_kept had tokens more added here some told = grind (arith, any_more tokens added)
+
+-- where there was none the token added decides
+pub stray_added : (had now : Bool) (tokens more added : List Seen) → had ≡ list_any is_stray tokens → had ≡ false → now ≡ list_any is_stray added
+    → more ≡ tokens ++ added → now ≡ list_any is_stray more
+stray_added had now tokens more added here none new told = grind (arith, any_more tokens added)
 
 abbrev pub is_other : Seen → Bool
 is_other token = not (is_label_sort token.sort)

@@ -146,23 +146,10 @@ pub(crate) fn kind_of(byte: u8) -> Kind
     match byte {
         b' ' | b'\t' | b'\r' | b'\n' => Kind::Space,
         b'#' => Kind::Hash,
-        b'"' => Kind::Quote,
-        b'('
-        | b')'
-        | b'{'
-        | b'}'
-        | b','
-        | b';'
-        | b'+'
-        | b'*'
-        | b'/'
-        | b'%'
-        | b'^'
-        | b'.'
-        | b'$'
-        | b'@' => Kind::Lone,
         b'A'..=b'Z' | b'a'..=b'z' | b'_' => Kind::Word,
         b'0'..=b'9' => Kind::Numeral,
+        b'"' => Kind::Quote,
+        b'$'..=b'%' | b'('..=b',' | b'.'..=b'/' | b';' | b'@' | b'^' | b'{' | b'}' => Kind::Lone,
         _ => Kind::Other,
     }
 }

@@ -1,9 +1,10 @@
 //! The tokens of a text, piece by piece.
 
-ghost use Rattle.std.specs.Prelude.{◌≡◌, ◌+◌, ◌≤◌, ◌<◌, ◌^◌, ◌++◌, ◌∷◌, [], List, length, map, OnOk, IfOk, IfErr};
+ghost use Rattle.std.specs.Prelude.{◌≡◌, ◌+◌, ◌≤◌, ◌<◌, ◌^◌, ◌++◌, ◌∷◌, [], ℕ, List, length, map, OnOk, IfOk, IfErr};
+ghost use Rattle.std.specs.List.{list_any};
 ghost use Rattle.kn_lex.specs.Cutting.{token_of, Seen, Cuts};
 ghost use Rattle.kn_lex.specs.Faults.{IsFaultless};
-ghost use Rattle.kn_lex.specs.Seeing.{seen, label_places, GivesTokens, HasCause};
+ghost use Rattle.kn_lex.specs.Seeing.{seen, is_stray, label_places, GivesTokens, HasCause};
 
 use crate::fault::LexFault;
 use crate::judge::{has_zero, read_piece};
@@ -63,6 +64,18 @@ fn push_token<'a>(
     }
 }
 
+/// Whether a piece at a place is a token that begins a line, and no label.
+#[inline(always)]
+fn is_stray(context: Context, piece: Piece, bytes: &[u8]) -> bool
+    ensures { (at : ℕ) → result ≡ list_any is_stray (token_of context at piece bytes.now) }
+{
+    match piece {
+        Piece::Token(Sort::Label) => false,
+        Piece::Token(_) => is_line_start(context) && !bytes.is_empty(),
+        _ => false,
+    }
+}
+
 /// The tokens of a text, or its first lexical fault (RFC 2704, section 4; the faults are keynoted's own).
 #[tactic(auto, unfolding(crate::specs::Seeing::label_places))]
 pub fn tokens<'a>(alloc: Global, text: &'a [u8]) -> Result<Tokens<'a>, LexFault>
@@ -76,6 +89,7 @@ pub fn tokens<'a>(alloc: Global, text: &'a [u8]) -> Result<Tokens<'a>, LexFault>
     let mut list = List::new(alloc);
     let mut labels = List::new(alloc);
     let mut place = start();
+    let mut has_stray = false;
     let mut settled = false;
     let mut at: usize = 0;
     while at < text.len() {
@@ -96,9 +110,10 @@ pub fn tokens<'a>(alloc: Global, text: &'a [u8]) -> Result<Tokens<'a>, LexFault>
             Ok(()) => {}
             Err(_) => return Err(LexFault::NoMemory),
         }
+        has_stray = has_stray || is_stray(place.context, read.piece, bytes);
         place = place_after(place, read.piece, bytes);
         settled = read.settled;
         at += read.len;
     }
-    Ok(Tokens::of(list, labels))
+    Ok(Tokens::of(list, labels, has_stray))
 }

@@ -1,7 +1,7 @@
 //! Tokens, and the list of those of a text.
 
 ghost use Rattle.std.specs.Prelude.{◌≡◌, ◌↔◌, ◌+◌, ◌≤◌, IsTrue, not, length, map, drop, slice_get};
-ghost use Rattle.std.specs.List.{prefix_len};
+ghost use Rattle.std.specs.List.{list_any, prefix_len};
 ghost use Rattle.std.specs.Option.{option_copied, option_map};
 
 use kn_base::{List, Span};
@@ -42,28 +42,43 @@ pub struct Tokens<'a> {
     list: List<Token<'a>>,
     /// The places of the labels among them.
     labels: List<u32>,
+    /// Whether one of them begins a line and is no label.
+    has_stray: bool,
 }
 
 impl<'a> Model for Tokens<'a> {
     ghost use Rattle.std.specs.Prelude.{◌≡◌, List, map};
+    ghost use Rattle.std.specs.List.{list_any};
     ghost use Rattle.kn_lex.specs.Cutting.{Seen};
-    ghost use Rattle.kn_lex.specs.Seeing.{seen, label_places};
+    ghost use Rattle.kn_lex.specs.Seeing.{seen, is_stray, label_places};
 
     ghost Value = { List Seen };
 
     ghost view = { λ tokens. map seen tokens.list };
 
-    ghost invariant = { λ tokens. tokens.labels ≡ label_places 0 (map seen tokens.list) };
+    ghost invariant = { λ tokens. (tokens.labels ≡ label_places 0 (map seen tokens.list)) × (tokens.has_stray ≡ list_any is_stray (map seen tokens.list)) };
 }
 
 impl<'a> Tokens<'a> {
-    ghost use Rattle.kn_lex.specs.Seeing.{seen, is_label_sort, label_places};
+    ghost use Rattle.kn_lex.specs.Seeing.{seen, is_label_sort, is_stray, label_places};
 
-    pub(crate) fn of(list: List<Token<'a>>, labels: List<u32>) -> Tokens<'a>
-        requires { labels ≡ label_places 0 (map seen list) }
+    pub(crate) fn of(list: List<Token<'a>>, labels: List<u32>, has_stray: bool) -> Tokens<'a>
+        requires labels { labels ≡ label_places 0 (map seen list) }
+        requires stray { has_stray ≡ list_any is_stray (map seen list) }
         ensures { result ≡ map seen list.entry }
     {
-        Tokens { list, labels }
+        Tokens {
+            list,
+            labels,
+            has_stray,
+        }
+    }
+
+    /// Whether a token begins a line and is no label. No tokens are looked at.
+    pub fn has_stray(&self) -> bool
+        ensures { result ≡ list_any is_stray self.now }
+    {
+        self.has_stray
     }
 
     pub fn len(&self) -> u32

@@ -1,5 +1,4 @@
-use Rattle.std.proofs.Common.{◌+◌, sym, ◌∙◌, arith}
-use Rattle.std.proofs.lemmas.Option.{gets}
+use Rattle.std.proofs.Common.{◌+◌, arith}
 use Rattle.kn_lex.specs.Seeing.{seen}
 use Rattle.kn_fields.proofs.Parts.{next_within}
 use Rattle.kn_fields.proofs.Before.{before_passed, before_skipped}

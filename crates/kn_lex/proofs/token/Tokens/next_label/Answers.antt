@@ -6,7 +6,7 @@ use Rattle.kn_lex.proofs.token.Tokens.next_label.Goals as goal
 
 pub loop-at-init : goal.loop-at-init
 loop-at-init c =
-    ap (place_from c.args.from (length c.args.self.now)) (c.as_slice-at-items.ensures ∙ c.self.invariant ∙ ap (label_places 0) c.self.view_is)
+    ap (place_from c.args.from (length c.args.self.now)) (c.as_slice-at-items.ensures ∙ c.self.invariant.0 ∙ ap (label_places 0) c.self.view_is)
     ∙ label_found _ _ c.requires
 
 pub returns-then-from-at : goal.returns-then-from-at
