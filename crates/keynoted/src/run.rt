@@ -95,7 +95,7 @@ fn end_check<O: Sink>(out: &mut O, ending: Ending, names: &CheckFiles<'_>) -> u8
 }
 
 /// Does what the words ask, where they don't ask for a service, and tells how it ended.
-fn carry_out_apart<R: Wait, F: Files, L: Link, O: Sink, G: Gate>(
+fn carry_out_apart<R: Threads + Wait + Sync, F: Files, L: Link, O: Sink, G: Gate>(
     rt: &R,
     alloc: Global,
     words: &[Octets],

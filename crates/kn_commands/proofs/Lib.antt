@@ -1,5 +1,6 @@
 pub mod Alone
 pub mod Loaded
+pub mod DraftLaws
 pub mod Files
 pub mod Printed
 pub mod Told

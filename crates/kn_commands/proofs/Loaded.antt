@@ -151,17 +151,6 @@ fault_stops front rest text number fault stop loadable place (inr told) is = by 
     by None e = subst (StopsLoading (front ++ text ∷ rest)) (sym e) tt
     by (Some n) e = subst (StopsLoading (front ++ text ∷ rest)) (sym e) here
 
-pub reads_here : (text : List ℕ) (assertion : Assertion) → assertion_of text ≡ Some assertion → IsSome (assertion_of text)
-reads_here text assertion read = ap is_some read
-
--- the pieces of a file around one of them
-pub pieces-around : (file : List ℕ) (spans : List Span) (i : ℕ) (d : Span) (text : List ℕ) → i < length spans → spans ≡ spans_of file → text ≡ bytes_at file (get_or spans i d) →
-    pieces_of file ≡ map (bytes_at file) (take i spans) ++ text ∷ map (bytes_at file) (drop (suc i) spans)
-pieces-around file spans i d text within is here =
-    ap (map (bytes_at file)) (sym is ∙ sym (take-append-drop i spans) ∙ ap (λ (l : List Span). take i spans ++ l) (drop-cons spans i d within))
-    ∙ map-append (bytes_at file) (take i spans) (get_or spans i d ∷ drop (suc i) spans)
-    ∙ ap (λ (t : List ℕ). map (bytes_at file) (take i spans) ++ t ∷ map (bytes_at file) (drop (suc i) spans)) (sym here)
-
 -- texts around one of them
 pub texts-around : (texts items : List (List ℕ)) (i : ℕ) (d text : List ℕ) → i < length items → items ≡ texts → text ≡ get_or items i d → texts ≡ take i items ++ text ∷ drop (suc i) items
 texts-around texts items i d text within is here =

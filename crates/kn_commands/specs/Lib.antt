@@ -1,5 +1,6 @@
 pub mod Names
 pub mod Held
+pub mod Drafting
 pub mod Loaded
 pub mod Stopping
 pub mod Asking

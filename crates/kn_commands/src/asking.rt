@@ -21,6 +21,7 @@ use std::alloc::Global;
 use std::marker::Model;
 use std::mem;
 use std::sync::Wait;
+use std::thread::Threads;
 
 /// The files of `ask`, by their names.
 #[derive(Drop)]
@@ -42,7 +43,7 @@ impl<'a> Model for AskFiles<'a> {
 /// Serves the link over the policy in a file, with the secret and the keys of the key file, and tells how that ends.
 ///
 /// The files are read in the order of the words, and what each holds is tried before the next is read.
-pub fn ask<R: Wait, F: Files, L: Link, G: Gate>(
+pub fn ask<R: Threads + Wait + Sync, F: Files, L: Link, G: Gate>(
     rt: &R,
     alloc: Global,
     names: &AskFiles<'_>,

@@ -26,6 +26,7 @@ use kn_verify::{Refused, verify};
 use std::alloc::Global;
 use std::marker::Model;
 use std::sync::Wait;
+use std::thread::Threads;
 
 /// The files of the command, by their names.
 #[derive(Drop)]
@@ -59,7 +60,7 @@ impl<'a> CheckFiles<'a> {
 /// Checks the reply in a file to the query that a script means over a policy, and tells how that ends.
 ///
 /// The files are read in the order of the words, and what each holds is tried before the next is read.
-pub fn check<R: Wait, F: Files>(
+pub fn check<R: Threads + Wait + Sync, F: Files>(
     rt: &R,
     alloc: Global,
     names: &CheckFiles<'_>,

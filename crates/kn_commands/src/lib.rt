@@ -8,6 +8,7 @@ mod ask_line;
 mod asking;
 mod checking;
 mod content;
+mod drafts;
 mod ending;
 mod ending_line;
 mod gen_line;

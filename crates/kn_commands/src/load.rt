@@ -1,27 +1,38 @@
 //! Loading a policy file: its assertions, added in their order to a new registry by its root pass.
-ghost use Rattle.std.specs.Prelude.{◌≡◌, ◌≢◌, ◌+◌, ◌≤◌, ◌∷◌, ◌++◌, [], length, All, OnOk, IfOk, IfErr, MatchOption, Some, ℕ, List as Of};
+ghost use Rattle.std.specs.Prelude.{◌≡◌, ◌≢◌, ◌+◌, ◌≤◌, ◌∷◌, ◌++◌, [], length, map, take, All, OnOk, IfOk, IfErr, MatchOption, Some, ℕ, List as Of};
 ghost use Rattle.kn_fields.specs.Numbers.{fault_number};
 ghost use Rattle.kn_files.specs.Pieces.{pieces_of, spans_of, bytes_at, IsWithin};
 ghost use Rattle.kn_store.specs.declared.fault.StoreFault.TheVariants as F;
+ghost use Rattle.kn_commands.specs.Drafting.{IsDraftOf};
 ghost use Rattle.kn_commands.specs.Loaded.{IsUnsplitRoot, IsLoaded, IsLimitStop, StopsLoading};
 ghost use Rattle.kn_commands.specs.declared.stop.Stop.TheVariants as S;
 
+use crate::drafts::{Draft, read_draft, read_drafts};
 use crate::stop::Stop;
-use kn_assert::{ReadFault, read};
-use kn_base::limits::FILE_BYTES;
+use kn_assert::ReadFault;
+use kn_base::limits::{ASSERTION_BYTES, FILE_BYTES, LIVE_BYTES};
 use kn_base::{List, NoMemory, Span};
 use kn_files::split_file;
 use kn_registry::{Pass, Registry};
 use kn_reply::LimitWord;
-use kn_store::{Ready, StoreFault};
+use kn_store::StoreFault;
 use std::alloc::Global;
 use std::sync::Wait;
+use std::thread::Threads;
+
+/// The texts that are read before the first of them is added. Those of them that have a reading have no more bytes than may be
+/// live, so a file that is refused takes no more memory than reading twice as much.
+const BATCH_TEXTS: u32 = (LIVE_BYTES / ASSERTION_BYTES) as u32;
 
 /// A registry with the assertions of a policy file, added by its root pass, caller 0, in their order.
 ///
 /// What stops loading is the first of its assertions that has a fault, or that a limit of the store refuses.
 /// Both are tried for one assertion before the next is looked at, the fault first (keynoted's own).
-pub(crate) fn load<R: Wait>(rt: &R, alloc: Global, file: &[u8]) -> Result<(Registry, Pass), Stop>
+pub(crate) fn load<R: Threads + Wait + Sync>(
+    rt: &R,
+    alloc: Global,
+    file: &[u8],
+) -> Result<(Registry, Pass), Stop>
     requires { length file.now ≤ FILE_BYTES }
     ensures loaded { IfOk result (λ made. IsLoaded (pieces_of file.now) made.0 made.1) }
     ensures stopped { IfErr result (λ stop. StopsLoading (pieces_of file.now) stop) }
@@ -41,7 +52,7 @@ pub(crate) fn load<R: Wait>(rt: &R, alloc: Global, file: &[u8]) -> Result<(Regis
 }
 
 /// Adds the assertions at the spans of a file, in their order.
-fn add_all<R: Wait>(
+fn add_all<R: Threads + Wait + Sync>(
     rt: &R,
     alloc: Global,
     registry: &Registry,
@@ -55,25 +66,50 @@ fn add_all<R: Wait>(
     ensures loaded { OnOk result (IsLoaded (pieces_of file.now) registry.now root.new) }
     ensures stopped { IfErr result (λ stop. StopsLoading (pieces_of file.now) stop) }
 {
-    let items = spans.as_slice();
-    for place in 0..spans.len() {
-        let span = &items[place as usize];
-        match add(rt, alloc, registry, root, text_at(file, *span), place + 1) {
-            Ok(()) => {}
+    let mut from = 0;
+    while from < spans.len() {
+        let to = from + BATCH_TEXTS.min(spans.len() - from);
+        match add_batch(rt, alloc, registry, root, file, spans, from, to) {
+            Ok(()) => from = to,
             Err(stop) => return Err(stop),
         }
     }
     Ok(())
 }
 
-/// The text at a span of a file.
-fn text_at(file: &[u8], span: Span) -> &[u8]
-    requires { IsWithin file.now span }
-    ensures { result.now ≡ bytes_at file.now span }
+/// Adds the assertions at the spans of a file from one place up to another, behind those before. All are read before.
+fn add_batch<R: Threads + Wait + Sync>(
+    rt: &R,
+    alloc: Global,
+    registry: &Registry,
+    root: &mut Pass,
+    file: &[u8],
+    spans: &List<Span>,
+    from: u32,
+    to: u32,
+) -> Result<(), Stop>
+    requires order { from ≤ to }
+    requires end { to ≤ length spans.now }
+    requires before { IsLoaded (take from (pieces_of file.now)) registry.now root.old }
+    requires spans { spans.now ≡ spans_of file.now }
+    requires within { All (IsWithin file.now) spans.now }
+    ensures loaded { OnOk result (IsLoaded (take to (pieces_of file.now)) registry.now root.new) }
+    ensures stopped { IfErr result (λ stop. StopsLoading (pieces_of file.now) stop) }
 {
-    let start = span.start as usize;
-    let end = span.end as usize;
-    file.split_at(start).1.split_at(end - start).0
+    let batch = &spans.as_slice()[from as usize..to as usize];
+    let drafts = match read_drafts(rt, alloc, file, batch) {
+        Ok(drafts) => drafts,
+        Err(NoMemory) => return Err(Stop::Memory),
+    };
+    let mut number = from;
+    for draft in drafts {
+        number += 1;
+        match add_draft(rt, registry, root, draft, number) {
+            Ok(()) => {}
+            Err(stop) => return Err(stop),
+        }
+    }
+    Ok(())
 }
 
 /// Adds the assertion of a text, the one of this number, behind those that were loaded before.
@@ -91,13 +127,28 @@ pub(crate) fn add<R: Wait>(
     ensures stopped { (front rest : Of (Of ℕ)) → IsLoaded front registry.now root.old → number ≡ length front + 1
         → IfErr result (λ stop. StopsLoading (front ++ text.now ∷ rest) stop) }
 {
-    let assertion = match read(alloc, text) {
-        Ok(assertion) => assertion,
-        Err(fault) => return Err(fault_stop(number, fault)),
-    };
-    let ready = match Ready::of(alloc, text, assertion) {
-        Ok(ready) => ready,
-        Err(NoMemory) => return Err(Stop::Memory),
+    add_draft(rt, registry, root, read_draft(alloc, text), number)
+}
+
+/// Adds the assertion of the text of a draft, the one of this number, behind those that were loaded before.
+fn add_draft<R: Wait>(
+    rt: &R,
+    registry: &Registry,
+    root: &mut Pass,
+    draft: Draft,
+    number: u32,
+) -> Result<(), Stop>
+    requires root { IsUnsplitRoot registry.now root.old }
+    requires draft { (text : Of ℕ) × IsDraftOf text draft }
+    ensures ok { (text : Of ℕ) (front : Of (Of ℕ)) → IsDraftOf text draft → IsLoaded front registry.now root.old
+        → OnOk result (IsLoaded (front ++ text ∷ []) registry.now root.new) }
+    ensures stopped { (text : Of ℕ) (front rest : Of (Of ℕ)) → IsDraftOf text draft → IsLoaded front registry.now root.old
+        → number ≡ length front + 1 → IfErr result (λ stop. StopsLoading (front ++ text ∷ rest) stop) }
+{
+    let ready = match draft {
+        Draft::Unread => unreachable!(),
+        Draft::Read(ready) => ready,
+        Draft::Faulty(fault) => return Err(fault_stop(number, fault)),
     };
     match registry.add(rt, root, ready) {
         Ok(_) => Ok(()),

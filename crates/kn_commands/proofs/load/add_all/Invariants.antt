@@ -1,7 +1,10 @@
-use Rattle.std.proofs.Common.{map, take}
-use Rattle.kn_files.specs.Pieces.{bytes_at}
+use Rattle.std.proofs.Common.{◌-◌, ◌≤◌, length, take}
+use Rattle.kn_files.specs.Pieces.{pieces_of}
 use Rattle.kn_commands.specs.Loaded.{IsLoaded}
 use Rattle.kn_commands.proofs.load.add_all.Given as goal
 
-abbrev pub invariant-loop-place : goal.invariant-loop-place
-invariant-loop-place g l = IsLoaded (map (bytes_at l.fn.file) (take l.place l.items)) l.fn.registry l.root
+abbrev pub invariant-loop-from : goal.invariant-loop-from
+invariant-loop-from g l = (l.from ≤ length l.fn.spans) × IsLoaded (take l.from (pieces_of l.fn.file)) l.fn.registry l.root
+
+abbrev pub decreases-loop-from : goal.decreases-loop-from
+decreases-loop-from g l = length l.fn.spans - l.from

@@ -1,0 +1,104 @@
+//! What is read of the texts of a file, before they are added: the readings of many texts are made side by side.
+ghost use Rattle.std.specs.Prelude.{◌≡◌, ◌<◌, length, vec_len, All, IfOk, map, slice_index_or};
+ghost use Rattle.std.specs.List.{AllZip};
+ghost use Rattle.kn_files.specs.Pieces.{bytes_at, IsWithin};
+ghost use Rattle.kn_commands.specs.Drafting.{IsDraftOf};
+
+use kn_assert::{ReadFault, read};
+use kn_base::{NoMemory, Span};
+use kn_store::Ready;
+use std::alloc::Global;
+use std::thread;
+use std::thread::Threads;
+
+/// The threads that read the texts of a file.
+const READERS: usize = 4;
+
+/// Fewer texts are read by one thread, since starting others takes longer than reading these.
+const FEWEST_FOR_READERS: usize = 64;
+
+/// What was read of a text.
+#[derive(Drop)]
+pub(crate) enum Draft {
+    /// Nothing yet.
+    Unread,
+    /// The text with its reading.
+    Read(Ready),
+    /// The first fault of the text, or want of memory.
+    Faulty(ReadFault),
+}
+
+/// What is read of a text.
+pub(crate) fn read_draft(alloc: Global, text: &[u8]) -> Draft
+    ensures { IsDraftOf text.now result }
+{
+    let assertion = match read(alloc, text) {
+        Ok(assertion) => assertion,
+        Err(fault) => return Draft::Faulty(fault),
+    };
+    match Ready::of(alloc, text, assertion) {
+        Ok(ready) => Draft::Read(ready),
+        Err(NoMemory) => Draft::Faulty(ReadFault::NoMemory),
+    }
+}
+
+/// What is read of the texts at these spans of a file, in their order.
+pub(crate) fn read_drafts<R: Threads + Sync>(
+    rt: &R,
+    alloc: Global,
+    file: &[u8],
+    spans: &[Span],
+) -> Result<Vec<Draft>, NoMemory>
+    requires { All (IsWithin file.now) spans.now }
+    ensures { IfOk result (λ drafts. AllZip IsDraftOf (map (bytes_at file.now) spans.now) drafts.items) }
+{
+    let mut drafts = unread_drafts(alloc, spans.len())?;
+    read_all(rt, alloc, file, spans, drafts.as_mut_slice());
+    Ok(drafts)
+}
+
+/// Reads the texts at these spans of a file, each into the draft at its place.
+fn read_all<R: Threads + Sync>(
+    rt: &R,
+    alloc: Global,
+    file: &[u8],
+    spans: &[Span],
+    drafts: &mut [Draft],
+)
+    requires count { length drafts.old ≡ length spans.now }
+    requires within { All (IsWithin file.now) spans.now }
+    ensures { AllZip IsDraftOf (map (bytes_at file.now) spans.now) drafts.new }
+{
+    let threads = if spans.len() < FEWEST_FOR_READERS {
+        1
+    } else {
+        READERS
+    };
+    thread::for_each_mut(
+        rt,
+        drafts,
+        threads,
+        &|place, draft: &mut Draft| *draft = read_draft(alloc, text_at(file, spans[place])),
+    );
+}
+
+/// So many drafts of which nothing is read.
+fn unread_drafts(alloc: Global, count: usize) -> Result<Vec<Draft>, NoMemory>
+    ensures { IfOk result (λ drafts. vec_len drafts ≡ count) }
+{
+    let mut drafts = Vec::new(alloc);
+    match drafts.resize_with(count, || Draft::Unread) {
+        Ok(()) => Ok(drafts),
+        Err(_) => Err(NoMemory),
+    }
+}
+
+/// The text at a span of a file.
+fn text_at(file: &[u8], span: Span) -> &[u8]
+    requires { IsWithin file.now span }
+    ensures { result.now ≡ bytes_at file.now span }
+{
+    let start = span.start as usize;
+    let end = span.end as usize;
+    file.split_at(start).1.split_at(end - start).0
+}
