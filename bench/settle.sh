@@ -1,7 +1,7 @@
 #!/usr/bin/env bash
 # Prints what settling takes: first of systems alone, beside a C program of the same algorithm, then of whole queries.
 #
-# The systems are those of `crates/kn_settle_bench`, which wants `rt`, and of `bench/settle_c`, which is built with -O2: chains
+# The systems are those of `crates/kn_bench`, which wants `rt`, and of `bench/settle_c`, which is built with -O2: chains
 # of 128 to 4,096 rows in the order that is worst for scans of the rows, in the best, and mixed formulas. Printed are the
 # microseconds of building and of settling, the ratio to C's and that at each doubling, each from the least of several
 # rounds. Both programs print first what they settled, and must agree.
@@ -20,16 +20,16 @@ room=$(mktemp -d) || exit 1
 trap 'rm -rf "$room"' EXIT
 
 # what isn't built yet is built here and before the queries, where nobody looks at the clock
-ours=$top/crates/kn_settle_bench/out/kn_settle_bench
-(cd "$top/crates/kn_settle_bench" && rt run) >"$room/ours" || exit 1
+ours=$top/crates/kn_bench/out/kn_bench
+(cd "$top/crates/kn_bench" && rt run -- settling) >"$room/ours" || exit 1
 cc -O2 -o "$room/c" "$top/bench/settle_c/settle.c" || exit 1
-"$room/c" | diff "$top/crates/kn_settle_bench/stdout" - || exit 1
+"$room/c" | diff "$room/ours" - || exit 1
 
 # the two take turns, and of each the least of three counts; freed pages are kept, since the C library else gives those of a
 # large list back to the system in each round
 export GLIBC_TUNABLES=glibc.malloc.mmap_threshold=64000000:glibc.malloc.trim_threshold=256000000
 for _ in 1 2 3; do
-    "$ours" time >>"$room/times.ours" && "$room/c" time >>"$room/times.c" || exit 1
+    "$ours" settling time >>"$room/times.ours" && "$room/c" time >>"$room/times.c" || exit 1
 done
 python3 - "$room" <<'PYTHON'
 import sys

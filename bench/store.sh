@@ -11,11 +11,11 @@
 set -eu
 
 TIME=/usr/bin/time
-cd "$(dirname "$0")/../crates/kn_store_bench"
-rt run >/dev/null # builds it
-program=./out/kn_store_bench
+cd "$(dirname "$0")/../crates/kn_bench"
+rt run -- lexer >/dev/null # builds it
+program=./out/kn_bench
 
-"$program" time
+"$program" updates time
 
 peak_kib() {
     "$TIME" -f %M "$program" keep "$1" "$2" 2>&1 >/dev/null | tail -n 1

@@ -1,4 +1,4 @@
-/* The settling of crates/kn_settle in C, over the systems of crates/kn_settle_bench, for comparing times.
+/* The settling of crates/kn_settle in C, over the systems of crates/kn_bench, for comparing times.
  *
  * Without words it prints what it settled: the policy's level, the rows of the proof and the steps. `time` prints the
  * nanoseconds of building and of settling each system, each the least of several rounds.

@@ -1,0 +1,162 @@
+//! How long the parts of `gen` take: generating texts, reading them, adding them, building the system and settling it.
+//!
+//! Untimed, what is told of the query over 128 to 2,048 credentials is printed. Timed, it is the nanoseconds of each part
+//! over so many, each the least of several rounds.
+ghost use Rattle.std.specs.Prelude.{◌≤◌};
+ghost use Rattle.kn_registry.specs.Passes.{IsReady};
+
+use crate::clock::{lacks_memory, since};
+use kn_assert::read;
+use kn_base::{List, Octets};
+use kn_generate::{Measured, build_generated, generate_texts, measure_built};
+use kn_registry::{Pass, Registry};
+use kn_store::{Ready, Snapshot};
+use std::alloc::Global;
+use std::io;
+use std::rt::Clock;
+use std::sync::Wait;
+use std::time::Instant;
+
+const SIZES: [u32; 5] = [128, 256, 512, 1_024, 2_048];
+
+/// Rounds, of which the least counts.
+const ROUNDS: u32 = 20;
+
+/// Nanoseconds.
+#[derive(Clone, Copy)]
+struct Parts {
+    generating: u128,
+    reading: u128,
+    adding: u128,
+    building: u128,
+    settling: u128,
+}
+
+/// The least of each part.
+fn least(a: Parts, b: Parts) -> Parts {
+    Parts {
+        generating: a.generating.min(b.generating),
+        reading: a.reading.min(b.reading),
+        adding: a.adding.min(b.adding),
+        building: a.building.min(b.building),
+        settling: a.settling.min(b.settling),
+    }
+}
+
+/// Reads and adds the texts, and answers the nanoseconds of the readings and of the additions.
+fn add_all<R: Wait + Clock>(
+    rt: &R,
+    alloc: Global,
+    registry: &Registry,
+    root: &mut Pass,
+    texts: &List<Octets>,
+) -> io::Result<(u128, u128)>
+    requires { IsReady registry.now root.old }
+    ensures { IsReady registry.now root.new }
+{
+    let (mut reading, mut adding) = (0u128, 0u128);
+    for text in texts.as_slice() {
+        let start = Instant::now(rt)?;
+        let Ok(assertion) = read(alloc, text.as_slice()) else {
+            return Err(lacks_memory());
+        };
+        reading = reading.saturating_add(since(rt, start)?);
+        let start = Instant::now(rt)?;
+        let Ok(ready) = Ready::of(alloc, text.as_slice(), assertion) else {
+            return Err(lacks_memory());
+        };
+        let Ok(_) = registry.add(rt, root, ready) else {
+            return Err(lacks_memory());
+        };
+        adding = adding.saturating_add(since(rt, start)?);
+    }
+    Ok((reading, adding))
+}
+
+/// Builds and settles the query over a version, and answers the nanoseconds of each, and what is told.
+fn settle_query(
+    clock: &impl Clock,
+    alloc: Global,
+    snapshot: &Snapshot,
+    count: u32,
+) -> io::Result<(u128, u128, Measured)>
+    requires some { 1 ≤ count }
+    requires most { count ≤ 2048 }
+{
+    let start = Instant::now(clock)?;
+    let Ok(built) = build_generated(alloc, snapshot, count) else {
+        return Err(lacks_memory());
+    };
+    let building = since(clock, start)?;
+    let start = Instant::now(clock)?;
+    let Ok(measured) = measure_built(alloc, &built) else {
+        return Err(lacks_memory());
+    };
+    Ok((building, since(clock, start)?, measured))
+}
+
+/// The parts of one run over so many credentials, and what is told of its query.
+fn measure_once<R: Wait + Clock>(rt: &R, alloc: Global, count: u32) -> io::Result<(Parts, Measured)>
+    requires some { 1 ≤ count }
+    requires most { count ≤ 2048 }
+{
+    let start = Instant::now(rt)?;
+    let Ok(texts) = generate_texts(alloc, 1, count) else {
+        return Err(lacks_memory());
+    };
+    let generating = since(rt, start)?;
+    let Ok((registry, mut root)) = Registry::start(alloc) else {
+        return Err(lacks_memory());
+    };
+    let (reading, adding) = add_all(rt, alloc, &registry, &mut root, &texts)?;
+    let Ok(snapshot) = registry.pin(rt, &mut root) else {
+        return Err(lacks_memory());
+    };
+    let (building, settling, measured) = settle_query(rt, alloc, &snapshot, count)?;
+    let parts = Parts {
+        generating,
+        reading,
+        adding,
+        building,
+        settling,
+    };
+    Ok((parts, measured))
+}
+
+/// The least of the parts over several rounds.
+fn measure_often<R: Wait + Clock>(rt: &R, alloc: Global, count: u32) -> io::Result<Parts>
+    requires some { 1 ≤ count }
+    requires most { count ≤ 2048 }
+{
+    let (mut parts, _) = measure_once(rt, alloc, count)?;
+    for _ in 1..ROUNDS {
+        parts = least(parts, measure_once(rt, alloc, count)?.0);
+    }
+    Ok(parts)
+}
+
+/// Prints what each part of `gen` takes at each size, or what is told of the query.
+///
+/// `handle` is the runtime that may wait, and `rt` the same one, which prints.
+pub(crate) fn measure_generating<R: Wait + Clock>(
+    handle: &R,
+    rt: &HostRuntime,
+    is_timed: bool,
+) -> io::Result<()> {
+    for size in SIZES {
+        if is_timed {
+            let parts = measure_often(handle, rt.alloc(), size)?;
+            println!(rt;
+                "{size} {} {} {} {} {}",
+                parts.generating, parts.reading, parts.adding, parts.building, parts.settling
+            )?;
+        } else {
+            let (_, told) = measure_once(handle, rt.alloc(), size)?;
+            println!(rt;
+                "{size} credentials: level {}, {} rows, {} principals, {} nodes, {} uses, {} levels",
+                told.level, told.rows, told.principals, told.nodes, told.uses, told.levels
+            )?;
+        }
+    }
+    Ok(())
+}

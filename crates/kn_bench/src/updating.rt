@@ -1,0 +1,232 @@
+//! What one update of the book costs at 1, 64, 512 and 2,048 live credentials.
+//!
+//! Untimed, one update is made at each size and its version is printed; then books are filled up to each limit, and the
+//! fault of one update more is printed: by the count of live credentials and by their bytes, by the count of updates and by
+//! the bytes of all texts.
+
+use kn_assert::read;
+use kn_store::{Book, Ready, Snapshot, StoreFault};
+use std::alloc::{AllocError, Global};
+use std::io;
+use std::rt::Clock;
+use std::sync::Arc;
+use std::time::Instant;
+
+/// 37 bytes.
+const TEXT: &[u8] = b"Authorizer: \"alice\"\nLicensees: \"bob\"\n";
+
+const SIZES: [u32; 4] = [1, 64, 512, 2_048];
+
+/// Pairs of a removal and an addition in one measurement.
+const PAIRS: u32 = 500;
+
+/// Measurements, of which the least counts.
+const ROUNDS: u32 = 20;
+
+fn make_ready(alloc: Global, text: &[u8]) -> Result<Ready, StoreFault> {
+    match read(alloc, text) {
+        Ok(assertion) => Ok(Ready::of(alloc, text, assertion)?),
+        Err(_) => Err(StoreFault::NoMemory),
+    }
+}
+
+/// Adds the text, and answers its id.
+fn add(alloc: Global, book: &mut Book, text: &[u8]) -> Result<u32, StoreFault> {
+    let ready = make_ready(alloc, text)?;
+    let prepared = book.prepare_add(0, ready)?;
+    Ok(book.commit(prepared).id)
+}
+
+/// Removes the id, and answers the version.
+fn remove(book: &mut Book, id: u32) -> Result<u32, StoreFault> {
+    let prepared = book.prepare_drop(0, id)?;
+    Ok(book.commit(prepared).version)
+}
+
+/// A book with so many live credentials.
+fn filled(alloc: Global, live: u32) -> Result<Book, StoreFault> {
+    let mut book = Book::empty(alloc)?;
+    for _ in 0..live {
+        add(alloc, &mut book, TEXT)?;
+    }
+    Ok(book)
+}
+
+/// The nanoseconds of the removals and of the additions of one measurement.
+fn measure(clock: &impl Clock, alloc: Global, book: &mut Book) -> io::Result<(u128, u128)> {
+    let (mut removals, mut additions) = (0u128, 0u128);
+    for _ in 0..PAIRS {
+        let Ok(ready) = make_ready(alloc, TEXT) else {
+            break;
+        };
+        let id = if book.snapshot().len() > 0 {
+            book.snapshot().id(0)
+        } else {
+            0
+        };
+        let start = Instant::now(clock)?;
+        let Ok(prepared) = book.prepare_drop(0, id) else {
+            break;
+        };
+        book.commit(prepared);
+        removals = removals.saturating_add(start.elapsed(clock)?.as_nanos());
+        let start = Instant::now(clock)?;
+        let Ok(prepared) = book.prepare_add(0, ready) else {
+            break;
+        };
+        book.commit(prepared);
+        additions = additions.saturating_add(start.elapsed(clock)?.as_nanos());
+    }
+    Ok((removals, additions))
+}
+
+/// The least of several measurements, which other work on the machine disturbs least.
+fn least(clock: &impl Clock, alloc: Global, book: &mut Book) -> io::Result<(u128, u128)> {
+    let (mut removals, mut additions) = (u128::MAX, u128::MAX);
+    for _ in 0..ROUNDS {
+        let (removal, addition) = measure(clock, alloc, book)?;
+        removals = removals.min(removal);
+        additions = additions.min(addition);
+    }
+    Ok((removals, additions))
+}
+
+/// Makes so many updates, of which every second one adds, and keeps each version.
+fn keep(
+    alloc: Global,
+    book: &mut Book,
+    count: u32,
+    kept: &mut Vec<Snapshot>,
+) -> Result<(), StoreFault> {
+    for turn in 0..count {
+        if turn % 2 == 0 && book.snapshot().len() > 0 {
+            let id = book.snapshot().id(0);
+            remove(book, id)?;
+        } else {
+            add(alloc, book, TEXT)?;
+        }
+        let Ok(snapshot) = Arc::try_clone(book.snapshot()) else {
+            return Err(StoreFault::NoMemory);
+        };
+        if kept.push(snapshot).is_err() {
+            return Err(StoreFault::NoMemory);
+        }
+    }
+    Ok(())
+}
+
+/// The fault that ends additions.
+fn fault_of_additions(alloc: Global, book: &mut Book, text: &[u8]) -> StoreFault {
+    for _ in 0..100_000 {
+        if let Err(fault) = add(alloc, book, text) {
+            return fault;
+        }
+    }
+    StoreFault::NoMemory
+}
+
+/// The fault that ends additions, each of which is removed again.
+fn fault_of_log(alloc: Global, book: &mut Book, text: &[u8]) -> StoreFault {
+    for _ in 0..100_000 {
+        let id = match add(alloc, book, text) {
+            Ok(id) => id,
+            Err(fault) => return fault,
+        };
+        if let Err(fault) = remove(book, id) {
+            return fault;
+        }
+    }
+    StoreFault::NoMemory
+}
+
+/// An assertion of 16,384 bytes, the most that there may be.
+fn longest_text(alloc: Global) -> Result<Vec<u8>, AllocError> {
+    let mut text = Vec::from_slice(alloc, TEXT)?;
+    for _ in 0..16_384 - TEXT.len() {
+        text.push(b'#')?;
+    }
+    Ok(text)
+}
+
+fn show(rt: &HostRuntime) -> io::Result<()> {
+    for live in SIZES {
+        if let Ok(mut book) = filled(rt.alloc(), live)
+            && let Ok(version) = remove(&mut book, 1)
+        {
+            println!(rt;
+                "{live} live: version {version} has {}",
+                book.snapshot().len()
+            )?;
+        }
+    }
+    Ok(())
+}
+
+fn time(rt: &HostRuntime) -> io::Result<()> {
+    for live in SIZES {
+        if let Ok(mut book) = filled(rt.alloc(), live) {
+            let (removals, additions) = least(rt, rt.alloc(), &mut book)?;
+            println!(rt;
+                "{live} live: {} ns a removal, {} ns an addition",
+                removals / u128::from(PAIRS),
+                additions / u128::from(PAIRS)
+            )?;
+        }
+    }
+    Ok(())
+}
+
+/// Makes so many updates at so many live credentials and keeps each version, for whoever measures the memory of that.
+pub(crate) fn keep_versions(rt: &HostRuntime, live: u32, count: u32) -> io::Result<()> {
+    let mut kept = Vec::new(rt.alloc());
+    if let Ok(mut book) = filled(rt.alloc(), live)
+        && let Ok(()) = keep(rt.alloc(), &mut book, count, &mut kept)
+    {
+        println!(rt; "{} versions kept", kept.len())?;
+    }
+    Ok(())
+}
+
+fn show_limit_of_live(rt: &HostRuntime, text: &[u8]) -> io::Result<()> {
+    if let Ok(mut book) = Book::empty(rt.alloc()) {
+        let fault = fault_of_additions(rt.alloc(), &mut book, text);
+        println!(rt;
+            "{} live of {} bytes: {fault:?}",
+            book.snapshot().len(),
+            text.len()
+        )?;
+    }
+    Ok(())
+}
+
+fn show_limit_of_log(rt: &HostRuntime, text: &[u8]) -> io::Result<()> {
+    if let Ok(mut book) = Book::empty(rt.alloc()) {
+        let fault = fault_of_log(rt.alloc(), &mut book, text);
+        println!(rt;
+            "{} updates of {} bytes: {fault:?}",
+            book.length(),
+            text.len()
+        )?;
+    }
+    Ok(())
+}
+
+fn show_limits(rt: &HostRuntime) -> io::Result<()> {
+    let Ok(long) = longest_text(rt.alloc()) else {
+        return Ok(());
+    };
+    for text in [TEXT, long.as_slice()] {
+        show_limit_of_live(rt, text)?;
+        show_limit_of_log(rt, text)?;
+    }
+    Ok(())
+}
+
+/// Prints the nanoseconds of a removal and of an addition at each size, or what the limits refuse.
+pub(crate) fn measure_updates(rt: &HostRuntime, is_timed: bool) -> io::Result<()> {
+    if is_timed {
+        return time(rt);
+    }
+    show(rt)?;
+    show_limits(rt)
+}
