@@ -1,7 +1,6 @@
 -- Loading texts that make a history.
 use Rattle.std.proofs.Common.{◌≡◌, ℕ, List, refl, ap, ◌∙◌, sym, subst}
 use Rattle.atomic_table.specs.Seated.{TableId}
-use Rattle.kn_store.specs.declared.update.Update.{Update}
 use Rattle.kn_store.specs.History.{loaded_history}
 use Rattle.kn_store.specs.Loading.{IsLoadable}
 use Rattle.kn_store.specs.Laws.{LoadingEndsOnce}

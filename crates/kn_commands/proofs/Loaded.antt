@@ -1,13 +1,10 @@
 -- Loading texts by a root pass that is alone.
-use Rattle.std.proofs.Common.{◌≡◌, ℕ, ◌+◌, ◌==◌, ◌&&◌, ◌<◌, Bool, true, false, List, [], ◌∷◌, ◌++◌, length, get_or, take, drop, suc, drop-cons, map, refl, sym, ap, subst, ◌∙◌, ◌⊎◌, inl, inr, arith, eqb-true, Option, Some, None, if◌then◌else◌}
+use Rattle.std.proofs.Common.{◌≡◌, ℕ, ◌+◌, ◌==◌, ◌&&◌, ◌<◌, Bool, true, false, List, [], ◌∷◌, ◌++◌, length, get_or, take, drop, suc, drop-cons, refl, sym, ap, subst, ◌∙◌, ◌⊎◌, inl, inr, arith, eqb-true, Option, Some, None, if◌then◌else◌}
 use Rattle.std.specs.Prelude.{is_none, is_some, IsSome, MatchOption, nat_le, nat_lt}
 use Rattle.std.proofs.lemmas.Bool.{and_parts}
-use Rattle.std.proofs.lemmas.List.{map-append, take-append-drop}
+use Rattle.std.proofs.lemmas.List.{take-append-drop}
 use Rattle.std.proofs.lemmas.List.Sums.{sum_by-cons}
 use Rattle.atomic_table.specs.Seated.{TableId}
-use Rattle.kn_base.specs.declared.span.Span.{Span}
-use Rattle.kn_files.specs.Pieces.{spans_of, bytes_at, pieces_of}
-use Rattle.kn_trees.specs.declared.assertion.Assertion.{Assertion}
 use Rattle.kn_fields.specs.declared.fault.ReadFault.{ReadFault}
 use Rattle.kn_fields.specs.declared.fault.ReadFault.TheVariants as R
 use Rattle.kn_fields.specs.Numbers.{fault_number}

@@ -1,8 +1,7 @@
 -- Why `serve` ends.
-use Rattle.std.proofs.Common.{◌≡◌, ℕ, ◌+◌, ◌<◌, ◌≤◌, ◌⊎◌, Bool, true, false, List, [], ◌∷◌, length, map, refl, sym, ap, ◌∙◌, subst, arith, Option, Some, None}
-use Rattle.std.specs.Prelude.{IsSomeAnd, IfSome, MatchBool, min, nat_lt, sum_by, ◌||◌, ◌^◌, ◌-◌, option_to_list}
+use Rattle.std.proofs.Common.{◌≡◌, ℕ, ◌+◌, ◌<◌, ◌≤◌, Bool, true, false, List, [], ◌∷◌, length, map, refl, sym, ap, ◌∙◌, subst, arith, Some}
+use Rattle.std.specs.Prelude.{min, sum_by, ◌||◌, ◌^◌, ◌-◌, option_to_list}
 use Rattle.std.specs.List.{list_any}
-use Rattle.std.proofs.lemmas.Bool.{ltb-true, lt-ltb}
 use Rattle.std.proofs.lemmas.List.Sums.{sum_by-cons}
 use Rattle.kn_outside.specs.Seen.{FilesSeen, LinkSeen}
 use Rattle.kn_outside.specs.Asked.{HasAsked}
@@ -17,12 +16,12 @@ use Rattle.kn_workers.specs.declared.binding.Binding.{Binding}
 use Rattle.kn_workers.specs.declared.worker.ServeEnd.{ServeEnd}
 use Rattle.kn_workers.specs.Connections.{ServedSeen}
 use Rattle.kn_workers.specs.Doors.{DoorSeen, HasGiven}
-use Rattle.kn_workers.specs.Nets.{NetSeen, share, AreBound, with_faults}
-use Rattle.kn_workers.specs.Workers.{Work, HasWorked, EachWorked, AllServed, all_quotas, gave_less}
+use Rattle.kn_workers.specs.Nets.{NetSeen, AreBound, with_faults}
+use Rattle.kn_workers.specs.Workers.{Work, EachWorked, AllServed, all_quotas, gave_less}
 use Rattle.kn_workers.proofs.ShareLaws.{shares_add_up}
 use Rattle.kn_commands.specs.Held.{IsPolicy, AreKeys}
 use Rattle.kn_commands.specs.Asking.{grounds_of}
-use Rattle.kn_commands.specs.Serving.{Order, AreBack, AreServed, ServesOver, IsServiceRun, ServeCause}
+use Rattle.kn_commands.specs.Serving.{Order, AreServed, ServesOver, IsServiceRun, ServeCause}
 use Rattle.kn_commands.specs.declared.serve_ending.ServeEnding.{ServeEnding}
 use Rattle.kn_commands.specs.declared.serve_ending.ServeEnding.TheVariants.{PolicyStopped, KeysStopped, BindMemory, Unbound, WorkMemory, DoorFailed, Served}
 use Rattle.kn_commands.proofs.Asked.{keys_there}

@@ -1,4 +1,4 @@
-use Rattle.std.proofs.Common.{rules, ◌≡◌, ◌<◌, length, arith}
+use Rattle.std.proofs.Common.{rules, arith}
 use Rattle.std.proofs.lemmas.Grind.{common_steps}
 use Rattle.kn_files.specs.Pieces.{bytes_at}
 use Rattle.kn_commands.proofs.DraftLaws.{drafts_of_spans}

@@ -1,10 +1,9 @@
-use Rattle.std.proofs.Common.{◌≡◌, ◌∙◌, ◌+◌, ◌≤◌, ◌++◌, ◌∷◌, List, ℕ, [], length, map, take, drop, suc, add-one, subst, sym, ap, refl, arith}
+use Rattle.std.proofs.Common.{◌≡◌, ◌∙◌, ◌+◌, ◌≤◌, List, ℕ, [], length, take, drop, suc, add-one, subst, sym, ap, arith}
 use Rattle.std.proofs.lemmas.List.{length-take-le, length-map}
-use Rattle.std.specs.Vec.Iter.{into_iter_items, into_iter_len}
+use Rattle.std.specs.Vec.Iter.{into_iter_items}
 use Rattle.kn_files.specs.Pieces.{pieces_of, bytes_at}
 use Rattle.kn_commands.specs.Loaded.{IsLoaded, StopsLoading}
-use Rattle.kn_commands.specs.declared.drafts.Draft.{Draft}
-use Rattle.kn_commands.proofs.DraftLaws.{AreLeft, IsNext, next_draft, none_left, nothing_left, batch_left}
+use Rattle.kn_commands.proofs.DraftLaws.{AreLeft, next_draft, none_left, nothing_left, batch_left}
 use Rattle.kn_commands.proofs.load.add_batch.Goals as goal
 
 pub loop-draft-init : goal.loop-draft-init

@@ -1,6 +1,5 @@
-use Rattle.std.proofs.Common.{◌≡◌, ◌∙◌, [], ◌++◌, codes}
+use Rattle.std.proofs.Common.{◌≡◌, ◌∙◌}
 use Rattle.std.specs.Prelude.{decimal}
-use Rattle.kn_commands.specs.Serving.{served_line}
 use Rattle.kn_commands.proofs.Told.{told}
 use Rattle.kn_commands.proofs.Lines.{served_parts}
 use Rattle.kn_commands.proofs.serve_line.print_served.Goals as goal

@@ -1,4 +1,4 @@
-use Rattle.std.proofs.Common.{◌≡◌, ◌<◌, ◌≤◌, ℕ, List, arith, ap, subst, sym, ◌∙◌, false}
+use Rattle.std.proofs.Common.{◌≡◌, ◌<◌, arith, ap, subst, sym, ◌∙◌, false}
 use Rattle.kn_workers.specs.declared.worker.ServeEnd.{ServeEnd}
 use Rattle.kn_workers.specs.declared.binding.Binding.{Binding}
 use Rattle.kn_workers.specs.Workers.{AllServed}
