@@ -1,5 +1,5 @@
 //! Loading a policy file: its assertions, added in their order to a new registry by its root pass.
-ghost use Rattle.std.specs.Prelude.{◌≡◌, ◌≢◌, ◌+◌, ◌≤◌, ◌∷◌, ◌++◌, [], length, map, take, All, OnOk, IfOk, IfErr, MatchOption, Some, ℕ, List as Of};
+ghost use Rattle.std.specs.Prelude.{◌≡◌, ◌≢◌, ◌+◌, ◌<◌, ◌≤◌, ◌∷◌, ◌++◌, [], length, map, take, All, OnOk, IfOk, IfErr, MatchOption, Some, ℕ, List as Of};
 ghost use Rattle.kn_fields.specs.Numbers.{fault_number};
 ghost use Rattle.kn_files.specs.Pieces.{pieces_of, spans_of, bytes_at, IsWithin};
 ghost use Rattle.kn_store.specs.declared.fault.StoreFault.TheVariants as F;
@@ -10,7 +10,7 @@ ghost use Rattle.kn_commands.specs.declared.stop.Stop.TheVariants as S;
 use crate::drafts::{Draft, read_draft, read_drafts};
 use crate::stop::Stop;
 use kn_assert::ReadFault;
-use kn_base::limits::{ASSERTION_BYTES, FILE_BYTES, LIVE_BYTES};
+use kn_base::limits::{FILE_BYTES, LIVE_BYTES, LIVE_CREDENTIALS};
 use kn_base::{List, NoMemory, Span};
 use kn_files::split_file;
 use kn_registry::{Pass, Registry};
@@ -19,10 +19,6 @@ use kn_store::StoreFault;
 use std::alloc::Global;
 use std::sync::Wait;
 use std::thread::Threads;
-
-/// The texts that are read before the first of them is added. Those of them that have a reading have no more bytes than may be
-/// live, so a file that is refused takes no more memory than reading twice as much.
-const BATCH_TEXTS: u32 = (LIVE_BYTES / ASSERTION_BYTES) as u32;
 
 /// A registry with the assertions of a policy file, added by its root pass, caller 0, in their order.
 ///
@@ -68,13 +64,32 @@ fn add_all<R: Threads + Wait + Sync>(
 {
     let mut from = 0;
     while from < spans.len() {
-        let to = from + BATCH_TEXTS.min(spans.len() - from);
+        let to = batch_end(spans, from);
         match add_batch(rt, alloc, registry, root, file, spans, from, to) {
             Ok(()) => from = to,
             Err(stop) => return Err(stop),
         }
     }
     Ok(())
+}
+
+/// Where the batch ends that begins at a place: it has as many texts as may be live together, but one at least. They are
+/// all read before the first of them is added, so a file that is refused takes no more memory than reading twice as much.
+fn batch_end(spans: &List<Span>, from: u32) -> u32
+    requires { from < length spans.now }
+    ensures some { from < result }
+    ensures within { result ≤ length spans.now }
+{
+    let most = from + LIVE_CREDENTIALS.min(spans.len() - from);
+    let mut bytes: usize = 0;
+    for place in from..most {
+        let span = spans.as_slice()[place as usize];
+        bytes = bytes.saturating_add(span.end.saturating_sub(span.start) as usize);
+        if from < place && bytes > LIVE_BYTES {
+            return place;
+        }
+    }
+    most
 }
 
 /// Adds the assertions at the spans of a file from one place up to another, behind those before. All are read before.
