@@ -17,7 +17,7 @@ use Rattle.kn_program.specs.declared.signs.Level.TheVariants as level
 use Rattle.kn_program.proofs.SignLemmas.{comparison_there, prefix_there}
 use Rattle.kn_fields.proofs.Words.{taken_there, marked_there}
 use Rattle.kn_fields.proofs.Levels.{IsComplete, level_complete, closed_complete}
-use Rattle.kn_program.proofs.Fronts.{begins_some, any_word, any_operands, atom_begins, unary_begins, power_begins, product_begins, sum_begins, cmp_begins, not_begins, and_begins, or_begins, cmp_no_not, atom_no_prefix}
+use Rattle.kn_program.proofs.Fronts.{test_some, operand_some, atom_starts, unary_starts, power_starts, product_starts, sum_starts, cmp_starts, not_starts, and_starts, or_starts, atom_no_prefix}
 use Rattle.kn_program.proofs.Lists.{and_tree, sum_tree, product_tree, power_tree, or_level, and_level, sum_level, product_level, power_level}
 
 -- no operand, power .. goes on with these words
@@ -87,39 +87,10 @@ pub brace_stops : (rest : List Word) → StopsOr (sign_word (codes "}") ∷ rest
 unfolding taken operation_of comparison_of itself
 brace_stops rest = (((((refl, refl), refl), refl), refl), refl)
 
--- a derivation has words
-
-atom_some : (a : Atom) → 1 ≤ length (atom_words a)
-atom_some a = begins_some (atom_begins any_word any_operands a)
-
-unary_some : (u : Unary) → 1 ≤ length (unary_words u)
-unary_some u = begins_some (unary_begins any_word any_operands u)
-
-power_some : (p : Power) → 1 ≤ length (power_words p)
-power_some p = begins_some (power_begins any_word any_operands p)
-
-product_some : (p : Product) → 1 ≤ length (product_words p)
-product_some p = begins_some (product_begins any_word any_operands p)
-
-sum_some : (s : Sum) → 1 ≤ length (sum_words s)
-sum_some s = begins_some (sum_begins any_word any_operands s)
-
-cmp_some : (c : Cmp) → 1 ≤ length (cmp_words c)
-cmp_some c = begins_some (cmp_begins any_word any_operands c)
-
-not_some : (n : Not) → 1 ≤ length (not_words n)
-not_some n = begins_some (not_begins n)
-
-and_some : (a : And) → 1 ≤ length (and_words a)
-and_some a = begins_some (and_begins a)
-
-pub or_some : (o : Or) → 1 ≤ length (or_words o)
-or_some o = begins_some (or_begins o)
-
 not_complete : (n : ℕ) → IsComplete 10 n 3 cmp_words cmp_tree StopsCmp (comparison_at n) → IsComplete 10 n 2 not_words not_tree StopsCmp (negation_at n)
     → IsComplete 10 (suc n) 2 not_words not_tree StopsCmp (negation_at (suc n))
 unfolding negation_at not_words not_tree
-not_complete n below same (cmp c) rest few stops = rw (cmp_no_not c rest) (below c rest (omega (arith, few)) stops)
+not_complete n below same (cmp c) rest few stops = rw (cmp_starts c rest).1 (below c rest (omega (arith, few)) stops)
 not_complete n below same (negated m) rest few stops =
     rw (marked_there (codes "!") (not_words m ++ rest), same m rest (omega (arith, few)) stops) refl
 
@@ -158,47 +129,47 @@ mutual
   unfolding tests_at negation_at comparison_at chain_at operand_at atom_at or_words or_parts and_words and_parts sum_words sum_first sum_links product_words product_first product_links power_words power_first power_links
 
   pub complete_or : (n : ℕ) → IsComplete 10 n 0 or_words or_tree StopsOr (tests_at n joint.Or)
-  complete_or zero d rest few stops = absurd (omega (arith, few, or_some d))
+  complete_or zero d rest few stops = absurd (omega (arith, few, test_some _ (or_starts d)))
   complete_or (suc n) d rest few stops =
       level_complete or_level (tests_at n joint.And) StopsAnd (suc n) d rest (λ i rest short stops. complete_and n i rest (omega (arith, few, short)) stops) (λ s rest fits. or_stops rest)
-      (omega (arith, few, or_some d)) stops.0 stops.1
+      (omega (arith, few, test_some _ (or_starts d))) stops.0 stops.1
 
   pub complete_and : (n : ℕ) → IsComplete 10 n 1 and_words and_tree StopsAnd (tests_at n joint.And)
-  complete_and zero d rest few stops = absurd (omega (arith, few, and_some d))
+  complete_and zero d rest few stops = absurd (omega (arith, few, test_some _ (and_starts d)))
   complete_and (suc n) d rest few stops =
       level_complete and_level (negation_at n) StopsCmp (suc n) d rest (λ i rest short stops. complete_not n i rest (omega (arith, few, short)) stops) (λ s rest fits. and_stops rest)
-      (omega (arith, few, and_some d)) stops.0 stops.1
+      (omega (arith, few, test_some _ (and_starts d))) stops.0 stops.1
 
   pub complete_not : (n : ℕ) → IsComplete 10 n 2 not_words not_tree StopsCmp (negation_at n)
-  complete_not zero d rest few stops = absurd (omega (arith, few, not_some d))
+  complete_not zero d rest few stops = absurd (omega (arith, few, test_some _ (not_starts d)))
   complete_not (suc n) d rest few stops = not_complete n (complete_cmp n) (complete_not n) d rest few stops
 
   pub complete_cmp : (n : ℕ) → IsComplete 10 n 3 cmp_words cmp_tree StopsCmp (comparison_at n)
-  complete_cmp zero d rest few stops = absurd (omega (arith, few, cmp_some d))
+  complete_cmp zero d rest few stops = absurd (omega (arith, few, operand_some _ (cmp_starts d)))
   complete_cmp (suc n) d rest few stops = cmp_complete n (complete_sum n) d rest few stops
 
   pub complete_sum : (n : ℕ) → IsComplete 10 n 4 sum_words sum_tree StopsSum (chain_at n level.Sum)
-  complete_sum zero d rest few stops = absurd (omega (arith, few, sum_some d))
+  complete_sum zero d rest few stops = absurd (omega (arith, few, operand_some _ (sum_starts d)))
   complete_sum (suc n) d rest few stops =
       level_complete sum_level (chain_at n level.Product) StopsProduct (suc n) d rest (λ i rest short stops. complete_product n i rest (omega (arith, few, short)) stops) sum_stops
-      (omega (arith, few, sum_some d)) stops.0 stops.1
+      (omega (arith, few, operand_some _ (sum_starts d))) stops.0 stops.1
 
   pub complete_product : (n : ℕ) → IsComplete 10 n 5 product_words product_tree StopsProduct (chain_at n level.Product)
-  complete_product zero d rest few stops = absurd (omega (arith, few, product_some d))
+  complete_product zero d rest few stops = absurd (omega (arith, few, operand_some _ (product_starts d)))
   complete_product (suc n) d rest few stops =
       level_complete product_level (chain_at n level.Power) StopsPower (suc n) d rest (λ i rest short stops. complete_power n i rest (omega (arith, few, short)) stops) product_stops
-      (omega (arith, few, product_some d)) stops.0 stops.1
+      (omega (arith, few, operand_some _ (product_starts d))) stops.0 stops.1
 
   pub complete_power : (n : ℕ) → IsComplete 10 n 6 power_words power_tree StopsPower (chain_at n level.Power)
-  complete_power zero d rest few stops = absurd (omega (arith, few, power_some d))
+  complete_power zero d rest few stops = absurd (omega (arith, few, operand_some _ (power_starts d)))
   complete_power (suc n) d rest few stops =
       level_complete power_level (operand_at n) StopsOperand (suc n) d rest (λ i rest short stops. complete_unary n i rest (omega (arith, few, short)) stops) (λ s rest fits. tt)
-      (omega (arith, few, power_some d)) tt stops
+      (omega (arith, few, operand_some _ (power_starts d))) tt stops
 
   pub complete_unary : (n : ℕ) → IsComplete 10 n 7 unary_words unary_tree StopsOperand (operand_at n)
-  complete_unary zero d rest few stops = absurd (omega (arith, few, unary_some d))
+  complete_unary zero d rest few stops = absurd (omega (arith, few, operand_some _ (unary_starts d)))
   complete_unary (suc n) d rest few stops = unary_complete n (complete_atom n) (complete_unary n) d rest few stops
 
   pub complete_atom : (n : ℕ) → IsComplete 10 n 8 atom_words atom_tree StopsOperand (atom_at n)
-  complete_atom zero d rest few stops = absurd (omega (arith, few, atom_some d))
+  complete_atom zero d rest few stops = absurd (omega (arith, few, operand_some _ (atom_starts d)))
   complete_atom (suc n) d rest few stops = atom_complete n (complete_or n) d rest few stops

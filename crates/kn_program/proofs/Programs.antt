@@ -17,9 +17,9 @@ use Rattle.kn_fields.proofs.Levels.{Spelled, IsSound, none_sound, level_sound, l
 use Rattle.kn_program.specs.Reading.{has_clause, entry_by, entry_at, clause_with, block, value_after, tests_at, program_at, clause_at}
 use Rattle.kn_program.specs.declared.signs.Joint.TheVariants as joint
 use Rattle.kn_program.proofs.Lists.{entry_tree, program_level}
-use Rattle.kn_program.proofs.Fronts.{or_clause, test_clause, or_no_brace}
+use Rattle.kn_program.proofs.Fronts.{starts_some, test_some, or_starts}
 use Rattle.kn_program.proofs.Sound.{sound_or}
-use Rattle.kn_program.proofs.Complete.{StopsOr, arrow_stops, semicolon_stops, brace_stops, or_some, complete_or}
+use Rattle.kn_program.proofs.Complete.{StopsOr, arrow_stops, semicolon_stops, brace_stops, complete_or}
 
 -- what is read is spelled
 
@@ -119,18 +119,11 @@ brace_last : (rest : List Word) → marked (codes ";") (sign_word (codes "}") �
 unfolding taken itself
 brace_last rest = refl
 
-clause_some : (c : Clause) → 1 ≤ length (clause_words c)
-unfolding clause_words
-clause_some (bare test) = or_some test
-clause_some (valued test value) = omega (arith, or_some test, length-append (or_words test) (sign_word (codes "->") ∷ or_words value))
-clause_some (nested test p) =
-    omega (arith, or_some test, length-append (or_words test) (sign_word (codes "->") ∷ sign_word (codes "{") ∷ (program_words p ++ sign_word (codes "}") ∷ [])))
-
 clause_front : (c : Clause) (rest : List Word) → has_clause (clause_words c ++ rest) ≡ true
 unfolding clause_words
-clause_front (bare test) rest = or_clause test rest
-clause_front (valued test value) rest = test_clause test (sign_word (codes "->") ∷ or_words value) rest
-clause_front (nested test p) rest = test_clause test (sign_word (codes "->") ∷ sign_word (codes "{") ∷ (program_words p ++ sign_word (codes "}") ∷ [])) rest
+clause_front (bare test) rest = (or_starts test rest).0
+clause_front (valued test value) rest = rw append_assoc (or_starts test _).0
+clause_front (nested test p) rest = rw append_assoc (or_starts test _).0
 
 abbrev pub IsClauseComplete : ℕ → Type 0
 IsClauseComplete n = (c : Clause) (rest : List Word) → 12 * length (clause_words c) ≤ n → StopsClause rest → clause_at n (clause_words c ++ rest) ≡ Some (clause_tree c, rest)
@@ -147,16 +140,16 @@ entry_complete n below (something c) rest few stops = rw (clause_front c rest, b
 
 clause_complete : (n : ℕ) → IsProgramComplete n → IsClauseComplete (suc n)
 unfolding clause_at clause_words clause_tree
-clause_complete n below (bare test) rest few stops = rw (complete_or n test rest (omega (arith, few, or_some test)) stops.0, stops.1) refl
+clause_complete n below (bare test) rest few stops = rw (complete_or n test rest (omega (arith, few, test_some _ (or_starts test))) stops.0, stops.1) refl
 clause_complete n below (valued test value) rest few stops =
     let size = length-append (or_words test) (sign_word (codes "->") ∷ or_words value) in
     let left : List Word = or_words value ++ rest in
     rw (
       append_assoc (or_words test) (sign_word (codes "->") ∷ or_words value) rest,
-      complete_or n test (sign_word (codes "->") ∷ left) (omega (arith, few, size, or_some test)) (arrow_stops left),
+      complete_or n test (sign_word (codes "->") ∷ left) (omega (arith, few, size, test_some _ (or_starts test))) (arrow_stops left),
       marked_there (codes "->") left,
-      or_no_brace value rest,
-      complete_or n value rest (omega (arith, few, size, or_some test)) stops.0,
+      (or_starts value rest).1,
+      complete_or n value rest (omega (arith, few, size, test_some _ (or_starts test))) stops.0,
     ) refl
 clause_complete n below (nested test p) rest few stops =
     let inner : List Word = program_words p ++ sign_word (codes "}") ∷ [] in
@@ -165,13 +158,13 @@ clause_complete n below (nested test p) rest few stops =
     let left : List Word = inner ++ rest in
     rw (
       append_assoc (or_words test) (sign_word (codes "->") ∷ sign_word (codes "{") ∷ inner) rest,
-      complete_or n test (sign_word (codes "->") ∷ sign_word (codes "{") ∷ left) (omega (arith, few, size, inner_size, or_some test)) (arrow_stops (sign_word (codes "{") ∷ left)),
+      complete_or n test (sign_word (codes "->") ∷ sign_word (codes "{") ∷ left) (omega (arith, few, size, inner_size, test_some _ (or_starts test))) (arrow_stops (sign_word (codes "{") ∷ left)),
       marked_there (codes "->") (sign_word (codes "{") ∷ left),
       marked_there (codes "{") left,
     )
     (ap (λ (read : Read (List ClauseTree)). map_read (clause_with (or_tree test)) (map_read block read))
     (closed_complete (codes "}") (program_at n) (program_words p) rest (program_clauses p)
-    (below p (sign_word (codes "}") ∷ rest) (omega (arith, few, size, inner_size, or_some test)) (brace_entry rest) (brace_last rest))))
+    (below p (sign_word (codes "}") ∷ rest) (omega (arith, few, size, inner_size, test_some _ (or_starts test))) (brace_entry rest) (brace_last rest))))
 
 mutual
   unfolding program_at program_words program_clauses
@@ -184,5 +177,5 @@ mutual
       (omega (arith, few)) stops last
 
   pub complete_clause : (n : ℕ) → IsClauseComplete n
-  complete_clause zero c rest few stops = absurd (omega (arith, few, clause_some c))
+  complete_clause zero c rest few stops = absurd (omega (arith, few, starts_some _ (clause_front c)))
   complete_clause (suc n) c rest few stops = clause_complete n (complete_program n) c rest few stops
