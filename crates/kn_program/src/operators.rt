@@ -11,6 +11,7 @@ use kn_trees::{Comparison, Operation};
 
 /// Takes the sign of an operation of a level, if it comes next.
 #[inline(always)]
+#[tactic(auto, unfolding(kn_fields::specs::Reading::taken))]
 pub(crate) fn take_operation(cursor: &mut Cursor<'_, '_>, level: Level) -> Option<Operation>
     ensures taken { with_rest result cursor.new ≡ taken (operation_of level) cursor.old }
     ensures kept { result ≡ None → cursor.new ≡ cursor.old }
@@ -23,6 +24,7 @@ pub(crate) fn take_operation(cursor: &mut Cursor<'_, '_>, level: Level) -> Optio
 
 /// Whether an operation of a level or of a tighter one comes next.
 #[inline(always)]
+#[tactic(auto, unfolding(kn_fields::specs::Reading::taken))]
 pub(crate) fn has_operation(cursor: &Cursor<'_, '_>, level: Level) -> bool
     ensures { result ≡ false → (tier : Tier) → height tier ≤ height level → None ≡ taken (operation_of tier) cursor.now }
 {
@@ -34,6 +36,7 @@ pub(crate) fn has_operation(cursor: &Cursor<'_, '_>, level: Level) -> bool
 
 /// Takes the sign of a comparison, if it comes next.
 #[inline(always)]
+#[tactic(auto, unfolding(kn_fields::specs::Reading::taken))]
 pub(crate) fn take_comparison(cursor: &mut Cursor<'_, '_>) -> Option<Comparison>
     ensures taken { with_rest result cursor.new ≡ taken comparison_of cursor.old }
     ensures kept { result ≡ None → cursor.new ≡ cursor.old }
@@ -46,6 +49,7 @@ pub(crate) fn take_comparison(cursor: &mut Cursor<'_, '_>) -> Option<Comparison>
 
 /// Takes the sign before an operand, if it comes next.
 #[inline(always)]
+#[tactic(auto, unfolding(kn_fields::specs::Reading::taken))]
 pub(crate) fn take_prefix(cursor: &mut Cursor<'_, '_>) -> Option<Prefix>
     ensures taken { with_rest result cursor.new ≡ taken prefix_of cursor.old }
     ensures kept { result ≡ None → cursor.new ≡ cursor.old }
