@@ -1,5 +1,5 @@
 -- What is spelled is read.
-use Rattle.std.proofs.Common.{◌≡◌, ℕ, zero, suc, ◌≤◌, true, List, [], ◌∷◌, ◌++◌, length, codes, None, refl, arith, length-append}
+use Rattle.std.proofs.Common.{◌≡◌, ℕ, zero, suc, true, List, [], ◌∷◌, ◌++◌, codes, None, refl, arith, length-append}
 use Rattle.std.proofs.lemmas.List.{append_assoc}
 use Rattle.kn_trees.specs.declared.program.Comparison.{Comparison}
 use Rattle.kn_trees.specs.declared.program.Comparison.TheVariants.{Eq}
@@ -9,7 +9,7 @@ use Rattle.kn_fields.specs.Words.{Word, itself}
 use Rattle.kn_fields.specs.Reading.{taken, marked}
 use Rattle.kn_fields.specs.Words.Word.{sign as sign_word}
 use Rattle.kn_program.specs.Signs.{operation_text, operation_of, comparison_text, comparison_of, prefix_text, prefix_of, is_at}
-use Rattle.kn_program.specs.Grammar.{Or, And, Not, Cmp, Sum, Product, Power, Unary, Atom, or_words, and_words, not_words, cmp_words, sum_words, product_words, power_words, unary_words, atom_words, or_parts, and_parts, not_tree, cmp_tree, sum_first, sum_links, product_first, product_links, power_first, power_links, unary_tree, atom_tree, or_tree}
+use Rattle.kn_program.specs.Grammar.{or_words, and_words, not_words, cmp_words, sum_words, product_words, power_words, unary_words, atom_words, or_parts, and_parts, not_tree, cmp_tree, sum_first, sum_links, product_first, product_links, power_first, power_links, unary_tree, atom_tree, or_tree}
 use Rattle.kn_program.proofs.Derivations.{cmp, negated, sum, compared, atom, signed, group, literal, number, truth, name}
 use Rattle.kn_program.specs.Reading.{tests_at, negation_at, comparison_at, chain_at, operand_at, atom_at}
 use Rattle.kn_program.specs.declared.signs.Joint.TheVariants as joint

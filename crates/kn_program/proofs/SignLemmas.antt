@@ -1,8 +1,8 @@
 -- Signs and what they stand for, forwards and backwards.
-use Rattle.std.proofs.Common.{◌≡◌, ℕ, Bool, true, false, List, codes, Option, Some, None, refl, arith}
+use Rattle.std.proofs.Common.{◌≡◌, ℕ, true, List, Some, refl, arith}
 use Rattle.std.proofs.lemmas.Slice.Eq.{bytes_eq-Decides}
 use Rattle.kn_trees.specs.declared.program.Comparison.{Comparison}
-use Rattle.kn_trees.specs.declared.program.Comparison.TheVariants.{Eq, Ne, Lt, Gt, Le, Ge}
+use Rattle.kn_trees.specs.declared.program.Comparison.TheVariants.{Eq}
 use Rattle.kn_trees.specs.declared.program.Operation.{Operation}
 use Rattle.kn_trees.specs.declared.program.Operation.TheVariants.{Plus, Less, Join, Times, Divide, Rest, Power as Powered}
 use Rattle.kn_program.specs.Signs.{operation_text, operation_of, is_at, comparison_text, comparison_of, prefix_text, prefix_of}

@@ -60,6 +60,7 @@ fn entry(alloc: Global, cursor: &mut Cursor<'_, '_>, budget: u64) -> Result<Opti
 }
 
 #[cycle(program)]
+#[tactic(auto, using(crate::proofs::Steps::clause_step), unfolding(crate::specs::Reading::clause_at))]
 fn clause(alloc: Global, cursor: &mut Cursor<'_, '_>, budget: u64) -> Result<Clause, Unread>
     ensures { Reads result (clause_at budget cursor.old) cursor.new }
 {
@@ -90,6 +91,7 @@ fn value(alloc: Global, cursor: &mut Cursor<'_, '_>, budget: u64) -> Result<Then
 }
 
 /// The program that all the tokens spell.
+#[tactic(auto, unfolding(crate::specs::Reading::read_program))]
 pub(crate) fn program(alloc: Global, cursor: &mut Cursor<'_, '_>) -> Result<Program, Unread>
     ensures { ReadsWhole result (read_program cursor.old) }
 {

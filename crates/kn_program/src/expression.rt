@@ -21,6 +21,7 @@ use std::alloc::Global;
 
 /// The tests with `||` or `&&` between them.
 #[cycle(expression)]
+#[tactic(auto, using(crate::proofs::Steps::tests_step), unfolding(crate::specs::Reading::tests_at))]
 pub(crate) fn tests(
     alloc: Global,
     cursor: &mut Cursor<'_, '_>,
@@ -84,6 +85,7 @@ fn test(
 
 /// A comparison, or `!` and what it stands before.
 #[cycle(expression)]
+#[tactic(auto, using(crate::proofs::Steps::negation_step), unfolding(crate::specs::Reading::negation_at))]
 #[inline(always)]
 fn negation(alloc: Global, cursor: &mut Cursor<'_, '_>, budget: u64) -> Result<Expr, Unread>
     ensures { Reads result (negation_at budget cursor.old) cursor.new }
@@ -110,6 +112,7 @@ fn denial(alloc: Global, cursor: &mut Cursor<'_, '_>, budget: u64) -> Result<Exp
 
 /// A sum, or two with a comparison between them.
 #[cycle(expression)]
+#[tactic(auto, using(crate::proofs::Steps::comparison_step), unfolding(crate::specs::Reading::comparison_at))]
 #[inline(always)]
 fn comparison(alloc: Global, cursor: &mut Cursor<'_, '_>, budget: u64) -> Result<Expr, Unread>
     ensures { Reads result (comparison_at budget cursor.old) cursor.new }
@@ -130,6 +133,7 @@ fn comparison(alloc: Global, cursor: &mut Cursor<'_, '_>, budget: u64) -> Result
 ///
 /// The first operand comes before the levels, so that one with no operation behind it takes no way through them.
 #[cycle(expression)]
+#[tactic(auto, using(crate::proofs::Steps::chain_is), unfolding(crate::specs::Reading::operand_at))]
 #[inline(always)]
 fn chain(
     alloc: Global,
@@ -149,6 +153,7 @@ fn chain(
 
 /// The operations of a level and of the tighter ones behind a first operand, if there are any.
 #[cycle(expression)]
+#[tactic(auto, using(crate::proofs::Steps::climb_none))]
 #[inline(always)]
 fn climb(
     alloc: Global,
@@ -169,6 +174,7 @@ fn climb(
 
 /// The operations of the tighter levels behind a first operand, and then those of this one.
 #[cycle(expression)]
+#[tactic(auto, using(crate::proofs::Steps::climb_step, crate::proofs::Steps::links_step, crate::proofs::Steps::some_levels))]
 fn operations(
     alloc: Global,
     cursor: &mut Cursor<'_, '_>,
@@ -252,6 +258,7 @@ fn side(
 
 /// An atom, or a sign and the operand behind it.
 #[cycle(expression)]
+#[tactic(auto, using(crate::proofs::Steps::operand_step), unfolding(crate::specs::Reading::operand_at))]
 #[inline(always)]
 fn operand(alloc: Global, cursor: &mut Cursor<'_, '_>, budget: u64) -> Result<Expr, Unread>
     ensures { Reads result (operand_at budget cursor.old) cursor.new }
@@ -307,6 +314,7 @@ fn constant(alloc: Global, token: &Token<'_>) -> Result<Option<Expr>, Unread>
 
 /// An expression of one token or in brackets.
 #[cycle(expression)]
+#[tactic(auto, using(crate::proofs::Steps::atom_step), unfolding(crate::specs::Reading::atom_at))]
 #[inline(always)]
 fn atom(alloc: Global, cursor: &mut Cursor<'_, '_>, budget: u64) -> Result<Expr, Unread>
     ensures { Reads result (atom_at budget cursor.old) cursor.new }
