@@ -1,7 +1,6 @@
 -- A program that tokens spell has no more levels than their brackets and prefix signs allow: 25 for each bracket that is
 -- open, and as many for what stands in the innermost.
-use Rattle.std.proofs.Common.{◌≡◌, ℕ, ◌+◌, ◌*◌, ◌≤◌, max, pos, List, [], ◌∷◌, ◌++◌, map, codes, Option, Some, None, Result, Ok, Err, refl, sym, ap, subst, arith}
-use Rattle.std.specs.Prelude.{IfOk, IfSome}
+use Rattle.std.proofs.Common.{◌≡◌, ℕ, ◌+◌, ◌*◌, ◌≤◌, max, pos, List, [], ◌∷◌, ◌++◌, map, codes, Some, Ok, refl, ap, arith}
 use Rattle.kn_lex.specs.Cutting.{Seen}
 use Rattle.kn_fields.specs.Depth.{IsTooDeep}
 use Rattle.kn_fields.proofs.Nesting.{Fits, shallow_fits, fits_here, fits_front, fits_between, fits_group, fits_block}
@@ -16,10 +15,9 @@ use Rattle.kn_program.specs.Signs.{operation_text, comparison_text}
 use Rattle.kn_fields.specs.Words.{Word}
 use Rattle.kn_fields.specs.Words.Word.{sign as sign_word}
 use Rattle.kn_program.specs.Trees.{joined, chained, prefixed}
-use Rattle.kn_program.specs.Grammar.{Or, And, Not, Cmp, Sum, Product, Power, Unary, Atom, or_words, and_words, not_words, cmp_words, sum_words, product_words, power_words, unary_words, atom_words, or_parts, and_parts, not_tree, cmp_tree, sum_first, sum_links, product_first, product_links, power_first, power_links, unary_tree, atom_tree, or_tree, Program, Clause, program_words, entry_words, clause_words, program_with, program_clauses, entry_clauses, clause_tree, program_tree, IsProgram}
+use Rattle.kn_program.specs.Grammar.{Or, And, Not, Cmp, Sum, Product, Power, Unary, Atom, or_words, and_words, not_words, cmp_words, sum_words, product_words, power_words, unary_words, atom_words, or_parts, and_parts, not_tree, cmp_tree, sum_first, sum_links, product_first, product_links, power_first, power_links, unary_tree, atom_tree, or_tree, Program, Clause, program_words, entry_words, clause_words, program_with, program_clauses, entry_clauses, clause_tree, program_tree}
 use Rattle.kn_program.proofs.Derivations.{ands, either, nots, each, cmp, negated, sum, compared, product, added, power, multiplied, unary, raised, atom, signed, group, literal, number, truth, name, ends, goes_on, nothing, something, bare, valued, nested}
-use Rattle.kn_program.specs.Conditions.{IsConditions, program_of, Gives}
-use Rattle.kn_program.specs.declared.fault.ProgramFault.{ProgramFault}
+use Rattle.kn_program.specs.Conditions.{program_of}
 use Rattle.kn_program.specs.declared.signs.Joint.{Joint}
 use Rattle.kn_program.specs.declared.signs.Joint.TheVariants as joint
 use Rattle.kn_program.specs.declared.signs.Prefix.{Prefix}
@@ -181,19 +179,9 @@ mutual
         clauses_levels (depth + 1) 0 p (fits_block depth 0 (program_words p) right),
       )
 
--- what tokens spell that don't go too deep
-spelled_shallow : (tokens : List Seen) (program : ProgramTree) → IsProgram tokens program → (IsTooDeep tokens → ⊥) → program_depth program ≤ 1629
-spelled_shallow tokens program spelled shallow =
-    let fits : Fits 0 0 (program_words spelled.form) = subst (Fits 0 0) (sym spelled.words) (shallow_fits tokens shallow) in
-    let tree = ap program_depth spelled.tree in
-    omega (arith, tree, depth_with (program_clauses spelled.form), clauses_levels 0 0 spelled.form fits)
-
-pub stated_shallow : (tokens : List Seen) (conditions : Option ProgramTree) → IsConditions tokens conditions → (IsTooDeep tokens → ⊥)
-    → IfSome conditions (λ program. program_depth program ≤ 1700)
-stated_shallow tokens None states shallow = tt
-stated_shallow tokens (Some program) states shallow = omega (arith, spelled_shallow tokens program states.spelled shallow)
-
-pub given_shallow : (tokens : List Seen) (r : Result (Option ProgramTree) ProgramFault) → Gives r (program_of tokens) → (IsTooDeep tokens → ⊥)
-    → IfOk r (λ conditions. IfSome conditions (λ program. program_depth program ≤ 1700))
-given_shallow tokens (Ok conditions) given shallow = stated_shallow tokens conditions (program_stands tokens conditions given) shallow
-given_shallow tokens (Err fault) given shallow = tt
+-- what is found of tokens that don't go too deep
+pub found_shallow : (tokens : List Seen) (program : ProgramTree) → program_of tokens ≡ Ok (Some program) → (IsTooDeep tokens → ⊥) → program_depth program ≤ 1700
+found_shallow tokens program found shallow =
+    let spelled = (program_stands tokens (Some program) found).spelled in
+    let fits : Fits 0 0 (program_words spelled.form) = rw spelled.words (shallow_fits tokens shallow) in
+    omega (arith, ap program_depth spelled.tree, depth_with (program_clauses spelled.form), clauses_levels 0 0 spelled.form fits)

@@ -1,17 +1,15 @@
 -- What the tokens of a field state is what is read of them.
-use Rattle.std.proofs.Common.{◌≡◌, ℕ, ◌+◌, ◌*◌, ◌⊎◌, inl, inr, Bool, true, false, List, [], ◌∷◌, length, Option, Some, None, Result, Ok, Err, refl, sym, ap, subst, ◌∙◌, arith, append-nil}
-use Rattle.std.specs.Prelude.{IfOk, IfErr, if◌then◌else◌}
+use Rattle.std.proofs.Common.{◌≡◌, ℕ, ◌+◌, ◌*◌, Bool, true, false, List, [], ◌∷◌, length, Option, Some, None, Result, Ok, Err, refl, sym, ap, subst, ◌∙◌, arith, append-nil}
+use Rattle.std.specs.Prelude.{if◌then◌else◌}
 use Rattle.kn_lex.specs.Cutting.{Seen}
 use Rattle.kn_fields.specs.Words.{Word, words_of}
-use Rattle.kn_fields.specs.Reading.{map_read, ReadsWhole, taken}
-use Rattle.kn_fields.specs.declared.unread.Unread.{Unread}
-use Rattle.kn_fields.specs.declared.unread.Unread.TheVariants.{Syntax as unread_Syntax, NoMemory as unread_NoMemory}
+use Rattle.kn_fields.specs.Reading.{map_read, taken}
 use Rattle.kn_fields.proofs.Steps.{mapped, whole_read}
 use Rattle.kn_trees.specs.Kinds.{is_well_kinded}
 use Rattle.kn_trees.specs.declared.program.Program.{Program as ProgramTree}
 use Rattle.kn_program.specs.Grammar.{Program, program_words, program_clauses, program_with, program_tree, IsProgram}
 use Rattle.kn_program.specs.Reading.{program_at, read_program}
-use Rattle.kn_program.specs.Conditions.{IsConditions, HasNoProgram, Shows, judged, judged_read, program_of, Gives, of_unread}
+use Rattle.kn_program.specs.Conditions.{IsConditions, HasNoProgram, Shows, judged, judged_read, program_of}
 use Rattle.kn_program.specs.declared.fault.ProgramFault.{ProgramFault}
 use Rattle.kn_program.specs.declared.fault.ProgramFault.TheVariants.{Syntax, Kind, NoMemory}
 use Rattle.kn_program.proofs.Complete.{nil_stops}
@@ -100,56 +98,14 @@ program_stands tokens p e = subst (Says tokens) e (found_says tokens)
 pub fault_stands : (tokens : List Seen) (fault : ProgramFault) → program_of tokens ≡ Err fault → Shows tokens fault
 fault_stands tokens fault e = subst (Says tokens) e (found_says tokens)
 
--- what the code gives of a field
+-- a field with no token states no program, and one with tokens is judged by what is read of them
 
-pub nothing_given : (tokens : List Seen) (words : List Word) → words ≡ words_of tokens → length words ≡ 0 → program_of tokens ≡ Ok None
+pub nothing_found : (tokens : List Seen) → length (words_of tokens) ≡ 0 → program_of tokens ≡ Ok None
 unfolding program_of words_of
-nothing_given [] words is none = refl
-nothing_given (token ∷ tokens) words is none = let size = ap length is in absurd (omega (arith, size, none))
+nothing_found [] none = refl
+nothing_found (token ∷ tokens) none = absurd (omega arith)
 
--- a field with tokens is judged by what is read of them
-pub judged_by : (tokens : List Seen) (words : List Word) → words ≡ words_of tokens → (length words ≡ 0 → ⊥) → program_of tokens ≡ judged_read (read_program words)
+pub judged_by : (tokens : List Seen) → (length (words_of tokens) ≡ 0 → ⊥) → program_of tokens ≡ judged_read (read_program (words_of tokens))
 unfolding program_of words_of
-judged_by [] words is some = absurd (some (ap length is))
-judged_by (token ∷ tokens) words is some = ap (λ words. judged_read (read_program words)) (sym is)
-
-pub unread_given : (found : Result (Option ProgramTree) ProgramFault) (read : Option ProgramTree) (unread : Unread) (fault : ProgramFault) → found ≡ judged_read read
-    → ReadsWhole {X = ProgramTree} (Err unread) read → fault ≡ of_unread unread → Gives {X = Option ProgramTree} (Err fault) found
-unread_given found read unread_Syntax fault judged none is = subst (λ fault. Gives {X = Option ProgramTree} (Err fault) found) (sym is) (judged ∙ ap judged_read none)
-unread_given found read unread_NoMemory fault judged none is = subst (λ fault. Gives {X = Option ProgramTree} (Err fault) found) (sym is) tt
-
-pub program_given : (found : Result (Option ProgramTree) ProgramFault) (read : Option ProgramTree) (program : ProgramTree) → found ≡ judged_read read → read ≡ Some program → is_well_kinded program ≡ true
-    → found ≡ Ok (Some program)
-program_given found read program is some well = rw (is, some, well) refl
-
-pub kind_given : (found : Result (Option ProgramTree) ProgramFault) (read : Option ProgramTree) (program : ProgramTree) → found ≡ judged_read read → read ≡ Some program → is_well_kinded program ≡ false
-    → found ≡ Err Kind
-kind_given found read program is some bad = rw (is, some, bad) refl
-
--- what is given, in the words of the grammar
-
-pub given_program : (tokens : List Seen) (r : Result (Option ProgramTree) ProgramFault) → Gives r (program_of tokens) → IfOk r (λ p. IsConditions tokens p)
-given_program tokens (Ok p) g = program_stands tokens p g
-given_program tokens (Err fault) g = tt
-
-pub given_fault : (tokens : List Seen) (r : Result (Option ProgramTree) ProgramFault) → Gives r (program_of tokens)
-    → IfErr r (λ fault. (fault ≡ NoMemory) ⊎ Shows tokens fault)
-given_fault tokens (Ok p) g = tt
-given_fault tokens (Err Syntax) g = inr (fault_stands tokens Syntax g)
-given_fault tokens (Err Kind) g = inr (fault_stands tokens Kind g)
-given_fault tokens (Err NoMemory) g = inl refl
-
--- whatever is found is given, if there is memory
-found_given : (r found : Result (Option ProgramTree) ProgramFault) → Gives r found → (r ≡ found) ⊎ (r ≡ Err NoMemory)
-found_given (Ok p) found g = inl (sym g)
-found_given (Err Syntax) found g = inl (sym g)
-found_given (Err Kind) found g = inl (sym g)
-found_given (Err NoMemory) found g = inr refl
-
-pub program_there : (tokens : List Seen) (r : Result (Option ProgramTree) ProgramFault) → Gives r (program_of tokens) → (p : Option ProgramTree) → IsConditions tokens p
-    → (r ≡ Ok p) ⊎ (r ≡ Err NoMemory)
-program_there tokens r g p h = found_given r (Ok p) (subst (Gives r) (program_is_found tokens p h) g)
-
-pub fault_there : (tokens : List Seen) (r : Result (Option ProgramTree) ProgramFault) → Gives r (program_of tokens) → (fault : ProgramFault) → Shows tokens fault
-    → (r ≡ Err fault) ⊎ (r ≡ Err NoMemory)
-fault_there tokens r g fault h = found_given r (Err fault) (subst (Gives r) (fault_is_found tokens fault h) g)
+judged_by [] some = absurd (some refl)
+judged_by (token ∷ tokens) some = refl

@@ -43,6 +43,7 @@ pub(crate) fn tests(
 
 /// The tests with a first one that is read, and a joint behind it.
 #[cycle(expression)]
+#[tactic(auto, using(kn_fields::proofs::Steps::going_none, kn_fields::proofs::Steps::going_over))]
 fn more_tests(
     alloc: Global,
     cursor: &mut Cursor<'_, '_>,
@@ -213,6 +214,7 @@ fn first_side(
 
 /// The operations of a level with a first side that is read, and a sign behind it.
 #[cycle(expression)]
+#[tactic(auto, using(kn_fields::proofs::Steps::going_none, kn_fields::proofs::Steps::going_over))]
 fn links(
     alloc: Global,
     cursor: &mut Cursor<'_, '_>,

@@ -18,6 +18,7 @@ pub(crate) fn several(joint: Joint, parts: List<Expr>) -> Expr
 }
 
 /// A first part with operations behind it; alone it is itself.
+#[tactic(auto, unfolding(crate::specs::Trees::chained))]
 pub(crate) fn chained(alloc: Global, first: Expr, links: List<Link2>) -> Result<Expr, NoMemory>
     ensures { IfOk result (λ chain. chain ≡ chained first links) }
 {

@@ -1,6 +1,6 @@
 use Rattle.std.proofs.Common.{refl, sym, ap, ◌∙◌}
 use Rattle.kn_fields.proofs.Words.{took, passed}
-use Rattle.kn_fields.proofs.Steps.{not_none, going_more, going_last, going_none, going_over, fault_handed_on}
+use Rattle.kn_fields.proofs.Steps.{not_none, going_more, going_last}
 use Rattle.kn_program.specs.Trees.{several, chained}
 use Rattle.kn_program.proofs.Steps.{tests_start, links_start}
 use Rattle.kn_program.proofs.TreeLemmas.{joined_more}
@@ -11,9 +11,6 @@ more_tests-loop-left-init t c = record {
   some = not_none _ _ c.args.first c.in_ok-add.ensures.ok;
   going = tests_start c.args.budget c.args.joint c.args.first _ _ _ c.new-parts.ensures c.in_ok-add.ensures.ok;
 }
-
-pub more_tests-returns-in_err-part : goal.more_tests-returns-in_err-part
-more_tests-returns-in_err-part t c = fault_handed_on _ _ _ _ c.from_residual-in_err-part.ensures.1 c.in_err-part.ensures (going_none c.loop-left.invariant.going)
 
 pub more_tests-returns-then-not-take_sign : goal.more_tests-returns-then-not-take_sign
 more_tests-returns-then-not-take_sign t c =
@@ -28,14 +25,8 @@ more_tests-loop-left-preserved t c = record {
       (took _ _ _ _ _ c.if-not-take_sign.false c.take_sign.ensures.taken c.joint_text.ensures);
 }
 
-pub more_tests-returns : goal.more_tests-returns
-more_tests-returns t c = going_over c.loop-left.invariant.going c.loop-left-test.false
-
 pub links-loop-left-init : goal.links-loop-left-init
 links-loop-left-init t c = links_start c.args.budget c.args.level c.args.first c.args.sign _ _ c.new-links.ensures
-
-pub links-returns-in_err-right : goal.links-returns-in_err-right
-links-returns-in_err-right t c = fault_handed_on _ _ _ _ c.from_residual.ensures.1 c.in_err-right.ensures (going_none c.loop-left.invariant)
 
 pub links-returns-in_default : goal.links-returns-in_default
 links-returns-in_default t c =
@@ -44,7 +35,3 @@ links-returns-in_default t c =
 
 pub links-loop-left-preserved : goal.links-loop-left-preserved
 links-loop-left-preserved t c = going_more c.loop-left.invariant c.loop-left-test.true c.in_ok-right.ensures c.in_ok-add.ensures.ok (sym c.in-Some.ensures.taken)
-
-pub links-returns : goal.links-returns
-links-returns t c = going_over c.loop-left.invariant c.loop-left-test.false
-
