@@ -158,7 +158,8 @@ clause_complete n below (nested test p) rest few stops =
     let left : List Word = inner ++ rest in
     rw (
       append_assoc (or_words test) (sign_word (codes "->") ∷ sign_word (codes "{") ∷ inner) rest,
-      complete_or n test (sign_word (codes "->") ∷ sign_word (codes "{") ∷ left) (omega (arith, few, size, inner_size, test_some _ (or_starts test))) (arrow_stops (sign_word (codes "{") ∷ left)),
+      complete_or n test (sign_word (codes "->") ∷ sign_word (codes "{") ∷ left) (omega (arith, few, size, inner_size, test_some _ (or_starts test)))
+          (arrow_stops (sign_word (codes "{") ∷ left)),
       marked_there (codes "->") (sign_word (codes "{") ∷ left),
       marked_there (codes "{") left,
     )

@@ -98,6 +98,8 @@ program_stands tokens p e = subst (Says tokens) e (found_says tokens)
 pub fault_stands : (tokens : List Seen) (fault : ProgramFault) → program_of tokens ≡ Err fault → Shows tokens fault
 fault_stands tokens fault e = subst (Says tokens) e (found_says tokens)
 
+pub ruleset findings = (program_is_found, fault_is_found, program_stands, fault_stands)
+
 -- a field with no token states no program, and one with tokens is judged by what is read of them
 
 pub nothing_found : (tokens : List Seen) → length (words_of tokens) ≡ 0 → program_of tokens ≡ Ok None

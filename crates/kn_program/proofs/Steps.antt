@@ -22,7 +22,8 @@ one_less n = omega arith
 
 -- tests with a joint between them: a first one, and where a joint stands behind it, the others
 pub tests_step : (budget : ℕ) (joint : Joint) (words : List Word) → (budget ≡ 0 → ⊥) → tests_at budget joint words
-    ≡ then_read (test_at (budget - 1) joint words) (λ first rest. behind_sign (marked (joint_text joint) rest) (Some (first, rest)) (λ mark. more_tests_at (budget - 1) joint first))
+    ≡ then_read (test_at (budget - 1) joint words) (λ first rest.
+    behind_sign (marked (joint_text joint) rest) (Some (first, rest)) (λ mark. more_tests_at (budget - 1) joint first))
 unfolding tests_at list_at tail_at joined
 tests_step zero joint words some = absurd (some refl)
 tests_step (suc n) Or words some = simp one_less (grind arith)
@@ -56,7 +57,8 @@ chain_is Sum budget words =
     rw (chain_step budget Sum words, chain_step (budget - 1) Product words, chain_step (budget - 1 - 1) Power words, same) (grind arith)
 
 -- the operations of the tighter levels come first
-pub climb_step : (budget : ℕ) (level : Level) (operand : Expr) (words : List Word) → climb_at budget level operand words ≡ then_read (first_at (budget - 1) level operand words) (links_at budget level)
+pub climb_step : (budget : ℕ) (level : Level) (operand : Expr) (words : List Word)
+    → climb_at budget level operand words ≡ then_read (first_at (budget - 1) level operand words) (links_at budget level)
 climb_step budget Sum operand words = refl
 climb_step budget Product operand words = refl
 climb_step budget Power operand words = refl
@@ -82,7 +84,8 @@ pub links_start : (budget : ℕ) (level : Level) (first : Expr) (sign : Operatio
 links_start budget level first sign links words none = going_on (taken (operation_of level)) one_link (side_at budget level) (chained first) budget sign [] links words none
 
 -- an operand with no operation behind it
-links_none : (budget : ℕ) (level : Level) (first : Expr) (words : List Word) → 0 < budget → None ≡ taken (operation_of level) words → links_at budget level first words ≡ Some (first, words)
+links_none : (budget : ℕ) (level : Level) (first : Expr) (words : List Word) → 0 < budget → None ≡ taken (operation_of level) words
+    → links_at budget level first words ≡ Some (first, words)
 links_none budget level first words some none = grind (arith, links_step budget level first words some)
 
 pub climb_none : (level : Level) (budget : ℕ) (operand : Expr) (words : List Word) → height level ≤ budget → ((tier : Level) → height tier ≤ height level → None ≡ taken (operation_of tier) words)

@@ -20,7 +20,7 @@ use std::alloc::Global;
 ///
 /// `part` says where the field stands among the tokens. As many levels of the grammar are open at once as the
 /// field's brackets and prefix signs ask for, so a field that goes too deep isn't passed.
-#[tactic(auto, using(crate::proofs::Stated::program_stands, crate::proofs::Stated::fault_stands, crate::proofs::Stated::program_is_found, crate::proofs::Stated::fault_is_found, crate::proofs::Depths::found_shallow))]
+#[tactic(auto, using(crate::proofs::Stated::findings, crate::proofs::Depths::found_shallow))]
 pub fn conditions(
     alloc: Global,
     tokens: &Tokens<'_>,

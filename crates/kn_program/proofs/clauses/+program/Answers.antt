@@ -21,4 +21,3 @@ clauses-loop-left-preserved t c = record {
 
 pub clauses-returns : goal.clauses-returns
 clauses-returns t c = going_over c.loop-left.invariant.going c.loop-left-test.false
-
