@@ -4,7 +4,6 @@ use Rattle.std.proofs.lemmas.Slice.Eq.{bytes_eq-Decides}
 use Rattle.kn_trees.specs.declared.program.Comparison.{Comparison}
 use Rattle.kn_trees.specs.declared.program.Comparison.TheVariants.{Eq}
 use Rattle.kn_trees.specs.declared.program.Operation.{Operation}
-use Rattle.kn_trees.specs.declared.program.Operation.TheVariants.{Plus, Less, Join, Times, Divide, Rest, Power as Powered}
 use Rattle.kn_program.specs.Signs.{operation_text, operation_of, is_at, comparison_text, comparison_of, prefix_text, prefix_of}
 use Rattle.kn_program.specs.declared.signs.Level.{Level}
 use Rattle.kn_program.specs.declared.signs.Level.TheVariants.{Sum, Product, Power}
@@ -23,16 +22,7 @@ operation_before Power text found e = grind (arith, bytes_eq-Decides)
 
 pub operation_there : (level : Level) (found : Operation) → is_at level found ≡ true → operation_of level (operation_text found) ≡ Some found
 unfolding operation_of
-operation_there Sum Plus e = refl
-operation_there Sum Less e = refl
-operation_there Sum Join e = refl
-operation_there Product Times e = refl
-operation_there Product Divide e = refl
-operation_there Product Rest e = refl
-operation_there Power Powered e = refl
-operation_there Sum _ e = absurd (cc)
-operation_there Product _ e = absurd (cc)
-operation_there Power _ e = absurd (cc)
+operation_there level found e = grind arith
 
 pub comparison_before : (text : List ℕ) (found : Comparison) → comparison_of text ≡ Some found → text ≡ comparison_text found
 unfolding comparison_of

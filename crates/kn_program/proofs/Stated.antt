@@ -63,13 +63,11 @@ pub fault_is_found : (tokens : List Seen) (fault : ProgramFault) → Shows token
 unfolding program_of
 fault_is_found tokens Syntax h = no_program tokens h
   where
-    unread : (tokens : List Seen) (read : Option ProgramTree) → read_program (words_of tokens) ≡ read → ((program : ProgramTree) → IsProgram tokens program → ⊥) → read ≡ None
-    unread tokens None e none = refl
-    unread tokens (Some program) e none = absurd (none program (read_spelled tokens program e))
-
     no_program : (tokens : List Seen) → HasNoProgram tokens → program_of tokens ≡ Err Syntax
     no_program [] h = absurd (h.some refl)
-    no_program (token ∷ tokens) h = ap judged_read (unread (token ∷ tokens) (read_program (words_of (token ∷ tokens))) refl h.none)
+    no_program (token ∷ tokens) h =
+        let none = λ (program : ProgramTree) (is : read_program (words_of (token ∷ tokens)) ≡ Some program). h.none program (read_spelled (token ∷ tokens) program is) in
+        grind (arith, none)
 fault_is_found tokens Kind h = rw (of_spelled tokens h.program h.some h.spelled, h.bad) refl
 fault_is_found tokens NoMemory h = absurd h
 
