@@ -4,7 +4,6 @@ use Rattle.std.proofs.lemmas.List.{append_assoc}
 use Rattle.kn_trees.specs.declared.program.Comparison.{Comparison}
 use Rattle.kn_trees.specs.declared.program.Comparison.TheVariants.{Eq}
 use Rattle.kn_trees.specs.declared.program.Operation.{Operation}
-use Rattle.kn_trees.specs.declared.program.Operation.TheVariants.{Plus, Less, Join, Power as Powered}
 use Rattle.kn_fields.specs.Words.{Word, itself}
 use Rattle.kn_fields.specs.Reading.{taken, marked}
 use Rattle.kn_fields.specs.Words.Word.{sign as sign_word}
@@ -44,15 +43,11 @@ StopsOr rest = StopsAnd rest × (marked (codes "||") rest ≡ None)
 
 product_stops : (s : Operation) (rest : List Word) → is_at level.Product s ≡ true → StopsPower (sign_word (operation_text s) ∷ rest)
 unfolding taken operation_of
-product_stops Powered rest e = absurd (cc)
-product_stops _ rest e = refl
+product_stops s rest e = grind arith
 
 sum_stops : (s : Operation) (rest : List Word) → is_at level.Sum s ≡ true → StopsProduct (sign_word (operation_text s) ∷ rest)
 unfolding taken operation_of
-sum_stops Plus rest e = (refl, refl)
-sum_stops Less rest e = (refl, refl)
-sum_stops Join rest e = (refl, refl)
-sum_stops _ rest e = absurd (cc)
+sum_stops s rest e = grind arith
 
 comparison_stops : (s : Comparison) (rest : List Word) → StopsSum (sign_word (comparison_text s) ∷ rest)
 unfolding taken operation_of

@@ -1,5 +1,5 @@
 -- The levels of the grammar that are lists.
-use Rattle.std.proofs.Common.{◌≡◌, ℕ, true, List, [], ◌∷◌, ◌++◌, codes, Option, Some, None, ◌⊎◌, inl, inr, refl, ap, ◌∙◌}
+use Rattle.std.proofs.Common.{◌≡◌, ℕ, true, List, [], ◌∷◌, ◌++◌, codes, Option, Some, None, ◌⊎◌, inl, inr, refl, ap, ◌∙◌, arith}
 use Rattle.kn_fields.specs.Words.{Word, Mark}
 use Rattle.kn_fields.specs.Words.Word.{sign as sign_word}
 use Rattle.kn_fields.specs.Reading.{one_part, taken}
@@ -131,13 +131,11 @@ entry_tree (something c) = Some (clause_tree c)
 
 pub entry_listed : (e : Entry) → entry_clauses e ≡ listed (entry_tree e) ++ []
 unfolding entry_clauses
-entry_listed nothing = refl
-entry_listed (something c) = refl
+entry_listed e = grind arith
 
 pub entry_first : (e : Entry) (clauses : List ClauseTree) → entry_clauses e ++ clauses ≡ listed (entry_tree e) ++ clauses
 unfolding entry_clauses
-entry_first nothing clauses = refl
-entry_first (something c) clauses = refl
+entry_first e clauses = grind arith
 
 pub program_split : (d : Program) → ((i : Entry) × (d ≡ ends i)) ⊎ ((i : Entry) × (o : Program) × (d ≡ goes_on i o))
 program_split (ends e) = inl (e, refl)
