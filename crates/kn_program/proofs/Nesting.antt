@@ -4,32 +4,23 @@ use Rattle.kn_fields.specs.Words.{Word}
 use Rattle.kn_fields.specs.Words.Word.{sign as sign_word}
 use Rattle.kn_fields.proofs.Nesting.{word_run, Fits, after, Closes, IsPlain, closes_between, closes_group}
 use Rattle.kn_trees.specs.declared.program.Comparison.{Comparison}
-use Rattle.kn_trees.specs.declared.program.Comparison.TheVariants.{Eq}
 use Rattle.kn_trees.specs.declared.program.Operation.{Operation}
-use Rattle.kn_trees.specs.declared.program.Operation.TheVariants.{Plus}
 use Rattle.kn_program.specs.Signs.{operation_text, comparison_text, prefix_text}
 use Rattle.kn_program.specs.Grammar.{Or, And, Not, Cmp, Sum, Product, Power, Unary, Atom, or_words, and_words, not_words, cmp_words, sum_words, product_words, power_words, unary_words, atom_words, Program, Entry, Clause, program_words, entry_words, clause_words}
 use Rattle.kn_program.proofs.Derivations.{ands, either, nots, each, cmp, negated, sum, compared, product, added, power, multiplied, unary, raised, atom, signed, group, literal, number, truth, name, ends, goes_on, nothing, something, bare, valued, nested}
 use Rattle.kn_program.specs.declared.signs.Prefix.{Prefix}
-use Rattle.kn_program.specs.declared.signs.Prefix.TheVariants.{Minus, Number as At, Deref}
 
 pub plain_operation : (sign : Operation) → IsPlain (sign_word (operation_text sign))
-plain_operation Plus depth = refl
-plain_operation _ depth = refl
+plain_operation sign depth = grind arith
 
 pub plain_comparison : (sign : Comparison) → IsPlain (sign_word (comparison_text sign))
-plain_comparison Eq depth = refl
-plain_comparison _ depth = refl
+plain_comparison sign depth = grind arith
 
 plain_prefix : (sign : Prefix) → IsPlain (sign_word (prefix_text sign))
-plain_prefix Minus depth = refl
-plain_prefix At depth = refl
-plain_prefix Deref depth = refl
+plain_prefix sign depth = grind arith
 
 prefix_run : (run : ℕ) (sign : Prefix) → word_run run (sign_word (prefix_text sign)) ≡ run + 1
-prefix_run run Minus = refl
-prefix_run run At = refl
-prefix_run run Deref = refl
+prefix_run run sign = grind arith
 
 -- behind a prefix sign the run is longer by one
 pub fits_prefix : (depth run : ℕ) (sign : Prefix) (words : List Word) → Fits depth run (sign_word (prefix_text sign) ∷ words) → Fits depth (run + 1) words

@@ -1,14 +1,12 @@
 -- Signs and what they stand for, forwards and backwards.
-use Rattle.std.proofs.Common.{◌≡◌, ℕ, true, List, Some, refl, arith}
+use Rattle.std.proofs.Common.{◌≡◌, ℕ, true, List, Some, arith}
 use Rattle.std.proofs.lemmas.Slice.Eq.{bytes_eq-Decides}
 use Rattle.kn_trees.specs.declared.program.Comparison.{Comparison}
-use Rattle.kn_trees.specs.declared.program.Comparison.TheVariants.{Eq}
 use Rattle.kn_trees.specs.declared.program.Operation.{Operation}
 use Rattle.kn_program.specs.Signs.{operation_text, operation_of, is_at, comparison_text, comparison_of, prefix_text, prefix_of}
 use Rattle.kn_program.specs.declared.signs.Level.{Level}
 use Rattle.kn_program.specs.declared.signs.Level.TheVariants.{Sum, Product, Power}
 use Rattle.kn_program.specs.declared.signs.Prefix.{Prefix}
-use Rattle.kn_program.specs.declared.signs.Prefix.TheVariants.{Minus, Number, Deref}
 
 -- the text is that of the operation, which stands on this level
 abbrev IsOperation : Level → List ℕ → Operation → Type 0
@@ -30,8 +28,7 @@ comparison_before text found e = grind (arith, bytes_eq-Decides)
 
 pub comparison_there : (found : Comparison) → comparison_of (comparison_text found) ≡ Some found
 unfolding comparison_of
-comparison_there Eq = refl
-comparison_there _ = refl
+comparison_there found = grind arith
 
 pub prefix_before : (text : List ℕ) (found : Prefix) → prefix_of text ≡ Some found → text ≡ prefix_text found
 unfolding prefix_of
@@ -39,6 +36,4 @@ prefix_before text found e = grind (arith, bytes_eq-Decides)
 
 pub prefix_there : (found : Prefix) → prefix_of (prefix_text found) ≡ Some found
 unfolding prefix_of
-prefix_there Minus = refl
-prefix_there Number = refl
-prefix_there Deref = refl
+prefix_there found = grind arith
