@@ -8,7 +8,7 @@ use Rattle.std.proofs.lemmas.List.Sums.{fold-append}
 use Rattle.kn_lex.specs.Bytes.{is_white}
 use Rattle.kn_lex.specs.Spelling.{Item, plain, escaped, joined, is_item, items_bytes, IsLiteral}
 use Rattle.kn_lex.specs.declared.quote.Quote.{Quote}
-use Rattle.kn_lex.specs.declared.quote.Quote.TheVariants.{Plain as Inside, Escaped, Joined, Opening, Returned}
+use Rattle.kn_lex.specs.declared.quote.Quote.TheVariants.{Plain as Inside, Escaped, Joined}
 use Rattle.kn_lex.proofs.Spelled.{both, same_byte}
 use Rattle.kn_files.specs.Lines.{after_byte, is_literal, after_line, at_line_start, is_of_comment}
 use Rattle.kn_files.specs.Literals.{leaves_out}
@@ -112,21 +112,11 @@ is_body Body = true
 is_body (Literal quote) = false
 
 no_body : (within : Within) (c : ℕ) → is_body within ≡ false → is_body (after_byte within c) ≡ false
-no_body Plain c e = grind (arith, nat_tests)
-no_body Comment c e = refl
-no_body Body c e = absurd (false≢true (sym e))
-no_body (Literal quote) c e = grind (arith, nat_tests)
+no_body within c e = grind (arith, nat_tests)
 
 -- the last two bytes
 bare_end : (within : Within) (c : ℕ) → is_body within ≡ false → is_bare c ≡ true → settled (after_byte (after_byte within c) 10) ≡ Plain
-bare_end Plain c e bare = grind (arith, nat_tests)
-bare_end Comment c e bare = refl
-bare_end Body c e bare = absurd (false≢true (sym e))
-bare_end (Literal Opening) c e bare = grind (arith, nat_tests)
-bare_end (Literal Inside) c e bare = grind (arith, nat_tests)
-bare_end (Literal Escaped) c e bare = grind (arith, nat_tests)
-bare_end (Literal Returned) c e bare = grind (arith, nat_tests)
-bare_end (Literal Joined) c e bare = grind (arith, nat_tests)
+bare_end within c e bare = grind (arith, nat_tests)
 
 bare_line : (line : List ℕ) (within : Within) → is_body within ≡ false → ends_bare line ≡ true → settled (fold after_byte within line) ≡ Plain
 bare_line [] within e bare = absurd (false≢true bare)
@@ -137,10 +127,7 @@ bare_line (a ∷ b ∷ []) within e bare =
 bare_line (a ∷ b ∷ c ∷ cs) within e bare = bare_line (b ∷ c ∷ cs) (after_byte within a) (no_body within a e) bare
 
 start_no_body : (within : Within) → is_body (at_line_start within) ≡ false
-start_no_body Plain = refl
-start_no_body Comment = refl
-start_no_body Body = refl
-start_no_body (Literal quote) = refl
+start_no_body within = grind arith
 
 pub bare_next : (within : Within) (line : List ℕ) → is_of_comment within line ≡ false → ends_bare line ≡ true
     → Plain ≡ settled (after_line within line)

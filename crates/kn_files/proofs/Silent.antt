@@ -28,8 +28,7 @@ use Rattle.kn_files.specs.Pieces.{is_assertion}
 use Rattle.kn_files.proofs.Splitting.{drop_next}
 
 pub either_false : (a b : Bool) → (a || b) ≡ false → (a ≡ false) × (b ≡ false)
-either_false true b e = absurd (false≢true (sym e))
-either_false false b e = (refl, e)
+either_false a b e = (grind arith, grind arith)
 
 abbrev pub has_zero : List ℕ → Bool
 has_zero bytes = list_any (λ byte. 0 == byte) bytes
@@ -63,15 +62,11 @@ quiet_plain first c cs e = grind (arith, nat_tests)
 
 quiet_piece : (context : Context) (c : ℕ) (cs : List ℕ) → (context ≡ CommentBody → ⊥) → goes_on false (c ∷ cs) ≡ false
     → (piece_at context (c ∷ cs) ≡ Some (White, white_len (c ∷ cs))) ⊎ (piece_at context (c ∷ cs) ≡ Some (Comment, line_len (c ∷ cs)))
-quiet_piece LineStart c cs n e = quiet_plain true c cs e
-quiet_piece WithinLine c cs n e = quiet_plain false c cs e
-quiet_piece CommentBody c cs n e = absurd (n refl)
+quiet_piece context c cs n e = grind (arith, quiet_plain)
 
 pub none_at_end : (context : Context) (piece : Piece) (n : ℕ) → (context ≡ CommentBody → ⊥) → IsPiece context [] piece n → ⊥
 unfolding plain_piece
-none_at_end LineStart piece n o cut = let found = piece_is LineStart [] piece n cut in absurd (cc)
-none_at_end WithinLine piece n o cut = let found = piece_is WithinLine [] piece n cut in absurd (cc)
-none_at_end CommentBody piece n o cut = absurd (o refl)
+none_at_end context piece n o cut = let found = piece_is context [] piece n cut in absurd (grind arith)
 
 quiet_sort : (context : Context) (text : List ℕ) (p : Piece × ℕ) → (context ≡ CommentBody → ⊥) → goes_on false text ≡ false → IsPiece context text p.0 p.1 → is_token p.0 ≡ false
 quiet_sort context [] p n e cut = absurd (none_at_end context p.0 p.1 n cut)
@@ -84,9 +79,7 @@ quiet_sort context (c ∷ cs) p n e cut =
 
 -- behind white space and comments no body is due
 pub no_body_due : (piece : Piece) (bytes : List ℕ) → is_token piece ≡ false → context_after piece bytes ≡ CommentBody → ⊥
-no_body_due White bytes e k = absurd (grind arith)
-no_body_due Comment bytes e k = absurd (cc)
-no_body_due (Token sort) bytes e k = false≢true (sym e)
+no_body_due piece bytes e k = absurd (grind arith)
 
 -- no piece is a token
 abbrev pub AreUntold : List (Piece × ℕ) → Type 0
@@ -121,8 +114,7 @@ no_zero_place [] e = refl
 no_zero_place (c ∷ cs) e = grind (arith, nat_tests, no_zero_place cs)
 
 pub unblank : (b : Bool) (fault : LexFault) (o : Option LexFault) → (if b then Some fault else o) ≡ None → (b ≡ false) × (o ≡ None)
-unblank true fault o e = absurd (cc)
-unblank false fault o e = (refl, e)
+unblank b fault o e = grind arith
 
 clean_zero : (place : Place) (at : ℕ) (text : List ℕ) (piece : Piece) (n : ℕ) → is_token piece ≡ false → IsPiece place.context text piece n → fault_at place at text ≡ None
     → has_zero (take n text) ≡ false
@@ -166,14 +158,10 @@ pub record IsSilentBefore (text left : List ℕ) : Type 0 where
   pub no_zero : has_zero front ≡ false
 
 pub spells_white : (context : Context) (bytes : List ℕ) → Spells context White bytes → is_white_space bytes ≡ true
-spells_white LineStart bytes h = h
-spells_white WithinLine bytes h = h
-spells_white CommentBody bytes h = absurd h
+spells_white context bytes h = grind arith
 
 pub spells_comment : (context : Context) (bytes : List ℕ) → Spells context Comment bytes → is_comment bytes ≡ true
-spells_comment LineStart bytes h = h
-spells_comment WithinLine bytes h = h
-spells_comment CommentBody bytes h = absurd h
+spells_comment context bytes h = grind arith
 
 front_quiet : (context : Context) (piece : Piece) (n : ℕ) (text front left : List ℕ) → (context ≡ CommentBody → ⊥) → is_token piece ≡ false → IsPiece context text piece n
     → drop n text ≡ front ++ left → goes_on false front ≡ false → goes_on false (take n text ++ front) ≡ false

@@ -17,7 +17,7 @@ use Rattle.kn_files.specs.Pieces.{is_assertion, text_of, span_of, spans_of, Stan
 use Rattle.kn_files.specs.Paragraphs.{lines_in}
 use Rattle.kn_files.specs.Splitting.{span_if, settled}
 use Rattle.kn_files.specs.declared.within.Within.{Within}
-use Rattle.kn_files.specs.declared.within.Within.TheVariants.{Plain, Comment, Body, Literal}
+use Rattle.kn_files.specs.declared.within.Within.TheVariants.{Plain}
 
 -- how many bytes the first line has
 unfoldable pub line_size : List ℕ → ℕ
@@ -159,10 +159,7 @@ spans_settled : (start : ℕ) (front : List ℕ) (within : Within) (lines : List
     → spans_from start front within lines ≡ spans_from start front (settled within) lines
 unfolding after_line
 spans_settled start front within [] = refl
-spans_settled start front Plain (line ∷ lines) = refl
-spans_settled start front Comment (line ∷ lines) = refl
-spans_settled start front Body (line ∷ lines) = refl
-spans_settled start front (Literal quote) (line ∷ lines) = refl
+spans_settled start front within (line ∷ lines) = grind arith
 
 -- one line on
 split_next : (file line : List ℕ) (start at begin : ℕ) (within next : Within) (spans new : List Span) → IsSplit file start at within spans → IsNext file at line

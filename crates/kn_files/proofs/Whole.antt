@@ -12,7 +12,7 @@ use Rattle.kn_lex.specs.Cutting.{start as text_start, ends_line, is_comment_labe
 use Rattle.kn_lex.specs.Faults.{goes_on, IsFaultless}
 use Rattle.kn_lex.specs.Scanning.{piece_at, body_len, fault_by}
 use Rattle.kn_lex.specs.declared.token.Sort.{Sort}
-use Rattle.kn_lex.specs.declared.token.Sort.TheVariants.{Label, Body as BodySort, Name, Number, Text, Sign}
+use Rattle.kn_lex.specs.declared.token.Sort.TheVariants.{Label, Body as BodySort}
 use Rattle.kn_lex.specs.declared.piece.Piece.{Piece}
 use Rattle.kn_lex.specs.declared.piece.Piece.TheVariants.{White, Comment as CommentPiece, Token}
 use Rattle.kn_lex.specs.declared.piece.Place.{Place}
@@ -38,11 +38,7 @@ use Rattle.kn_files.proofs.AtCuts.{AtCuts, FromLine, FromHere, FromPlace, line_o
 sort_context : (first : Bool) (sort : Sort) (bytes : List ℕ) → SpellsPlain first (Token sort) bytes → (first ≡ true → is_comment_label bytes ≡ false)
     → context_after (Token sort) bytes ≡ WithinLine
 sort_context first Label bytes h n = rw (n (both first (is_label bytes) h).0) refl
-sort_context first BodySort bytes h n = refl
-sort_context first Name bytes h n = refl
-sort_context first Number bytes h n = refl
-sort_context first Text bytes h n = refl
-sort_context first Sign bytes h n = refl
+sort_context first sort bytes h n = refl
 
 piece_on : (P : List ℕ → Type 0) (context : Context) (first : Bool) (piece : Piece) (n : ℕ) (left : List ℕ) → (context ≡ CommentBody → ⊥) → IsPiece context left piece n
     → SpellsPlain first piece (take n left) → (first ≡ true → is_comment_label (take n left) ≡ false)
