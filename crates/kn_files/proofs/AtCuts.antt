@@ -1,6 +1,6 @@
 -- What holds at each line that cuts a file, byte by byte: white space, comments, bodies and tokens are passed.
 use Rattle.std.proofs.Common.{◌≡◌, ℕ, zero, suc, true, false, Bool, ◌+◌, List, [], ◌∷◌, ◌++◌, Option, Some, None, length, take, drop, arith, refl, sym, ◌∙◌, ap, subst, if◌then◌else◌}
-use Rattle.std.specs.Prelude.{not, ◌&&◌, ◌||◌, ◌==◌, fold, nat_le, codes}
+use Rattle.std.specs.Prelude.{not, ◌&&◌, ◌||◌, ◌==◌, fold, nat_le}
 use Rattle.std.specs.List.{onto_first, list_all}
 use Rattle.std.specs.Char.{to_ascii_lowercase}
 use Rattle.std.specs.Str.{str_eq_ignore_ascii_case, bytes_eq, str_to_ascii_lowercase}
@@ -59,12 +59,7 @@ FromPlace P CommentBody left = FromHere P Body left
 byte_on : (P : List ℕ → Type 0) (within next : Within) (c : ℕ) (cs : List ℕ) → after_byte within c ≡ next → ((c == 10) ≡ true → FromLine P next cs)
     → ((c == 10) ≡ false → FromHere P next cs) → FromHere P within (c ∷ cs)
 unfolding lines_of
-byte_on P within next c cs e newline other =
-    choice (Behind P within) (c == 10) ((c ∷ []) ∷ lines_of cs) (onto_first c (lines_of cs)) (λ t. rw e (newline t)) (λ t. by (lines_of cs) (rw e (other t)))
-  where
-    by : (lines : List (List ℕ)) → Behind P (after_byte within c) lines → Behind P within (onto_first c lines)
-    by [] h = tt
-    by (line ∷ lines) h = h
+byte_on P within next c cs e newline other = grind arith
 
 -- the first line of what is left begins as it does
 
@@ -75,8 +70,7 @@ first_blank (c ∷ cs) = grind (arith, nat_tests, first_blank cs, is_blank-cons,
 
 first_continuation : (left : List ℕ) → is_continuation (take (line_size left) left) ≡ is_continuation left
 unfolding line_size
-first_continuation [] = refl
-first_continuation (c ∷ cs) = grind (arith, first_blank (c ∷ cs), take_next)
+first_continuation left = grind (arith, first_blank, take_next)
 
 -- what the bytes of the first line stand in
 abbrev begin : Within → List ℕ → Within
@@ -112,10 +106,7 @@ first_line_read : (P : List ℕ → Type 0) (other within : Within) (left : List
     → after_line within (take (line_size left) left) ≡ after_line other (take (line_size left) left) → FromLine P other left → FromLine P within left
 unfolding lines_of
 first_line_read P other within [] l e h = tt
-first_line_read P other within (c ∷ cs) l e h =
-    let whole = line_size_whole (c ∷ cs) (line_size (c ∷ cs)) refl (omega arith) in
-    let old : AtCuts P other (take (line_size (c ∷ cs)) (c ∷ cs) ∷ lines_of (drop (line_size (c ∷ cs)) (c ∷ cs))) = subst (AtCuts P other) whole h in
-    subst (AtCuts P within) (sym whole) (rw l old.0, rw e old.1)
+first_line_read P other within (c ∷ cs) l e h = grind (arith, line_size_whole)
 
 -- so may one behind a comment, and one behind a body with which it doesn't go on
 behind_comment : (line : List ℕ) → after_line Comment line ≡ after_line Plain line
@@ -159,8 +150,7 @@ comment_whole P (suc n) (c ∷ cs) size e h =
     subst (λ (k : ℕ). FromHere P Plain (k ∷ cs)) (sym hash) (byte_on P Plain Comment 35 cs refl (λ t. absurd (false≢true t)) (λ _. comment_on P cs (subst (λ (k : ℕ). FromHere P Plain (drop k cs)) rest h)))
 
 continuation_blank : (left : List ℕ) → is_continuation left ≡ true → is_blank left ≡ true → ⊥
-continuation_blank [] e blank = false≢true e
-continuation_blank (c ∷ cs) e blank = absurd (grind arith)
+continuation_blank left e blank = grind arith
 
 goes_on_body : (left : List ℕ) → is_continuation left ≡ true → begin Body (take (line_size left) left) ≡ Body
 goes_on_body left e = grind (arith, first_continuation left)
@@ -234,8 +224,7 @@ label_steady c e = grind (arith, nat_tests)
 
 run_steady : (head tail : ℕ → Bool) (bytes : List ℕ) → ((c : ℕ) → head c ≡ true → is_steady c ≡ true) → ((c : ℕ) → tail c ≡ true → is_steady c ≡ true)
     → is_run head tail bytes ≡ true → list_all is_steady bytes ≡ true
-run_steady head tail [] h t e = refl
-run_steady head tail (c ∷ cs) h t e = let parts = both (head c) (list_all tail cs) e in rw (h c parts.0) (all_more tail is_steady cs t parts.1)
+run_steady head tail bytes h t e = grind (arith, all_more)
 
 tail_steady : (bytes : List ℕ) → is_label_tail bytes ≡ true → list_all is_steady bytes ≡ true
 tail_steady [] e = refl
@@ -243,25 +232,14 @@ tail_steady (c ∷ []) e = rw (same_byte c 58 e) refl
 tail_steady (c ∷ d ∷ ds) e = let parts = both (continues_label c) (is_label_tail (d ∷ ds)) e in rw (label_steady c parts.0) (tail_steady (d ∷ ds) parts.1)
 
 pub label_bytes_steady : (bytes : List ℕ) → is_label bytes ≡ true → list_all is_steady bytes ≡ true
-label_bytes_steady [] e = refl
-label_bytes_steady (c ∷ cs) e =
-    let parts = both (is_letter c) (is_label_tail cs) e in
-    let steady : is_steady c ≡ true = let letter = parts.0 in grind (arith, nat_tests) in
-    rw steady (tail_steady cs parts.1)
+label_bytes_steady bytes e = grind (arith, tail_steady)
 
 sign_steady : (bytes : List ℕ) → is_sign bytes ≡ true → list_all is_steady bytes ≡ true
-sign_steady [] e = refl
-sign_steady (c ∷ []) e = let here : is_steady c ≡ true = grind (arith, nat_tests) in rw here refl
-sign_steady (c ∷ d ∷ []) e =
-    let here : is_steady c ≡ true = grind (arith, nat_tests) in
-    let next : is_steady d ≡ true = grind (arith, nat_tests) in
-    rw (here, next) refl
-sign_steady (c ∷ d ∷ b ∷ bs) e = absurd (false≢true e)
+sign_steady bytes e = grind (arith, nat_tests)
 
 -- a literal is passed whole
 opened : (P : List ℕ → Type 0) (lines : List (List ℕ)) → Behind P (Literal Opening) (onto_first 34 lines) → Behind P Plain (onto_first 34 lines)
-opened P [] h = h
-opened P (line ∷ lines) h = h
+opened P lines h = grind arith
 
 text_on : (P : List ℕ → Type 0) (bytes rest : List ℕ) → IsLiteral bytes → FromHere P Plain rest → FromHere P Plain (bytes ++ rest)
 unfolding lines_of
@@ -298,9 +276,7 @@ tail_alike : (bytes wanted : List ℕ) → bytes_eq (str_to_ascii_lowercase byte
     → (is_label_tail bytes ≡ true) × (length bytes ≡ length wanted)
 tail_alike bytes [] e small = absurd (false≢true small)
 tail_alike [] (d ∷ ds) e small = absurd (false≢true e)
-tail_alike (c ∷ []) (d ∷ []) e small =
-    let colon : (to_ascii_lowercase c == 58) ≡ true = rw (same_byte d 58 small) at (both (to_ascii_lowercase c == d) true e).0 in
-    (grind (arith, nat_tests), refl)
+tail_alike (c ∷ []) (d ∷ []) e small = grind arith
 tail_alike (c ∷ b ∷ bs) (d ∷ []) e small = absurd (false≢true (both (to_ascii_lowercase c == d) false e).1)
 tail_alike (c ∷ []) (d ∷ f ∷ ds) e small = absurd (false≢true (both (to_ascii_lowercase c == d) false e).1)
 tail_alike (c ∷ b ∷ bs) (d ∷ f ∷ ds) e small =
@@ -311,12 +287,7 @@ tail_alike (c ∷ b ∷ bs) (d ∷ f ∷ ds) e small =
     (rw (letter, rest.0) refl, omega (arith, rest.1))
 
 pub comment_label : (bytes : List ℕ) → is_comment_label bytes ≡ true → (length bytes ≡ 8) × (is_label bytes ≡ true)
-comment_label [] e = absurd (false≢true e)
-comment_label (c ∷ cs) e =
-    let parts = both (to_ascii_lowercase c == 99) (bytes_eq (str_to_ascii_lowercase cs) (codes "omment:")) e in
-    let rest = tail_alike cs (codes "omment:") parts.1 refl in
-    let letter = letter_alike c 99 refl parts.0 in
-    (omega (arith, rest.1), rw (letter, rest.0) refl)
+comment_label bytes e = grind (arith, nat_tests, tail_alike)
 
 pub label_piece : (left : List ℕ) → is_comment_label (take 8 left) ≡ true → piece_at LineStart left ≡ Some (Token Label, 8)
 unfolding plain_piece colon_len

@@ -1,15 +1,14 @@
 -- What the bytes of a line lead to: through literals as their items do, and to no open literal behind a bare end.
-use Rattle.std.proofs.Common.{◌≡◌, ℕ, true, false, Bool, ◌⊎◌, inl, inr, List, [], ◌∷◌, ◌++◌, arith, refl, ◌∙◌, ap, suc, ◌-◌, ◌<◌, ◌≤◌, length, get_or, sym}
+use Rattle.std.proofs.Common.{◌≡◌, ℕ, true, false, Bool, ◌⊎◌, List, [], ◌∷◌, ◌++◌, arith, refl, ap, suc, ◌-◌, ◌<◌, ◌≤◌, length, get_or, sym}
 use Rattle.std.specs.Prelude.{not, ◌||◌, ◌==◌, fold, ◌&&◌}
 use Rattle.std.specs.List.{list_all}
-use Rattle.std.proofs.lemmas.Bool.{ne_eqb, false≢true}
+use Rattle.std.proofs.lemmas.Bool.{false≢true}
 use Rattle.std.proofs.lemmas.Bool.Decides.{nat_tests}
 use Rattle.std.proofs.lemmas.List.Sums.{fold-append}
 use Rattle.kn_lex.specs.Bytes.{is_white}
 use Rattle.kn_lex.specs.Spelling.{Item, plain, escaped, joined, is_item, items_bytes, IsLiteral}
 use Rattle.kn_lex.specs.declared.quote.Quote.{Quote}
 use Rattle.kn_lex.specs.declared.quote.Quote.TheVariants.{Plain as Inside, Escaped, Joined}
-use Rattle.kn_lex.proofs.Spelled.{both, same_byte}
 use Rattle.kn_files.specs.Lines.{after_byte, is_literal, after_line, at_line_start, is_of_comment}
 use Rattle.kn_files.specs.Literals.{leaves_out}
 use Rattle.kn_files.specs.declared.within.Within.{Within}
@@ -50,35 +49,21 @@ items_stand (joined returned white ∷ items) false e = grind (arith, fold-appen
 -- what stands behind the opening quote and items
 along : (items : List Item) (more : List ℕ) → list_all is_item items ≡ true
     → fold after_byte Plain (34 ∷ items_bytes items ++ more) ≡ fold after_byte (behind false items) more
-along items more e =
-    fold-append after_byte (Literal Inside) (items_bytes items) more
-    ∙ ap (λ (s : Within). fold after_byte s more) (items_stand items false e)
+along items more e = grind (arith, fold-append after_byte (Literal Inside) (items_bytes items) more, items_stand items false)
 
 pub literal_whole : (bytes : List ℕ) → IsLiteral bytes → fold after_byte Plain bytes ≡ Plain
-literal_whole bytes h = ap (fold after_byte Plain) h.spelled ∙ along h.items (34 ∷ []) h.allowed ∙ by (fold leaves_out false h.items)
-  where
-    by : (b : Bool) → after_byte (Literal (quote_of b)) 34 ≡ Plain
-    by b = grind arith
+literal_whole bytes h = grind (arith, along)
 
 pub literal_open : (items : List Item) → list_all is_item items ≡ true → is_literal (fold after_byte Plain (34 ∷ items_bytes items)) ≡ true
 literal_open items e = ap is_literal (items_stand items false e)
 
 pub literal_bare : (items : List Item) (end : ℕ) → list_all is_item items ≡ true → fold leaves_out false items ≡ false → (end ≡ 10) ⊎ (end ≡ 13)
     → fold after_byte Plain (34 ∷ items_bytes items ++ end ∷ []) ≡ Plain
-literal_bare items end e none line =
-    along items (end ∷ []) e ∙ ap (λ (b : Bool). after_byte (Literal (quote_of b)) end) none ∙ by line
-  where
-    by : (end ≡ 10) ⊎ (end ≡ 13) → after_byte (Literal Inside) end ≡ Plain
-    by (inl is) = ap (after_byte (Literal Inside)) is
-    by (inr is) = ap (after_byte (Literal Inside)) is
+literal_bare items end e none line = grind (arith, along)
 
 pub literal_returned : (items : List Item) (next : ℕ) → list_all is_item items ≡ true → (next ≡ 10 → ⊥)
     → fold after_byte Plain (34 ∷ items_bytes items ++ 92 ∷ 13 ∷ next ∷ []) ≡ after_byte Plain next
-literal_returned items next e other = along items (92 ∷ 13 ∷ next ∷ []) e ∙ by (fold leaves_out false items)
-  where
-    by : (b : Bool) → fold after_byte (Literal (quote_of b)) (92 ∷ 13 ∷ next ∷ []) ≡ after_byte Plain next
-    by true = rw (ne_eqb next 10 other) refl
-    by false = rw (ne_eqb next 10 other) refl
+literal_returned items next e other = grind (arith, along)
 
 pub plain_bytes : (bytes : List ℕ) → list_all (λ byte. not (byte == 34 || byte == 35)) bytes ≡ true → fold after_byte Plain bytes ≡ Plain
 plain_bytes [] e = refl
@@ -121,9 +106,7 @@ bare_end within c e bare = grind (arith, nat_tests)
 bare_line : (line : List ℕ) (within : Within) → is_body within ≡ false → ends_bare line ≡ true → settled (fold after_byte within line) ≡ Plain
 bare_line [] within e bare = absurd (false≢true bare)
 bare_line (a ∷ []) within e bare = absurd (false≢true bare)
-bare_line (a ∷ b ∷ []) within e bare =
-    let parts = both (is_bare a) (b == 10) bare in
-    rw (same_byte b 10 parts.1) (bare_end within a e parts.0)
+bare_line (a ∷ b ∷ []) within e bare = grind (arith, nat_tests)
 bare_line (a ∷ b ∷ c ∷ cs) within e bare = bare_line (b ∷ c ∷ cs) (after_byte within a) (no_body within a e) bare
 
 start_no_body : (within : Within) → is_body (at_line_start within) ≡ false

@@ -37,9 +37,7 @@ line_held before held xs x = ap (λ ls. before ++ ls) (sym (append_assoc held (x
 -- each part is a paragraph
 paragraphs : (file : List ℕ) (xs before held : List Line) → lines_in file ≡ before ++ (held ++ xs) → ends_at_cut before ≡ true → list_any is_cut held ≡ false
     → All (IsParagraph file) (parts_from held xs)
-paragraphs file [] before held here begins whole =
-    All-cons (IsParagraph file) held []
-    (record { before = before; behind = []; here = here ∙ sym (append_assoc before held []); whole = whole; begins = begins; ends = refl }) (All-nil (IsParagraph file))
+paragraphs file [] before held here begins whole = grind (arith, append_assoc)
 paragraphs file (x ∷ xs) before held here begins whole =
     choice (All (IsParagraph file)) (is_cut x) (held ∷ parts_from [] xs) (parts_from (held ++ x ∷ []) xs)
     (λ cut. All-cons (IsParagraph file) held (parts_from [] xs)
@@ -85,9 +83,7 @@ later_part : (x : Line) (before held lines behind : List Line) → ends_at_cut (
     → HasPart (parts_from held ((x ∷ before) ++ (lines ++ behind))) lines
 later_part x [] held lines behind begins whole ends = rw begins (part_behind held (parts_from [] (lines ++ behind)) lines (first_part lines [] behind whole ends))
 later_part x (y ∷ before) held lines behind begins whole ends =
-    choice (λ parts. HasPart parts lines) (is_cut x) (held ∷ parts_from [] ((y ∷ before) ++ (lines ++ behind))) (parts_from (held ++ x ∷ []) ((y ∷ before) ++ (lines ++ behind)))
-    (λ _. part_behind held (parts_from [] ((y ∷ before) ++ (lines ++ behind))) lines (later_part y before [] lines behind begins whole ends))
-    (λ _. later_part y before (held ++ x ∷ []) lines behind begins whole ends)
+    grind (arith, part_behind, later_part y before [] lines behind begins whole, later_part y before (held ++ x ∷ []) lines behind begins whole)
 
 paragraph_part : (before lines behind : List Line) → list_any is_cut lines ≡ false → ends_at_cut before ≡ true → begins_at_cut behind ≡ true
     → HasPart (parts_from [] (before ++ (lines ++ behind))) lines
@@ -144,9 +140,7 @@ in_paragraphs file (x ∷ xs) held all = by (is_cut x) refl all (in_paragraphs f
         (rest (held ++ x ∷ []) all)
 
 pub line_paragraph : (file : List ℕ) (line : Line) → Contains (lines_in file) line → is_cut line ≡ false → IsOfLines file line
-line_paragraph file line i =
-    All-contains (λ line. is_cut line ≡ false → IsOfLines file line) (lines_in file) line
-    (in_paragraphs file (lines_in file) [] (paragraphs file (lines_in file) [] [] refl refl refl)) i
+line_paragraph file line i = grind (arith, in_paragraphs file (lines_in file) [], paragraphs file (lines_in file) [] [] refl refl)
 
 -- where the lines stand
 
@@ -158,12 +152,7 @@ record Placed (at : ℕ) (rest : List Line) : Type 0 where
 skip : (before rest : List Line) (lines : List (List ℕ)) (within : Within) (at : ℕ) → placed within at lines ≡ before ++ rest → Placed (at + length (text_of before)) rest
 skip [] rest lines within at e = record { within = within; lines = lines; here = let same : at + 0 ≡ at = omega arith in ap (λ k. placed within k lines) same ∙ e }
 skip (x ∷ before) rest [] within at e = absurd (cc)
-skip (x ∷ before) rest (bytes ∷ lines) within at e =
-    let own : record { within = within; start = at; bytes = bytes } ≡ x = cc in
-    let more : placed (after_line within bytes) (at + length bytes) lines ≡ before ++ rest = cc in
-    let size : at + length bytes + length (text_of before) ≡ at + length (text_of (x ∷ before)) =
-    omega (arith, ap (λ (l : Line). length l.bytes) own, length-append x.bytes (text_of before)) in
-    subst (λ k. Placed k rest) size (skip before rest lines (after_line within bytes) (at + length bytes) more)
+skip (x ∷ before) rest (bytes ∷ lines) within at e = grind (arith, length-append, skip before rest lines (after_line within bytes) (at + length bytes))
 
 starts_at : (at : ℕ) (line : Line) (behind : List Line) → Placed at (line ∷ behind) → line.start ≡ at
 starts_at at line behind p = by p.lines p.here
@@ -184,10 +173,7 @@ size_split a b line = omega (arith, size_join a (line ∷ b), length-append line
 
 span_stands : (file : List ℕ) (before lines behind : List Line) → lines_in file ≡ before ++ (lines ++ behind) → 0 < length lines
     → ((span_of lines).start ≡ length (text_of before)) × ((span_of lines).end ≡ length (text_of before) + length (text_of lines))
-span_stands file before [] behind here some = absurd (omega arith)
-span_stands file before (line ∷ lines) behind here some =
-    let start = line_stands file before (lines ++ behind) line here in
-    (start, ap (λ n. n + length (text_of (line ∷ lines))) start)
+span_stands file before lines behind here some = grind (arith, line_stands)
 
 -- where a line stands in the front of the file, and where in the rest
 in_front : (file : List ℕ) (front rest : List Line) (line : Line) → lines_in file ≡ front ++ rest → Contains front line → line.start + length line.bytes ≤ length (text_of front)
@@ -241,8 +227,7 @@ text_whole [] within at = refl
 text_whole (line ∷ lines) within at = ap (λ text. line ++ text) (text_whole lines (after_line within line) (at + length line))
 
 text_in : (file : List ℕ) (before behind : List Line) → lines_in file ≡ before ++ behind → file ≡ text_of before ++ text_of behind
-text_in file before behind here =
-    sym (joined_lines file) ∙ sym (text_whole (lines_of file) Plain 0) ∙ ap text_of here ∙ flat_map-append (λ (line : Line). line.bytes) before behind
+text_in file before behind here = grind (arith, joined_lines, text_whole (lines_of file) Plain, flat_map-append (λ (line : Line). line.bytes) before behind)
 
 whole_front : (lines : List (List ℕ)) (within : Within) (at : ℕ) (xs : List ℕ) (before : List Line) (y : Line) (ys : List Line) → placed within at lines ≡ before ++ y ∷ ys
     → are_lines lines ≡ true → AreWholeBefore lines xs → AreWhole (xs ++ text_of before)
@@ -300,8 +285,7 @@ body_goes_on : (comment : List Line) (lines : List (List ℕ)) (within : Within)
     → within ≡ Body → list_all (λ further. is_continuation further.bytes) comment ≡ true → next.within ≡ Body
 body_goes_on [] [] within at next behind e body all = absurd (cc)
 body_goes_on (further ∷ comment) [] within at next behind e body all = absurd (cc)
-body_goes_on [] (bytes ∷ lines) within at next behind e body all =
-    let own : record { within = within; start = at; bytes = bytes } ≡ next = cc in ap (λ (l : Line). l.within) (sym own) ∙ body
+body_goes_on [] (bytes ∷ lines) within at next behind e body all = grind arith
 body_goes_on (further ∷ comment) (bytes ∷ lines) within at next behind e body all =
     let parts = both (is_continuation further.bytes) (list_all (λ l. is_continuation l.bytes) comment) all in
     let own : record { within = within; start = at; bytes = bytes } ≡ further = cc in

@@ -9,14 +9,13 @@ use Rattle.kn_lex.specs.Spelling.{is_white_space, is_comment, Spells}
 use Rattle.kn_lex.specs.Between.{is_line_end, IsBlankPart, Skips}
 use Rattle.kn_lex.specs.Cutting.{start, context_after, IsPiece, Reaches, place_after, is_token, tokens_of, Cuts, spent}
 use Rattle.kn_lex.specs.Faults.{goes_on, IsFaultless}
-use Rattle.kn_lex.specs.Scanning.{piece_at, plain_piece, white_len, line_len, is_bad_blank, fault_at, fault_by, zero_fault, zero_place}
+use Rattle.kn_lex.specs.Scanning.{piece_at, plain_piece, white_len, line_len, fault_at, zero_fault, zero_place}
 use Rattle.kn_lex.specs.declared.piece.Piece.{Piece}
 use Rattle.kn_lex.specs.declared.piece.Piece.TheVariants.{White, Comment, Token}
 use Rattle.kn_lex.specs.declared.piece.Place.{Place}
 use Rattle.kn_lex.specs.declared.piece.Context.{Context}
 use Rattle.kn_lex.specs.declared.piece.Context.TheVariants.{LineStart, WithinLine, CommentBody}
 use Rattle.kn_lex.specs.declared.fault.LexFault.{LexFault}
-use Rattle.kn_lex.specs.declared.fault.LexFault.TheVariants.{Blank}
 use Rattle.kn_lex.proofs.Spelled.{both, same_byte}
 use Rattle.kn_lex.proofs.Between.{apart}
 use Rattle.kn_lex.proofs.Pieces.{piece_is}
@@ -45,8 +44,7 @@ commented [] rest e = refl
 commented (c ∷ cs) rest e = grind (arith, nat_tests, commented cs rest)
 
 comment_passed : (bytes rest : List ℕ) → is_comment bytes ≡ true → goes_on false (bytes ++ rest) ≡ goes_on true rest
-comment_passed [] rest e = absurd (false≢true e)
-comment_passed (c ∷ cs) rest e = grind (arith, nat_tests, commented cs rest)
+comment_passed bytes rest e = grind (arith, commented)
 
 -- a line ends a comment
 line_ends_comment : (front left : List ℕ) → is_line_end (front ++ left) ≡ true → goes_on true front ≡ goes_on false front
@@ -70,12 +68,7 @@ none_at_end context piece n o cut = let found = piece_is context [] piece n cut 
 
 quiet_sort : (context : Context) (text : List ℕ) (p : Piece × ℕ) → (context ≡ CommentBody → ⊥) → goes_on false text ≡ false → IsPiece context text p.0 p.1 → is_token p.0 ≡ false
 quiet_sort context [] p n e cut = absurd (none_at_end context p.0 p.1 n cut)
-quiet_sort context (c ∷ cs) p n e cut =
-    let found = piece_is context (c ∷ cs) p.0 p.1 cut in
-    elim (quiet_piece context c cs n e) [
-      | inl w ↦ let same : p ≡ (White, white_len (c ∷ cs)) = cc in ap (λ (r : Piece × ℕ). is_token r.0) same
-      | inr w ↦ let same : p ≡ (Comment, line_len (c ∷ cs)) = cc in ap (λ (r : Piece × ℕ). is_token r.0) same
-    ]
+quiet_sort context (c ∷ cs) p n e cut = grind (arith, piece_is, quiet_piece)
 
 -- behind white space and comments no body is due
 pub no_body_due : (piece : Piece) (bytes : List ℕ) → is_token piece ≡ false → context_after piece bytes ≡ CommentBody → ⊥
@@ -118,14 +111,7 @@ unblank b fault o e = grind arith
 
 clean_zero : (place : Place) (at : ℕ) (text : List ℕ) (piece : Piece) (n : ℕ) → is_token piece ≡ false → IsPiece place.context text piece n → fault_at place at text ≡ None
     → has_zero (take n text) ≡ false
-clean_zero place at text piece n untold cut clean =
-    zero_found at (take n text) (by piece untold (sym (ap (fault_by at text) (piece_is place.context text piece n cut))
-    ∙ (unblank (is_bad_blank place text) (Blank at) (fault_by at text (piece_at place.context text)) clean).1))
-  where
-    by : (piece : Piece) → is_token piece ≡ false → fault_by at text (Some (piece, n)) ≡ None → zero_fault at (zero_place (take n text)) ≡ None
-    by White u e = e
-    by Comment u e = e
-    by (Token sort) u e = absurd (false≢true (sym u))
+clean_zero place at text piece n untold cut clean = grind (arith, zero_found, piece_is)
 
 -- a comment is the rest of its line
 
@@ -165,8 +151,7 @@ spells_comment context bytes h = grind arith
 
 front_quiet : (context : Context) (piece : Piece) (n : ℕ) (text front left : List ℕ) → (context ≡ CommentBody → ⊥) → is_token piece ≡ false → IsPiece context text piece n
     → drop n text ≡ front ++ left → goes_on false front ≡ false → goes_on false (take n text ++ front) ≡ false
-front_quiet context White n text front left o u cut whole quiet =
-    white_passed (take n text) front (spells_white context (take n text) cut.spelled) ∙ quiet
+front_quiet context White n text front left o u cut whole quiet = grind (arith, white_passed)
 front_quiet context Comment n text front left o u cut whole quiet =
     let comment = spells_comment context (take n text) cut.spelled in
     let end : is_line_end (front ++ left) ≡ true =
@@ -189,9 +174,7 @@ silent_before (p ∷ ps) place at text end left h o u c =
 
 pub silent_whole : (pieces : List (Piece × ℕ)) (place : Place) (at : ℕ) (text : List ℕ) (end : Place) → Reaches place text pieces end []
     → (place.context ≡ CommentBody → ⊥) → AreUntold pieces → IsClean place at text pieces → is_assertion text ≡ false
-silent_whole pieces place at text end h o u c =
-    let s = silent_before pieces place at text end [] h o u c in
-    ap is_assertion (s.whole ∙ append-nil s.front) ∙ rw (s.quiet, s.no_zero) refl
+silent_whole pieces place at text end h o u c = grind (arith, silent_before, append-nil)
 
 gap_quiet : (parts : List (List ℕ)) (text : List ℕ) → Skips text parts [] → goes_on false text ≡ false
 gap_quiet [] text h = ap (goes_on false) h
@@ -224,15 +207,7 @@ no_zero_left (p ∷ ps) place text end left h e = no_zero_left ps (place_after p
 
 quiet_clean : (place : Place) (at : ℕ) (left : List ℕ) → (place.context ≡ CommentBody → ⊥) → goes_on false left ≡ false → has_zero left ≡ false → fault_at place at left ≡ None
 quiet_clean place at [] o e z = end_clean place.context place.told at
-quiet_clean place at (c ∷ cs) o e z =
-    let good : is_bad_blank place (c ∷ cs) ≡ false = grind arith in
-    rw good (elim (quiet_piece place.context c cs o e) [
-      | inl w ↦ ap (fault_by at (c ∷ cs)) w ∙ clean (white_len (c ∷ cs))
-      | inr w ↦ ap (fault_by at (c ∷ cs)) w ∙ clean (line_len (c ∷ cs))
-    ])
-  where
-    clean : (n : ℕ) → zero_fault at (zero_place (take n (c ∷ cs))) ≡ None
-    clean n = ap (zero_fault at) (no_zero_place (take n (c ∷ cs)) (has_zero-parts n (c ∷ cs) z).0)
+quiet_clean place at (c ∷ cs) o e z = grind (arith, quiet_piece, no_zero_place, has_zero-parts)
 
 pub left_out : (text : List ℕ) → is_assertion text ≡ false → Cuts text [] × IsFaultless text
 left_out text e =

@@ -1,5 +1,5 @@
 -- The lines of a file, and its spans, line by line.
-use Rattle.std.proofs.Common.{◌≡◌, ℕ, ◌⊎◌, inl, inr, ◌+◌, ◌<◌, ◌≤◌, List, [], ◌∷◌, length, take, drop, arith, refl, sym, if◌then◌else◌, true, false, Bool, ◌-◌, ◌++◌, map, ◌∙◌, ap, ap₂, append-nil, append_assoc, length-append, cond, subst}
+use Rattle.std.proofs.Common.{◌≡◌, ℕ, ◌⊎◌, ◌+◌, ◌<◌, ◌≤◌, List, [], ◌∷◌, length, take, drop, arith, refl, sym, if◌then◌else◌, true, false, Bool, ◌-◌, ◌++◌, map, ◌∙◌, ap, ap₂, append-nil, append_assoc, length-append, subst}
 use Rattle.std.specs.Prelude.{◌==◌, not, ◌&&◌, filter}
 use Rattle.std.specs.List.{slice_split, onto_first}
 use Rattle.std.proofs.Math.Numerals.{one-add}
@@ -11,7 +11,7 @@ use Rattle.kn_base.specs.declared.span.Span.{Span}
 use Rattle.kn_lex.specs.Scanning.{line_len}
 use Rattle.kn_lex.specs.Spelling.{is_blank}
 use Rattle.kn_lex.specs.Cutting.{ends_line}
-use Rattle.kn_lex.proofs.Spelled.{both, choice}
+use Rattle.kn_lex.proofs.Spelled.{choice}
 use Rattle.kn_files.specs.Lines.{lines_of, Line, joined, placed, is_cut, is_literal, after_line, is_line, are_lines}
 use Rattle.kn_files.specs.Pieces.{is_assertion, text_of, span_of, spans_of, StandApart}
 use Rattle.kn_files.specs.Paragraphs.{lines_in}
@@ -84,19 +84,12 @@ IsHeld (line ∷ lines) start front = (line.start ≡ start) × (text_of (line �
 chosen-cons : (held : List Line) (start : ℕ) (front : List ℕ) (parts : List (List Line)) → IsHeld held start front
     → chosen (held ∷ parts) ≡ span_if start front ++ chosen parts
 unfolding IsHeld
-chosen-cons [] start front parts h = ap (λ (text : List ℕ). span_if start text ++ chosen parts) h
-chosen-cons (line ∷ lines) start front parts h =
-    by ∙ ap₂ (λ (s : ℕ) (text : List ℕ). span_if s text ++ chosen parts) h.0 h.1
-  where
-    by : chosen ((line ∷ lines) ∷ parts) ≡ span_if line.start (text_of (line ∷ lines)) ++ chosen parts
-    by = grind arith
+chosen-cons held start front parts h = grind arith
 
 held_more : (held : List Line) (start at : ℕ) (front : List ℕ) (line : Line) → IsHeld held start front → line.start ≡ start + length front
     → IsHeld (held ++ line ∷ []) start (front ++ line.bytes)
 unfolding IsHeld
-held_more [] start at front line h e =
-    let here : line.start ≡ start = omega (arith, e, ap length h) in
-    (here, append-nil line.bytes ∙ ap (λ (text : List ℕ). text ++ line.bytes) h)
+held_more [] start at front line h e = grind (arith, append-nil)
 held_more (first ∷ lines) start at front line h e =
     (h.0, flat_map-append (λ (l : Line). l.bytes) (first ∷ lines) (line ∷ []) ∙ ap₂ (λ (a b : List ℕ). a ++ b) h.1 (append-nil line.bytes))
 
@@ -127,9 +120,7 @@ split_start file = record { order = omega arith; inside = omega arith; whole = s
 pub split_end : (file : List ℕ) (start at : ℕ) (within : Within) (spans new : List Span) → IsSplit file start at within spans → length file ≤ at
     → new ≡ spans ++ span_if start (take (at - start) (drop start file)) → new ≡ spans_of file
 unfolding lines_of
-split_end file start at within spans new h end e =
-    let none : drop at file ≡ [] = drop_all at file end in
-    e ∙ sym (ap (λ (rest : List ℕ). spans ++ spans_from start (take (at - start) (drop start file)) within (lines_of rest)) none) ∙ h.whole
+split_end file start at within spans new h end e = grind (arith, drop_all)
 
 -- a line is the front of what is left
 pub record IsFirstLine (file : List ℕ) (at : ℕ) (rest line : List ℕ) (n : ℕ) : Type 0 where
@@ -144,15 +135,7 @@ record IsNext (file : List ℕ) (at : ℕ) (line : List ℕ) : Type 0 where
   cut : lines_of (drop at file) ≡ line ∷ lines_of (drop (at + length line) file)
 
 next_line : (file : List ℕ) (at : ℕ) (rest line : List ℕ) (n : ℕ) → at ≤ length file → IsFirstLine file at rest line n → IsNext file at line
-next_line file at rest line n within l =
-    let size : length line ≡ n = ap length l.front ∙ length-take-le n rest l.size in
-    let left = ap length l.left ∙ length-drop at file in
-    record {
-      inside = omega (arith, size, left, l.size);
-      front = ap₂ (λ (k : ℕ) (bytes : List ℕ). take k bytes) size (sym l.left) ∙ sym l.front;
-      cut = ap lines_of (sym l.left) ∙ l.cut
-          ∙ ap₂ (λ (a b : List ℕ). a ∷ lines_of b) (sym l.front) (ap₂ (λ (k : ℕ) (bytes : List ℕ). drop k bytes) (sym size) l.left ∙ drop-drop (length line) at file);
-    }
+next_line file at rest line n within l = grind (arith, length-take-le, length-drop, drop-drop)
 
 -- a line's end makes no difference between a comment and what stands outside
 spans_settled : (start : ℕ) (front : List ℕ) (within : Within) (lines : List (List ℕ))
@@ -167,16 +150,7 @@ split_next : (file line : List ℕ) (start at begin : ℕ) (within next : Within
     → new ++ spans_from begin (take (at + length line - begin) (drop begin file)) (after_line within line) (lines_of (drop (at + length line) file))
     ≡ spans ++ spans_from start (take (at - start) (drop start file)) within (line ∷ lines_of (drop (at + length line) file))
     → IsSplit file begin (at + length line) next new
-split_next file line start at begin within next spans new h n order e step =
-    let front : List ℕ = take (at + length line - begin) (drop begin file) in
-    let lines : List (List ℕ) = lines_of (drop (at + length line) file) in
-    record {
-      order = order;
-      inside = n.inside;
-      whole = ap (λ (found : List Span). new ++ found)
-          (spans_settled begin front next lines ∙ ap (λ (w : Within). spans_from begin front w lines) e ∙ sym (spans_settled begin front (after_line within line) lines))
-          ∙ step ∙ ap (λ (all : List (List ℕ)). spans ++ spans_from start (take (at - start) (drop start file)) within all) (sym n.cut) ∙ h.whole;
-    }
+split_next file line start at begin within next spans new h n order e step = grind (arith, spans_settled)
 
 -- a line at which the file isn't cut
 pub split_on : (file rest line : List ℕ) (start at n : ℕ) (within next : Within) (spans new : List Span) → IsSplit file start at within spans
@@ -212,8 +186,7 @@ assertion_some [] e = absurd (cc)
 assertion_some (byte ∷ bytes) e = omega arith
 
 front_joined : (byte : ℕ) (lines : List (List ℕ)) → joined (onto_first byte lines) ≡ byte ∷ joined lines
-front_joined byte [] = refl
-front_joined byte (line ∷ lines) = refl
+front_joined byte lines = grind arith
 
 pub joined_lines : (file : List ℕ) → joined (lines_of file) ≡ file
 unfolding lines_of
@@ -225,24 +198,18 @@ line_some [] e = absurd (false≢true e)
 line_some (byte ∷ bytes) e = omega arith
 
 pub first_line : (line : List ℕ) (lines : List (List ℕ)) → are_lines (line ∷ lines) ≡ true → is_line line ≡ true
-first_line line [] e = e
-first_line line (next ∷ lines) e = grind arith
+first_line line lines e = grind arith
 
 pub more_lines : (line : List ℕ) (lines : List (List ℕ)) → are_lines (line ∷ lines) ≡ true → are_lines lines ≡ true
-more_lines line [] e = refl
-more_lines line (next ∷ lines) e = grind arith
+more_lines line lines e = grind arith
 
 -- the lines of a file
 
 newline_front : (byte : ℕ) (lines : List (List ℕ)) → (byte == 10) ≡ true → are_lines lines ≡ true → are_lines ((byte ∷ []) ∷ lines) ≡ true
-newline_front byte [] t e = refl
-newline_front byte (line ∷ lines) t e = grind arith
+newline_front byte lines t e = grind arith
 
 byte_front : (byte : ℕ) (lines : List (List ℕ)) → (byte == 10) ≡ false → are_lines lines ≡ true → are_lines (onto_first byte lines) ≡ true
-byte_front byte [] t e = refl
-byte_front byte ([] ∷ lines) t e = grind arith
-byte_front byte ((next ∷ bytes) ∷ []) t e = grind arith
-byte_front byte ((next ∷ bytes) ∷ line ∷ lines) t e = grind arith
+byte_front byte lines t e = grind arith
 
 pub are_lines_of_file : (file : List ℕ) → are_lines (lines_of file) ≡ true
 unfolding lines_of
@@ -272,16 +239,11 @@ lines_of_joined (line ∷ next ∷ lines) e = grind (arith, cut_line line (joine
 
 apart_if : (from start : ℕ) (text : List ℕ) (spans : List Span) → from ≤ start → ((k : ℕ) → k ≤ start + length text + 1 → StandApart k spans)
     → StandApart from (span_if start text ++ spans)
-apart_if from start text spans le rest = by (is_assertion text) (assertion_some text)
-  where
-    by : (b : Bool) → (b ≡ true → 0 < length text) → StandApart from (cond b (record { start = start; end = start + length text } ∷ []) [] ++ spans)
-    by true some = (le, omega (arith, some refl), rest (start + length text + 1) (omega arith))
-    by false some = rest from (omega (arith, le))
+apart_if from start text spans le rest = grind (arith, assertion_some)
 
 apart_along : (lines : List (List ℕ)) (from start : ℕ) (front : List ℕ) (within : Within) → from ≤ start → are_lines lines ≡ true
     → StandApart from (spans_from start front within lines)
-apart_along [] from start front within le e =
-    subst (StandApart from) (append-nil (span_if start front)) (apart_if from start front [] le (λ k small. tt))
+apart_along [] from start front within le e = grind (arith, apart_if from start front [] le)
 apart_along (line ∷ lines) from start front within le e =
     let some = line_some line (first_line line lines e) in
     let cut = spans_from (start + length front + length line) [] (after_line within line) lines in
@@ -295,8 +257,7 @@ spans_apart file = subst (StandApart 0) (sym (spans_whole file)) (apart_along (l
 
 ends_line-append : (xs line : List ℕ) → is_line line ≡ true → ends_line (xs ++ line) ≡ ends_line line
 ends_line-append [] line e = refl
-ends_line-append (x ∷ []) [] e = absurd (false≢true e)
-ends_line-append (x ∷ []) (byte ∷ bytes) e = refl
+ends_line-append (x ∷ []) line e = grind arith
 ends_line-append (x ∷ y ∷ xs) line e = ends_line-append (y ∷ xs) line e
 
 -- there are no bytes, or they end with a newline
@@ -309,11 +270,7 @@ AreWholeBefore [] xs = Unit {0}
 AreWholeBefore (line ∷ lines) xs = AreWhole xs
 
 pub none_whole : (lines : List (List ℕ)) → AreWholeBefore lines []
-none_whole [] = tt
-none_whole (line ∷ lines) = inl refl
+none_whole lines = grind arith
 
 pub whole_behind : (xs line : List ℕ) (lines : List (List ℕ)) → are_lines (line ∷ lines) ≡ true → AreWholeBefore lines (xs ++ line)
-whole_behind xs line [] e = tt
-whole_behind xs line (next ∷ lines) e =
-    let own = both (is_line line) (ends_line line) (both (is_line line && ends_line line) (are_lines (next ∷ lines)) e).0 in
-    inr (ends_line-append xs line own.0 ∙ own.1)
+whole_behind xs line lines e = grind (arith, ends_line-append)

@@ -6,9 +6,8 @@ use Rattle.std.proofs.lemmas.Bool.Decides.{nat_tests}
 use Rattle.std.proofs.lemmas.List.{append_cancel_right, drop-drop, length-take-le}
 use Rattle.std.proofs.lemmas.List.Folds.{list_any-append}
 use Rattle.kn_base.specs.declared.span.Span.{Span}
-use Rattle.kn_lex.specs.Bytes.{is_white}
-use Rattle.kn_lex.specs.Spelling.{is_blank, is_label, SpellsPlain}
-use Rattle.kn_lex.specs.Cutting.{start as text_start, ends_line, is_comment_label, context_after, IsPiece, Reaches, place_after, is_token, Seen, Cuts}
+use Rattle.kn_lex.specs.Spelling.{is_blank, SpellsPlain}
+use Rattle.kn_lex.specs.Cutting.{start as text_start, ends_line, is_comment_label, context_after, IsPiece, Reaches, place_after, Seen, Cuts}
 use Rattle.kn_lex.specs.Faults.{goes_on, IsFaultless}
 use Rattle.kn_lex.specs.Scanning.{piece_at, body_len, fault_by}
 use Rattle.kn_lex.specs.declared.token.Sort.{Sort}
@@ -30,21 +29,19 @@ use Rattle.kn_files.specs.Splitting.{span_if}
 use Rattle.kn_files.specs.declared.within.Within.{Within}
 use Rattle.kn_files.specs.declared.within.Within.TheVariants.{Plain, Body}
 use Rattle.kn_files.proofs.Splitting.{spans_from, spans_whole, joined_lines, are_lines_of_file, first_line, more_lines, AreWhole, AreWholeBefore, none_whole, whole_behind}
-use Rattle.kn_files.proofs.Silent.{either_false, has_zero, AreUntold, quiet_along, unblank, comment_len, IsSilentBefore, silent_before, silent_whole, kept, left_out}
+use Rattle.kn_files.proofs.Silent.{either_false, AreUntold, quiet_along, unblank, comment_len, IsSilentBefore, silent_before, silent_whole, kept, left_out}
 use Rattle.kn_files.proofs.AtCuts.{AtCuts, FromLine, FromHere, FromPlace, line_on, white_on, comment_whole, body_on, steady_on, starts_alike, label_bytes_steady, token_on, comment_label, label_piece}
 
 -- one piece on
 
 sort_context : (first : Bool) (sort : Sort) (bytes : List ℕ) → SpellsPlain first (Token sort) bytes → (first ≡ true → is_comment_label bytes ≡ false)
     → context_after (Token sort) bytes ≡ WithinLine
-sort_context first Label bytes h n = rw (n (both first (is_label bytes) h).0) refl
-sort_context first sort bytes h n = refl
+sort_context first sort bytes h n = grind arith
 
 piece_on : (P : List ℕ → Type 0) (context : Context) (first : Bool) (piece : Piece) (n : ℕ) (left : List ℕ) → (context ≡ CommentBody → ⊥) → IsPiece context left piece n
     → SpellsPlain first piece (take n left) → (first ≡ true → is_comment_label (take n left) ≡ false)
     → FromPlace P (context_after piece (take n left)) (drop n left) → FromHere P Plain left
-piece_on P context first White n left o cut s label h =
-    subst (FromHere P Plain) (take-append-drop n left) (white_on P (take n left) (drop n left) s h)
+piece_on P context first White n left o cut s label h = grind (arith, take-append-drop, white_on)
 piece_on P context first CommentPiece n left o cut s label h =
     comment_whole P n left (comment_len context left n o cut s) s h
 piece_on P context first (Token sort) n left o cut s label h =
@@ -79,10 +76,7 @@ IsApart text left = (is_assertion left ≡ false) ⊎ IsSilentBefore text left
 told_along : (pieces : List (Piece × ℕ)) (place : Place) (text : List ℕ) (end : Place) (left : List ℕ) → Reaches place text pieces end left → end.told ≡ false
     → (place.told ≡ false) × AreUntold pieces
 told_along [] place text end left h e = (ap (λ (p : Place). p.told) h.0 ∙ e, tt)
-told_along (p ∷ ps) place text end left h e =
-    let rest = told_along ps (place_after place p.0 (take p.1 text)) (drop p.1 text) end left h.1 e in
-    let parts = either_false place.told (is_token p.0) rest.0 in
-    (parts.0, (parts.1, rest.1))
+told_along (p ∷ ps) place text end left h e = grind (arith, told_along ps (place_after place p.0 (take p.1 text)) (drop p.1 text) end left h.1 e)
 
 blank_apart : (text left : List ℕ) (told : Bool) (at : ℕ) (tokens : List Seen) (pieces : List (Piece × ℕ)) (end : Place) (p : Piece × ℕ)
     → IsReached text (record { context = LineStart; told = told }) at tokens → left ≡ drop at text
@@ -92,10 +86,7 @@ blank_apart text left true at tokens pieces end p r e h c blank =
     let over : goes_on false left ≡ false = rw blank at (unblank (is_blank left && goes_on false left) (Blank at) (fault_by at left (piece_at LineStart left)) c.0).0 in
     let place : Place = record { context = LineStart; told = true } in
     inl (silent_whole (p ∷ pieces) place at left end h (λ k. absurd (cc)) (quiet_along (p ∷ pieces) place left end [] h (λ k. absurd (cc)) over).0 c)
-blank_apart text left false at tokens pieces end p r e h c blank =
-    let place : Place = record { context = LineStart; told = false } in
-    let untold = told_along r.pieces text_start text place (drop at text) r.reached refl in
-    inr (subst (IsSilentBefore text) (sym e) (silent_before r.pieces text_start 0 text place (drop at text) r.reached (λ k. absurd (cc)) untold.1 r.clean))
+blank_apart text left false at tokens pieces end p r e h c blank = grind (arith, told_along, silent_before)
 
 apart_at : (text left : List ℕ) (context : Context) (told : Bool) (at : ℕ) (tokens : List Seen) (pieces : List (Piece × ℕ)) (end : Place) (p : Piece × ℕ)
     → IsReached text (record { context = context; told = told }) at tokens → left ≡ drop at text
@@ -113,12 +104,7 @@ apart_at text left CommentBody told at tokens pieces end p r e h c rest =
 apart_along : (text : List ℕ) (pieces : List (Piece × ℕ)) (place : Place) (at : ℕ) (left : List ℕ) (end : Place) (tokens : List Seen) → IsReached text place at tokens
     → left ≡ drop at text → Reaches place left pieces end [] → IsClean place at left pieces → FromPlace (IsApart text) place.context left
 unfolding lines_of
-apart_along text [] place at left end tokens r e h c = subst (FromPlace (IsApart text) place.context) (sym h.1) (by place.context)
-  where
-    by : (context : Context) → FromPlace (IsApart text) context []
-    by LineStart = tt
-    by WithinLine = tt
-    by CommentBody = tt
+apart_along text [] place at left end tokens r e h c = grind arith
 apart_along text (p ∷ ps) place at left end tokens r e h c =
     let bytes : List ℕ = take p.1 left in
     let next : Place = place_after place p.0 bytes in
@@ -133,27 +119,16 @@ goes_on_lines commented [] ys e = absurd (false≢true e)
 goes_on_lines true (c ∷ []) ys e = grind (arith, nat_tests)
 goes_on_lines false (c ∷ []) ys e = grind (arith, nat_tests)
 goes_on_lines true (c ∷ d ∷ ds) ys e = goes_on_lines (not (c == 10)) (d ∷ ds) ys e
-goes_on_lines false (c ∷ d ∷ ds) ys e =
-    ap (λ (b : Bool). not (is_white c || c == 35) || b) (goes_on_lines (c == 35) (d ∷ ds) ys e)
-    ∙ sym (or_assoc (not (is_white c || c == 35)) (goes_on (c == 35) (d ∷ ds)) (goes_on false ys))
-  where
-    or_assoc : (a b c : Bool) → ((a || b) || c) ≡ (a || (b || c))
-    or_assoc a b c = grind arith
+goes_on_lines false (c ∷ d ∷ ds) ys e = grind (arith, nat_tests, goes_on_lines (c == 35) (d ∷ ds) ys)
 
 assertion_append : (xs ys : List ℕ) → AreWhole xs → is_assertion (xs ++ ys) ≡ (is_assertion xs || is_assertion ys)
-assertion_append xs ys (inl e) = rw e refl
-assertion_append xs ys (inr e) =
-    rw (goes_on_lines false xs ys e, list_any-append (λ byte. 0 == byte) xs ys) (by (goes_on false xs) (goes_on false ys) (has_zero xs) (has_zero ys))
-  where
-    by : (a b c d : Bool) → ((a || b) || (c || d)) ≡ ((a || c) || (b || d))
-    by a b c d = grind arith
+assertion_append xs ys w = grind (arith, goes_on_lines, list_any-append)
 
 or_false : (b : Bool) → (b || false) ≡ b
 or_false b = grind arith
 
 assertion_joined : (xs : List ℕ) (lines : List (List ℕ)) → AreWholeBefore lines xs → is_assertion (xs ++ joined lines) ≡ (is_assertion xs || is_assertion (joined lines))
-assertion_joined xs [] w = ap is_assertion (append-nil xs) ∙ sym (or_false (is_assertion xs))
-assertion_joined xs (line ∷ lines) w = assertion_append xs (joined (line ∷ lines)) w
+assertion_joined xs lines w = grind (arith, append-nil, assertion_append)
 
 blank_line : (line : List ℕ) → is_line line ≡ true → is_blank line ≡ true → is_assertion line ≡ false
 blank_line [] l e = refl
