@@ -99,10 +99,7 @@ is_body (Literal quote) = false
 no_body : (within : Within) (c : ℕ) → is_body within ≡ false → is_body (after_byte within c) ≡ false
 no_body within c e = grind (arith, nat_tests)
 
--- the last two bytes
-bare_end : (within : Within) (c : ℕ) → is_body within ≡ false → is_bare c ≡ true → settled (after_byte (after_byte within c) 10) ≡ Plain
-bare_end within c e bare = grind (arith, nat_tests)
-
+-- the last two bytes decide
 bare_line : (line : List ℕ) (within : Within) → is_body within ≡ false → ends_bare line ≡ true → settled (fold after_byte within line) ≡ Plain
 bare_line [] within e bare = absurd (false≢true bare)
 bare_line (a ∷ []) within e bare = absurd (false≢true bare)

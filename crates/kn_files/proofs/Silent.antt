@@ -143,9 +143,6 @@ pub record IsSilentBefore (text left : List ℕ) : Type 0 where
   pub quiet : goes_on false front ≡ false
   pub no_zero : has_zero front ≡ false
 
-pub spells_white : (context : Context) (bytes : List ℕ) → Spells context White bytes → is_white_space bytes ≡ true
-spells_white context bytes h = grind arith
-
 pub spells_comment : (context : Context) (bytes : List ℕ) → Spells context Comment bytes → is_comment bytes ≡ true
 spells_comment context bytes h = grind arith
 

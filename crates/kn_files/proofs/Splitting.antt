@@ -1,5 +1,5 @@
 -- The lines of a file, and its spans, line by line.
-use Rattle.std.proofs.Common.{◌≡◌, ℕ, ◌⊎◌, ◌+◌, ◌<◌, ◌≤◌, List, [], ◌∷◌, length, take, drop, arith, refl, sym, if◌then◌else◌, true, false, Bool, ◌-◌, ◌++◌, map, ◌∙◌, ap, ap₂, append-nil, append_assoc, length-append, subst}
+use Rattle.std.proofs.Common.{◌≡◌, ℕ, ◌⊎◌, ◌+◌, ◌<◌, ◌≤◌, List, [], ◌∷◌, length, take, drop, arith, refl, sym, if◌then◌else◌, true, false, Bool, ◌-◌, ◌++◌, map, ◌∙◌, ap, append-nil, append_assoc, length-append, subst}
 use Rattle.std.specs.Prelude.{◌==◌, not, ◌&&◌, filter}
 use Rattle.std.specs.List.{slice_split, onto_first}
 use Rattle.std.proofs.Math.Numerals.{one-add}
@@ -90,8 +90,7 @@ held_more : (held : List Line) (start at : ℕ) (front : List ℕ) (line : Line)
     → IsHeld (held ++ line ∷ []) start (front ++ line.bytes)
 unfolding IsHeld
 held_more [] start at front line h e = grind (arith, append-nil)
-held_more (first ∷ lines) start at front line h e =
-    (h.0, flat_map-append (λ (l : Line). l.bytes) (first ∷ lines) (line ∷ []) ∙ ap₂ (λ (a b : List ℕ). a ++ b) h.1 (append-nil line.bytes))
+held_more (first ∷ lines) start at front line h e = grind (arith, flat_map-append (λ (l : Line). l.bytes) (first ∷ lines) (line ∷ []), append-nil)
 
 spans_along : (lines : List (List ℕ)) (held : List Line) (start at : ℕ) (front : List ℕ) (within : Within) → IsHeld held start front → at ≡ start + length front
     → chosen (parts_from held (placed within at lines)) ≡ spans_from start front within lines

@@ -116,16 +116,12 @@ apart_along text (p ∷ ps) place at left end tokens r e h c =
 
 goes_on_lines : (commented : Bool) (xs ys : List ℕ) → ends_line xs ≡ true → goes_on commented (xs ++ ys) ≡ (goes_on commented xs || goes_on false ys)
 goes_on_lines commented [] ys e = absurd (false≢true e)
-goes_on_lines true (c ∷ []) ys e = grind (arith, nat_tests)
-goes_on_lines false (c ∷ []) ys e = grind (arith, nat_tests)
+goes_on_lines commented (c ∷ []) ys e = grind arith
 goes_on_lines true (c ∷ d ∷ ds) ys e = goes_on_lines (not (c == 10)) (d ∷ ds) ys e
 goes_on_lines false (c ∷ d ∷ ds) ys e = grind (arith, nat_tests, goes_on_lines (c == 35) (d ∷ ds) ys)
 
 assertion_append : (xs ys : List ℕ) → AreWhole xs → is_assertion (xs ++ ys) ≡ (is_assertion xs || is_assertion ys)
 assertion_append xs ys w = grind (arith, goes_on_lines, list_any-append)
-
-or_false : (b : Bool) → (b || false) ≡ b
-or_false b = grind arith
 
 assertion_joined : (xs : List ℕ) (lines : List (List ℕ)) → AreWholeBefore lines xs → is_assertion (xs ++ joined lines) ≡ (is_assertion xs || is_assertion (joined lines))
 assertion_joined xs lines w = grind (arith, append-nil, assertion_append)

@@ -173,11 +173,6 @@ unfolding stuck_fault
 stuck_fault_at at [] h = absurd (omega arith)
 stuck_fault_at at (byte ∷ bytes) h = refl
 
-pub plain_piece_end : (first : Bool) (rest : List ℕ) → length rest ≡ 0 → plain_piece first rest ≡ None
-unfolding plain_piece
-plain_piece_end first [] h = refl
-plain_piece_end first (byte ∷ bytes) h = absurd (omega arith)
-
 -- the first digit of what is left is added to what is read, and never makes it less
 pub too_large : (digits : List ℕ) (i value : ℕ) → i < length digits
     → value * 10 ^ length (drop i digits) + digits_value (drop i digits) ≡ digits_value digits
