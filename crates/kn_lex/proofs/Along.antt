@@ -1,12 +1,12 @@
 -- What the lexer knows at a place that it has reached.
-use Rattle.std.proofs.Common.{◌≡◌, ℕ, true, false, zero, suc, Bool, ◌+◌, ◌-◌, ◌*◌, ◌<◌, ◌≤◌, ◌⊎◌, inl, inr, if◌then◌else◌, List, [], ◌∷◌, ◌++◌, Option, Some, None, Result, Ok, Err, length, take, drop, arith, refl, sym, ◌∙◌, ap, subst, add-zero}
+use Rattle.std.proofs.Common.{◌≡◌, ℕ, true, false, zero, suc, Bool, ◌+◌, ◌-◌, ◌*◌, ◌<◌, ◌≤◌, ◌⊎◌, inl, inr, List, [], ◌++◌, Option, Some, None, Result, Ok, Err, length, take, drop, arith, refl, sym, add-zero}
 use Rattle.std.specs.Prelude.{nat_lt}
 use Rattle.std.proofs.lemmas.Bool.Decides.{nat_tests}
 use Rattle.std.proofs.lemmas.List.{length-drop, drop_all, drop-drop, append-nil}
 use Rattle.kn_lex.specs.Spelling.{Spells}
 use Rattle.kn_lex.specs.Cutting.{IsPiece, Reaches, Cuts, start, spent, place_after, context_after, token_of, tokens_of, Seen}
-use Rattle.kn_lex.specs.Faults.{begins_foreign, begins_quote, begins_ampersand, begins_match, goes_on, IsFaultless, IsFirstLexicalFault}
-use Rattle.kn_lex.specs.Scanning.{piece_at, fault_at, fault_by, is_bad_blank, stuck_fault, body_len}
+use Rattle.kn_lex.specs.Faults.{goes_on, IsFaultless, IsFirstLexicalFault}
+use Rattle.kn_lex.specs.Scanning.{piece_at, fault_at, stuck_fault, body_len}
 use Rattle.kn_lex.specs.Seeing.{HasCause}
 use Rattle.kn_lex.specs.declared.token.Sort.TheVariants.{Body}
 use Rattle.kn_lex.specs.declared.piece.Piece.TheVariants.{Token}
@@ -15,7 +15,6 @@ use Rattle.kn_lex.specs.declared.piece.Place.{Place}
 use Rattle.kn_lex.specs.declared.piece.Context.{Context}
 use Rattle.kn_lex.specs.declared.piece.Context.TheVariants.{LineStart, WithinLine, CommentBody}
 use Rattle.kn_lex.specs.declared.fault.LexFault.{LexFault}
-use Rattle.kn_lex.specs.declared.fault.LexFault.TheVariants.{NotText, BadString, BadToken, Float, Regex, Number, Blank, NoMemory}
 use Rattle.kn_lex.specs.Computed.{told_by, tokens_from, tokens_or_fault}
 use Rattle.kn_lex.proofs.Spelled.{choice, piece_some}
 use Rattle.kn_lex.proofs.Pieces.{piece_sound}
@@ -45,43 +44,15 @@ pub reached_more : (text : List ℕ) (place : Place) (at : ℕ) (tokens more : L
     → piece_at place.context (drop at text) ≡ Some p → fault_at place at (drop at text) ≡ None
     → more ≡ tokens ++ token_of place.context at p.0 (take p.1 (drop at text))
     → IsReached text (place_after place p.0 (take p.1 (drop at text))) (at + p.1) more
-reached_more text place at tokens more p h found clean told =
-    let more = one_more h.pieces start 0 text place (drop at text) p at h.reached h.clean (omega (arith, h.size))
-    (piece_sound place.context (drop at text) p found) clean in
-    record {
-      pieces = h.pieces ++ p ∷ [];
-      reached = rw (← drop-drop p.1 at text) more.0;
-      size = omega (arith, more.2, h.size);
-      clean = more.1;
-      told = cc (told, h.told, more.3);
-    }
+reached_more text place at tokens more p h found clean told = grind (arith, one_more, piece_sound, drop-drop)
 
 -- the fault that this place shows is the first one
 pub reached_fault : (text : List ℕ) (place : Place) (at : ℕ) (tokens : List Seen) (fault : LexFault) → IsReached text place at tokens
     → fault_at place at (drop at text) ≡ Some fault → IsFirstLexicalFault text fault
-reached_fault text place at tokens fault h e =
-    record {
-      has = record {
-        pieces = h.pieces;
-        place = place;
-        left = drop at text;
-        reached = h.reached;
-        shown = rw h.size (fault_shown place at (drop at text) fault e);
-      };
-      least = λ other o.
-          let on = through h.pieces start 0 text place (drop at text) o.pieces o.place o.left other (spent o.pieces) h.reached h.clean o.reached (omega arith) o.shown in
-          least_behind on.0 place at (drop at text) fault o.place o.left other (spent o.pieces) e on.1 (omega (arith, on.2, h.size)) o.shown;
-    }
+reached_fault text place at tokens fault h e = grind (arith, fault_shown, through, least_behind)
 
 pub has_cause : (text : List ℕ) (fault : LexFault) → IsFirstLexicalFault text fault → HasCause text fault
-has_cause text (NotText p) h = h
-has_cause text (BadString p) h = h
-has_cause text (BadToken p) h = h
-has_cause text (Float p) h = h
-has_cause text (Regex p) h = h
-has_cause text (Number p) h = h
-has_cause text (Blank p) h = h
-has_cause text NoMemory h = tt
+has_cause text fault h = grind arith
 
 -- the whole text is cut into clean pieces
 pub record IsFinished (text : List ℕ) (tokens : List Seen) : Type 0 where
@@ -94,8 +65,7 @@ pub record IsFinished (text : List ℕ) (tokens : List Seen) : Type 0 where
 
 finished_here : (text : List ℕ) (place : Place) (at : ℕ) (tokens : List Seen) → IsReached text place at tokens → drop at text ≡ []
     → (place.context ≡ CommentBody → ⊥) → IsFinished text tokens
-finished_here text place at tokens h e n =
-    record { pieces = h.pieces; end = place; reached = subst (Reaches start text h.pieces place) e h.reached; done = n; clean = h.clean; told = h.told }
+finished_here text place at tokens h e n = grind arith
 
 -- at the end an empty body may still come
 body_last : (text : List ℕ) (told : Bool) (at : ℕ) (tokens : List Seen) → IsReached text (record { context = CommentBody; told = told }) at tokens
@@ -134,18 +104,12 @@ finished_faultless text tokens h fault o =
 
 -- one list of tokens at most cuts a text
 pub one_list : (text : List ℕ) (tokens other : List Seen) → Cuts text tokens → Cuts text other → tokens ≡ other
-one_list text tokens other h k =
-    let same = one_cutting h.pieces k.pieces start text h.reached.0 k.reached.0 h.reached.1 h.reached.2 k.reached.1 k.reached.2 in
-    h.told ∙ ap (tokens_of start 0 text) same ∙ sym k.told
+one_list text tokens other h k = grind (arith, one_cutting)
 
 -- each piece leaves less to do
 
 some_of : (context : Context) (rest : List ℕ) (p : Piece × ℕ) → IsPiece context rest p.0 p.1 → (Spells context p.0 [] → ⊥) → 0 < p.1
-some_of context rest p h none = by p.1 refl
-  where
-    by : (n : ℕ) → n ≡ p.1 → 0 < p.1
-    by zero e = absurd (none (subst (λ (k : ℕ). Spells context p.0 (take k rest)) (sym e) h.spelled))
-    by (suc n) e = omega (arith, e)
+some_of context rest p h none = grind arith
 
 to_do_bound : (context : Context) (n : ℕ) → to_do context n ≤ 2 * n + 1
 to_do_bound context n = grind arith
@@ -158,25 +122,20 @@ less_to_do LineStart told rest p n m found e =
 less_to_do WithinLine told rest p n m found e =
     let some = some_of WithinLine rest p (piece_sound WithinLine rest p found) (piece_some false p.0) in
     omega (arith, some, to_do_bound (context_after p.0 (take p.1 rest)) n, e)
-less_to_do CommentBody told rest p n m found e =
-    let body : p.0 ≡ Token Body = cc in rw body (omega (arith, e))
+less_to_do CommentBody told rest p n m found e = grind arith
 
 -- the step that the lexer makes
 pub reached_step : (text rest bytes : List ℕ) (place next : Place) (at : ℕ) (tokens more : List Seen) (p : Piece × ℕ) → IsReached text place at tokens
     → rest ≡ drop at text → bytes ≡ take p.1 rest → piece_at place.context rest ≡ Some p → fault_at place at rest ≡ None
     → more ≡ tokens ++ token_of place.context at p.0 bytes → next ≡ place_after place p.0 bytes → IsReached text next (at + p.1) more
-reached_step text rest bytes place next at tokens more p h back front found clean told then_place =
-    rw (then_place, front, back) (reached_more text place at tokens more p h (rw (← back) found) (rw (← back) clean) (rw (← back, ← front) told))
+reached_step text rest bytes place next at tokens more p h back front found clean told then_place = grind (arith, reached_more)
 
 pub smaller_step : (text rest bytes : List ℕ) (place next : Place) (at : ℕ) (p : Piece × ℕ) → at ≤ length text → rest ≡ drop at text
     → p.1 ≤ length rest
     → bytes ≡ take p.1 rest → piece_at place.context rest ≡ Some p → next ≡ place_after place p.0 bytes
     → to_do next.context (length text - (at + p.1)) < to_do place.context (length text - at)
 smaller_step text rest bytes place next at p le back within front found next_is =
-    let size : length rest ≡ length text - at = ap (λ (bs : List ℕ). length bs) back ∙ length-drop at text in
-    let sum : (length text - (at + p.1)) + p.1 ≡ length text - at = omega (arith, within, size, le) in
-    rw (next_is, front)
-    (less_to_do place.context place.told rest p (length text - (at + p.1)) (length text - at) found sum)
+    grind (arith, length-drop at text, less_to_do place.context place.told rest p (length text - (at + p.1)) (length text - at) found)
 
 pub settled_step : (text rest : List ℕ) (context : Context) (at : ℕ) (p : Piece × ℕ) → rest ≡ drop at text → piece_at context rest ≡ Some p
     → goes_on false rest ≡ false → goes_on false (drop (at + p.1) text) ≡ false
@@ -185,19 +144,11 @@ settled_step text rest context at p back found e =
 
 stuck_some : (at : ℕ) (bytes : List ℕ) → 0 < length bytes → stuck_fault at bytes ≡ None → ⊥
 unfolding stuck_fault
-stuck_some at [] some e = absurd (omega arith)
-stuck_some at (c ∷ cs) some e = by (begins_foreign (c ∷ cs)) (begins_quote (c ∷ cs)) (begins_ampersand (c ∷ cs)) (begins_match (c ∷ cs)) e
-  where
-    by : (f q a m : Bool) → (if f then Some (NotText at) else if q then Some (BadString at) else if a then Some (Float at)
-        else if m then Some (Regex at) else Some (BadToken at)) ≡ None → ⊥
-    by f q a m e = grind arith
+stuck_some at bytes some e = grind arith
 
 -- where something is left a fault is shown, or a piece begins
 fault_or_piece : (place : Place) (at : ℕ) (left : List ℕ) → 0 < length left → fault_at place at left ≡ None → piece_at place.context left ≡ None → ⊥
-fault_or_piece place at left some clean none = stuck_some at left some (by (is_bad_blank place left) (piece_at place.context left) none clean)
-  where
-    by : (b : Bool) (o : Option (Piece × ℕ)) → o ≡ None → (if b then Some (Blank at) else fault_by at left o) ≡ None → stuck_fault at left ≡ None
-    by b o none clean = grind arith
+fault_or_piece place at left some clean none = grind (arith, stuck_some)
 
 -- the answer is the text's
 abbrev pub Tells : List ℕ → Result (List Seen) LexFault → Type 0

@@ -1,28 +1,20 @@
 -- Between tokens stand white space and comments alone.
-use Rattle.std.proofs.Common.{◌≡◌, ◌⊎◌, ℕ, true, false, Bool, ◌+◌, ◌-◌, ◌&&◌, not, inl, inr, List, [], ◌∷◌, ◌++◌, length, take, drop, arith, refl, sym, ◌∙◌, ap, subst}
+use Rattle.std.proofs.Common.{◌≡◌, ◌⊎◌, ℕ, true, false, Bool, ◌+◌, ◌-◌, inl, inr, List, [], ◌∷◌, ◌++◌, length, take, drop, arith, refl, sym, ◌∙◌, ap, subst}
 use Rattle.std.specs.Prelude.{◌==◌}
-use Rattle.std.specs.List.{list_all}
 use Rattle.std.proofs.Math.Seq.{take-add}
-use Rattle.std.proofs.lemmas.Bool.{false≢true}
 use Rattle.std.proofs.lemmas.List.{drop-drop, length-drop, length-take-le, take-append-drop}
 use Rattle.std.proofs.lemmas.List.Folds.{list_all-append}
 use Rattle.kn_lex.specs.Spelling.{is_comment, Spells}
 use Rattle.kn_lex.specs.Cutting.{IsPiece, is_token, Cuts, Seen, start}
 use Rattle.kn_lex.specs.Between.{is_line_end, IsBlankPart, IsGap, StandApart}
 use Rattle.kn_lex.specs.declared.piece.Piece.{Piece}
-use Rattle.kn_lex.specs.declared.piece.Piece.TheVariants.{White, Comment, Token}
+use Rattle.kn_lex.specs.declared.piece.Piece.TheVariants.{Comment}
 use Rattle.kn_lex.specs.declared.piece.Place.{Place}
 use Rattle.kn_lex.specs.declared.piece.Context.{Context}
-use Rattle.kn_lex.specs.declared.piece.Context.TheVariants.{LineStart, WithinLine, CommentBody}
-use Rattle.kn_lex.proofs.Spelled.{both}
 use Rattle.kn_lex.proofs.Order.{along}
 
 comment_more : (bytes : List ℕ) (c : ℕ) → is_comment bytes ≡ true → (c == 10) ≡ false → is_comment (bytes ++ c ∷ []) ≡ true
-comment_more [] c e other = absurd (false≢true e)
-comment_more (b ∷ bs) c e other =
-    let parts = both (b == 35) (list_all (λ byte. not (byte == 10)) bs) e in
-    let all : list_all (λ byte. not (byte == 10)) (bs ++ c ∷ []) ≡ true = list_all-append (λ byte. not (byte == 10)) bs (c ∷ []) ∙ (λ j. parts.1 j && (not (other j) && true)) in
-    (λ j. parts.0 j && all j)
+comment_more bytes c e other = grind (arith, list_all-append)
 
 -- the longest comment goes on to the end of its line
 comment_to_end : (context : Context) (text : List ℕ) (n : ℕ) → IsPiece context text Comment n
@@ -43,13 +35,7 @@ comment_to_end context text n piece spells comment = by (drop n text) refl
 
 blank_part : (context : Context) (text : List ℕ) (piece : Piece) (n : ℕ) → IsPiece context text piece n → is_token piece ≡ false
     → IsBlankPart (take n text) (drop n text)
-blank_part LineStart text White n cut e = inl cut.spelled
-blank_part WithinLine text White n cut e = inl cut.spelled
-blank_part CommentBody text White n cut e = absurd cut.spelled
-blank_part LineStart text Comment n cut e = inr (cut.spelled, comment_to_end LineStart text n cut (λ bytes e. e) cut.spelled)
-blank_part WithinLine text Comment n cut e = inr (cut.spelled, comment_to_end WithinLine text n cut (λ bytes e. e) cut.spelled)
-blank_part CommentBody text Comment n cut e = absurd cut.spelled
-blank_part context text (Token sort) n cut e = absurd (cc)
+blank_part context text piece n cut e = grind (arith, comment_to_end)
 
 one_more : (text rest part next : List ℕ) → text ≡ part ++ next → IsBlankPart part next → IsGap next rest → IsGap text rest
 one_more text rest part next is blank gap = record { parts = part ∷ gap.parts; skips = (next, is, blank, gap.skips) }
@@ -59,8 +45,7 @@ before : (whole : List ℕ) (from next : ℕ) (part : List ℕ) (tokens : List S
     → IsBlankPart part (drop next whole)
     → StandApart whole next tokens → StandApart whole from tokens
 before whole from next part [] is blank h = one_more (drop from whole) [] part (drop next whole) is blank h
-before whole from next part (token ∷ tokens) is blank h =
-    (one_more (drop from whole) (drop token.span.start whole) part (drop next whole) is blank h.0, h.1)
+before whole from next part (token ∷ tokens) is blank h = grind (arith, one_more)
 
 nothing : (text : List ℕ) → IsGap text text
 nothing text = record { parts = []; skips = refl }

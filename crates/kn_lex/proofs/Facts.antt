@@ -5,21 +5,19 @@ use Rattle.std.proofs.lemmas.List.{length-drop, length-take-le}
 use Rattle.std.proofs.lemmas.List.Elements.{All-nil, All-cons}
 use Rattle.std.proofs.lemmas.Bool.Decides.{nat_tests}
 use Rattle.kn_base.specs.Decimal.{digits_value}
-use Rattle.kn_lex.specs.Spelling.{SpellsPlain, Spells}
+use Rattle.kn_lex.specs.Spelling.{Spells}
 use Rattle.kn_lex.specs.Cutting.{IsPiece, is_token, Cuts, Seen, start, place_after, token_of}
 use Rattle.kn_lex.specs.Faults.{Shows, IsFaultless, number_max, begins_fraction}
 use Rattle.kn_lex.specs.Scanning.{fault_at}
 use Rattle.kn_lex.specs.TokenFacts.{IsSpelled, IsTokenOf}
 use Rattle.kn_lex.specs.declared.token.Sort.{Sort}
-use Rattle.kn_lex.specs.declared.token.Sort.TheVariants.{Label, Body, Name, Number as NumberSort, Text, Sign}
+use Rattle.kn_lex.specs.declared.token.Sort.TheVariants.{Number as NumberSort}
 use Rattle.kn_lex.specs.declared.piece.Piece.{Piece}
 use Rattle.kn_lex.specs.declared.piece.Piece.TheVariants.{Token}
 use Rattle.kn_lex.specs.declared.piece.Place.{Place}
 use Rattle.kn_lex.specs.declared.piece.Context.{Context}
-use Rattle.kn_lex.specs.declared.piece.Context.TheVariants.{LineStart, WithinLine, CommentBody}
 use Rattle.kn_lex.specs.declared.fault.LexFault.{LexFault}
 use Rattle.kn_lex.specs.declared.fault.LexFault.TheVariants.{Float, Number}
-use Rattle.kn_lex.proofs.Spelled.{both, only_body}
 use Rattle.kn_lex.proofs.Faulty.{Least, shown_least}
 use Rattle.kn_lex.proofs.Order.{along, made}
 use Rattle.kn_lex.proofs.Pieces.{piece_is}
@@ -48,25 +46,10 @@ number_bound place at left n cut clean = by (nat_lt number_max (digits_value (ta
     by true b true e = absurd (none (Float at) (refl, inr (record { n = n; cut = cut; shown = e })))
     by true b false e = absurd (none (Number at) (refl, record { n = n; cut = cut; shown = (e, grind (arith, nat_tests)) }))
 
-plain_spelled : (first : Bool) (sort : Sort) (bytes : List ℕ) → SpellsPlain first (Token sort) bytes
-    → (sort ≡ NumberSort → digits_value bytes ≤ number_max)
-    → IsSpelled sort bytes
-plain_spelled first Label bytes s b = (both _ _ s).1
-plain_spelled first Body bytes s b = absurd s
-plain_spelled first Name bytes s b = s
-plain_spelled first NumberSort bytes s b = (s, b refl)
-plain_spelled first Text bytes s b = s
-plain_spelled first Sign bytes s b = s
-
 piece_spelled : (context : Context) (sort : Sort) (bytes : List ℕ) → Spells context (Token sort) bytes
     → (sort ≡ NumberSort → digits_value bytes ≤ number_max)
     → IsSpelled sort bytes
-piece_spelled LineStart sort bytes s b = plain_spelled true sort bytes s b
-piece_spelled WithinLine sort bytes s b = plain_spelled false sort bytes s b
-piece_spelled CommentBody sort bytes s b =
-    let body = only_body (Token sort) bytes s in
-    let is : sort ≡ Body = cc in
-    rw is body.1
+piece_spelled context sort bytes s b = grind arith
 
 pub token_facts : (text : List ℕ) (tokens : List Seen) → Cuts text tokens → IsFaultless text → All (IsTokenOf text) tokens
 token_facts text tokens h faultless =

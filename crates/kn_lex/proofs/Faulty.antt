@@ -1,6 +1,6 @@
 -- The fault that the code finds at a place is the first one that the place shows.
-use Rattle.std.proofs.Common.{◌≡◌, ℕ, zero, suc, true, false, Bool, ◌+◌, ◌<◌, ◌≤◌, ◌⊎◌, inl, inr, List, [], ◌∷◌, Option, Some, None, length, take, drop, arith, refl, sym, ◌∙◌, ap, subst, if◌then◌else◌}
-use Rattle.std.specs.Prelude.{not, ◌||◌, ◌&&◌, ◌==◌, nat_lt, slice_get}
+use Rattle.std.proofs.Common.{◌≡◌, ℕ, zero, suc, true, false, Bool, ◌+◌, ◌<◌, ◌≤◌, ◌⊎◌, inl, inr, List, [], ◌∷◌, Option, Some, None, length, take, drop, arith, refl, sym, ◌∙◌, ap, subst}
+use Rattle.std.specs.Prelude.{◌&&◌, ◌==◌, nat_lt, slice_get}
 use Rattle.std.specs.List.{list_all}
 use Rattle.std.proofs.lemmas.List.{length-take-le}
 use Rattle.std.proofs.lemmas.Bool.{false≢true}
@@ -10,14 +10,14 @@ use Rattle.kn_lex.specs.Bytes.{is_white, begins_with}
 use Rattle.kn_lex.specs.Spelling.{is_run, is_blank}
 use Rattle.kn_lex.specs.Cutting.{IsPiece, BeginsNone, is_line_start}
 use Rattle.kn_lex.specs.Faults.{begins_foreign, begins_quote, begins_ampersand, begins_match, begins_other, begins_fraction, number_max, goes_on, HoldsZero, HasNumber, Shows, fault_place}
-use Rattle.kn_lex.specs.Scanning.{white_len, zero_place, zero_fault, number_fault, stuck_fault, piece_fault, fault_by, is_bad_blank, fault_at, piece_at, plain_piece, more_len, is_number}
+use Rattle.kn_lex.specs.Scanning.{white_len, zero_place, zero_fault, number_fault, stuck_fault, piece_fault, fault_by, is_bad_blank, fault_at, piece_at, plain_piece, more_len}
 use Rattle.kn_lex.specs.declared.token.Sort.{Sort}
 use Rattle.kn_lex.specs.declared.token.Sort.TheVariants.{Number as NumberSort}
 use Rattle.kn_lex.specs.declared.piece.Piece.{Piece}
 use Rattle.kn_lex.specs.declared.piece.Piece.TheVariants.{White, Token}
 use Rattle.kn_lex.specs.declared.piece.Place.{Place}
 use Rattle.kn_lex.specs.declared.piece.Context.{Context}
-use Rattle.kn_lex.specs.declared.piece.Context.TheVariants.{LineStart, WithinLine, CommentBody}
+use Rattle.kn_lex.specs.declared.piece.Context.TheVariants.{LineStart}
 use Rattle.kn_lex.specs.declared.fault.LexFault.{LexFault}
 use Rattle.kn_lex.specs.declared.fault.LexFault.TheVariants.{NotText, BadString, BadToken, Float, Regex, Number, Blank, NoMemory}
 use Rattle.kn_lex.proofs.Scans.{is_blank-cons}
@@ -47,8 +47,7 @@ all_at p (x ∷ xs) zero c e h = grind arith
 all_at p (x ∷ xs) (suc k) c e h = all_at p xs k c (both _ _ e).1 h
 
 no_zero_digit : (bytes : List ℕ) (k : ℕ) → is_run is_digit is_digit bytes ≡ true → slice_get bytes k ≡ Some 0 → ⊥
-no_zero_digit [] k e h = false≢true e
-no_zero_digit (x ∷ xs) k e h = false≢true (all_at is_digit (x ∷ xs) k 0 e h)
+no_zero_digit bytes k e h = grind (arith, all_at)
 
 -- a blank line that is refused begins with white space
 
@@ -78,45 +77,21 @@ FoundShown place at left (Some fault) = Shows place at left fault
 
 stuck_shown : (place : Place) (at : ℕ) (left : List ℕ) → BeginsNone place.context left → FoundShown place at left (stuck_fault at left)
 unfolding stuck_fault
-stuck_shown place at [] none = tt
-stuck_shown place at (c ∷ cs) none =
-    let P : Option LexFault → Type 0 = FoundShown place at (c ∷ cs) in
-    choice P (begins_foreign (c ∷ cs)) _ _ (λ f. inr (refl, none, f))
-    (λ f. choice P (begins_quote (c ∷ cs)) _ _ (λ q. (refl, none, q))
-    (λ q. choice P (begins_ampersand (c ∷ cs)) _ _ (λ a. (refl, inl (none, a)))
-    (λ a. choice P (begins_match (c ∷ cs)) _ _ (λ m. (refl, none, m)) (λ m. (refl, none, rw (f, q, a, m) refl)))))
+stuck_shown place at left none = grind arith
 
 zero_shown : (place : Place) (at : ℕ) (left : List ℕ) (piece : Piece) (n : ℕ) → IsPiece place.context left piece n
     → FoundShown place at left (zero_fault at (zero_place (take n left)))
-zero_shown place at left piece n cut = by (zero_place (take n left)) (zero_at (take n left))
-  where
-    by : (o : Option ℕ) → ((k : ℕ) → o ≡ Some k → (k < length (take n left)) × (slice_get (take n left) k ≡ Some 0))
-        → FoundShown place at left (zero_fault at o)
-    by None z = tt
-    by (Some k) z = inl (k, refl, record { piece = piece; n = n; cut = cut; here = (z k refl).1 })
-
-number_shown : (place : Place) (at : ℕ) (left : List ℕ) (n : ℕ) → IsPiece place.context left (Token NumberSort) n
-    → FoundShown place at left (number_fault at (take n left) (drop n left))
-number_shown place at left n cut =
-    let P : Option LexFault → Type 0 = FoundShown place at left in
-    choice P (begins_fraction (drop n left)) _ _ (λ f. (refl, inr (record { n = n; cut = cut; shown = f })))
-    (λ f. choice P (nat_lt number_max (digits_value (take n left))) _ _
-    (λ e. (refl, record { n = n; cut = cut; shown = (f, (Decides-ltb number_max (digits_value (take n left))).0 e) })) (λ _. tt))
-
-number_piece : (piece : Piece) → is_number piece ≡ true → piece ≡ Token NumberSort
-number_piece piece e = grind arith
+zero_shown place at left piece n cut = grind (arith, zero_at)
 
 -- the fault of a piece is that of a number, or of a byte 0
 by_number : (P : Option LexFault → Type 0) (context : Context) (at : ℕ) (left : List ℕ) (piece : Piece) (n : ℕ) → IsPiece context left piece n
     → (IsPiece context left (Token NumberSort) n → P (number_fault at (take n left) (drop n left))) → P (zero_fault at (zero_place (take n left)))
     → P (piece_fault at piece (take n left) (drop n left))
-by_number P context at left piece n cut number other =
-    choice P (is_number piece) _ _ (λ e. number (subst (λ (p : Piece). IsPiece context left p n) (number_piece piece e) cut)) (λ _. other)
+by_number P context at left piece n cut number other = grind arith
 
 piece_shown : (place : Place) (at : ℕ) (left : List ℕ) (piece : Piece) (n : ℕ) → IsPiece place.context left piece n
     → FoundShown place at left (piece_fault at piece (take n left) (drop n left))
-piece_shown place at left piece n cut =
-    by_number (FoundShown place at left) place.context at left piece n cut (number_shown place at left n) (zero_shown place at left piece n cut)
+piece_shown place at left piece n cut = grind (arith, nat_tests, zero_shown)
 
 found_shown : (place : Place) (at : ℕ) (left : List ℕ) → FoundShown place at left (fault_at place at left)
 found_shown place at left =
@@ -152,23 +127,15 @@ token_at place at left sort n cut =
     (λ b. let w = bad_white place left b in let white = w.found in absurd (grind arith)) (λ _. rw found refl)
 
 zero_least : (at k : ℕ) (bytes : List ℕ) → slice_get bytes k ≡ Some 0 → Least (NotText (at + k)) (zero_fault at (zero_place bytes))
-zero_least at k bytes here =
-    let first = zero_found bytes k here in
-    let le : first.0 ≤ k = first.2 in
-    rw first.1 (grind arith)
+zero_least at k bytes here = grind (arith, zero_found)
 
 -- white space isn't byte 0
 later : (n k : ℕ) (left : List ℕ) → begins_with is_white left ≡ true → slice_get (take n left) k ≡ Some 0 → 0 < k
-later n (suc k) left w h = omega arith
-later n zero [] w h = absurd (cc)
-later zero zero (c ∷ cs) w h = absurd (cc)
-later (suc n) zero (c ∷ cs) w h = let is : c ≡ 0 = cc in absurd (false≢true (ap is_white (sym is) ∙ w))
+later n k left w h = grind arith
 
 pub number_spelled : (context : Context) (left : List ℕ) (n : ℕ) → IsPiece context left (Token NumberSort) n
     → is_run is_digit is_digit (take n left) ≡ true
-number_spelled LineStart left n cut = cut.spelled
-number_spelled WithinLine left n cut = cut.spelled
-number_spelled CommentBody left n cut = absurd cut.spelled
+number_spelled context left n cut = grind arith
 
 holds_least : (place : Place) (at k : ℕ) (left : List ℕ) → HoldsZero place.context left k → Least (NotText (at + k)) (fault_at place at left)
 holds_least place at k left h =
@@ -184,14 +151,7 @@ stuck_is : (at : ℕ) (left : List ℕ)
     × (begins_ampersand left ≡ true → stuck_fault at left ≡ Some (Float at)) × (begins_match left ≡ true → stuck_fault at left ≡ Some (Regex at))
     × (begins_other left ≡ true → stuck_fault at left ≡ Some (BadToken at))
 unfolding stuck_fault
-stuck_is at [] = (λ e. absurd (cc), λ e. absurd (cc), λ e. absurd (cc), λ e. absurd (cc), λ e. absurd (cc))
-stuck_is at (c ∷ cs) =
-    (λ e. rw e refl, λ e. grind (arith, nat_tests), λ e. grind (arith, nat_tests), λ e. grind (arith, nat_tests), by (begins_foreign (c ∷ cs)) (begins_quote (c ∷ cs)) (begins_ampersand (c ∷ cs)) (begins_match (c ∷ cs)))
-  where
-    by : (f q a m : Bool) → not (f || q || a || m) ≡ true
-        → (if f then Some (NotText at) else if q then Some (BadString at) else if a then Some (Float at)
-        else if m then Some (Regex at) else Some (BadToken at)) ≡ Some (BadToken at)
-    by f q a m e = grind arith
+stuck_is at left = grind (arith, nat_tests)
 
 found_least : (place : Place) (at : ℕ) (left : List ℕ) (fault : LexFault) → fault_at place at left ≡ Some fault → Least fault (fault_at place at left)
 found_least place at left fault e = rw e (inr refl)
@@ -213,8 +173,7 @@ stuck_least : (place : Place) (at : ℕ) (left : List ℕ) (fault : LexFault) �
 stuck_least place at left fault none e = found_least place at left fault (stuck_at place at left none ∙ e)
 
 pub shown_least : (place : Place) (at : ℕ) (left : List ℕ) (fault : LexFault) → Shows place at left fault → Least fault (fault_at place at left)
-shown_least place at left (NotText p) (inl h) = rw h.1 (holds_least place at h.0 left h.2)
-shown_least place at left (NotText p) (inr h) = rw h.0 (stuck_least place at left (NotText at) h.1 ((stuck_is at left).0 h.2))
+shown_least place at left (NotText p) h = grind (arith, holds_least, stuck_least, stuck_is)
 shown_least place at left (BadString p) h = rw h.0 (stuck_least place at left (BadString at) h.1 ((stuck_is at left).1 h.2))
 shown_least place at left (BadToken p) h = rw h.0 (stuck_least place at left (BadToken at) h.1 ((stuck_is at left).4 h.2))
 shown_least place at left (Float p) h =
@@ -234,8 +193,7 @@ Within end None = Unit {0}
 Within end (Some fault) = fault_place fault < end
 
 number_some : (left : List ℕ) (n : ℕ) → is_run is_digit is_digit (take n left) ≡ true → 0 < n
-number_some left zero e = absurd (false≢true e)
-number_some left (suc n) e = omega arith
+number_some left n e = grind arith
 
 zero_within : (at n : ℕ) (left : List ℕ) → n ≤ length left → Within (at + n) (zero_fault at (zero_place (take n left)))
 zero_within at n left le = by (zero_place (take n left)) (zero_at (take n left))
@@ -246,15 +204,11 @@ zero_within at n left le = by (zero_place (take n left)) (zero_at (take n left))
     by (Some k) z = omega (arith, (z k refl).0, length-take-le n left le)
 
 number_within : (at n : ℕ) (digits rest : List ℕ) → 0 < n → Within (at + n) (number_fault at digits rest)
-number_within at n digits rest some =
-    choice (Within (at + n)) (begins_fraction rest) _ _ (λ _. omega arith)
-    (λ _. choice (Within (at + n)) (nat_lt number_max (digits_value digits)) _ _ (λ _. omega arith) (λ _. tt))
+number_within at n digits rest some = grind arith
 
 piece_within : (context : Context) (at : ℕ) (left : List ℕ) (piece : Piece) (n : ℕ) → IsPiece context left piece n
     → Within (at + n) (piece_fault at piece (take n left) (drop n left))
-piece_within context at left piece n cut =
-    by_number (Within (at + n)) context at left piece n cut
-    (λ number. number_within at n (take n left) (drop n left) (number_some left n (number_spelled context left n number))) (zero_within at n left cut.within)
+piece_within context at left piece n cut = grind (arith, by_number, number_within, number_some, zero_within)
 
 pub fault_within : (place : Place) (at : ℕ) (left : List ℕ) (fault : LexFault) (piece : Piece) (n : ℕ)
     → fault_at place at left ≡ Some fault → IsPiece place.context left piece n → fault_place fault < at + n

@@ -6,13 +6,13 @@ use Rattle.std.proofs.lemmas.List.{drop-drop, length-take-le, drop_all, length-d
 use Rattle.std.proofs.lemmas.List.Elements.{All-nil, All-cons}
 use Rattle.std.specs.List.{list_all}
 use Rattle.std.proofs.lemmas.Bool.Decides.{nat_tests}
-use Rattle.kn_lex.specs.Spelling.{SpellsPlain, Spells, is_white_space, is_comment}
+use Rattle.kn_lex.specs.Spelling.{Spells, is_white_space, is_comment}
 use Rattle.kn_lex.specs.Cutting.{IsPiece, Reaches, Cuts, Seen, start, place_after, context_after, token_of, tokens_of, is_line_start, is_comment_label, is_token}
 use Rattle.kn_lex.specs.Scanning.{body_len, piece_at, plain_piece, white_len, line_len}
 use Rattle.kn_lex.specs.TokenFacts.{begins_line, StandInOrder}
 use Rattle.kn_lex.specs.Finished.{context_of, IsWhole, is_body_empty, body_due, body_here, AreTokensOf, body_place}
 use Rattle.kn_lex.specs.declared.token.Sort.{Sort}
-use Rattle.kn_lex.specs.declared.token.Sort.TheVariants.{Label, Body}
+use Rattle.kn_lex.specs.declared.token.Sort.TheVariants.{Body}
 use Rattle.kn_lex.specs.declared.piece.Piece.{Piece}
 use Rattle.kn_lex.specs.declared.piece.Piece.TheVariants.{White, Comment, Token}
 use Rattle.kn_lex.specs.declared.piece.Place.{Place}
@@ -21,7 +21,7 @@ use Rattle.kn_lex.specs.declared.piece.Context.TheVariants.{LineStart, WithinLin
 use Rattle.kn_lex.specs.Bytes.{is_gap, is_white, begins_with}
 use Rattle.kn_lex.specs.Seeing.{is_label_sort}
 use Rattle.kn_lex.specs.Between.{is_line_end, IsGap, Skips, StandApart}
-use Rattle.kn_lex.proofs.Spelled.{both, gap_white, piece_some, white_some}
+use Rattle.kn_lex.proofs.Spelled.{both, gap_white, white_some}
 use Rattle.kn_lex.proofs.Scans.{drop_next}
 use Rattle.kn_lex.proofs.Order.{along, made, in_order, next_begins}
 use Rattle.kn_lex.proofs.Between.{apart}
@@ -66,8 +66,7 @@ Balanced whole before tokens = before ∷ map (body_due whole) tokens ≡ map bo
 -- the body of a comment would be empty exactly where it is
 empty_body : (text : List ℕ) → is_body_empty text ≡ (body_len text == 0)
 unfolding body_len
-empty_body [] = refl
-empty_body (c ∷ cs) = grind (arith, nat_tests)
+empty_body text = grind arith
 
 due_nil : (context : Context) (at : ℕ) → due context at [] ≡ None
 due_nil context at = grind arith
@@ -75,36 +74,17 @@ due_nil context at = grind arith
 -- a token stands where it is due, and a body is due behind it where it ought to be
 due_here : (context : Context) (at : ℕ) (text : List ℕ) (sort : Sort) (n : ℕ) → IsPiece context text (Token sort) n → 0 < n
     → due context at text ≡ body_place sort at
-due_here LineStart at text sort n cut some = plain sort _ cut.spelled
-  where
-    plain : (sort : Sort) (bytes : List ℕ) → SpellsPlain true (Token sort) bytes → None ≡ body_place sort at
-    plain sort bytes s = grind arith
-due_here WithinLine at text sort n cut some = plain sort _ cut.spelled
-  where
-    plain : (sort : Sort) (bytes : List ℕ) → SpellsPlain false (Token sort) bytes → None ≡ body_place sort at
-    plain sort bytes s = grind arith
-due_here CommentBody at text sort n cut some = grind (arith, nat_tests, piece_is CommentBody text (Token sort) n cut, empty_body text)
+due_here context at text sort n cut some = grind (arith, piece_is, empty_body)
 
 due_behind : (whole : List ℕ) (sort : Sort) (bytes : List ℕ) (end : ℕ)
     → (if is_label_sort sort && is_comment_label bytes && not (is_body_empty (drop end whole)) then Some end else None) ≡ due (context_after (Token sort) bytes) end (drop end whole)
-due_behind whole Label bytes end = by (is_comment_label bytes) (drop end whole)
-  where
-    by : (comment : Bool) (text : List ℕ)
-        → (if comment && not (is_body_empty text) then Some end else None) ≡ due (if comment then CommentBody else WithinLine) end text
-    by comment text = grind arith
 due_behind whole sort bytes end = grind arith
 
 -- what is no token takes no body's place
 due_skipped : (context : Context) (at to : ℕ) (text behind : List ℕ) (piece : Piece) (n : ℕ) → IsPiece context text piece n
     → (is_token piece ≡ false) ⊎ (n ≡ 0)
     → (due context at text ≡ None) × (due (context_after piece (take n text)) to behind ≡ None)
-due_skipped LineStart at to text behind piece n cut (inl e) = grind arith
-due_skipped WithinLine at to text behind piece n cut (inl e) = grind arith
-due_skipped LineStart at to text behind piece n cut (inr e) = absurd (piece_some true piece (rw e at cut.spelled))
-due_skipped WithinLine at to text behind piece n cut (inr e) = absurd (piece_some false piece (rw e at cut.spelled))
-due_skipped CommentBody at to text behind piece n cut empty =
-    let is = piece_is CommentBody text piece n cut in
-    grind (arith, nat_tests, empty_body text, empty)
+due_skipped context at to text behind piece n cut empty = grind (arith, piece_is, empty_body)
 
 balanced : (text : List ℕ) (tokens : List Seen) → Cuts text tokens → Balanced text None tokens
 balanced text tokens h =
@@ -126,8 +106,7 @@ balanced text tokens h =
         cc (due_here place.context at (drop at text) sort n cut some, size, due_behind text sort (take n (drop at text)) (at + n))
 
 pub tokens_finished : (text : List ℕ) (tokens : List Seen) → Cuts text tokens → AreTokensOf text tokens
-tokens_finished text tokens h =
-    record { whole = whole_tokens text tokens h; order = in_order text tokens h; apart = apart text tokens h; bodies = balanced text tokens h }
+tokens_finished text tokens h = grind (arith, whole_tokens text tokens, in_order text tokens, apart, balanced text tokens h)
 
 -- each token tells whether a line begins where it does
 pub first_of_lines : (text : List ℕ) (tokens : List Seen) → Cuts text tokens → All (λ token. token.first ≡ begins_line text token.span.start) tokens
@@ -162,15 +141,13 @@ white_behind c xs w = grind (arith, nat_tests, drop_next)
 
 white_none : (xs : List ℕ) → begins_with is_white xs ≡ false → drop (white_len xs) xs ≡ xs
 unfolding white_len
-white_none [] e = refl
-white_none (c ∷ cs) e = grind (arith, nat_tests)
+white_none xs e = grind arith
 
 white_front : (part next rest : List ℕ) (parts : List (List ℕ)) → is_white_space part ≡ true → IsGap (drop (white_len next) next) rest
     → Skips next parts rest
     → IsGap (drop (white_len (part ++ next)) (part ++ next)) rest
 white_front [] next rest parts e inner more = absurd (false≢true e)
-white_front (c ∷ []) next rest parts e inner more =
-    elim (white_behind c next e) [ inl b ↦ rw b (record { parts = parts; skips = more }) | inr b ↦ rw b inner ]
+white_front (c ∷ []) next rest parts e inner more = grind (arith, white_behind)
 white_front (c ∷ d ∷ ds) next rest parts e inner more =
     let both_parts = both (is_gap c) (is_white_space (d ∷ ds)) e in
     elim (white_behind c (d ∷ ds ++ next) (gap_white c both_parts.0)) [
@@ -179,8 +156,7 @@ white_front (c ∷ d ∷ ds) next rest parts e inner more =
     ]
 
 hash_front : (part next : List ℕ) → is_comment part ≡ true → begins_with is_white (part ++ next) ≡ false
-hash_front [] next e = absurd (false≢true e)
-hash_front (c ∷ cs) next e = let hash : (c == 35) ≡ true = (both _ _ e).0 in grind (arith, nat_tests)
+hash_front part next e = grind arith
 
 white_skips : (parts : List (List ℕ)) (text rest : List ℕ) → Skips text parts rest → begins_with is_white rest ≡ false
     → IsGap (drop (white_len text) text) rest
@@ -192,23 +168,18 @@ white_skips (part ∷ parts) text rest (next, is, inr comment, more) none =
 
 line_front : (cs next : List ℕ) → list_all (λ byte. not (byte == 10)) cs ≡ true → is_line_end next ≡ true
     → drop (line_len (cs ++ next)) (cs ++ next) ≡ next
-line_front [] [] all end = refl
-line_front [] (d ∷ ds) all end = rw end refl
+line_front [] next all end = grind arith
 line_front (c ∷ cs) next all end = grind (arith, line_front cs next, drop_next)
 
 white_found : (context : Context) (c : ℕ) (cs : List ℕ) → (context ≡ CommentBody → ⊥) → is_white c ≡ true
     → piece_at context (c ∷ cs) ≡ Some (White, white_len (c ∷ cs))
 unfolding plain_piece
-white_found LineStart c cs inside w = rw w refl
-white_found WithinLine c cs inside w = rw w refl
-white_found CommentBody c cs inside w = absurd (inside refl)
+white_found context c cs inside w = grind arith
 
 comment_found : (context : Context) (c : ℕ) (cs : List ℕ) → (context ≡ CommentBody → ⊥) → (c == 35) ≡ true
     → piece_at context (c ∷ cs) ≡ Some (Comment, line_len (c ∷ cs))
 unfolding plain_piece
-comment_found LineStart c cs inside h = grind (arith, nat_tests)
-comment_found WithinLine c cs inside h = grind (arith, nat_tests)
-comment_found CommentBody c cs inside h = absurd (inside refl)
+comment_found context c cs inside h = grind (arith, nat_tests)
 
 -- a piece that is no token begins here, and a gap is left behind it
 record Step (context : Context) (text rest : List ℕ) : Type 0 where
@@ -255,10 +226,7 @@ gap_step : (context : Context) (parts : List (List ℕ)) (text rest : List ℕ) 
     → begins_with is_white rest ≡ false
     → (text ≡ rest) ⊎ Step context text rest
 gap_step context [] text rest inside same none = inl same
-gap_step context (part ∷ parts) text rest inside (next, is, inl white, more) none =
-    inr (rw is (white_step context part next rest parts inside white more none))
-gap_step context (part ∷ parts) text rest inside (next, is, inr comment, more) none =
-    inr (rw is (comment_step context part next rest parts inside comment.0 comment.1 more))
+gap_step context (part ∷ parts) text rest inside skips none = grind (arith, white_step, comment_step)
 
 gap_length : (parts : List (List ℕ)) (text rest : List ℕ) → Skips text parts rest → length rest ≤ length text
 gap_length [] text rest same = omega (arith, ap length same)
@@ -301,13 +269,7 @@ tail_of P token tokens all k d below = all (suc k) d (omega (arith, below))
 token_is : (context : Context) (token : Seen) → token.first ≡ is_line_start context → 0 < length token.text
     → token.span.end ≡ token.span.start + length token.text
     → token ∷ [] ≡ token_of context token.span.start (Token token.sort) token.text
-token_is context token line some size = by token.text refl
-  where
-    by : (bytes : List ℕ) → token.text ≡ bytes → token ∷ [] ≡ token_of context token.span.start (Token token.sort) bytes
-    by [] e = absurd (omega (arith, some, ap length e))
-    by (c ∷ cs) e =
-        let end : token.span.end ≡ token.span.start + length (c ∷ cs) = size ∙ ap (λ (bs : List ℕ). token.span.start + length bs) e in
-        (λ i. record { sort = token.sort; span = record { start = token.span.start; end = end i }; text = e i; first = line i } ∷ [])
+token_is context token line some size = grind arith
 
 -- what the rest of the tokens needs
 abbrev Next : List ℕ → List Seen → Type 0
@@ -352,12 +314,7 @@ body_is sort at from first e = grind arith
 
 no_white : (context : Context) (text : List ℕ) (sort : Sort) (n : ℕ) → (context ≡ CommentBody → ⊥) → piece_at context text ≡ Some (Token sort, n)
     → begins_with is_white text ≡ false
-no_white context [] sort n inside found = refl
-no_white context (c ∷ cs) sort n inside found = by (is_white c) (white_found context c cs inside)
-  where
-    by : (b : Bool) → (b ≡ true → piece_at context (c ∷ cs) ≡ Some (White, white_len (c ∷ cs))) → b ≡ false
-    by false white = refl
-    by true white = let is = white refl in absurd (grind arith)
+no_white context text sort n inside found = grind (arith, white_found)
 
 -- from a place that is not behind the label of a comment
 inside_from : (tokens : List Seen) (whole : List ℕ) (place : Place) (at : ℕ) → at ≤ length whole → (place.context ≡ CommentBody → ⊥)
@@ -407,16 +364,7 @@ behind_from tokens whole place at here le line balanced order apart w next = by 
 start_from : (tokens : List Seen) (whole : List ℕ) (place : Place) (at : ℕ) → at ≤ length whole → is_line_start place.context ≡ begins_line whole at
     → Balanced whole (due place.context at (drop at whole)) tokens → StandInOrder at tokens → StandApart whole at tokens
     → All (IsWhole whole) tokens → Next whole tokens → CutsFrom whole place at tokens
-start_from tokens whole place at le line balanced order apart w next =
-    elim (cases place.context at (drop at whole)) [
-      | inl here ↦ behind_from tokens whole place at here le line balanced order apart w next
-      | inr inside ↦ inside_from tokens whole place at le inside.0 line (rw inside.1 at balanced) order apart w next
-    ]
-  where
-    cases : (context : Context) (at : ℕ) (text : List ℕ) → (context ≡ CommentBody) ⊎ ((context ≡ CommentBody → ⊥) × (due context at text ≡ None))
-    cases LineStart at text = inr (λ e. absurd (cc), refl)
-    cases WithinLine at text = inr (λ e. absurd (cc), refl)
-    cases CommentBody at text = inl refl
+start_from tokens whole place at le line balanced order apart w next = grind (arith, behind_from, apart, inside_from)
 
 cut_from : (tokens : List Seen) (whole : List ℕ) (place : Place) (at : ℕ) → at ≤ length whole → is_line_start place.context ≡ begins_line whole at
     → Balanced whole (due place.context at (drop at whole)) tokens → StandInOrder at tokens → StandApart whole at tokens
@@ -428,6 +376,4 @@ cut_from (token ∷ tokens) whole place at le line balanced order apart w =
     order.2 apart.1 (tail_of (IsWhole whole) token tokens w))
 
 pub finished_tokens : (text : List ℕ) (tokens : List Seen) → AreTokensOf text tokens → Cuts text tokens
-finished_tokens text tokens h =
-    let cut = cut_from tokens text start 0 (omega arith) refl h.bodies h.order h.apart h.whole in
-    record { pieces = cut.pieces; reached = (cut.end, cut.reached, cut.done); told = cut.told }
+finished_tokens text tokens h = grind (arith, cut_from tokens text start 0 (omega arith) refl h.bodies h.order h.apart h.whole)

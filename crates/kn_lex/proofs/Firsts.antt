@@ -20,8 +20,7 @@ pub run_by_first : (test : ℕ → Bool) (bytes : List ℕ) (r : Option ℕ) →
     → prefix_len (λ byte. not (test byte)) bytes ≡ End bytes r
 run_by_first test bytes None h =
     prefix_len_is _ bytes (length bytes) 0 (omega arith) (λ k within. fails _ (h k (omega arith) within)) (λ over. absurd (omega arith))
-run_by_first test bytes (Some k) h =
-    prefix_len_is _ bytes k 0 (omega (arith, h.0.high)) (λ j low. fails _ (h.0.before j (omega arith) low)) (λ _. rw h.1 refl)
+run_by_first test bytes (Some k) h = grind (arith, prefix_len_is)
 
 zero_by_run : (bytes : List ℕ)
     → zero_place bytes ≡ (if prefix_len (λ byte. not (byte == 0)) bytes == length bytes then None else Some (prefix_len (λ byte. not (byte == 0)) bytes))
@@ -30,9 +29,7 @@ zero_by_run [] = refl
 zero_by_run (c ∷ cs) = grind (arith, nat_tests, zero_by_run cs)
 
 pub zero_by_first : (bytes : List ℕ) (r : Option ℕ) → IsFirstByte (is_byte 0) bytes r → zero_place bytes ≡ r
-zero_by_first bytes None h = let run = run_by_first (is_byte 0) bytes None h in grind (arith, nat_tests, zero_by_run bytes, run)
-zero_by_first bytes (Some k) h =
-    let run = run_by_first (is_byte 0) bytes (Some k) h in grind (arith, nat_tests, zero_by_run bytes, run, h.0.high)
+zero_by_first bytes r h = grind (arith, run_by_first, zero_by_run)
 
 -- bytes without a 0 have none behind a place, and none before it
 

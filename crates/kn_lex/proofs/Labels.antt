@@ -15,10 +15,7 @@ places_more at (t ∷ ts) back = grind (arith, places_more (at + 1) ts back)
 
 pub places_step : (labels new : List ℕ) (tokens more added : List Seen) (n : ℕ) → labels ≡ label_places 0 tokens → n ≡ length tokens
     → new ≡ labels ++ label_places n added → more ≡ tokens ++ added → new ≡ label_places 0 more
-places_step labels new tokens more added n here size pushed told =
-    pushed ∙ ap (λ (places : List ℕ). places ++ label_places n added) here
-    ∙ ap (λ (k : ℕ). label_places 0 tokens ++ label_places k added) (omega (arith, size))
-    ∙ sym (places_more 0 tokens added) ∙ ap (label_places 0) (sym told)
+places_step labels new tokens more added n here size pushed told = grind (arith, places_more)
 
 any_more : (front back : List Seen) → list_any is_stray (front ++ back) ≡ (list_any is_stray front || list_any is_stray back)
 any_more [] back = refl

@@ -71,9 +71,7 @@ at : (quote : Quote) (c d : ℕ) (bytes : List ℕ) → (c == d) ≡ true → Cl
 at quote c d bytes e h = subst (λ (b : ℕ). Closes quote (b ∷ bytes)) (sym (same_byte c d e)) h
 
 pub steps : (quote : Quote) (c : ℕ) (bytes : List ℕ) → Steps quote c bytes (quote_step quote c)
-steps Opening c bytes =
-    choice (Steps Opening c bytes) (c == 34) _ _
-    (λ e h. record { items = h.items; allowed = h.allowed; spelled = cc (same_byte c 34 e, h.spelled) }) (λ _. tt)
+steps Opening c bytes = grind arith
 steps Plain c bytes =
     choice (Steps Plain c bytes) (c == 34) _ _ (closed_now c)
     (λ q. choice (Steps Plain c bytes) (c == 92) _ _ (λ e h. at Plain c 92 bytes e h)
@@ -129,16 +127,9 @@ unfolding quote_len
 items_pass [] more e = (refl, refl)
 items_pass (plain c ∷ items) more e = let rest = items_pass items more (grind arith) in (grind (arith, nat_tests), grind (arith, nat_tests))
 items_pass (escaped c ∷ items) more e = let rest = items_pass items more (grind arith) in (grind (arith, nat_tests), grind (arith, nat_tests))
-items_pass (joined returned white ∷ items) more e =
-    let rest = items_pass items more (grind arith) in
-    let run = joined_run white (items_bytes items ++ 34 ∷ more) (grind arith) in
-    let parts = append_assoc white (items_bytes items) (34 ∷ more) in
-    let size = length-append white (items_bytes items) in
-    (grind arith, grind arith)
+items_pass (joined returned white ∷ items) more e = grind (arith, joined_run, append_assoc, length-append, items_pass items more (grind arith))
 
 -- a front that is a literal is found
 pub literal_found : (front more : List ℕ) → IsLiteral front → quote_len Opening (front ++ more) ≡ Some (length front)
 unfolding quote_len
-literal_found front more h =
-    let inner = items_pass h.items more h.allowed in
-    rw h.spelled (grind (arith, append_assoc (items_bytes h.items) (34 ∷ []) more, length-append (items_bytes h.items) (34 ∷ [])))
+literal_found front more h = grind (arith, items_pass, append_assoc, length-append)

@@ -3,11 +3,11 @@ use Rattle.std.proofs.Common.{◌≡◌, ◌<◌, ◌⊎◌, inl, inr, ℕ, true
 use Rattle.std.specs.Prelude.{◌==◌, if◌then◌else◌}
 use Rattle.std.specs.List.{list_all}
 use Rattle.std.proofs.Math.Seq.{take-add}
-use Rattle.std.proofs.lemmas.Bool.{false≢true, ne_eqb}
+use Rattle.std.proofs.lemmas.Bool.{ne_eqb}
 use Rattle.std.proofs.lemmas.Bool.Decides.{nat_tests}
 use Rattle.std.proofs.lemmas.List.{length-take-le, drop-drop}
 use Rattle.kn_base.specs.Decimal.{is_digit}
-use Rattle.kn_lex.specs.Bytes.{begins_name, continues_name, is_letter, is_short_sign, is_long_sign}
+use Rattle.kn_lex.specs.Bytes.{begins_name, continues_name}
 use Rattle.kn_lex.specs.Spelling.{is_run, is_label_tail, is_label, is_body, is_sign, items_bytes, IsLiteral, SpellsPlain, Spells}
 use Rattle.kn_lex.specs.Cutting.{IsPiece, is_token, Reaches, Cuts, Seen, start, place_after, context_after, token_of, tokens_of, is_line_start, is_comment_label, ends_line}
 use Rattle.kn_lex.specs.TokenFacts.{StandInOrder, begins_line}
@@ -18,7 +18,7 @@ use Rattle.kn_lex.specs.declared.piece.Piece.TheVariants.{White, Comment, Token}
 use Rattle.kn_lex.specs.declared.piece.Place.{Place}
 use Rattle.kn_lex.specs.declared.piece.Context.{Context}
 use Rattle.kn_lex.specs.declared.piece.Context.TheVariants.{LineStart, WithinLine, CommentBody}
-use Rattle.kn_lex.proofs.Spelled.{both, only_body, piece_some}
+use Rattle.kn_lex.proofs.Spelled.{both, only_body}
 
 -- the token that a piece of this sort is
 abbrev pub made : Context → ℕ → Sort → List ℕ → Seen
@@ -67,8 +67,7 @@ in_order text tokens h =
 -- what ends no line
 
 ends_more : (c : ℕ) (cs : List ℕ) → (c == 10) ≡ false → ends_line cs ≡ false → ends_line (c ∷ cs) ≡ false
-ends_more c [] e h = e
-ends_more c (d ∷ ds) e h = h
+ends_more c cs e h = grind arith
 
 all_end : (p : ℕ → Bool) (cs : List ℕ) → ((c : ℕ) → p c ≡ true → (c == 10) ≡ false) → list_all p cs ≡ true → ends_line cs ≡ false
 all_end p [] other all = refl
@@ -78,9 +77,7 @@ all_end p (c ∷ cs) other all =
 
 run_end : (head tail : ℕ → Bool) (bytes : List ℕ) → ((c : ℕ) → head c ≡ true → (c == 10) ≡ false) → ((c : ℕ) → tail c ≡ true → (c == 10) ≡ false)
     → is_run head tail bytes ≡ true → ends_line bytes ≡ false
-run_end head tail [] first other e = refl
-run_end head tail (c ∷ cs) first other e =
-    let parts = both (head c) (list_all tail cs) e in ends_more c cs (first c parts.0) (all_end tail cs other parts.1)
+run_end head tail bytes first other e = grind (arith, all_end)
 
 ends_append : (xs : List ℕ) (c : ℕ) (cs : List ℕ) → ends_line (xs ++ c ∷ cs) ≡ ends_line (c ∷ cs)
 ends_append [] c cs = refl
@@ -93,23 +90,15 @@ tail_end (c ∷ []) e = grind (arith, nat_tests)
 tail_end (c ∷ d ∷ ds) e = tail_end (d ∷ ds) (both _ _ e).1
 
 label_end : (bytes : List ℕ) → is_label bytes ≡ true → ends_line bytes ≡ false
-label_end [] e = refl
-label_end (c ∷ cs) e =
-    let parts = both (is_letter c) (is_label_tail cs) e in ends_more c cs (grind (arith, nat_tests)) (tail_end cs parts.1)
+label_end bytes e = grind (arith, tail_end)
 
 body_end : (bytes : List ℕ) → is_body bytes ≡ true → ends_line bytes ≡ false
 body_end [] e = refl
 body_end (c ∷ []) e = grind arith
 body_end (c ∷ d ∷ ds) e = body_end (d ∷ ds) (both _ _ e).1
 
-newline_unless : (P : ℕ → Bool) (c : ℕ) → P 10 ≡ false → P c ≡ true → (c == 10) ≡ false
-newline_unless P c none e = ne_eqb _ _ (λ is. false≢true (sym none ∙ ap P (sym is) ∙ e))
-
 sign_end : (bytes : List ℕ) → is_sign bytes ≡ true → ends_line bytes ≡ false
-sign_end [] e = refl
-sign_end (c ∷ []) e = newline_unless is_short_sign c refl e
-sign_end (c ∷ d ∷ []) e = newline_unless (is_long_sign c) d (grind (arith, nat_tests)) e
-sign_end (c ∷ d ∷ f ∷ bytes) e = absurd (false≢true e)
+sign_end bytes e = grind (arith, nat_tests)
 
 literal_end : (bytes : List ℕ) → IsLiteral bytes → ends_line bytes ≡ false
 literal_end bytes h = ap ends_line h.spelled ∙ ends_append (34 ∷ items_bytes h.items) 34 []
@@ -130,8 +119,7 @@ plain_ends first (Token Label) c cs s = by (is_comment_label (c ∷ cs)) ∙ sym
 plain_ends first (Token Body) c cs s = absurd s
 plain_ends first (Token Name) c cs s =
     sym (run_end begins_name continues_name (c ∷ cs) (λ c e. grind (arith, nat_tests)) (λ c e. grind (arith, nat_tests)) s)
-plain_ends first (Token Number) c cs s =
-    sym (run_end is_digit is_digit (c ∷ cs) (λ c e. grind (arith, nat_tests)) (λ c e. grind (arith, nat_tests)) s)
+plain_ends first (Token Number) c cs s = grind (arith, run_end is_digit is_digit (c ∷ cs) (λ c e. grind (arith, nat_tests)) (λ c e. grind (arith, nat_tests)))
 plain_ends first (Token Text) c cs s = sym (literal_end (c ∷ cs) s)
 plain_ends first (Token Sign) c cs s = sym (sign_end (c ∷ cs) s)
 
@@ -144,20 +132,8 @@ context_ends CommentBody piece c cs s = let body = only_body piece (c ∷ cs) s 
 -- an empty piece is an empty body, behind which no line begins
 empty_piece : (context : Context) (piece : Piece) → Spells context piece []
     → (is_line_start context ≡ false) × (is_line_start (context_after piece []) ≡ false)
-empty_piece LineStart piece s = absurd (piece_some true piece s)
-empty_piece WithinLine piece s = absurd (piece_some false piece s)
-empty_piece CommentBody piece s = (refl, ap (λ (p : Piece). is_line_start (context_after p [])) (only_body piece [] s).0)
+empty_piece context piece s = grind arith
 
 pub next_begins : (whole : List ℕ) (place : Place) (at : ℕ) (piece : Piece) (n : ℕ) → is_line_start place.context ≡ begins_line whole at
     → IsPiece place.context (drop at whole) piece n → is_line_start (context_after piece (take n (drop at whole))) ≡ begins_line whole (at + n)
-next_begins whole place at piece n here cut = by (take n (drop at whole)) refl (length-take-le n (drop at whole) cut.within) cut.spelled
-  where
-    by : (bytes : List ℕ) → take n (drop at whole) ≡ bytes → length (take n (drop at whole)) ≡ n → Spells place.context piece bytes
-        → is_line_start (context_after piece bytes) ≡ begins_line whole (at + n)
-    by [] e size s =
-        let none : at + n ≡ at = omega (arith, size, ap length e) in
-        let empty = empty_piece place.context piece s in
-        empty.1 ∙ sym (rw none (sym here ∙ empty.0))
-    by (c ∷ cs) e size s =
-        let some : ((at + n) == 0) ≡ false = ne_eqb _ _ (λ h. absurd (omega (arith, size, h, ap length e))) in
-        context_ends place.context piece c cs s ∙ sym (rw (some, take-add at n whole, e) (ends_append (take at whole) c cs))
+next_begins whole place at piece n here cut = grind (arith, nat_tests, empty_piece, ne_eqb, context_ends, take-add, ends_append)

@@ -1,5 +1,5 @@
 -- The piece that the scanner finds is the one piece that begins there.
-use Rattle.std.proofs.Common.{◌≡◌, ℕ, zero, suc, true, false, Bool, ◌<◌, ◌≤◌, List, [], ◌∷◌, ◌++◌, Option, Some, None, length, take, drop, get_or, arith, refl, ◌∙◌, ap, subst, if◌then◌else◌}
+use Rattle.std.proofs.Common.{◌≡◌, ℕ, zero, suc, true, false, Bool, ◌<◌, ◌≤◌, List, [], ◌∷◌, ◌++◌, Option, Some, None, length, take, drop, get_or, arith, refl, ◌∙◌, ap, if◌then◌else◌}
 use Rattle.std.specs.Prelude.{not, ◌||◌, ◌==◌, codes}
 use Rattle.std.specs.List.{prefix_len, list_all, list_any}
 use Rattle.std.proofs.lemmas.List.{take-append-drop, length-take-le}
@@ -7,7 +7,7 @@ use Rattle.std.proofs.lemmas.List.Sums.{prefix_len-le-length}
 use Rattle.std.proofs.lemmas.Bool.{false≢true}
 use Rattle.std.proofs.lemmas.Bool.Decides.{nat_tests}
 use Rattle.kn_base.specs.Decimal.{is_digit}
-use Rattle.kn_lex.specs.Bytes.{is_white, is_letter, begins_name, continues_name, continues_label, is_short_sign, is_lone_sign, is_long_sign, kind_of}
+use Rattle.kn_lex.specs.Bytes.{is_white, is_letter, begins_name, continues_name, is_short_sign, is_lone_sign, is_long_sign, kind_of}
 use Rattle.kn_lex.specs.Spelling.{is_run, is_white_space, is_label, is_label_tail, is_sign, IsLiteral, SpellsPlain, Spells, items_bytes}
 use Rattle.kn_lex.specs.Cutting.{IsPiece, BeginsNone}
 use Rattle.kn_lex.specs.Scanning.{white_len, line_len, colon_len, label_len, sign_len, quote_len, plain_piece, word_piece, with_sort, piece_at}
@@ -18,8 +18,7 @@ use Rattle.kn_lex.specs.declared.token.Sort.TheVariants.{Label, Body, Name, Numb
 use Rattle.kn_lex.specs.declared.piece.Piece.{Piece}
 use Rattle.kn_lex.specs.declared.piece.Piece.TheVariants.{White, Comment, Token}
 use Rattle.kn_lex.specs.declared.piece.Context.{Context}
-use Rattle.kn_lex.specs.declared.piece.Context.TheVariants.{LineStart, WithinLine, CommentBody}
-use Rattle.kn_lex.proofs.Spelled.{both, choice, same_byte, gap_white, run_longest, run_passes, white_within, white_some, white_longest, white_spelled, colon_within, colon_found, name_in_label, body_within, body_spelled, body_longest, only_body, piece_some}
+use Rattle.kn_lex.proofs.Spelled.{both, choice, same_byte, run_longest, run_passes, white_within, white_some, white_longest, white_spelled, colon_within, colon_found, name_in_label, body_within, body_spelled, body_longest, piece_some}
 use Rattle.kn_lex.proofs.Scans.{take_next}
 use Rattle.kn_lex.proofs.Literals.{quote_sound, literal_found}
 
@@ -48,13 +47,7 @@ long_sign_byte c d e = any_passes (λ x. not (begins_no_sign x)) c (codes "&|=!<
 -- a lone byte is a sign of one byte
 lone_len : (c : ℕ) (cs : List ℕ) → is_lone_sign c ≡ true → sign_len (c ∷ cs) ≡ Some 1
 lone_len c [] e = let short = any_passes is_short_sign c (codes "(){},;+*/%^.$@") e refl in rw short refl
-lone_len c (d ∷ ds) e = by (is_long_sign c d) refl
-  where
-    by : (b : Bool) → is_long_sign c d ≡ b → sign_len (c ∷ d ∷ ds) ≡ Some 1
-    by false b = let short = any_passes is_short_sign c (codes "(){},;+*/%^.$@") e refl in rw (b, short) refl
-    by true b =
-        let none = any_passes (λ x. not (list_any (λ sign. x == sign) (codes "&|=!<>-"))) c (codes "(){},;+*/%^.$@") e refl in
-        absurd (false≢true (rw (long_begins c d b) at none))
+lone_len c (d ∷ ds) e = grind (arith, nat_tests)
 
 -- what begins with each kind of byte
 abbrev pub by_kind : Kind → Bool → List ℕ → Option (Piece × ℕ)
@@ -69,16 +62,7 @@ by_kind Other first rest = with_sort Sign (sign_len rest)
 pub plain_piece_by_kind : (first : Bool) (rest : List ℕ) → 0 < length rest → plain_piece first rest ≡ by_kind (kind_of (get_or rest 0 0)) first rest
 unfolding plain_piece
 plain_piece_by_kind first [] h = absurd (omega arith)
-plain_piece_by_kind first (c ∷ cs) h = by (is_white c) (c == 35) (begins_name c) (is_digit c) (c == 34) (is_lone_sign c) (lone_len c cs)
-  where
-    by : (w o n d q l : Bool) → (l ≡ true → sign_len (c ∷ cs) ≡ Some 1) → (if w then Some (White, white_len (c ∷ cs))
-        else if o then Some (Comment, line_len (c ∷ cs))
-        else if n then word_piece (if first then label_len (c ∷ cs) else None) (c ∷ cs)
-        else if d then Some (Token Number, prefix_len is_digit (c ∷ cs))
-        else if q then with_sort Text (quote_len Opening (c ∷ cs))
-        else with_sort Sign (sign_len (c ∷ cs)))
-        ≡ by_kind (if w then Space else if o then Hash else if n then Word else if d then Numeral else if q then Quote else if l then Lone else Other) first (c ∷ cs)
-    by w o n d q l lone = grind arith
+plain_piece_by_kind first (c ∷ cs) h = grind (arith, nat_tests, lone_len)
 
 pub plain_piece_of : (first : Bool) (rest : List ℕ) (kind : Kind) → 0 < length rest → kind_of (get_or rest 0 0) ≡ kind
     → plain_piece first rest ≡ by_kind kind first rest
@@ -88,29 +72,15 @@ plain_piece_of first rest kind h e = plain_piece_by_kind first rest h ∙ ap (λ
 
 pub no_label : (rest : List ℕ) → label_len rest ≡ None → plain_piece true rest ≡ plain_piece false rest
 unfolding plain_piece
-no_label [] e = refl
-no_label (c ∷ cs) e = rw e refl
+no_label rest e = grind arith
 
 pub label_here : (rest : List ℕ) (n : ℕ) → label_len rest ≡ Some n → plain_piece true rest ≡ Some (Token Label, n)
 unfolding plain_piece
-label_here [] n e = absurd (cc)
-label_here (c ∷ cs) n e =
-    let letter : is_letter c ≡ true = by (is_letter c) (colon_len (c ∷ cs)) e in
-    let white : is_white c ≡ false = grind (arith, nat_tests) in
-    let hash : (c == 35) ≡ false = grind (arith, nat_tests) in
-    let begins : begins_name c ≡ true = rw letter refl in
-    rw (white, hash, begins, e) refl
-  where
-    by : (letter : Bool) (k : Option ℕ) → (if letter then k else None) ≡ Some n → letter ≡ true
-    by letter k e = grind arith
+label_here rest n e = grind (arith, nat_tests)
 
 sign_found : (first : Bool) (c : ℕ) (cs : List ℕ) → not (begins_no_sign c) ≡ true → plain_piece first (c ∷ cs) ≡ with_sort Sign (sign_len (c ∷ cs))
 unfolding plain_piece
-sign_found first c cs e = by (is_white c) (c == 35) (begins_name c) (is_digit c) (c == 34) _ _ _ _ _ e
-  where
-    by : (a b n d q : Bool) (v w x y z : Option (Piece × ℕ)) → not (a || b || n || d || q) ≡ true
-        → (if a then v else if b then w else if n then x else if d then y else if q then z else with_sort Sign (sign_len (c ∷ cs))) ≡ with_sort Sign (sign_len (c ∷ cs))
-    by a b n d q v w x y z e = grind arith
+sign_found first c cs e = grind (arith, nat_tests)
 
 -- what is found is spelled
 
@@ -123,10 +93,7 @@ run_spelled : (head tail : ℕ → Bool) (c : ℕ) (cs : List ℕ) → head c �
 run_spelled head tail c cs h t = grind (arith, take_next, run_passes tail cs)
 
 label_spelled : (c : ℕ) (cs : List ℕ) (n : ℕ) → is_letter c ≡ true → is_label_tail (take n (c ∷ cs)) ≡ true → is_label (take n (c ∷ cs)) ≡ true
-label_spelled c cs zero l h = absurd (cc)
-label_spelled c [] (suc n) l h = grind (arith, nat_tests)
-label_spelled c (d ∷ ds) (suc zero) l h = grind (arith, nat_tests)
-label_spelled c (d ∷ ds) (suc (suc n)) l h = rw l (both (continues_label c) _ h).1
+label_spelled c cs n l h = grind (arith, nat_tests)
 
 -- where a label begins
 label_begins : (first letter : Bool) (k : Option ℕ) (n : ℕ) → (if first then if letter then k else None else None) ≡ Some n
@@ -152,12 +119,7 @@ text_fits first rest = by (quote_len Opening rest) refl
     by (Some n) e = quote_sound Opening rest n e
 
 sign_fits : (first : Bool) (rest : List ℕ) → Fits (SpellsPlain first) rest (with_sort Sign (sign_len rest))
-sign_fits first [] = tt
-sign_fits first (c ∷ []) =
-    choice (λ k. Fits (SpellsPlain first) (c ∷ []) (with_sort Sign k)) (is_short_sign c) _ _ (λ e. (omega arith, e)) (λ _. tt)
-sign_fits first (c ∷ d ∷ ds) =
-    let P : Option ℕ → Type 0 = λ k. Fits (SpellsPlain first) (c ∷ d ∷ ds) (with_sort Sign k) in
-    choice P (is_long_sign c d) _ _ (λ e. (omega arith, e)) (λ _. choice P (is_short_sign c) _ _ (λ e. (omega arith, e)) (λ _. tt))
+sign_fits first rest = grind (arith, nat_tests)
 
 pub plain_fits : (first : Bool) (rest : List ℕ) → Fits (SpellsPlain first) rest (plain_piece first rest)
 unfolding plain_piece
@@ -171,9 +133,7 @@ plain_fits first (c ∷ cs) =
     (λ _. choice P (c == 34) _ _ (λ _. text_fits first (c ∷ cs)) (λ _. sign_fits first (c ∷ cs))))))
 
 piece_fits : (context : Context) (rest : List ℕ) → Fits (Spells context) rest (piece_at context rest)
-piece_fits LineStart rest = plain_fits true rest
-piece_fits WithinLine rest = plain_fits false rest
-piece_fits CommentBody rest = (body_within rest, body_spelled rest)
+piece_fits context rest = grind (arith, plain_fits, body_within, body_spelled)
 
 -- whatever is spelled is found, or something longer
 
@@ -188,8 +148,7 @@ covered : (o : Option (Piece × ℕ)) (other : Piece) (m n : ℕ) → o ≡ Some
 covered o other m n e le = rw e (le, λ same. cc)
 
 pub white_first : (c : ℕ) (bytes : List ℕ) → is_white_space (c ∷ bytes) ≡ true → is_white c ≡ true
-white_first c [] e = e
-white_first c (d ∷ ds) e = gap_white c (both _ _ e).0
+white_first c bytes e = grind arith
 
 run_covers : (head tail : ℕ → Bool) (c : ℕ) (cs : List ℕ) (m : ℕ) → suc m ≤ length (c ∷ cs) → tail c ≡ true
     → is_run head tail (c ∷ take m cs) ≡ true → suc m ≤ prefix_len tail (c ∷ cs)
@@ -236,8 +195,7 @@ sign_covers first c (d ∷ ds) zero le e =
     rw (sign_found first c (d ∷ ds) (short_sign_byte c e))
     (choice (λ k. Covers (Token Sign) 1 (with_sort Sign k)) (is_long_sign c d) _ _ (λ _. (omega arith, λ same. absurd (omega arith))) (λ _. rw e (omega arith, λ _. refl)))
 sign_covers first c (d ∷ ds) (suc zero) le e = rw (sign_found first c (d ∷ ds) (long_sign_byte c d e), e) (omega arith, λ _. refl)
-sign_covers first c (d ∷ []) (suc (suc m)) le e = absurd (omega arith)
-sign_covers first c (d ∷ b ∷ bs) (suc (suc m)) le e = absurd (false≢true e)
+sign_covers first c cs (suc (suc m)) le e = grind arith
 
 pub plain_covers : (first : Bool) (rest : List ℕ) (other : Piece) (m : ℕ) → m ≤ length rest → SpellsPlain first other (take m rest)
     → Covers other m (plain_piece first rest)
@@ -249,8 +207,7 @@ plain_covers first (c ∷ cs) White (suc m) le e =
 plain_covers first (c ∷ cs) Comment (suc m) le e =
     let hash : (c == 35) ≡ true = (both _ _ e).0 in
     covered _ Comment (suc m) (line_len (c ∷ cs)) (grind (arith, nat_tests)) (run_covers (λ b. b == 35) (λ b. not (b == 10)) c cs m le (grind (arith, nat_tests)) e)
-plain_covers first (c ∷ cs) (Token Label) (suc m) le e =
-    let parts = both first (is_label (c ∷ take m cs)) e in rw parts.0 (label_covers c cs m le parts.1)
+plain_covers first (c ∷ cs) (Token Label) (suc m) le e = grind (arith, label_covers)
 plain_covers first (c ∷ cs) (Token Body) (suc m) le e = absurd e
 plain_covers first (c ∷ cs) (Token Name) (suc m) le e =
     let b : begins_name c ≡ true = (both _ _ e).0 in
@@ -263,20 +220,11 @@ plain_covers first (c ∷ cs) (Token Sign) (suc m) le e = sign_covers first c cs
 
 pub piece_covers : (context : Context) (rest : List ℕ) (other : Piece) (m : ℕ) → m ≤ length rest → Spells context other (take m rest)
     → Covers other m (piece_at context rest)
-piece_covers LineStart rest other m le e = plain_covers true rest other m le e
-piece_covers WithinLine rest other m le e = plain_covers false rest other m le e
-piece_covers CommentBody rest other m le e =
-    let body = only_body other (take m rest) e in (body_longest rest m le body.1, λ same. grind (arith, body.0))
+piece_covers context rest other m le e = grind (arith, plain_covers, body_longest)
 
 -- what is found is the piece that begins here
 pub piece_sound : (context : Context) (rest : List ℕ) (p : Piece × ℕ) → piece_at context rest ≡ Some p → IsPiece context rest p.0 p.1
-piece_sound context rest p e =
-    let fits : (p.1 ≤ length rest) × Spells context p.0 (take p.1 rest) = subst (Fits (Spells context) rest) e (piece_fits context rest) in
-    record {
-      within = fits.0;
-      spelled = fits.1;
-      longest = λ other m le s. (subst (Covers other m) e (piece_covers context rest other m le s)).0;
-    }
+piece_sound context rest p e = grind (arith, piece_fits, piece_covers)
 
 -- a piece that begins here is what is found
 pub piece_is : (context : Context) (rest : List ℕ) (piece : Piece) (n : ℕ) → IsPiece context rest piece n → piece_at context rest ≡ Some (piece, n)

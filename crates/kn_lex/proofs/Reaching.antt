@@ -1,23 +1,19 @@
 -- Pieces that reach a place are the only ones, and the first fault after clean ones is the least.
-use Rattle.std.proofs.Common.{◌≡◌, ℕ, true, false, Bool, ◌+◌, inl, List, [], ◌∷◌, ◌++◌, Some, None, take, drop, arith, refl, ap, subst, append_assoc}
-use Rattle.std.proofs.lemmas.List.{append-nil}
+use Rattle.std.proofs.Common.{◌≡◌, ℕ, Bool, ◌+◌, inl, List, [], ◌∷◌, ◌++◌, Some, None, take, drop, arith, refl, ap, append_assoc}
 use Rattle.kn_lex.specs.Cutting.{IsPiece, Reaches, spent, place_after, token_of, tokens_of}
 use Rattle.kn_lex.specs.Faults.{Shows}
 use Rattle.kn_lex.specs.Scanning.{piece_at, plain_piece, stuck_fault, body_len, zero_place, fault_at}
 use Rattle.kn_lex.specs.declared.piece.Piece.{Piece}
 use Rattle.kn_lex.specs.declared.piece.Place.{Place}
 use Rattle.kn_lex.specs.declared.piece.Context.{Context}
-use Rattle.kn_lex.specs.declared.piece.Context.TheVariants.{LineStart, WithinLine, CommentBody}
+use Rattle.kn_lex.specs.declared.piece.Context.TheVariants.{CommentBody}
 use Rattle.kn_lex.specs.declared.fault.LexFault.{LexFault}
 use Rattle.kn_lex.proofs.Pieces.{piece_is}
 use Rattle.kn_lex.proofs.Faulty.{Least, shown_least, shown_from, fault_within}
 
 -- at most one piece begins at a place
 one_piece : (context : Context) (text : List ℕ) (p q : Piece × ℕ) → IsPiece context text p.0 p.1 → IsPiece context text q.0 q.1 → p ≡ q
-one_piece context text p q h k =
-    let first = piece_is context text p.0 p.1 h in
-    let other = piece_is context text q.0 q.1 k in
-    cc
+one_piece context text p q h k = grind (arith, piece_is)
 
 -- no fault is found along the pieces
 abbrev pub IsClean : Place → ℕ → List ℕ → List (Piece × ℕ) → Type 0
@@ -32,9 +28,7 @@ pub through : (front : List (Piece × ℕ)) (place : Place) (at : ℕ) (text : L
     → Reaches place text other_front other_end other_left → b ≡ at + spent other_front → Shows other_end b other_left other
     → (rest : List (Piece × ℕ)) × Reaches end left rest other_end other_left × (b ≡ at + spent front + spent rest)
 through [] place at text end left other_front other_end other_left other b h c k t o = (other_front, rw (← h.0, ← h.1) k, omega (arith, t))
-through (p ∷ ps) place at text end left [] other_end other_left other b h c k t o =
-    let same : at ≡ b = omega (arith, t) in
-    absurd (subst (Least other) c.0 (shown_least place at text other (rw (k.0, k.1, same) o)))
+through (p ∷ ps) place at text end left [] other_end other_left other b h c k t o = grind (arith, shown_least)
 through (p ∷ ps) place at text end left (q ∷ qs) other_end other_left other b h c k t o =
     let same = one_piece place.context text p q h.0 k.0 in
     let size : p.1 ≡ q.1 = ap (λ (r : Piece × ℕ). r.1) same in
@@ -46,25 +40,19 @@ through (p ∷ ps) place at text end left (q ∷ qs) other_end other_left other 
 pub least_behind : (rest : List (Piece × ℕ)) (place : Place) (at : ℕ) (left : List ℕ) (fault : LexFault)
     (other_end : Place) (other_left : List ℕ) (other : LexFault) (b : ℕ) → fault_at place at left ≡ Some fault
     → Reaches place left rest other_end other_left → b ≡ at + spent rest → Shows other_end b other_left other → Least other (Some fault)
-least_behind [] place at left fault other_end other_left other b e k t o =
-    let same : at ≡ b = omega (arith, t) in subst (Least other) e (shown_least place at left other (rw (k.0, k.1, same) o))
+least_behind [] place at left fault other_end other_left other b e k t o = grind (arith, shown_least)
 least_behind (q ∷ qs) place at left fault other_end other_left other b e k t o =
     inl (omega (arith, t, fault_within place at left fault q.0 q.1 e k.0, shown_from other_end b other_left other o))
 
 -- at the end of a text no piece begins, unless the body of a comment still has to come
 end_piece : (context : Context) → (context ≡ CommentBody → ⊥) → piece_at context [] ≡ None
 unfolding plain_piece
-end_piece LineStart n = refl
-end_piece WithinLine n = refl
-end_piece CommentBody n = absurd (n refl)
+end_piece context n = grind arith
 
 -- the end of a text shows no fault
 pub end_clean : (context : Context) (told : Bool) (at : ℕ) → fault_at (record { context = context; told = told }) at [] ≡ None
 unfolding plain_piece stuck_fault body_len zero_place
-end_clean LineStart true at = refl
-end_clean LineStart false at = refl
-end_clean WithinLine told at = refl
-end_clean CommentBody told at = refl
+end_clean context told at = grind arith
 
 nothing : (context : Context) (q : Piece × ℕ) → (context ≡ CommentBody → ⊥) → IsPiece context [] q.0 q.1 → ⊥
 nothing context q none cut = absurd (cc (end_piece context none, piece_is context [] q.0 q.1 cut))
@@ -72,9 +60,7 @@ nothing context q none cut = absurd (cc (end_piece context none, piece_is contex
 -- nothing behind the end shows a fault
 pub none_behind : (rest : List (Piece × ℕ)) (end : Place) (at : ℕ) (other_end : Place) (other_left : List ℕ) (other : LexFault) (b : ℕ)
     → (end.context ≡ CommentBody → ⊥) → Reaches end [] rest other_end other_left → b ≡ at + spent rest → Shows other_end b other_left other → ⊥
-none_behind [] end at other_end other_left other b none k t o =
-    let same : at ≡ b = omega (arith, t) in
-    subst (Least other) (end_clean end.context end.told at) (shown_least end at [] other (rw (k.0, same) (rw k.1 o)))
+none_behind [] end at other_end other_left other b none k t o = grind arith
 none_behind (q ∷ qs) end at other_end other_left other b none k t o = nothing end.context q none k.0
 
 -- one more piece
@@ -84,9 +70,7 @@ pub one_more : (front : List (Piece × ℕ)) (place : Place) (at : ℕ) (text : 
     → Reaches place text (front ++ p ∷ []) (place_after end p.0 (take p.1 left)) (drop p.1 left) × IsClean place at text (front ++ p ∷ [])
     × (spent (front ++ p ∷ []) ≡ spent front + p.1)
     × (tokens_of place at text (front ++ p ∷ []) ≡ tokens_of place at text front ++ token_of end.context a p.0 (take p.1 left))
-one_more [] place at text end left p a h c s cut e =
-    let same : at ≡ a = omega (arith, s) in
-    (rw (h.0, h.1) (cut, (refl, refl)), (rw (h.0, h.1, same) e, tt), omega arith, rw (h.0, h.1, same) (append-nil _))
+one_more [] place at text end left p a h c s cut e = grind arith
 one_more (q ∷ qs) place at text end left p a h c s cut e =
     let here = token_of place.context at q.0 (take q.1 text) in
     let behind = place_after place q.0 (take q.1 text) in

@@ -14,7 +14,7 @@ use Rattle.kn_lex.specs.Spelling.{is_blank, is_continuation}
 use Rattle.kn_lex.specs.Between.{is_line_end}
 use Rattle.kn_lex.specs.Faults.{goes_on, number_max, begins_match}
 use Rattle.kn_lex.specs.Cutting.{ends_line}
-use Rattle.kn_lex.specs.Scanning.{white_len, line_len, colon_len, body_len, quote_len, more_len, quote_step, len_after, stuck_fault, plain_piece}
+use Rattle.kn_lex.specs.Scanning.{white_len, line_len, colon_len, body_len, quote_len, more_len, quote_step, len_after, stuck_fault}
 use Rattle.kn_lex.specs.declared.quote.Quote.{Quote}
 use Rattle.kn_lex.specs.declared.quote.Step.TheVariants.{Go}
 use Rattle.kn_lex.specs.declared.quote.Quote.TheVariants.{Opening, Plain}
@@ -87,9 +87,7 @@ body_line (c ∷ cs) = grind (arith, body_line cs, drop_next)
 -- the body of a comment goes on to the end of each of its lines
 pub body_by_line : (xs : List ℕ) (i n : ℕ) → line_len (drop i xs) ≡ n → body_len xs ≡ i + body_len (drop i xs)
     → body_len xs ≡ (i + n) + body_len (drop (i + n) xs)
-body_by_line xs i n e whole =
-    let line = body_line (drop i xs) ∙ ap (λ k. k + body_len (drop k (drop i xs))) e ∙ ap (λ ys. n + body_len ys) (drop-drop n i xs) in
-    omega (arith, whole, line)
+body_by_line xs i n e whole = grind (arith, body_line, drop-drop)
 
 line_ends : (ys : List ℕ) → is_line_end (drop (line_len ys) ys) ≡ true
 line_ends [] = refl
@@ -132,12 +130,7 @@ pub quote_on : (xs : List ℕ) (quote next : Quote) (i n : ℕ) → i < length x
     → quote_len next (drop (i + 1) xs) ≡ more_len n (quote_len next (drop n (drop (i + 1) xs)))
     → quote_len Opening xs ≡ more_len i (quote_len quote (drop i xs))
     → quote_len Opening xs ≡ more_len (i + 1 + n) (quote_len next (drop (i + 1 + n) xs))
-quote_on xs quote next i n h step stay whole =
-    let here = quote_len_at quote xs i h in
-    let there = drop-drop n (i + 1) xs in
-    let once = more_len_twice 1 n (quote_len next (drop n (drop (i + 1) xs))) in
-    let twice = more_len_twice i (1 + n) (quote_len next (drop n (drop (i + 1) xs))) in
-    grind arith
+quote_on xs quote next i n h step stay whole = grind (arith, quote_len_at, drop-drop)
 
 pub goes_on_at : (commented : Bool) (xs : List ℕ) (i : ℕ) → i < length xs
     → goes_on commented (drop i xs) ≡ goes_on commented (get_or xs i 0 ∷ drop (i + 1) xs)
@@ -170,8 +163,7 @@ pub stuck_fault_at : (at : ℕ) (rest : List ℕ) → 0 < length rest
     else if begins_match rest then Some (Regex at)
     else Some (BadToken at))
 unfolding stuck_fault
-stuck_fault_at at [] h = absurd (omega arith)
-stuck_fault_at at (byte ∷ bytes) h = refl
+stuck_fault_at at rest h = grind arith
 
 -- the first digit of what is left is added to what is read, and never makes it less
 pub too_large : (digits : List ℕ) (i value : ℕ) → i < length digits

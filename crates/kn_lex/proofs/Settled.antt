@@ -5,7 +5,6 @@ use Rattle.kn_lex.specs.Faults.{goes_on}
 use Rattle.kn_lex.specs.Scanning.{white_len, line_len, body_len, plain_piece, piece_at}
 use Rattle.kn_lex.specs.declared.piece.Piece.{Piece}
 use Rattle.kn_lex.specs.declared.piece.Context.{Context}
-use Rattle.kn_lex.specs.declared.piece.Context.TheVariants.{LineStart, WithinLine, CommentBody}
 use Rattle.kn_lex.proofs.Scans.{drop_next}
 
 settled_body : (rest : List ℕ) (commented : Bool) → goes_on commented rest ≡ false → goes_on false (drop (body_len rest) rest) ≡ false
@@ -26,11 +25,8 @@ settled_white (c ∷ cs) e = grind (arith, nat_tests, settled_white cs, drop_nex
 settled_plain : (first : Bool) (rest : List ℕ) (p : Piece × ℕ) → plain_piece first rest ≡ Some p → goes_on false rest ≡ false
     → goes_on false (drop p.1 rest) ≡ false
 unfolding plain_piece
-settled_plain first [] p found e = absurd (cc)
-settled_plain first (c ∷ cs) p found e = grind (arith, nat_tests, settled_white (c ∷ cs), settled_line cs, drop_next)
+settled_plain first rest p found e = grind (arith, nat_tests, settled_white, settled_line, drop_next)
 
 pub settled_stays : (context : Context) (rest : List ℕ) (p : Piece × ℕ) → piece_at context rest ≡ Some p → goes_on false rest ≡ false
     → goes_on false (drop p.1 rest) ≡ false
-settled_stays LineStart rest p found e = settled_plain true rest p found e
-settled_stays WithinLine rest p found e = settled_plain false rest p found e
-settled_stays CommentBody rest p found e = let body = settled_body rest false e in grind arith
+settled_stays context rest p found e = grind (arith, settled_plain, settled_body)

@@ -21,8 +21,7 @@ same_byte c d e = (Decides-eqb c d).0 e
 
 -- a fact of each branch is one of the choice
 pub choice : {X : Type 0} (P : X → Type 0) (b : Bool) (x y : X) → (b ≡ true → P x) → (b ≡ false → P y) → P (if b then x else y)
-choice P true x y first second = first refl
-choice P false x y first second = second refl
+choice P b x y first second = grind arith
 
 -- a front that passes isn't longer than the one that is counted
 pub run_longest : (p : ℕ → Bool) (xs : List ℕ) (m : ℕ) → m ≤ length xs → list_all p (take m xs) ≡ true → m ≤ prefix_len p xs
@@ -62,8 +61,7 @@ white_spelled (c ∷ []) some = grind (arith, nat_tests)
 white_spelled (c ∷ d ∷ ds) some = grind (arith, white_spelled (d ∷ ds), take_next)
 
 label_more : (c : ℕ) (bytes : List ℕ) → continues_label c ≡ true → is_label_tail bytes ≡ true → is_label_tail (c ∷ bytes) ≡ true
-label_more c [] g e = absurd (cc)
-label_more c (d ∷ ds) g e = rw g e
+label_more c bytes g e = grind arith
 
 -- where the length is that of a colon, or of one byte more
 colon_split : (b g : Bool) (k : Option ℕ) (n : ℕ) → (if b then Some 1 else if g then more_len 1 k else None) ≡ Some n

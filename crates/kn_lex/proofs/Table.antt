@@ -3,7 +3,6 @@ use Rattle.std.proofs.Common.{nat_le, ◌&&◌, ◌≡◌, ◌≢◌, ℕ, zero,
 use Rattle.std.specs.Prelude.{◌==◌, codes}
 use Rattle.std.specs.List.{prefix_len, list_all, list_any}
 use Rattle.std.proofs.lemmas.List.Folds.{list_all-append}
-use Rattle.std.proofs.Math.Numerals.{one-add}
 use Rattle.std.proofs.lemmas.Bool.{ne_eqb, false≢true}
 use Rattle.std.proofs.lemmas.List.{take_at, drop_at}
 use Rattle.std.proofs.lemmas.Bool.Decides.{nat_tests}
@@ -17,22 +16,18 @@ use Rattle.kn_lex.proofs.Values.{skipped}
 -- white space is counted up to the next other character
 run_len : (white rest : List ℕ) → list_all is_white white ≡ true → begins_with is_white rest ≡ false
     → prefix_len is_white (white ++ rest) ≡ length white
-run_len [] [] all next = refl
-run_len [] (byte ∷ rest) all next = rw next refl
+run_len [] rest all next = grind arith
 run_len (byte ∷ white) rest all next = grind (arith, run_len white rest)
 
 pub joined : (white rest : List ℕ) → list_all is_white white ≡ true → begins_with is_white rest ≡ false
     → value_behind 0 (92 ∷ 10 ∷ white ++ rest) ≡ value_behind 0 rest
 unfolding value_behind
-joined white rest all next =
-    skipped _ (10 ∷ white ++ rest) ∙ rw (run_len white rest all next, one-add (length white)) (ap (value_behind 0) (drop_at white rest (length white) refl))
+joined white rest all next = grind (arith, skipped, run_len, drop_at)
 
 pub returned : (white rest : List ℕ) → list_all is_white white ≡ true → begins_with is_white rest ≡ false
     → value_behind 0 (92 ∷ 13 ∷ 10 ∷ white ++ rest) ≡ value_behind 0 rest
 unfolding value_behind
-returned white rest all next =
-    skipped _ (13 ∷ 10 ∷ white ++ rest)
-    ∙ rw (run_len white rest all next, one-add (length white), one-add (suc (length white))) (ap (value_behind 0) (drop_at white rest (length white) refl))
+returned white rest all next = grind (arith, skipped, run_len, drop_at)
 
 pub plain : (byte : ℕ) (rest : List ℕ) → byte ≢ 92 → value_behind 0 (byte ∷ rest) ≡ byte ∷ value_behind 0 rest
 unfolding value_behind
@@ -81,13 +76,10 @@ unfolding value_behind
 octal_at high mid low rest a b c least most = grind (arith, nat_tests)
 
 pub octal_row : (bytes : List ℕ) (o : BeginsOctal bytes) → value_behind 0 (92 ∷ bytes) ≡ octal o.high o.mid o.low ∷ value_behind 0 o.rest
-octal_row bytes o =
-    ap (λ bs. value_behind 0 (92 ∷ bs)) o.here
-    ∙ octal_at o.high o.mid o.low o.rest o.digits.0 o.digits.1 o.digits.2 o.least o.most
+octal_row bytes o = grind (arith, octal_at)
 
 no_digit_next : (rest : List ℕ) → begins_with is_octal_digit rest ≡ is_octal_digit (get_or rest 0 0)
-no_digit_next [] = refl
-no_digit_next (byte ∷ rest) = refl
+no_digit_next rest = grind arith
 
 low_from : (bytes : List ℕ) → begins_low bytes ≡ true → BeginsLow bytes
 low_from [] e = absurd (cc)
@@ -116,8 +108,7 @@ low_row bytes l = ap (λ bs. value_behind 0 (92 ∷ bs)) l.here ∙ low_at l.dig
 
 -- a test is false where what it tells is
 untold : {P : Type 0} (b : Bool) → (b ≡ true → P) → (P → ⊥) → b ≡ false
-untold false tells never = refl
-untold true tells never = absurd (never (tells refl))
+untold b tells never = grind arith
 
 pub other_row : (byte : ℕ) (rest : List ℕ) → BeginsOther byte rest → value_behind 0 (92 ∷ byte ∷ rest) ≡ byte ∷ value_behind 0 rest
 unfolding value_behind
@@ -132,23 +123,10 @@ other_row byte rest o =
 -- the value of a literal has the rows of the table
 pub value_rows : EscapeTable (value_behind 0)
 unfolding value_behind
-value_rows = record {
-  empty = refl;
-  plain = plain;
-  newline = λ rest. refl;
-  carriage_return = λ rest. refl;
-  tab = λ rest. refl;
-  form_feed = λ rest. refl;
-  joined = joined;
-  returned = returned;
-  octal = octal_row;
-  low = low_row;
-  other = other_row;
-}
+value_rows = grind (arith, joined, returned, octal_row, low_row, other_row)
 
 decide : {P : Type 0} (b : Bool) → (b ≡ true → P) → (b ≡ false → P) → P
-decide true first second = first refl
-decide false first second = second refl
+decide b first second = grind arith
 
 -- what stands behind white space among items, and is no white space
 record Behind (items : List Item) : Type 0 where

@@ -13,16 +13,14 @@ use Rattle.kn_lex.proofs.Firsts.{run_by_first}
 -- what belongs to an escape gives nothing more
 pub skipped : (k : ℕ) (xs : List ℕ) → value_behind k xs ≡ value_behind 0 (drop k xs)
 unfolding value_behind
-skipped zero [] = refl
-skipped zero (x ∷ xs) = refl
+skipped zero xs = grind arith
 skipped (suc k) [] = refl
 skipped (suc k) (x ∷ xs) = skipped k xs
 
 pub value_plain : (xs : List ℕ) → 0 < length xs → (get_or xs 0 0 ≡ 92 → ⊥)
     → value_behind 0 xs ≡ get_or xs 0 0 ∷ value_behind 0 (drop 1 xs)
 unfolding value_behind
-value_plain [] h n = absurd (omega arith)
-value_plain (x ∷ xs) h n = rw (ne_eqb _ _ n) refl
+value_plain xs h n = grind (arith, ne_eqb)
 
 pub value_escaped : (xs : List ℕ) → 0 < length xs → get_or xs 0 0 ≡ 92
     → value_behind 0 xs ≡ with_front (escape (drop 1 xs)).0 (value_behind 0 (drop ((escape (drop 1 xs)).1 + 1) xs))
