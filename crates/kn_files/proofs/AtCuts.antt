@@ -11,7 +11,7 @@ use Rattle.std.proofs.lemmas.List.{length-take}
 use Rattle.std.proofs.Math.Seq.{drop-append_seam}
 use Rattle.kn_base.specs.Decimal.{is_digit}
 use Rattle.kn_lex.specs.Bytes.{is_gap, is_white, is_letter, begins_name, continues_name, continues_label}
-use Rattle.kn_lex.specs.Spelling.{is_blank, is_continuation, is_white_space, is_comment, IsLiteral, items_bytes, is_run, is_label, is_label_tail, is_sign, SpellsPlain}
+use Rattle.kn_lex.specs.Spelling.{is_blank, is_continuation, is_white_space, is_comment, IsLiteral, is_run, is_label, is_label_tail, is_sign, SpellsPlain}
 use Rattle.kn_lex.specs.Cutting.{context_after, is_comment_label}
 use Rattle.kn_lex.specs.Scanning.{body_len, line_len, quote_len, quote_step, len_after, more_len, colon_len, plain_piece, piece_at}
 use Rattle.kn_lex.specs.declared.quote.Quote.{Quote}
@@ -127,9 +127,7 @@ gap_in_line c e t = absurd (grind (arith, nat_tests))
 pub white_on : (P : List ℕ → Type 0) (bytes rest : List ℕ) → is_white_space bytes ≡ true → FromPlace P (context_after White bytes) rest → FromHere P Plain (bytes ++ rest)
 white_on P [] rest e h = absurd (false≢true e)
 white_on P (c ∷ []) rest e h = byte_on P Plain Plain c rest (white_stays c e) (λ t. rw t at h) (λ t. rw t at h)
-white_on P (c ∷ d ∷ ds) rest e h =
-    let parts = both (is_gap c) (is_white_space (d ∷ ds)) e in
-    byte_on P Plain Plain c ((d ∷ ds) ++ rest) (white_stays c (gap_white c parts.0)) (λ t. absurd (gap_in_line c parts.0 t)) (λ _. white_on P (d ∷ ds) rest parts.1 h)
+white_on P (c ∷ d ∷ ds) rest e h = grind (arith, byte_on P Plain Plain c ((d ∷ ds) ++ rest), white_stays c, gap_white c, gap_in_line c, white_on P (d ∷ ds) rest)
 
 -- a comment, to the end of its line
 comment_on : (P : List ℕ → Type 0) (left : List ℕ) → FromHere P Plain (drop (line_len left) left) → FromHere P Comment left
@@ -143,11 +141,7 @@ comment_on P (c ∷ cs) h =
 pub comment_whole : (P : List ℕ → Type 0) (n : ℕ) (left : List ℕ) → n ≡ line_len left → is_comment (take n left) ≡ true → FromHere P Plain (drop n left) → FromHere P Plain left
 comment_whole P zero left size e h = h
 comment_whole P (suc n) [] size e h = absurd (false≢true e)
-comment_whole P (suc n) (c ∷ cs) size e h =
-    let hash = same_byte c 35 (both (c == 35) (list_all (λ byte. not (byte == 10)) (take n cs)) e).0 in
-    let line : suc n ≡ line_len (35 ∷ cs) = size ∙ ap (λ (k : ℕ). line_len (k ∷ cs)) hash in
-    let rest : n ≡ line_len cs = omega (arith, line) in
-    subst (λ (k : ℕ). FromHere P Plain (k ∷ cs)) (sym hash) (byte_on P Plain Comment 35 cs refl (λ t. absurd (false≢true t)) (λ _. comment_on P cs (subst (λ (k : ℕ). FromHere P Plain (drop k cs)) rest h)))
+comment_whole P (suc n) (c ∷ cs) size e h = grind (arith, byte_on P Plain Comment 35 cs refl, comment_on P cs)
 
 continuation_blank : (left : List ℕ) → is_continuation left ≡ true → is_blank left ≡ true → ⊥
 continuation_blank left e blank = grind arith
@@ -176,9 +170,7 @@ steady_in_line c e t = absurd (grind (arith, nat_tests))
 pub steady_on : (P : List ℕ → Type 0) (within : Within) (bytes rest : List ℕ) → ((c : ℕ) → is_steady c ≡ true → after_byte within c ≡ within) → list_all is_steady bytes ≡ true
     → FromHere P within rest → FromHere P within (bytes ++ rest)
 steady_on P within [] rest stays e h = h
-steady_on P within (c ∷ cs) rest stays e h =
-    let parts = both (is_steady c) (list_all is_steady cs) e in
-    byte_on P within within c (cs ++ rest) (stays c parts.0) (λ t. absurd (steady_in_line c parts.0 t)) (λ _. steady_on P within cs rest stays parts.1 h)
+steady_on P within (c ∷ cs) rest stays e h = grind (arith, byte_on P within within c (cs ++ rest), steady_in_line c, steady_on P within cs rest stays)
 
 -- a literal goes over the ends of lines, and ends within one
 closes_in_line : (quote : Quote) (c : ℕ) → quote_step quote c ≡ Close → (c == 10) ≡ true → ⊥
@@ -244,9 +236,7 @@ opened P lines h = grind arith
 text_on : (P : List ℕ → Type 0) (bytes rest : List ℕ) → IsLiteral bytes → FromHere P Plain rest → FromHere P Plain (bytes ++ rest)
 unfolding lines_of
 text_on P bytes rest h here =
-    subst (λ (bs : List ℕ). FromHere P Plain (bs ++ rest)) (sym h.spelled) (opened P (lines_of ((items_bytes h.items ++ 34 ∷ []) ++ rest))
-    (subst (λ (bs : List ℕ). FromHere P (Literal Opening) (bs ++ rest)) h.spelled
-    (quote_on P Opening (bytes ++ rest) (length bytes) (literal_found bytes rest h) (rw (drop-append_seam bytes rest) here))))
+    grind (arith, opened P, quote_on P Opening (bytes ++ rest) (length bytes) (literal_found bytes rest h), literal_found bytes rest, drop-append_seam bytes)
 
 steady_stays : (c : ℕ) → is_steady c ≡ true → after_byte Plain c ≡ Plain
 steady_stays c e = grind (arith, nat_tests)
@@ -256,8 +246,7 @@ token_on P first Label bytes rest h here = steady_on P Plain bytes rest steady_s
 token_on P first BodySort bytes rest h here = absurd h
 token_on P first Name bytes rest h here =
     steady_on P Plain bytes rest steady_stays (run_steady begins_name continues_name bytes (λ c e. grind (arith, nat_tests)) (λ c e. grind (arith, nat_tests)) h) here
-token_on P first Number bytes rest h here =
-    steady_on P Plain bytes rest steady_stays (run_steady is_digit is_digit bytes (λ c e. grind (arith, nat_tests)) (λ c e. grind (arith, nat_tests)) h) here
+token_on P first Number bytes rest h here = grind (arith, steady_on P Plain bytes rest steady_stays, steady_stays, run_steady is_digit is_digit bytes)
 token_on P first Text bytes rest h here = text_on P bytes rest h here
 token_on P first Sign bytes rest h here = steady_on P Plain bytes rest steady_stays (sign_steady bytes h) here
 
@@ -279,12 +268,7 @@ tail_alike [] (d ∷ ds) e small = absurd (false≢true e)
 tail_alike (c ∷ []) (d ∷ []) e small = grind arith
 tail_alike (c ∷ b ∷ bs) (d ∷ []) e small = absurd (false≢true (both (to_ascii_lowercase c == d) false e).1)
 tail_alike (c ∷ []) (d ∷ f ∷ ds) e small = absurd (false≢true (both (to_ascii_lowercase c == d) false e).1)
-tail_alike (c ∷ b ∷ bs) (d ∷ f ∷ ds) e small =
-    let parts = both (to_ascii_lowercase c == d) (bytes_eq (str_to_ascii_lowercase (b ∷ bs)) (f ∷ ds)) e in
-    let own = both (nat_le 97 d && nat_le d 122) (is_small_tail (f ∷ ds)) small in
-    let rest = tail_alike (b ∷ bs) (f ∷ ds) parts.1 own.1 in
-    let letter = letter_alike c d own.0 parts.0 in
-    (rw (letter, rest.0) refl, omega (arith, rest.1))
+tail_alike (c ∷ b ∷ bs) (d ∷ f ∷ ds) e small = grind (arith, nat_tests, letter_alike, tail_alike (b ∷ bs) (f ∷ ds))
 
 pub comment_label : (bytes : List ℕ) → is_comment_label bytes ≡ true → (length bytes ≡ 8) × (is_label bytes ≡ true)
 comment_label bytes e = grind (arith, nat_tests, tail_alike)
@@ -292,14 +276,4 @@ comment_label bytes e = grind (arith, nat_tests, tail_alike)
 pub label_piece : (left : List ℕ) → is_comment_label (take 8 left) ≡ true → piece_at LineStart left ≡ Some (Token Label, 8)
 unfolding plain_piece colon_len
 label_piece [] e = absurd (false≢true e)
-label_piece (c ∷ cs) e =
-    let label = comment_label (take 8 (c ∷ cs)) e in
-    let parts = both (is_letter c) (is_label_tail (take 7 cs)) label.1 in
-    let letter = parts.0 in
-    let white : is_white c ≡ false = grind (arith, nat_tests) in
-    let hash : (c == 35) ≡ false = grind (arith, nat_tests) in
-    let name : begins_name c ≡ true = grind (arith, nat_tests) in
-    let colon : (c == 58) ≡ false = grind (arith, nat_tests) in
-    let size = length-take 8 (c ∷ cs) in
-    let found = colon_found cs 7 (omega (arith, label.0, size)) parts.1 in
-    rw (white, hash, name, letter, colon, found) refl
+label_piece (c ∷ cs) e = grind (arith, nat_tests, comment_label (take 8 (c ∷ cs)) e, length-take 8 (c ∷ cs), colon_found cs 7)

@@ -11,7 +11,6 @@ use Rattle.kn_base.specs.declared.span.Span.{Span}
 use Rattle.kn_lex.specs.Scanning.{line_len}
 use Rattle.kn_lex.specs.Spelling.{is_blank}
 use Rattle.kn_lex.specs.Cutting.{ends_line}
-use Rattle.kn_lex.proofs.Spelled.{choice}
 use Rattle.kn_files.specs.Lines.{lines_of, Line, joined, placed, is_cut, is_literal, after_line, is_line, are_lines}
 use Rattle.kn_files.specs.Pieces.{is_assertion, text_of, span_of, spans_of, StandApart}
 use Rattle.kn_files.specs.Paragraphs.{lines_in}
@@ -97,11 +96,7 @@ spans_along : (lines : List (List ℕ)) (held : List Line) (start at : ℕ) (fro
 unfolding IsHeld
 spans_along [] held start at front within h e = chosen-cons held start front [] h ∙ append-nil (span_if start front)
 spans_along (line ∷ lines) held start at front within h e =
-    let here : Line = record { within = within; start = at; bytes = line } in
-    let next : Within = after_line within line in
-    let cut = spans_along lines [] (start + length front + length line) (at + length line) [] next refl (omega (arith, e)) in
-    let on = spans_along lines (held ++ here ∷ []) start (at + length line) (front ++ line) next (held_more held start at front here h e) (omega (arith, e, length-append front line)) in
-    grind (arith, chosen-cons held start front (parts_from [] (placed next (at + length line) lines)) h)
+    grind (arith, held_more held start at front, length-append front, chosen-cons held start front, spans_along lines)
 
 pub spans_whole : (file : List ℕ) → spans_of file ≡ spans_from 0 [] Plain (lines_of file)
 unfolding spans_of IsHeld
@@ -244,12 +239,7 @@ apart_along : (lines : List (List ℕ)) (from start : ℕ) (front : List ℕ) (w
     → StandApart from (spans_from start front within lines)
 apart_along [] from start front within le e = grind (arith, apart_if from start front [] le)
 apart_along (line ∷ lines) from start front within le e =
-    let some = line_some line (first_line line lines e) in
-    let cut = spans_from (start + length front + length line) [] (after_line within line) lines in
-    choice (StandApart from) (not (is_literal within) && is_blank line) (span_if start front ++ cut) (spans_from start (front ++ line) (after_line within line) lines)
-    (λ _. apart_if from start front cut le
-    (λ k small. apart_along lines k (start + length front + length line) [] (after_line within line) (omega (arith, small, some)) (more_lines line lines e)))
-    (λ _. apart_along lines from start (front ++ line) (after_line within line) le (more_lines line lines e))
+    grind (arith, line_some, first_line, apart_if, more_lines, apart_along lines, apart_along lines from start (front ++ line) (after_line within line) le)
 
 pub spans_apart : (file : List ℕ) → StandApart 0 (spans_of file)
 spans_apart file = subst (StandApart 0) (sym (spans_whole file)) (apart_along (lines_of file) 0 0 [] Plain (omega arith) (are_lines_of_file file))
