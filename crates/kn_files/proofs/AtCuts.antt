@@ -24,12 +24,12 @@ use Rattle.kn_lex.specs.declared.piece.Context.TheVariants.{LineStart, WithinLin
 use Rattle.kn_lex.specs.declared.token.Sort.{Sort}
 use Rattle.kn_lex.specs.declared.token.Sort.TheVariants.{Label, Body as BodySort, Name, Number, Text, Sign}
 use Rattle.kn_lex.proofs.Spelled.{both, same_byte, gap_white, choice, colon_found}
-use Rattle.kn_lex.proofs.Scans.{is_blank-cons}
+use Rattle.kn_lex.proofs.Scans.{is_blank-cons, take_next}
 use Rattle.kn_lex.proofs.Literals.{literal_found}
 use Rattle.kn_files.specs.Lines.{lines_of, joined, after_byte, after_line, at_line_start, is_of_comment, is_literal}
 use Rattle.kn_files.specs.declared.within.Within.{Within}
 use Rattle.kn_files.specs.declared.within.Within.TheVariants.{Plain, Comment, Body, Literal}
-use Rattle.kn_files.proofs.Splitting.{line_size, line_size_whole, take_next, joined_lines}
+use Rattle.kn_files.proofs.Splitting.{line_size, line_size_whole, joined_lines}
 
 -- at each line that cuts, this holds of what is left from that line on
 abbrev pub AtCuts : (List ℕ → Type 0) → Within → List (List ℕ) → Type 0

@@ -18,13 +18,13 @@ use Rattle.kn_lex.specs.declared.piece.Context.TheVariants.{LineStart, WithinLin
 use Rattle.kn_lex.specs.declared.fault.LexFault.{LexFault}
 use Rattle.kn_lex.proofs.Spelled.{both, same_byte}
 use Rattle.kn_lex.proofs.Between.{apart}
+use Rattle.kn_lex.proofs.Scans.{line_ends}
 use Rattle.kn_lex.proofs.Pieces.{piece_is}
 use Rattle.kn_lex.proofs.Settled.{settled_stays}
 use Rattle.kn_lex.proofs.Faulty.{shown_least, Least}
 use Rattle.kn_lex.proofs.Reaching.{IsClean, end_clean}
 use Rattle.kn_lex.proofs.Along.{every_cutting, finished_cuts, finished_faultless}
 use Rattle.kn_files.specs.Pieces.{is_assertion}
-use Rattle.kn_files.proofs.Splitting.{drop_next}
 
 pub either_false : (a b : Bool) → (a || b) ≡ false → (a ≡ false) × (b ≡ false)
 either_false a b e = (grind arith, grind arith)
@@ -131,10 +131,6 @@ comment_len context (c ∷ cs) (suc n) o cut e = by context o (piece_is context 
     by LineStart o f = same_size (piece_at LineStart (c ∷ cs)) (Comment, suc n) (Comment, line_len (c ∷ cs)) f (rw hash refl)
     by WithinLine o f = same_size (piece_at WithinLine (c ∷ cs)) (Comment, suc n) (Comment, line_len (c ∷ cs)) f (rw hash refl)
     by CommentBody o f = absurd (o refl)
-
-line_ends : (left : List ℕ) → is_line_end (drop (line_len left) left) ≡ true
-line_ends [] = refl
-line_ends (c ∷ cs) = grind (arith, line_ends cs, drop_next)
 
 -- the text has these bytes before what is left, which are neither a token nor a fault
 pub record IsSilentBefore (text left : List ℕ) : Type 0 where

@@ -2,7 +2,6 @@
 use Rattle.std.proofs.Common.{◌≡◌, ℕ, ◌⊎◌, ◌+◌, ◌<◌, ◌≤◌, List, [], ◌∷◌, length, take, drop, arith, refl, sym, if◌then◌else◌, true, false, Bool, ◌-◌, ◌++◌, map, ◌∙◌, ap, append-nil, append_assoc, length-append, subst}
 use Rattle.std.specs.Prelude.{◌==◌, not, ◌&&◌, filter}
 use Rattle.std.specs.List.{slice_split, onto_first}
-use Rattle.std.proofs.Math.Numerals.{one-add}
 use Rattle.std.proofs.Math.Seq.{take-add}
 use Rattle.std.proofs.lemmas.Grind.{flat_map-append}
 use Rattle.std.proofs.lemmas.List.{drop_all, drop-drop, length-drop, length-take-le}
@@ -11,6 +10,7 @@ use Rattle.kn_base.specs.declared.span.Span.{Span}
 use Rattle.kn_lex.specs.Scanning.{line_len}
 use Rattle.kn_lex.specs.Spelling.{is_blank}
 use Rattle.kn_lex.specs.Cutting.{ends_line}
+use Rattle.kn_lex.proofs.Scans.{take_next, drop_next}
 use Rattle.kn_files.specs.Lines.{lines_of, Line, joined, placed, is_cut, is_literal, after_line, is_line, are_lines}
 use Rattle.kn_files.specs.Pieces.{is_assertion, text_of, span_of, spans_of, StandApart}
 use Rattle.kn_files.specs.Paragraphs.{lines_in}
@@ -32,12 +32,6 @@ pub size_at_end : (bytes : List ℕ) (n : ℕ) → n ≡ line_len bytes → leng
 unfolding line_size
 size_at_end [] n e h = sym e
 size_at_end (c ∷ cs) n e h = grind (arith, size_at_end cs (line_len cs) refl)
-
-pub take_next : (n c : ℕ) (cs : List ℕ) → take (1 + n) (c ∷ cs) ≡ c ∷ take n cs
-take_next n c cs = rw (one-add n) refl
-
-pub drop_next : (n c : ℕ) (cs : List ℕ) → drop (1 + n) (c ∷ cs) ≡ drop n cs
-drop_next n c cs = rw (one-add n) refl
 
 first_cut : (c : ℕ) (cs : List ℕ) → lines_of (c ∷ cs) ≡ take (line_size (c ∷ cs)) (c ∷ cs) ∷ lines_of (drop (line_size (c ∷ cs)) (c ∷ cs))
 unfolding line_size lines_of

@@ -3,7 +3,7 @@ use Rattle.std.proofs.Common.{◌≡◌, add-zero, ℕ, zero, suc, true, false, 
 use Rattle.std.specs.Prelude.{◌==◌, if◌then◌else◌}
 use Rattle.std.proofs.lemmas.Bool.{false≢true}
 use Rattle.std.proofs.lemmas.List.{drop-drop, length-take-le, drop_all, length-drop, length-append}
-use Rattle.std.proofs.lemmas.List.Elements.{All-nil, All-cons}
+use Rattle.std.proofs.lemmas.List.Elements.{All-nil, All-cons, All-head, All-tail}
 use Rattle.std.specs.List.{list_all}
 use Rattle.std.proofs.lemmas.Bool.Decides.{nat_tests}
 use Rattle.kn_lex.specs.Spelling.{Spells, is_white_space, is_comment}
@@ -260,12 +260,6 @@ walk (suc n) whole rest place at to tokens is low high few inside line gap none 
 
 -- a token and what stands behind it
 
-head_of : (P : Seen → Type 0) (token : Seen) (tokens : List Seen) → All P (token ∷ tokens) → P token
-head_of P token tokens all = all 0 token (omega arith)
-
-tail_of : (P : Seen → Type 0) (token : Seen) (tokens : List Seen) → All P (token ∷ tokens) → All P tokens
-tail_of P token tokens all k d below = all (suc k) d (omega (arith, below))
-
 token_is : (context : Context) (token : Seen) → token.first ≡ is_line_start context → 0 < length token.text
     → token.span.end ≡ token.span.start + length token.text
     → token ∷ [] ≡ token_of context token.span.start (Token token.sort) token.text
@@ -325,7 +319,7 @@ inside_from [] whole place at le inside line balanced order apart w next =
     walk (length whole) whole [] place at (length whole) [] (sym size) le (omega arith) (omega arith) inside line apart refl
     (λ end out there. record { pieces = []; end = end; reached = (refl, size); done = out; told = refl })
 inside_from (token ∷ tokens) whole place at le inside line balanced order apart w next =
-    let own = head_of (IsWhole whole) token tokens w in
+    let own = All-head (IsWhole whole) token tokens w in
     let parts = before_is whole None token tokens balanced in
     let other = other_context token.sort token.span.start token.first parts.0 in
     let plain : (context_of token.sort token.first ≡ CommentBody) → ⊥ = λ e. line_not token.first (sym other ∙ e) in
@@ -348,7 +342,7 @@ behind_from tokens whole place at here le line balanced order apart w next = by 
     filled : (tokens : List Seen) → Balanced whole (Some at) tokens → All (IsWhole whole) tokens → Next whole tokens → CutsFrom whole place at tokens
     filled [] balanced w next = absurd (cc)
     filled (token ∷ tokens) balanced w next =
-        let own = head_of (IsWhole whole) token tokens w in
+        let own = All-head (IsWhole whole) token tokens w in
         let parts = before_is whole (Some at) token tokens balanced in
         let body = body_is token.sort at token.span.start token.first parts.0 in
         rw body.1 (token_step whole place token tokens own (body.0 ∙ sym here) (rw (← body.1) line) parts.1 next)
@@ -372,8 +366,8 @@ cut_from : (tokens : List Seen) (whole : List ℕ) (place : Place) (at : ℕ) �
 cut_from [] whole place at le line balanced order apart w = start_from [] whole place at le line balanced order apart w tt
 cut_from (token ∷ tokens) whole place at le line balanced order apart w =
     start_from (token ∷ tokens) whole place at le line balanced order apart w
-    (λ behind begins due_there. cut_from tokens whole behind token.span.end (end_within whole token (head_of (IsWhole whole) token tokens w)) begins due_there
-    order.2 apart.1 (tail_of (IsWhole whole) token tokens w))
+    (λ behind begins due_there. cut_from tokens whole behind token.span.end (end_within whole token (All-head (IsWhole whole) token tokens w)) begins due_there
+    order.2 apart.1 (All-tail (IsWhole whole) token tokens w))
 
 pub finished_tokens : (text : List ℕ) (tokens : List Seen) → AreTokensOf text tokens → Cuts text tokens
 finished_tokens text tokens h = grind (arith, cut_from tokens text start 0 (omega arith) refl h.bodies h.order h.apart h.whole)

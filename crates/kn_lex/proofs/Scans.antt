@@ -89,7 +89,7 @@ pub body_by_line : (xs : List ℕ) (i n : ℕ) → line_len (drop i xs) ≡ n �
     → body_len xs ≡ (i + n) + body_len (drop (i + n) xs)
 body_by_line xs i n e whole = grind (arith, body_line, drop-drop)
 
-line_ends : (ys : List ℕ) → is_line_end (drop (line_len ys) ys) ≡ true
+pub line_ends : (ys : List ℕ) → is_line_end (drop (line_len ys) ys) ≡ true
 line_ends [] = refl
 line_ends (c ∷ cs) = grind (arith, line_ends cs, drop_next)
 
