@@ -11,7 +11,7 @@ use Rattle.std.proofs.lemmas.List.Folds.{list_any-append}
 use Rattle.kn_base.specs.declared.span.Span.{Span}
 use Rattle.kn_lex.specs.Spelling.{is_continuation}
 use Rattle.kn_lex.specs.Cutting.{ends_line, is_comment_label}
-use Rattle.kn_lex.proofs.Spelled.{both, choice}
+use Rattle.kn_lex.proofs.Spelled.{choice}
 use Rattle.kn_files.specs.Lines.{Line, lines_of, are_lines, joined, placed, is_cut, is_literal, after_byte, after_line}
 use Rattle.kn_files.specs.Pieces.{text_of, span_of, spans_of, IsWithin, IsLineBreak, HasWholeLines}
 use Rattle.kn_files.specs.Paragraphs.{lines_in, ends_at_cut, begins_at_cut, IsParagraph, IsOfParagraph, IsOfLines, HasLine, LacksLine, AreOfComment}
@@ -75,9 +75,7 @@ part_behind first parts part h = record { front = first ∷ h.front; back = h.ba
 first_part : (lines held behind : List Line) → list_any is_cut lines ≡ false → begins_at_cut behind ≡ true → HasPart (parts_from held (lines ++ behind)) (held ++ lines)
 first_part [] held [] whole ends = record { front = []; back = []; here = ap (λ ls. ls ∷ []) (sym (append-nil held)) }
 first_part [] held (y ∷ ys) whole ends = rw ends (record { front = []; back = parts_from [] ys; here = ap (λ ls. ls ∷ parts_from [] ys) (sym (append-nil held)) })
-first_part (x ∷ lines) held behind whole ends =
-    let parts = either_false (is_cut x) (list_any is_cut lines) whole in
-    rw parts.0 (subst (HasPart (parts_from (held ++ x ∷ []) (lines ++ behind))) (append_assoc held (x ∷ []) lines) (first_part lines (held ++ x ∷ []) behind parts.1 ends))
+first_part (x ∷ lines) held behind whole ends = grind (arith, either_false, append_assoc, first_part lines)
 
 later_part : (x : Line) (before held lines behind : List Line) → ends_at_cut (x ∷ before) ≡ true → list_any is_cut lines ≡ false → begins_at_cut behind ≡ true
     → HasPart (parts_from held ((x ∷ before) ++ (lines ++ behind))) lines
@@ -177,16 +175,10 @@ span_stands file before lines behind here some = grind (arith, line_stands)
 
 -- where a line stands in the front of the file, and where in the rest
 in_front : (file : List ℕ) (front rest : List Line) (line : Line) → lines_in file ≡ front ++ rest → Contains front line → line.start + length line.bytes ≤ length (text_of front)
-in_front file front rest line here i =
-    let s = split_at front line i in
-    let at = line_stands file s.before (s.behind ++ rest) line (here ∙ ap (λ ls. ls ++ rest) s.here ∙ append_assoc s.before (line ∷ s.behind) rest) in
-    omega (arith, at, ap (λ ls. length (text_of ls)) s.here, size_split s.before s.behind line)
+in_front file front rest line here i = grind (arith, split_at front line i, line_stands file, append_assoc, size_split)
 
 in_rest : (file : List ℕ) (front rest : List Line) (line : Line) → lines_in file ≡ front ++ rest → Contains rest line → length (text_of front) ≤ line.start
-in_rest file front rest line here i =
-    let s = split_at rest line i in
-    let at = line_stands file (front ++ s.before) s.behind line (here ∙ ap (λ ls. front ++ ls) s.here ∙ sym (append_assoc front s.before (line ∷ s.behind))) in
-    omega (arith, at, size_join front s.before)
+in_rest file front rest line here i = grind (arith, split_at rest line i, line_stands file, append_assoc front, size_join front)
 
 pub line_inside : (file : List ℕ) (lines : List Line) (line : Line) → IsParagraph file lines → Contains lines line → HasLine (span_of lines) line
 line_inside file lines line p i =
@@ -197,10 +189,7 @@ line_inside file lines line p i =
     (omega (arith, span.0, from), omega (arith, span.1, to, size_join p.before lines))
 
 uncut_lacks : (lines : List Line) (line : Line) → list_any is_cut lines ≡ false → is_cut line ≡ true → Contains lines line → ⊥
-uncut_lacks lines line whole cut i =
-    let s = split_at lines line i in
-    let parts = either_false (list_any is_cut s.before) (list_any is_cut (line ∷ s.behind)) (sym (ap (list_any is_cut) s.here ∙ list_any-append is_cut s.before (line ∷ s.behind)) ∙ whole) in
-    false≢true (sym (either_false (is_cut line) (list_any is_cut s.behind) parts.1).0 ∙ cut)
+uncut_lacks lines line whole cut i = grind (arith, split_at lines line i, either_false, list_any-append is_cut, either_false (is_cut line))
 
 kept_some : (lines : List Line) → is_kept lines ≡ true → 0 < length lines
 kept_some [] kept = absurd (false≢true kept)
@@ -235,10 +224,7 @@ whole_front [] within at xs [] y ys e l w = absurd (cc)
 whole_front [] within at xs (x ∷ before) y ys e l w = absurd (cc)
 whole_front (line ∷ lines) within at xs [] y ys e l w = subst AreWhole (sym (append-nil xs)) w
 whole_front (line ∷ lines) within at xs (x ∷ before) y ys e l w =
-    let own : record { within = within; start = at; bytes = line } ≡ x = cc in
-    let rest : placed (after_line within line) (at + length line) lines ≡ before ++ y ∷ ys = cc in
-    subst AreWhole (append_assoc xs line (text_of before) ∙ ap (λ (l : Line). xs ++ (l.bytes ++ text_of before)) own)
-    (whole_front lines (after_line within line) (at + length line) (xs ++ line) before y ys rest (more_lines line lines l) (whole_behind xs line lines l))
+    grind (arith, append_assoc, more_lines, whole_behind, whole_front lines (after_line within line) (at + length line) (xs ++ line) before y ys)
 
 line_break : (file : List ℕ) (before behind : List Line) → lines_in file ≡ before ++ behind → IsLineBreak file (length (text_of before))
 line_break file before [] here = inr (inl (ap length (sym (text_in file before [] here ∙ append-nil (text_of before)))))
@@ -257,13 +243,7 @@ span_within file span o =
     let some = assertion_some (text_of o.lines) o.assertion in
     let join = size_join p.before o.lines in
     let size = ap length (text_in file (p.before ++ o.lines) p.behind p.here) ∙ length-append (text_of (p.before ++ o.lines)) (text_of p.behind) in
-    subst (λ s. IsWithin file s × HasWholeLines file s) (sym o.same) (
-      record { some = omega (arith, stands.0, stands.1, some); within = omega (arith, stands.1, join, size) },
-      record {
-        begins = subst (IsLineBreak file) (sym stands.0) (line_break file p.before (o.lines ++ p.behind) here);
-        ends = subst (IsLineBreak file) (join ∙ sym stands.1) (line_break file (p.before ++ o.lines) p.behind p.here);
-      },
-    )
+    grind (arith, line_break)
 
 pub spans_within : (file : List ℕ) → All (IsWithin file) (spans_of file)
 spans_within file = All-weaker (IsOfParagraph file) (IsWithin file) (λ span o. (span_within file span o).0) (spans_of file) (all_spans file)
@@ -287,11 +267,7 @@ body_goes_on [] [] within at next behind e body all = absurd (cc)
 body_goes_on (further ∷ comment) [] within at next behind e body all = absurd (cc)
 body_goes_on [] (bytes ∷ lines) within at next behind e body all = grind arith
 body_goes_on (further ∷ comment) (bytes ∷ lines) within at next behind e body all =
-    let parts = both (is_continuation further.bytes) (list_all (λ l. is_continuation l.bytes) comment) all in
-    let own : record { within = within; start = at; bytes = bytes } ≡ further = cc in
-    let rest : placed (after_line within bytes) (at + length bytes) lines ≡ comment ++ next ∷ behind = cc in
-    body_goes_on comment lines (after_line within bytes) (at + length bytes) next behind rest
-    (ap (λ w. after_line w bytes) body ∙ body_line bytes (ap (λ (l : Line). is_continuation l.bytes) own ∙ parts.0)) parts.1
+    grind (arith, body_line, body_goes_on comment lines (after_line within bytes) (at + length bytes) next behind)
 
 pub comment_opens_nothing : (file : List ℕ) (before comment : List Line) (next : Line) (behind : List Line) → lines_in file ≡ before ++ comment ++ next ∷ behind
     → AreOfComment comment → is_literal next.within ≡ false

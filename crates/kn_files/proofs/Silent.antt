@@ -6,7 +6,7 @@ use Rattle.std.proofs.lemmas.Bool.{false≢true}
 use Rattle.std.proofs.lemmas.Bool.Decides.{nat_tests}
 use Rattle.std.proofs.lemmas.List.Folds.{list_any-append}
 use Rattle.kn_lex.specs.Spelling.{is_white_space, is_comment, Spells}
-use Rattle.kn_lex.specs.Between.{is_line_end, IsBlankPart, Skips}
+use Rattle.kn_lex.specs.Between.{is_line_end, Skips}
 use Rattle.kn_lex.specs.Cutting.{start, context_after, IsPiece, Reaches, place_after, is_token, tokens_of, Cuts, spent}
 use Rattle.kn_lex.specs.Faults.{goes_on, IsFaultless}
 use Rattle.kn_lex.specs.Scanning.{piece_at, plain_piece, white_len, line_len, fault_at, zero_fault, zero_place}
@@ -89,10 +89,7 @@ pub quiet_along : (pieces : List (Piece × ℕ)) (place : Place) (text : List �
     → (place.context ≡ CommentBody → ⊥) → goes_on false text ≡ false → AreUntold pieces × (end.context ≡ CommentBody → ⊥) × (goes_on false left ≡ false)
 quiet_along [] place text end left h o e = (tt, subst (λ (p : Place). p.context ≡ CommentBody → ⊥) h.0 o, subst (λ (bs : List ℕ). goes_on false bs ≡ false) h.1 e)
 quiet_along (p ∷ ps) place text end left h o e =
-    let untold = quiet_sort place.context text p o e h.0 in
-    let rest = quiet_along ps (place_after place p.0 (take p.1 text)) (drop p.1 text) end left h.1 (no_body_due p.0 (take p.1 text) untold)
-    (settled_stays place.context text p (piece_is place.context text p.0 p.1 h.0) e) in
-    ((untold, rest.0), rest.1, rest.2)
+    grind (arith, quiet_sort, no_body_due, settled_stays, piece_is, quiet_along ps (place_after place p.0 (take p.1 text)) (drop p.1 text) end left h.1)
 
 -- byte 0 is a fault
 
@@ -171,11 +168,7 @@ silent_whole pieces place at text end h o u c = grind (arith, silent_before, app
 
 gap_quiet : (parts : List (List ℕ)) (text : List ℕ) → Skips text parts [] → goes_on false text ≡ false
 gap_quiet [] text h = ap (goes_on false) h
-gap_quiet (part ∷ parts) text h = ap (goes_on false) h.1 ∙ by h.2 ∙ gap_quiet parts h.0 h.3
-  where
-    by : IsBlankPart part h.0 → goes_on false (part ++ h.0) ≡ goes_on false h.0
-    by (inl white) = white_passed part h.0 white
-    by (inr comment) = comment_passed part h.0 comment.0 ∙ line_ends_comment h.0 [] (ap is_line_end (append-nil h.0) ∙ comment.1)
+gap_quiet (part ∷ parts) text h = grind (arith, white_passed, comment_passed, line_ends_comment, append-nil, gap_quiet parts h.0 h.3)
 
 pub kept : (text : List ℕ) → Cuts text [] → IsFaultless text → is_assertion text ≡ false
 kept text cuts faultless =

@@ -9,9 +9,9 @@ use Rattle.kn_base.specs.declared.span.Span.{Span}
 use Rattle.kn_lex.specs.Spelling.{is_blank, SpellsPlain}
 use Rattle.kn_lex.specs.Cutting.{start as text_start, ends_line, is_comment_label, context_after, IsPiece, Reaches, place_after, Seen, Cuts}
 use Rattle.kn_lex.specs.Faults.{goes_on, IsFaultless}
-use Rattle.kn_lex.specs.Scanning.{piece_at, body_len, fault_by}
+use Rattle.kn_lex.specs.Scanning.{piece_at, fault_by}
 use Rattle.kn_lex.specs.declared.token.Sort.{Sort}
-use Rattle.kn_lex.specs.declared.token.Sort.TheVariants.{Label, Body as BodySort}
+use Rattle.kn_lex.specs.declared.token.Sort.TheVariants.{Label}
 use Rattle.kn_lex.specs.declared.piece.Piece.{Piece}
 use Rattle.kn_lex.specs.declared.piece.Piece.TheVariants.{White, Comment as CommentPiece, Token}
 use Rattle.kn_lex.specs.declared.piece.Place.{Place}
@@ -96,10 +96,7 @@ apart_at text left LineStart told at tokens pieces end p r e h c rest =
     line_start (IsApart text) p left h.0 (blank_apart text left told at tokens pieces end p r e h c) rest
 apart_at text left WithinLine told at tokens pieces end p r e h c rest =
     piece_on (IsApart text) WithinLine false p.0 p.1 left (λ k. absurd (cc)) h.0 h.0.spelled (λ k. absurd (false≢true k)) rest
-apart_at text left CommentBody told at tokens pieces end p r e h c rest =
-    let body : Some p ≡ Some (Token BodySort, body_len left) = sym (piece_is CommentBody left p.0 p.1 h.0) in
-    let same : p ≡ (Token BodySort, body_len left) = cc in
-    body_on (IsApart text) left (subst (λ (q : Piece × ℕ). FromPlace (IsApart text) (context_after q.0 (take q.1 left)) (drop q.1 left)) same rest)
+apart_at text left CommentBody told at tokens pieces end p r e h c rest = grind (arith, piece_is CommentBody left p.0 p.1, body_on (IsApart text) left)
 
 apart_along : (text : List ℕ) (pieces : List (Piece × ℕ)) (place : Place) (at : ℕ) (left : List ℕ) (end : Place) (tokens : List Seen) → IsReached text place at tokens
     → left ≡ drop at text → Reaches place left pieces end [] → IsClean place at left pieces → FromPlace (IsApart text) place.context left
