@@ -161,8 +161,7 @@ hash_front part next e = grind arith
 white_skips : (parts : List (List ℕ)) (text rest : List ℕ) → Skips text parts rest → begins_with is_white rest ≡ false
     → IsGap (drop (white_len text) text) rest
 white_skips [] text rest same none = rw (same, white_none rest none) (record { parts = []; skips = refl })
-white_skips (part ∷ parts) text rest (next, is, inl white, more) none =
-    rw is (white_front part next rest parts white (white_skips parts next rest more none) more)
+white_skips (part ∷ parts) text rest (next, is, inl white, more) none = grind (arith, white_front, white_skips parts next rest more)
 white_skips (part ∷ parts) text rest (next, is, inr comment, more) none =
     rw (is, white_none (part ++ next) (hash_front part next comment.0)) (record { parts = part ∷ parts; skips = (next, refl, inr comment, more) })
 
@@ -212,15 +211,7 @@ comment_step : (context : Context) (part next rest : List ℕ) (parts : List (Li
     → is_line_end next ≡ true → Skips next parts rest → Step context (part ++ next) rest
 comment_step context [] next rest parts inside comment end more = absurd (false≢true comment)
 comment_step context (c ∷ cs) next rest parts inside comment end more =
-    let hash = both (c == 35) (list_all (λ byte. not (byte == 10)) cs) comment in
-    record {
-      piece = Comment;
-      n = line_len (c ∷ cs ++ next);
-      some = grind (arith, nat_tests, hash.0);
-      found = comment_found context c (cs ++ next) inside hash.0;
-      other = refl;
-      gap = record { parts = parts; skips = rw (line_front (c ∷ cs) next (grind (arith, nat_tests)) end) more };
-    }
+    grind (arith, comment_found context c (cs ++ next) inside, line_front (c ∷ cs) next (grind (arith, nat_tests)))
 
 gap_step : (context : Context) (parts : List (List ℕ)) (text rest : List ℕ) → (context ≡ CommentBody → ⊥) → Skips text parts rest
     → begins_with is_white rest ≡ false

@@ -72,10 +72,7 @@ at quote c d bytes e h = subst (λ (b : ℕ). Closes quote (b ∷ bytes)) (sym (
 
 pub steps : (quote : Quote) (c : ℕ) (bytes : List ℕ) → Steps quote c bytes (quote_step quote c)
 steps Opening c bytes = grind arith
-steps Plain c bytes =
-    choice (Steps Plain c bytes) (c == 34) _ _ (closed_now c)
-    (λ q. choice (Steps Plain c bytes) (c == 92) _ _ (λ e h. at Plain c 92 bytes e h)
-    (λ b. choice (Steps Plain c bytes) (c == 10 || c == 13) _ _ (λ _. tt) (λ n. closed_more (plain c) bytes _ (grind (arith, nat_tests)) refl)))
+steps Plain c bytes = grind (arith, closed_now, at Plain c 92 bytes, closed_more (plain c) bytes)
 steps Escaped c bytes =
     choice (Steps Escaped c bytes) (c == 13) _ _ (λ e h. at Escaped c 13 bytes e h)
     (λ r. choice (Steps Escaped c bytes) (c == 10) _ _ (λ e h. at Escaped c 10 bytes e (closed_joined false bytes _ h refl))

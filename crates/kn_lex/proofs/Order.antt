@@ -1,5 +1,5 @@
 -- Tokens stand in their order, and each tells whether it begins a line.
-use Rattle.std.proofs.Common.{◌≡◌, ◌<◌, ◌⊎◌, inl, inr, ℕ, true, false, Bool, ◌+◌, ◌≤◌, not, List, [], ◌∷◌, ◌++◌, length, take, drop, arith, refl, sym, ◌∙◌, ap, subst}
+use Rattle.std.proofs.Common.{◌≡◌, ◌<◌, ◌⊎◌, ℕ, true, false, Bool, ◌+◌, ◌≤◌, not, List, [], ◌∷◌, ◌++◌, length, take, drop, arith, refl, sym, ◌∙◌, ap}
 use Rattle.std.specs.Prelude.{◌==◌, if◌then◌else◌}
 use Rattle.std.specs.List.{list_all}
 use Rattle.std.proofs.Math.Seq.{take-add}
@@ -9,7 +9,7 @@ use Rattle.std.proofs.lemmas.List.{length-take-le, drop-drop}
 use Rattle.kn_base.specs.Decimal.{is_digit}
 use Rattle.kn_lex.specs.Bytes.{begins_name, continues_name}
 use Rattle.kn_lex.specs.Spelling.{is_run, is_label_tail, is_label, is_body, is_sign, items_bytes, IsLiteral, SpellsPlain, Spells}
-use Rattle.kn_lex.specs.Cutting.{IsPiece, is_token, Reaches, Cuts, Seen, start, place_after, context_after, token_of, tokens_of, is_line_start, is_comment_label, ends_line}
+use Rattle.kn_lex.specs.Cutting.{IsPiece, is_token, Reaches, Cuts, Seen, start, place_after, context_after, tokens_of, is_line_start, is_comment_label, ends_line}
 use Rattle.kn_lex.specs.TokenFacts.{StandInOrder, begins_line}
 use Rattle.kn_lex.specs.declared.token.Sort.{Sort}
 use Rattle.kn_lex.specs.declared.token.Sort.TheVariants.{Label, Body, Name, Number, Text, Sign}
@@ -37,23 +37,7 @@ pub along : (whole : List ℕ) (P : Place → ℕ → List Seen → Type 0)
     → P place at (tokens_of place at (drop at whole) pieces)
 along whole P none skip token [] place at end h = none place at h.1
 along whole P none skip token ((piece, n) ∷ ps) place at end h =
-    by piece (take n (drop at whole)) refl h.0
-    (rw (drop-drop n at whole)
-    (along whole P none skip token ps (place_after place piece (take n (drop at whole))) (at + n) end (rw (← (drop-drop n at whole)) h.1)))
-  where
-    left : Piece → List Seen
-    left piece = tokens_of (place_after place piece (take n (drop at whole))) (at + n) (drop n (drop at whole)) ps
-
-    by : (piece : Piece) (bytes : List ℕ) → take n (drop at whole) ≡ bytes → IsPiece place.context (drop at whole) piece n
-        → P (place_after place piece (take n (drop at whole))) (at + n) (left piece)
-        → P place at (token_of place.context at piece bytes ++ left piece)
-    by White bytes e cut rest = skip place at White n (left White) cut (inl refl) rest
-    by Comment bytes e cut rest = skip place at Comment n (left Comment) cut (inl refl) rest
-    by (Token sort) [] e cut rest =
-        skip place at (Token sort) n (left (Token sort)) cut (inr (sym (length-take-le n (drop at whole) cut.within) ∙ ap length e)) rest
-    by (Token sort) (c ∷ cs) e cut rest =
-        subst (λ (bs : List ℕ). P place at (made place.context at sort bs ∷ left (Token sort))) e
-        (token place at sort n (left (Token sort)) cut (omega (arith, length-take-le n (drop at whole) cut.within, ap length e)) rest)
+    grind (arith, drop-drop, length-take-le, along whole P none skip token ps (place_after place piece (take n (drop at whole))) (at + n) end)
 
 pub in_order : (text : List ℕ) (tokens : List Seen) → Cuts text tokens → StandInOrder 0 tokens
 in_order text tokens h =
@@ -71,9 +55,7 @@ ends_more c cs e h = grind arith
 
 all_end : (p : ℕ → Bool) (cs : List ℕ) → ((c : ℕ) → p c ≡ true → (c == 10) ≡ false) → list_all p cs ≡ true → ends_line cs ≡ false
 all_end p [] other all = refl
-all_end p (c ∷ cs) other all =
-    let parts = both (p c) (list_all p cs) all in
-    ends_more c cs (other c parts.0) (all_end p cs other parts.1)
+all_end p (c ∷ cs) other all = grind (arith, ends_more, all_end p cs other)
 
 run_end : (head tail : ℕ → Bool) (bytes : List ℕ) → ((c : ℕ) → head c ≡ true → (c == 10) ≡ false) → ((c : ℕ) → tail c ≡ true → (c == 10) ≡ false)
     → is_run head tail bytes ≡ true → ends_line bytes ≡ false
@@ -107,10 +89,7 @@ literal_end bytes h = ap ends_line h.spelled ∙ ends_append (34 ∷ items_bytes
 
 plain_ends : (first : Bool) (piece : Piece) (c : ℕ) (cs : List ℕ) → SpellsPlain first piece (c ∷ cs)
     → is_line_start (context_after piece (c ∷ cs)) ≡ ends_line (c ∷ cs)
-plain_ends first White c cs s = by (ends_line (c ∷ cs))
-  where
-    by : (b : Bool) → is_line_start (if b then LineStart else WithinLine) ≡ b
-    by b = grind arith
+plain_ends first White c cs s = grind arith
 plain_ends first Comment c cs s = sym (run_end (λ b. b == 35) (λ b. not (b == 10)) (c ∷ cs) (λ c e. grind (arith, nat_tests)) (λ c e. grind arith) s)
 plain_ends first (Token Label) c cs s = by (is_comment_label (c ∷ cs)) ∙ sym (label_end (c ∷ cs) (both _ _ s).1)
   where

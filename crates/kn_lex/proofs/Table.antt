@@ -8,7 +8,7 @@ use Rattle.std.proofs.lemmas.List.{take_at, drop_at}
 use Rattle.std.proofs.lemmas.Bool.Decides.{nat_tests}
 use Rattle.kn_lex.specs.Bytes.{is_white, is_octal_digit, begins_with}
 use Rattle.kn_lex.specs.Spelling.{Item, plain as plain_item, escaped, joined as joined_item, is_item, item_bytes, items_bytes, IsLiteral}
-use Rattle.kn_lex.specs.Literal.{value_behind, octal_value, begins_octal, begins_low, inside, literal_value}
+use Rattle.kn_lex.specs.Literal.{value_behind, begins_octal, begins_low, inside, literal_value}
 use Rattle.kn_lex.specs.Escapes.{EscapeTable, BeginsOctal, BeginsLow, BeginsOther, octal}
 use Rattle.kn_lex.proofs.Spelled.{both}
 use Rattle.kn_lex.proofs.Values.{skipped}
@@ -51,21 +51,7 @@ octal_from [] e = absurd (cc)
 octal_from (a ∷ []) e = absurd (grind (arith, nat_tests))
 octal_from (a ∷ b ∷ []) e = absurd (grind (arith, nat_tests))
 octal_from (a ∷ b ∷ c ∷ rest) e =
-    let value : ℕ = octal_value (a ∷ b ∷ c ∷ rest) in
-    let tests = all_five (is_octal_digit a) (is_octal_digit b) (is_octal_digit c) (nat_le 1 value) (nat_le value 255) e in
-    let x = digit_byte a tests.0 in
-    let y = digit_byte b tests.1 in
-    let z = digit_byte c tests.2 in
-    record {
-      high = a - 48;
-      mid = b - 48;
-      low = c - 48;
-      rest = rest;
-      digits = (omega arith, omega arith, omega arith);
-      least = at_most 1 value tests.3;
-      most = at_most value 255 tests.4;
-      here = digits_back a b c rest x.0 y.0 z.0;
-    }
+    grind (arith, all_five (is_octal_digit a) (is_octal_digit b) (is_octal_digit c), digit_byte a, digit_byte b, digit_byte c, at_most 1, at_most, digits_back a b c rest)
 
 octal_to : (bytes : List ℕ) → BeginsOctal bytes → begins_octal bytes ≡ true
 octal_to bytes o = rw o.here (grind (arith, nat_tests))
