@@ -47,13 +47,13 @@ failing_from [] (suc i) = refl
 failing_from (room ∷ rooms) (suc i) = failing_from rooms i
 
 -- one door more has its room
-pub have_one_more : (rooms : List MemRoom) (i : ℕ) (made : List DoorInMemory) (d : DoorInMemory) → HaveRooms rooms i made → d.links ≡ links_of rooms (i + length made) → d.failing ≡ failing_of rooms (i + length made) → HaveRooms rooms i (made ++ d ∷ [])
-have_one_more rooms i [] d have links failing =
+pub have_one_more : (rooms : List MemRoom) (i : ℕ) (made : List DoorInMemory) (d : DoorInMemory) → HaveRooms rooms i made → d.links ≡ links_of rooms (i + length made) → d.failing ≡ failing_of rooms (i + length made) → d.calls ≡ 0 → HaveRooms rooms i (made ++ d ∷ [])
+have_one_more rooms i [] d have links failing none =
     let at : i + 0 ≡ i = omega arith in
-    (links ∙ ap (links_of rooms) at, failing ∙ ap (failing_of rooms) at, tt)
-have_one_more rooms i (x ∷ made) d have links failing =
+    (links ∙ ap (links_of rooms) at, failing ∙ ap (failing_of rooms) at, none, tt)
+have_one_more rooms i (x ∷ made) d have links failing none =
     let at : i + length (x ∷ made) ≡ i + 1 + length made = omega arith in
-    (have.0, have.1, have_one_more rooms (i + 1) made d have.2 (links ∙ ap (links_of rooms) at) (failing ∙ ap (failing_of rooms) at))
+    (have.0, have.1, have.2, have_one_more rooms (i + 1) made d have.3 (links ∙ ap (links_of rooms) at) (failing ∙ ap (failing_of rooms) at) none)
 
 pub rest_length : {X : Type 0} (xs : List X) (x : X) → slice_get xs 0 ≡ Some x → length xs ≡ length (remove xs 0) + 1
 rest_length [] x e = absurd (cc e)

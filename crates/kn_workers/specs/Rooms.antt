@@ -44,10 +44,10 @@ abbrev pub AreFit : List MemRoom → ℕ → List Results → Type 0
 AreFit rooms i [] = Unit {0}
 AreFit rooms i (r ∷ results) = (r.items ≡ []) × (length (links_of rooms i) ≤ r.spare) × AreFit rooms (i + 1) results
 
--- from this place on each door has the links and the failing calls of its room
+-- from this place on each door has the links and the failing calls of its room, and no call was made of it
 abbrev pub HaveRooms : List MemRoom → ℕ → List DoorInMemory → Type 0
 HaveRooms rooms i [] = Unit {0}
-HaveRooms rooms i (d ∷ doors) = (d.links ≡ links_of rooms i) × (d.failing ≡ failing_of rooms i) × HaveRooms rooms (i + 1) doors
+HaveRooms rooms i (d ∷ doors) = (d.links ≡ links_of rooms i) × (d.failing ≡ failing_of rooms i) × (d.calls ≡ 0) × HaveRooms rooms (i + 1) doors
 
 -- binding in memory fails exactly where the call is among those that fail, and else the doors have the rooms
 abbrev pub BindsRooms : Result (List DoorInMemory) BindFault → NetInMemory → NetInMemory → Type 0

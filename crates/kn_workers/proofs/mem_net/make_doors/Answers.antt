@@ -35,5 +35,5 @@ loop-i-preserved c =
       count,
       subst (AreBound door_seen c.args.quota c.args.doors 0) (sym c.put.ensures.items) (bound_one_more door_seen c.args.quota c.args.doors 0 c.loop-i.made.items c.of.result i.4 new),
       room.rest ∙ ap (drop 1) i.5 ∙ drop-drop 1 c.loop-i.i rooms,
-      subst (HaveRooms rooms 0) (sym c.put.ensures.items) (have_one_more rooms 0 c.loop-i.made.items c.of.result i.6 links failing),
+      subst (HaveRooms rooms 0) (sym c.put.ensures.items) (have_one_more rooms 0 c.loop-i.made.items c.of.result i.6 links failing (ap (λ (d : DoorInMemory). d.calls) c.of.ensures)),
     )
