@@ -1,4 +1,4 @@
--- A system with the names of its principals and the ids of its rows, and when it is that of a query.
+-- A system with the names of its principals and the ids of its rows, and when it is that of a query (keynoted's own).
 use Rattle.std.specs.Prelude.{ℕ, ◌≡◌, List, map}
 use Rattle.kn_proof.specs.declared.named.Id.{Id}
 use Rattle.kn_meaning.specs.Equations.{Equations}

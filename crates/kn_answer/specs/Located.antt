@@ -1,4 +1,4 @@
--- Rows of a proof by names, and the same rows by numbers.
+-- Rows of a proof by names, and the same rows by numbers (keynoted's own).
 use Rattle.std.specs.Prelude.{ℕ, ◌≡◌, ◌-◌, ◌^◌, ◌<◌, ◌⊎◌, List, [], ◌∷◌, All, length}
 use Rattle.kn_proof.specs.declared.named.NamedRow.{NamedRow}
 use Rattle.kn_proof.specs.declared.row.Row.{Row}

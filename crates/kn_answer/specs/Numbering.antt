@@ -1,4 +1,5 @@
--- What a system over numbers is for a query over named principals: the number of a principal is its place among the names.
+-- What a system over numbers is for a query over named principals: the number of a principal is its place among the names
+-- (keynoted's own).
 use Rattle.std.specs.Prelude.{ℕ, ◌≡◌, ◌+◌, Bool, true, List, [], ◌∷◌, length, map, flat_map, slice_get, slice_index, Option, Some, None}
 use Rattle.std.specs.List.{list_any}
 use Rattle.std.specs.Str.{bytes_eq}

@@ -1,4 +1,4 @@
--- What was read of a text before it is added.
+-- What was read of a text before it is added (keynoted's own).
 use Rattle.std.specs.Prelude.{ℕ, ◌≡◌, ◌⊎◌, List, Some, IsSome}
 use Rattle.kn_fields.specs.declared.fault.ReadFault.TheVariants.{NoMemory}
 use Rattle.kn_assert.specs.Reading.{assertion_of, fault_of}

@@ -1,4 +1,4 @@
--- What loading has made of texts, and what stops it.
+-- What loading has made of texts, and what stops it (keynoted's own).
 use Rattle.std.specs.Prelude.{ℕ, ◌≡◌, List, Some}
 use Rattle.atomic_table.specs.Seated.{TableId}
 use Rattle.kn_reply.specs.declared.refusal.LimitWord.{LimitWord}

@@ -23,7 +23,7 @@ use std::thread::Threads;
 /// A registry with the assertions of a policy file, added by its root pass, caller 0, in their order.
 ///
 /// What stops loading is the first of its assertions that has a fault, or that a limit of the store refuses.
-/// Both are tried for one assertion before the next is looked at, the fault first (keynoted's own).
+/// That is as if both were tried for one assertion before the next, the fault first (keynoted's own).
 pub(crate) fn load<R: Threads + Wait + Sync>(
     rt: &R,
     alloc: Global,

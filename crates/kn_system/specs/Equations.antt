@@ -1,4 +1,4 @@
--- A query over numbered principals: what a system is seen as.
+-- A query over numbered principals: what a system is seen as (keynoted's own).
 use Rattle.std.specs.Prelude.{ℕ, ◌≡◌, ◌+◌, ◌<◌, ◌≤◌, ◌^◌, Bool, true, false, List, [], ◌∷◌, All, length, slice_index_or}
 use Rattle.kn_base.specs.declared.limits.TheConstants.{FEWEST_COMPLIANCE_VALUES, MOST_COMPLIANCE_VALUES}
 use Rattle.kn_system.specs.Rows.{SystemRow}

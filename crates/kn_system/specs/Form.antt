@@ -1,4 +1,4 @@
--- The compliance level of a Licensees formula (RFC 2704, section 5: "Compliance Value Semantics").
+-- The compliance level of a Licensees formula (RFC 2704, section 5).
 use Rattle.std.specs.Prelude.{ℕ, suc, List, [], ◌∷◌, slice_index, take, drop}
 use Rattle.kn_base.specs.Threshold.{threshold}
 use Rattle.kn_system.specs.declared.rows.Piece.{Piece}

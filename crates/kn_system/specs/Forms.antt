@@ -1,4 +1,4 @@
--- Which pieces spell formulas, how deep these are, and how levels are counted.
+-- Which pieces spell formulas, how deep these are, and how levels are counted (keynoted's own).
 use Rattle.std.specs.Prelude.{ℕ, zero, suc, ◌+◌, ◌-◌, ◌≡◌, ◌<◌, ◌≤◌, ◌==◌, List, [], ◌∷◌, take, drop, max, slice_index, if◌then◌else◌}
 use Rattle.kn_system.specs.declared.rows.Piece.{Piece}
 use Rattle.kn_system.specs.declared.rows.Piece.TheVariants.{Who, Gate}

@@ -1,4 +1,4 @@
--- What one assertion says over numbered principals. How a system keeps its rows is no matter of these.
+-- What one assertion says over numbered principals. How a system keeps its rows is no matter of these (keynoted's own).
 use Rattle.std.specs.Prelude.{ℕ, List}
 use Rattle.kn_system.specs.declared.rows.Piece.{Piece}
 
