@@ -18,7 +18,8 @@ use Rattle.kn_fields.specs.declared.fault.ReadFault.TheVariants.{TooLong, NoMemo
 use Rattle.kn_trees.specs.declared.assertion.Assertion.{Assertion}
 use Rattle.kn_trees.specs.Levels.{program_depth}
 use Rattle.kn_program.specs.Conditions.{IsConditions}
-use Rattle.kn_program.proofs.Depths.{stated_shallow}
+use Rattle.kn_program.proofs.Depths.{found_shallow}
+use Rattle.kn_program.proofs.Stated.{program_is_found}
 use Rattle.kn_principal.specs.Principals.{lower_case, is_colon, with_algorithm, normal_form}
 use Rattle.kn_assert.specs.Parts.{Gives, text_by, normal_in, principal_of}
 use Rattle.kn_assert.specs.Reading.{and_then, nothing, stated_by, assembled, reading_with, reading_of, assertion_of, fault_of}
@@ -136,7 +137,7 @@ reading_short text assertion h = well_short text h.well_fielded
 
 pub reading_shallow : (text : List ℕ) (assertion : Assertion) → IsReading text assertion → IfSome assertion.conditions (λ program. program_depth program ≤ 1700)
 reading_shallow text assertion h =
-    if_stated (λ f p. IsConditions f.tokens p) _ (field_with 3 h.tokens) assertion.conditions (λ f p is shallow own. stated_shallow f.tokens (Some p) own shallow) h.spelled.conditions
+    if_stated (λ f p. IsConditions f.tokens p) _ (field_with 3 h.tokens) assertion.conditions (λ f p is shallow own. found_shallow f.tokens p (program_is_found f.tokens (Some p) own) shallow) h.spelled.conditions
 
 pub place_told : (text : List ℕ) → ((fault : ReadFault) → IsFirstReadFault text fault → fault_place fault ≤ length text) → (fault : ReadFault) → (fault ≡ NoMemory) ⊎ IsFirstReadFault text fault
     → fault_place fault ≤ length text
