@@ -8,7 +8,7 @@ use Rattle.std.proofs.lemmas.Fmt.{decimal_digit, decimal_nonempty}
 use Rattle.kn_assert.specs.Reading.{assertion_of}
 use Rattle.kn_store.specs.declared.update.Change.TheVariants.{Add}
 use Rattle.kn_store.specs.declared.update.Numbered.{Numbered}
-use Rattle.kn_store.specs.History.{NumberedText, all_changes, is_removal_of, live, text_bytes, logged_bytes, added_bytes, refusal_of_text, loaded_after, loaded_history}
+use Rattle.kn_store.specs.History.{NumberedText, all_changes, is_removal_of, live, text_bytes, logged_bytes, added_bytes, refusal_of_text, additions_by, loaded_history}
 use Rattle.kn_store.specs.Loading.{IsLoadable, IsAddedBehind}
 use Rattle.kn_store.proofs.Loading.{loadable_nothing, loadable_more}
 use Rattle.kn_generate.specs.declared.draws.Numbers.{Numbers}
@@ -43,7 +43,7 @@ few_bytes (text ∷ texts) are =
     omega arith
 
 -- additions alone remove nothing
-none_removed : (id n : ℕ) (texts : List (List ℕ)) → list_any (λ c. is_removal_of id c.change c.id) (all_changes (loaded_after n texts)) ≡ false
+none_removed : (id n : ℕ) (texts : List (List ℕ)) → list_any (λ c. is_removal_of id c.change c.id) (all_changes (additions_by 0 n texts)) ≡ false
 none_removed id n [] = refl
 none_removed id n (text ∷ texts) = none_removed id (n + 1) texts
 
@@ -51,7 +51,7 @@ abbrev numbered_from : ℕ → List (List ℕ) → List NumberedText
 numbered_from n [] = []
 numbered_from n (text ∷ texts) = record { id = n + 1; text = text } ∷ numbered_from (n + 1) texts
 
-all_live : (n : ℕ) (texts : List (List ℕ)) → live (all_changes (loaded_after n texts)) ≡ numbered_from n texts
+all_live : (n : ℕ) (texts : List (List ℕ)) → live (all_changes (additions_by 0 n texts)) ≡ numbered_from n texts
 all_live n [] = refl
 all_live n (text ∷ texts) = rw (none_removed (n + 1) (n + 1) texts) (ap (λ (l : List NumberedText). record { id = n + 1; text = text } ∷ l) (all_live (n + 1) texts))
 
@@ -64,14 +64,14 @@ live_total n [] = refl
 live_total n (text ∷ texts) =
     sum_by-cons (λ (c : NumberedText). length c.text) (record { id = n + 1; text = text }) (numbered_from (n + 1) texts) ∙ ap (λ (k : ℕ). length text + k) (live_total (n + 1) texts)
 
-change_count : (n : ℕ) (texts : List (List ℕ)) → length (all_changes (loaded_after n texts)) ≡ length texts
+change_count : (n : ℕ) (texts : List (List ℕ)) → length (all_changes (additions_by 0 n texts)) ≡ length texts
 change_count n [] = refl
 change_count n (text ∷ texts) = ap suc (change_count (n + 1) texts)
 
-logged_total : (n : ℕ) (texts : List (List ℕ)) → logged_bytes (all_changes (loaded_after n texts)) ≡ total texts
+logged_total : (n : ℕ) (texts : List (List ℕ)) → logged_bytes (all_changes (additions_by 0 n texts)) ≡ total texts
 logged_total n [] = refl
 logged_total n (text ∷ texts) =
-    sum_by-cons (λ (c : Numbered). added_bytes c.change) (record { change = Add text; id = n + 1 }) (all_changes (loaded_after (n + 1) texts)) ∙ ap (λ (k : ℕ). length text + k) (logged_total (n + 1) texts)
+    sum_by-cons (λ (c : Numbered). added_bytes c.change) (record { change = Add text; id = n + 1 }) (all_changes (additions_by 0 (n + 1) texts)) ∙ ap (λ (k : ℕ). length text + k) (logged_total (n + 1) texts)
 
 -- few good texts are within the limits
 not_refused : (front : List (List ℕ)) (text : List ℕ) → AreGood front → IsGood text → length front < 2048 → refusal_of_text (all_changes (loaded_history front)) text ≡ None

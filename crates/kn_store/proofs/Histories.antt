@@ -68,7 +68,7 @@ live-removal (c ∷ past) id =
 
 -- Valid histories.
 
-updates-push : (past : List Numbered) (history : List Update) (u : Update) → updates_may_follow past history ≡ true
+pub updates-push : (past : List Numbered) (history : List Update) (u : Update) → updates_may_follow past history ≡ true
     → update_may_follow (past ++ all_changes history) u ≡ true → updates_may_follow past (history ++ u ∷ []) ≡ true
 updates-push past [] u h last = and_from (update_may_follow past u) true (subst (λ front. update_may_follow front u ≡ true) (append-nil past) last) refl
 updates-push past (first ∷ history) u h last =

@@ -7,3 +7,4 @@ pub mod SearchLemmas
 pub mod LiveSetLemmas
 pub mod ViewLemmas
 pub mod VersionLemmas
+pub mod Additions

@@ -1,5 +1,5 @@
 -- A version after one more update.
-use Rattle.std.proofs.Common.{◌≡◌, ◌+◌, true, List, [], ◌∷◌, ◌++◌, length, sym, ap, ◌∙◌, subst, arith, length-append}
+use Rattle.std.proofs.Common.{◌≡◌, ℕ, ◌+◌, true, List, [], ◌∷◌, ◌++◌, length, sym, ap, ◌∙◌, subst, arith, length-append}
 use Rattle.kn_store.specs.declared.update.Update.{Update}
 use Rattle.kn_store.specs.declared.log.TheConstants.{UPDATES_PAGE}
 use Rattle.kn_store.specs.declared.version.Version.TheInside.{Inside}
@@ -35,3 +35,16 @@ module _ (v : Inside) (updates : List (List Update)) (update : Update) (live : L
         number = rw longer_log (omega arith);
         fewer = omega arith;
       }
+
+-- the same of a version that is seen as these updates
+pub version_after : (v : Inside) (updates : List (List Update)) (update : Update) (live : LiveView) (made : List Update) (number : ℕ)
+    → updates ≡ with_item UPDATES_PAGE v.updates update → updates_of v ≡ made → number ≡ length made → IsVersion v
+    → live ≡ live_view (all_changes made ++ update.changes) → update_may_follow (all_changes made) update ≡ true
+    → IsVersion (record { live = live; updates = updates; number = number + 1 }) × (joined updates ≡ made ++ update ∷ [])
+version_after v updates update live made number is seen count kept same follows = (
+  subst (λ (n : ℕ). IsVersion (record { live = live; updates = updates; number = n + 1 })) (kept.number ∙ ap length seen ∙ sym count)
+      (next_version v updates update live is kept
+      (same ∙ ap (λ l. live_view (all_changes l ++ update.changes)) (sym seen))
+      (subst (λ l. update_may_follow (all_changes l) update ≡ true) (sym seen) follows)),
+  longer_log v updates update live is ∙ ap (λ l. l ++ update ∷ []) seen,
+)

@@ -1,5 +1,5 @@
 -- Histories of updates to the shared credentials (keynoted's own).
-use Rattle.std.specs.Prelude.{ℕ, ◌+◌, Bool, true, false, ◌==◌, ◌&&◌, not, nat_le, nat_lt, List, [], ◌∷◌, ◌++◌, length, filter, sum_by, flat_map, Option, Some, None, is_none, is_some, if◌then◌else◌}
+use Rattle.std.specs.Prelude.{ℕ, ◌≡◌, ◌+◌, Bool, true, false, ◌==◌, ◌&&◌, not, nat_le, nat_lt, List, [], ◌∷◌, ◌++◌, length, filter, sum_by, flat_map, Option, Some, None, is_none, is_some, if◌then◌else◌}
 use Rattle.std.specs.List.{list_any}
 use Rattle.kn_base.specs.declared.limits.TheConstants.{LIVE_CREDENTIALS, LIVE_BYTES, UPDATES, LOGGED_BYTES}
 use Rattle.kn_assert.specs.Reading.{assertion_of}
@@ -123,11 +123,22 @@ first_id_in (c ∷ changes) = c.id
 abbrev pub first_id : Update → ℕ
 first_id u = first_id_in u.changes
 
--- what adding these texts one after the other makes of a history with so many additions; the caller is 0
-abbrev pub loaded_after : ℕ → List (List ℕ) → List Update
-loaded_after n [] = []
-loaded_after n (text ∷ texts) = addition_by 0 text (n + 1) ∷ loaded_after (n + 1) texts
+-- the updates that add these texts one after the other, each by this caller, behind so many additions
+abbrev pub additions_by : ℕ → ℕ → List (List ℕ) → List Update
+additions_by caller n [] = []
+additions_by caller n (text ∷ texts) = addition_by caller text (n + 1) ∷ additions_by caller (n + 1) texts
 
--- what loading these texts makes of an empty history
+-- what loading these texts makes of an empty history; the caller is 0
 abbrev pub loaded_history : List (List ℕ) → List Update
-loaded_history texts = loaded_after 0 texts
+loaded_history texts = additions_by 0 0 texts
+
+-- of these texts, added one after the other behind a history, the one at this place, counted from 0, is the first that
+-- is refused, for this
+pub record IsFirstRefused (past : List Update) (caller : ℕ) (texts : List (List ℕ)) (place : ℕ) (fault : StoreFault) : Type 0 where
+  pub front : List (List ℕ)
+  pub text : List ℕ
+  pub rest : List (List ℕ)
+  pub cut : texts ≡ front ++ text ∷ rest
+  pub place_is : place ≡ length front
+  pub follow : updates_may_follow (all_changes past) (additions_by caller (additions (all_changes past)) front) ≡ true
+  pub refused : refusal_of_text (all_changes (past ++ additions_by caller (additions (all_changes past)) front)) text ≡ Some fault

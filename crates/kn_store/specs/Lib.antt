@@ -7,3 +7,4 @@ pub mod Places
 pub mod LiveSets
 pub mod Versions
 pub mod Prepared
+pub mod Readies

@@ -1,15 +1,15 @@
 //! The book of updates.
 
-ghost use Rattle.std.specs.Prelude.{◌≡◌, ◌⊎◌, ◌+◌, ℕ, List, true, [], ◌∷◌, ◌++◌, length, Some, IfOk, IfErr, OnOk};
+ghost use Rattle.std.specs.Prelude.{◌≡◌, ◌⊎◌, ◌+◌, ℕ, List, true, [], ◌∷◌, ◌++◌, length, Some, IfOk, IfErr, OnOk, OnErr};
 ghost use Rattle.std.specs.Arc.{arc_value};
 ghost use Rattle.kn_store.specs.declared.update.Update.{Update};
 ghost use Rattle.kn_store.specs.declared.fault.StoreFault.TheVariants.{NoMemory as Lacking};
-ghost use Rattle.kn_store.specs.History.{all_changes, additions, is_valid_history, update_may_follow, refusal_of_text, refusal_of_id, addition_by, removal_by, first_id};
+ghost use Rattle.kn_store.specs.History.{all_changes, additions, is_valid_history, update_may_follow, updates_may_follow, refusal_of_text, refusal_of_id, addition_by, additions_by, removal_by, first_id, IsFirstRefused};
 
 use crate::credential::Ready;
 use crate::fault::StoreFault;
 use crate::version::{Snapshot, Version};
-use kn_base::NoMemory;
+use kn_base::{List, NoMemory};
 use std::alloc::Global;
 use std::marker::Model;
 use std::sync::Arc;
@@ -79,8 +79,28 @@ impl Book {
         ensures refused { IfErr result (λ fault. (fault ≡ Lacking) ⊎ (refusal_of_text (all_changes self.old) ready ≡ Some fault)) }
         ensures kept { self.new ≡ self.old }
     {
-        let (version, id) = self.newest.with_addition(self.alloc, caller, ready)?;
+        let newest = self.newest.share(self.alloc)?;
+        let (version, id) = newest.with_addition(self.alloc, caller, ready)?;
         make_prepared(self.alloc, version, id)
+    }
+
+    /// Adds texts, each by an update of its own, or none of them where one is refused: then its place is told, counted
+    /// from 0. It takes all memory that it needs before it changes anything.
+    pub fn add_all(&mut self, caller: u32, readies: List<Ready>) -> Result<(), (u32, StoreFault)>
+        ensures log { OnOk result (self.new ≡ self.old ++ additions_by caller (additions (all_changes self.old)) readies) }
+        ensures follow { OnOk result (updates_may_follow (all_changes self.old) (additions_by caller (additions (all_changes self.old)) readies) ≡ true) }
+        ensures refused { IfErr result (λ refused. (refused.1 ≡ Lacking) ⊎ IsFirstRefused self.old caller readies refused.0 refused.1) }
+        ensures kept { OnErr result (self.new ≡ self.old) }
+    {
+        let Ok(newest) = self.newest.share(self.alloc) else {
+            return Err((0, StoreFault::NoMemory));
+        };
+        let version = newest.with_additions(self.alloc, caller, readies)?;
+        let Ok(newest) = Arc::new(self.alloc, version) else {
+            return Err((0, StoreFault::NoMemory));
+        };
+        self.newest = newest;
+        Ok(())
     }
 
     /// Makes a removal ready, and takes all memory that it needs. The book stays as it is.

@@ -19,28 +19,33 @@ pub struct Credential {
 #[derive(Drop)]
 pub struct Ready {
     credential: Credential,
+    /// The same text, for the log.
+    logged: Octets,
 }
 
 impl Model for Ready {
-    ghost use Rattle.std.specs.Prelude.{ℕ, List, ◌≡◌, Some};
-    ghost use Rattle.kn_assert.specs.Reading.{assertion_of};
+    ghost use Rattle.std.specs.Prelude.{ℕ, List};
 
     ghost Value = { List ℕ };
 
     ghost view = { λ r. r.credential.text };
 
-    ghost invariant = { λ r. assertion_of r.credential.text ≡ Some r.credential.assertion };
+    ghost use Rattle.kn_store.specs.Readies.{IsReadyToAdd};
+
+    ghost invariant = { IsReadyToAdd };
 }
 
 impl Ready {
-    /// A copy of the text with its reading.
+    /// Two copies of the text, of which the log keeps one, with its reading.
     pub fn of(alloc: Global, text: &[u8], a: Assertion) -> Result<Ready, NoMemory>
         requires reading { assertion_of text.now ≡ Some a }
         ensures text { IfOk result (λ ready. ready ≡ text.now) }
     {
+        let logged = Octets::from_slice(alloc, text)?;
         let text = Octets::from_slice(alloc, text)?;
         Ok(Ready {
             credential: Credential { text, assertion: a },
+            logged,
         })
     }
 
@@ -51,13 +56,14 @@ impl Ready {
         self.credential.text.as_slice()
     }
 
-    /// The credential under an id.
-    pub(crate) fn numbered(self, id: u32) -> LiveCredential
-        ensures id { result.id ≡ id }
-        ensures text { result.text ≡ self }
+    /// The credential under an id, and the text for the log.
+    pub(crate) fn numbered(self, id: u32) -> (LiveCredential, Octets)
+        ensures id { result.0.id ≡ id }
+        ensures text { result.0.text ≡ self }
+        ensures logged { result.1 ≡ self }
     {
-        let Ready { credential } = self;
-        LiveCredential { id, credential }
+        let Ready { credential, logged } = self;
+        (LiveCredential { id, credential }, logged)
     }
 }
 

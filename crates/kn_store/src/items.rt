@@ -1,6 +1,6 @@
 //! The items of a list in pages, one after the other.
 
-ghost use Rattle.std.specs.Prelude.{◌≡◌, ◌∷◌, [], map, MatchOption};
+ghost use Rattle.std.specs.Prelude.{◌≡◌, ◌∷◌, ◌++◌, [], map, MatchOption};
 ghost use Rattle.std.specs.Arc.{arc_value};
 ghost use Rattle.kn_store.specs.Pages.{joined, pages_of};
 
@@ -8,11 +8,12 @@ use crate::pages::Page;
 use std::marker::Model;
 use std::sync::Arc;
 
-/// Items that aren't read yet: those left of a page, and the pages behind it. They are seen as one list.
+/// Items that aren't read yet: those left of a page, the pages behind it, and the last page. They are seen as one list.
 #[derive(Drop)]
 pub struct Items<'a, T> {
     page: &'a [Arc<T>],
     rest: &'a [Arc<Page<T>>],
+    last: &'a [Arc<T>],
 }
 
 impl<'a, T> Model for Items<'a, T> {
@@ -25,16 +26,17 @@ impl<'a, T> Model for Items<'a, T> {
 
     ghost coded = { coded_list T.code };
 
-    ghost view = { λ i. map arc_value i.page.now ++ joined (pages_of i.rest.now) };
+    ghost view = { λ i. map arc_value i.page.now ++ joined (pages_of i.rest.now) ++ map arc_value i.last.now };
 }
 
 impl<'a, T> Items<'a, T> {
-    pub(crate) fn of(pages: &'a [Arc<Page<T>>]) -> Items<'a, T>
-        ensures { result ≡ joined (pages_of pages.now) }
+    pub(crate) fn of(pages: &'a [Arc<Page<T>>], last: &'a [Arc<T>]) -> Items<'a, T>
+        ensures { result ≡ joined (pages_of pages.now) ++ map arc_value last.now }
     {
         Items {
             page: &[],
             rest: pages,
+            last,
         }
     }
 
@@ -47,7 +49,11 @@ impl<'a, T> Items<'a, T> {
                 self.page = page;
                 return Some(item);
             }
-            let (page, rest) = self.rest.split_first()?;
+            let Some((page, rest)) = self.rest.split_first() else {
+                let (item, last) = self.last.split_first()?;
+                self.last = last;
+                return Some(item);
+            };
             self.page = page.as_slice();
             self.rest = rest;
         }

@@ -10,7 +10,7 @@ ghost use Rattle.kn_store.specs.LiveView.{live_view, refusal_of_size, refusal_of
 ghost use Rattle.kn_store.specs.Pages.{joined};
 ghost use Rattle.kn_store.specs.Places.{IsIdAt, IsPlaceOf, ends_before};
 
-use crate::credential::{LiveCredential, Ready};
+use crate::credential::LiveCredential;
 use crate::fault::StoreFault;
 use crate::items::Items;
 use crate::pages::Pages;
@@ -121,22 +121,46 @@ impl LiveSet {
         }
     }
 
-    /// These and one more.
-    pub(crate) fn with_addition(&self, alloc: Global, ready: Ready) -> Result<LiveSet, NoMemory>
-        requires accepted { refusal_of_size self.now (length ready) ≡ None }
-        ensures ok { IfOk result (λ set. set ≡ with_addition self.now ready) }
+    /// The same set, which shares all credentials.
+    pub(crate) fn share(&self, alloc: Global) -> Result<LiveSet, NoMemory>
+        ensures { IfOk result (λ set. set ≡ self.now) }
     {
-        let size = ready.text().len() as u32;
-        let added = self.added + 1;
-        let pages = self
-            .pages
-            .with_item(alloc, CREDENTIALS_PAGE, ready.numbered(added))?;
         Ok(LiveSet {
+            pages: self.pages.share(alloc)?,
+            count: self.count,
+            bytes: self.bytes,
+            changes: self.changes,
+            logged: self.logged,
+            added: self.added,
+        })
+    }
+
+    /// These and one more, which has the next id.
+    pub(crate) fn with_addition(
+        self,
+        alloc: Global,
+        credential: LiveCredential,
+    ) -> Result<LiveSet, NoMemory>
+        requires accepted { refusal_of_size self (length credential.text) ≡ None }
+        requires next { credential.id ≡ self.added + 1 }
+        ensures ok { IfOk result (λ set. set ≡ with_addition self credential.text) }
+    {
+        let size = credential.credential().text.len() as u32;
+        let added = self.added + 1;
+        let LiveSet {
             pages,
-            count: self.count + 1,
-            bytes: self.bytes + size,
-            changes: self.changes + 1,
-            logged: self.logged + size,
+            count,
+            bytes,
+            changes,
+            logged,
+            added: _,
+        } = self;
+        Ok(LiveSet {
+            pages: pages.with_item(alloc, CREDENTIALS_PAGE, credential)?,
+            count: count + 1,
+            bytes: bytes + size,
+            changes: changes + 1,
+            logged: logged + size,
             added,
         })
     }
@@ -171,7 +195,7 @@ impl LiveSet {
 }
 
 /// The page of this id and its place there, both counted from 0, or None where it isn't live.
-fn place_of(pages: &Pages<LiveCredential>, id: u32) -> Option<(u32, usize)>
+fn place_of(pages: &Pages<LiveCredential>, id: u32) -> Option<(usize, usize)>
     requires ids { IdsAscend 0 (joined pages.now) }
     ensures { MatchOption result (list_any (λ c. c.id == id) (joined pages.now) ≡ false) (λ place. IsPlaceOf id pages.now place.0 place.1) }
 {

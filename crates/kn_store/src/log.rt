@@ -4,9 +4,9 @@ ghost use Rattle.std.specs.Prelude.{◌≡◌, ◌<◌, [], ◌∷◌, ◌++◌,
 ghost use Rattle.std.specs.Arc.{arc_value};
 ghost use Rattle.kn_store.specs.Pages.{with_item};
 
-use crate::pages::{Page, Pages, longer_page};
+use crate::pages::{Pages, shared};
 use crate::update::Update;
-use kn_base::NoMemory;
+use kn_base::{List, NoMemory};
 use std::alloc::Global;
 use std::marker::Model;
 use std::sync::Arc;
@@ -53,14 +53,25 @@ impl LogPage {
         self.count
     }
 
-    /// The page with one more update. Of its pointers those of the last block and those to blocks are copied.
-    fn with_update(&self, alloc: Global, update: Update) -> Result<LogPage, NoMemory>
-        requires { length self.now < UPDATES_PAGE }
-        ensures { IfOk result (λ page. page ≡ self.now ++ update ∷ []) }
+    /// The same page, which shares the blocks that are full and all updates.
+    fn share(&self, alloc: Global) -> Result<LogPage, NoMemory>
+        ensures { IfOk result (λ page. page ≡ self.now) }
     {
         Ok(LogPage {
-            blocks: self.blocks.with_item(alloc, UPDATES_BLOCK, update)?,
-            count: self.count + 1,
+            blocks: self.blocks.share(alloc)?,
+            count: self.count,
+        })
+    }
+
+    /// The page with one more update.
+    fn with_update(self, alloc: Global, update: Update) -> Result<LogPage, NoMemory>
+        requires { length self < UPDATES_PAGE }
+        ensures { IfOk result (λ page. page ≡ self ++ update ∷ []) }
+    {
+        let LogPage { blocks, count } = self;
+        Ok(LogPage {
+            blocks: blocks.with_item(alloc, UPDATES_BLOCK, update)?,
+            count: count + 1,
         })
     }
 }
@@ -68,17 +79,22 @@ impl LogPage {
 /// All updates in their order. It is seen as the list of its pages, each of them the list of its updates.
 #[derive(Drop)]
 pub(crate) struct Log {
-    pages: Page<LogPage>,
+    full: List<Arc<LogPage>>,
+    /// The page behind the full ones. It is empty only where there are none.
+    last: LogPage,
 }
 
 impl Model for Log {
-    ghost use Rattle.std.specs.Prelude.{List, map};
+    ghost use Rattle.std.specs.Prelude.{List, map, ◌++◌, ◌≡◌, ◌≤◌, ◌⊎◌, [], length};
     ghost use Rattle.std.specs.Arc.{arc_value};
     ghost use Rattle.kn_store.specs.declared.update.Update.{Update};
+    ghost use Rattle.kn_store.specs.Pages.{unless_empty};
 
     ghost Value = { List (List Update) };
 
-    ghost view = { λ l. map arc_value l.pages };
+    ghost view = { λ l. map arc_value l.full ++ unless_empty l.last };
+
+    ghost invariant = { λ l. (l.full ≡ []) ⊎ (1 ≤ length l.last) };
 }
 
 impl Log {
@@ -86,42 +102,37 @@ impl Log {
         ensures { result ≡ [] }
     {
         Log {
-            pages: Page::new(alloc),
+            full: List::new(alloc),
+            last: LogPage::empty(alloc),
         }
+    }
+
+    /// The same log, which shares the pages that are full.
+    pub(crate) fn share(&self, alloc: Global) -> Result<Log, NoMemory>
+        ensures { IfOk result (λ log. log ≡ self.now) }
+    {
+        Ok(Log {
+            full: shared(alloc, self.full.as_slice())?,
+            last: self.last.share(alloc)?,
+        })
     }
 
     /// The log with one more update: on the last page, or where that is full on a new one.
-    pub(crate) fn with_update(&self, alloc: Global, update: Update) -> Result<Log, NoMemory>
-        ensures { IfOk result (λ log. log ≡ with_item UPDATES_PAGE self.now update) }
+    pub(crate) fn with_update(self, alloc: Global, update: Update) -> Result<Log, NoMemory>
+        ensures { IfOk result (λ log. log ≡ with_item UPDATES_PAGE self update) }
     {
-        let pages = self.pages.as_slice();
-        let Some((last, front)) = pages.split_last() else {
-            return with_new_page(alloc, pages, update);
-        };
+        let Log { mut full, last } = self;
         if last.len() < UPDATES_PAGE {
-            with_page(alloc, front, last.with_update(alloc, update)?)
-        } else {
-            with_new_page(alloc, pages, update)
+            let last = last.with_update(alloc, update)?;
+            return Ok(Log { full, last });
         }
+        let Ok(page) = Arc::new(alloc, last) else {
+            return Err(NoMemory);
+        };
+        full.add(page)?;
+        Ok(Log {
+            full,
+            last: LogPage::empty(alloc).with_update(alloc, update)?,
+        })
     }
-}
-
-/// The log of these pages, and of one behind them that has this update alone.
-fn with_new_page(alloc: Global, front: &[Arc<LogPage>], update: Update) -> Result<Log, NoMemory>
-    ensures { IfOk result (λ log. log ≡ map arc_value front.now ++ (update ∷ []) ∷ []) }
-{
-    with_page(
-        alloc,
-        front,
-        LogPage::empty(alloc).with_update(alloc, update)?,
-    )
-}
-
-/// The log of these pages and one more.
-fn with_page(alloc: Global, front: &[Arc<LogPage>], page: LogPage) -> Result<Log, NoMemory>
-    ensures { IfOk result (λ log. log ≡ map arc_value front.now ++ page ∷ []) }
-{
-    Ok(Log {
-        pages: longer_page(alloc, front, page)?,
-    })
 }

@@ -2,6 +2,7 @@
 
 ghost use Rattle.std.specs.Prelude.{◌≡◌, ◌<◌, ◌≤◌, ◌+◌, [], ◌∷◌, ◌++◌, map, length, Some, IfOk, OnOk, slice_get, slice_index_or};
 ghost use Rattle.std.specs.Arc.{arc_value};
+ghost use Rattle.std.specs.List.{All};
 ghost use Rattle.std.specs.Option.{option_copied};
 ghost use Rattle.kn_store.specs.Pages.{joined, pages_of, unless_empty, with_item, without_item};
 
@@ -14,25 +15,31 @@ use std::sync::Arc;
 /// The items of a page, each of them shared: to copy a page is to copy its pointers.
 pub(crate) type Page<T> = List<Arc<T>>;
 
-/// A list in pages under a spine. It is seen as the list of its pages, each of them the list of its items.
+/// A list in pages. It is seen as the list of its pages, each of them the list of its items.
 ///
-/// A list is never changed: one that differs is made of it, with copies of the spine and of one page. All other pages
-/// belong to both.
+/// An item is added in place. A list that is to stay as it is has to be shared first: that copies the pointers to the
+/// closed pages and those of the last one, and the closed pages belong to both.
 #[derive(Drop)]
 pub(crate) struct Pages<T> {
-    spine: List<Arc<Page<T>>>,
+    /// The pages that get no more items.
+    closed: List<Arc<Page<T>>>,
+    /// The page behind them. It is empty only where there are none.
+    last: Page<T>,
 }
 
 impl<T> Model for Pages<T> {
-    ghost use Rattle.std.specs.Prelude.{List};
+    ghost use Rattle.std.specs.Prelude.{List, map, ◌++◌, ◌≡◌, ◌≤◌, ◌⊎◌, [], length};
     ghost use Rattle.std.specs.Coded.{coded_list};
-    ghost use Rattle.kn_store.specs.Pages.{pages_of};
+    ghost use Rattle.std.specs.Arc.{arc_value};
+    ghost use Rattle.kn_store.specs.Pages.{pages_of, unless_empty};
 
     ghost Value = { List (List T) };
 
     ghost coded = { coded_list (coded_list T.code) };
 
-    ghost view = { λ p. pages_of p.spine };
+    ghost view = { λ p. pages_of p.closed ++ unless_empty (map arc_value p.last) };
+
+    ghost invariant = { λ p. (p.closed ≡ []) ⊎ (1 ≤ length p.last) };
 }
 
 impl<T: Drop> Pages<T> {
@@ -40,28 +47,37 @@ impl<T: Drop> Pages<T> {
         ensures { result ≡ [] }
     {
         Pages {
-            spine: List::new(alloc),
+            closed: List::new(alloc),
+            last: List::new(alloc),
         }
     }
 
     /// How many pages there are.
-    pub(crate) fn count(&self) -> u32
+    pub(crate) fn count(&self) -> usize
         ensures { result ≡ length self.now }
     {
-        self.spine.len()
+        let closed = self.closed.len() as usize;
+        if self.last.is_empty() {
+            closed
+        } else {
+            closed + 1
+        }
     }
 
     /// The items of the page at this place.
-    pub(crate) fn page(&self, page: u32) -> &[Arc<T>]
+    pub(crate) fn page(&self, page: usize) -> &[Arc<T>]
         requires { page < length self.now }
         ensures { slice_get self.now page ≡ Some (map arc_value result.now) }
     {
-        self.spine.as_slice()[page as usize].as_slice()
+        match self.closed.as_slice().get(page) {
+            Some(closed) => closed.as_slice(),
+            None => self.last.as_slice(),
+        }
     }
 
     /// The item at a place of a page.
     #[tactic(auto, using(crate::proofs::PageLemmas::within_page, crate::proofs::PageLemmas::item_of_page))]
-    pub(crate) fn item(&self, page: u32, place: usize) -> &T
+    pub(crate) fn item(&self, page: usize, place: usize) -> &T
         requires page { page < length self.now }
         requires place { place < length (slice_index_or self.now page []) }
         ensures { slice_get (slice_index_or self.now page []) place ≡ Some result.now }
@@ -73,7 +89,7 @@ impl<T: Drop> Pages<T> {
     pub(crate) fn iter(&self) -> Items<'_, T>
         ensures { result ≡ joined self.now }
     {
-        Items::of(self.spine.as_slice())
+        Items::of(self.closed.as_slice(), self.last.as_slice())
     }
 
     /// The item at place `i` of all, counted from 0.
@@ -81,87 +97,126 @@ impl<T: Drop> Pages<T> {
         requires { i < length (joined self.now) }
         ensures { slice_get (joined self.now) i ≡ Some result.now }
     {
-        item_at(self.spine.as_slice(), i as usize)
+        item_at(self.closed.as_slice(), self.last.as_slice(), i as usize)
     }
 
-    /// The same with an item at the end: on the last page, or where that has `most` items on a new one.
-    pub(crate) fn with_item(&self, alloc: Global, most: u32, item: T) -> Result<Pages<T>, NoMemory>
-        ensures { IfOk result (λ pages. pages ≡ with_item most self.now item) }
+    /// The same list, which shares the closed pages and all items.
+    pub(crate) fn share(&self, alloc: Global) -> Result<Pages<T>, NoMemory>
+        ensures { IfOk result (λ pages. pages ≡ self.now) }
     {
-        let spine = self.spine.as_slice();
-        let Some((last, front)) = spine.split_last() else {
-            return with_page(alloc, spine, &[], item);
+        Ok(Pages {
+            closed: shared(alloc, self.closed.as_slice())?,
+            last: shared(alloc, self.last.as_slice())?,
+        })
+    }
+
+    /// The list with an item at the end: on the last page, or where that has `most` items on a new one.
+    pub(crate) fn with_item(self, alloc: Global, most: u32, item: T) -> Result<Pages<T>, NoMemory>
+        requires { 1 ≤ most }
+        ensures { IfOk result (λ pages. pages ≡ with_item most self item) }
+    {
+        let Ok(item) = Arc::new(alloc, item) else {
+            return Err(NoMemory);
         };
+        let Pages {
+            mut closed,
+            mut last,
+        } = self;
         if last.len() < most {
-            with_page(alloc, front, last.as_slice(), item)
-        } else {
-            with_page(alloc, spine, &[], item)
+            last.add(item)?;
+            return Ok(Pages { closed, last });
         }
+        let Ok(full) = Arc::new(alloc, last) else {
+            return Err(NoMemory);
+        };
+        closed.add(full)?;
+        Ok(Pages {
+            closed,
+            last: begun(alloc, most, item)?,
+        })
     }
 
     /// The same without the item at a place of a page, and without that page where it was the only one.
     pub(crate) fn without_item(
         &self,
         alloc: Global,
-        page: u32,
+        page: usize,
         place: usize,
     ) -> Result<Pages<T>, NoMemory>
         requires page { page < length self.now }
         requires place { place < length (slice_index_or self.now page []) }
+        requires none_empty { All (λ items. 1 ≤ length items) self.now }
         ensures { IfOk result (λ pages. pages ≡ without_item self.now page place) }
     {
-        let spine = self.spine.as_slice();
-        let front = spine.split_at(page as usize).0;
-        let back = spine.split_at(page as usize + 1).1;
         let items = self.page(page);
-        let before = items.split_at(place).0;
-        let after = items.split_at(place + 1).1;
-        around(alloc, front, joined_page(alloc, before, after)?, back)
+        let left = joined_page(alloc, items.split_at(place).0, items.split_at(place + 1).1)?;
+        let closed = self.closed.as_slice();
+        if page >= closed.len() {
+            return reopened(alloc, closed, left);
+        }
+        let (front, back) = (closed.split_at(page).0, closed.split_at(page + 1).1);
+        Ok(Pages {
+            closed: around(alloc, front, left, back)?,
+            last: shared(alloc, self.last.as_slice())?,
+        })
     }
 }
 
-/// The item at place `i` of all in these pages, counted from 0.
-fn item_at<T>(spine: &[Arc<Page<T>>], i: usize) -> &T
-    requires { i < length (joined (pages_of spine.now)) }
-    ensures { slice_get (joined (pages_of spine.now)) i ≡ Some result.now }
+/// The item at place `i` of all in these closed pages and the last one, counted from 0.
+fn item_at<'a, T>(closed: &'a [Arc<Page<T>>], last: &'a [Arc<T>], i: usize) -> &'a T
+    requires { i < length (joined (pages_of closed.now) ++ map arc_value last.now) }
+    ensures { slice_get (joined (pages_of closed.now) ++ map arc_value last.now) i ≡ Some result.now }
 {
     let mut left = i;
-    for page in spine {
+    for page in closed {
         if left < page.len() as usize {
             return &page.as_slice()[left];
         }
         left -= page.len() as usize;
     }
-    unreachable!()
+    &last[left]
 }
 
-/// These pages, and behind them one with these items and one more.
-fn with_page<'a, T: Drop>(
-    alloc: Global,
-    front: &'a [Arc<Page<T>>],
-    items: &'a [Arc<T>],
-    item: T,
-) -> Result<Pages<T>, NoMemory>
-    ensures { IfOk result (λ pages. pages ≡ pages_of front.now ++ (map arc_value items.now ++ item ∷ []) ∷ []) }
+/// A page with this item alone, and room for `most`.
+fn begun<T: Drop>(alloc: Global, most: u32, item: Arc<T>) -> Result<Page<T>, NoMemory>
+    requires { 1 ≤ most }
+    ensures { IfOk result (λ page. page ≡ item ∷ []) }
 {
-    around(alloc, front, longer_page(alloc, items, item)?, &[])
-}
-
-/// The page of these items and one more.
-pub(crate) fn longer_page<'a, T: Drop>(
-    alloc: Global,
-    items: &'a [Arc<T>],
-    item: T,
-) -> Result<Page<T>, NoMemory>
-    ensures { IfOk result (λ page. map arc_value page ≡ map arc_value items.now ++ item ∷ []) }
-{
-    let Ok(item) = Arc::new(alloc, item) else {
-        return Err(NoMemory);
-    };
-    let mut room = room_for(alloc, items, &[])?;
-    share(&mut room, items)?;
+    let mut room = Reserved::new(alloc);
+    room.reserve(most)?;
     room.put(item);
     Ok(room.finish())
+}
+
+/// These pages and one behind them, which gets the next item. Where it is empty the last of them gets it.
+fn reopened<'a, T: Drop>(
+    alloc: Global,
+    pages: &'a [Arc<Page<T>>],
+    page: Page<T>,
+) -> Result<Pages<T>, NoMemory>
+    requires { All (λ items. 1 ≤ length items) (pages_of pages.now) }
+    ensures { IfOk result (λ all. all ≡ pages_of pages.now ++ unless_empty (map arc_value page)) }
+{
+    if !page.is_empty() {
+        return Ok(Pages {
+            closed: shared(alloc, pages)?,
+            last: page,
+        });
+    }
+    let Some((last, front)) = pages.split_last() else {
+        return Ok(Pages::empty(alloc));
+    };
+    Ok(Pages {
+        closed: shared(alloc, front)?,
+        last: shared(alloc, last.as_slice())?,
+    })
+}
+
+/// A page with the same items.
+pub(crate) fn shared<'a, T: Drop>(alloc: Global, items: &'a [Arc<T>]) -> Result<Page<T>, NoMemory>
+    ensures { IfOk result (λ page. map arc_value page ≡ map arc_value items.now) }
+{
+    joined_page(alloc, items, &[])
 }
 
 /// The page of these items, one list behind the other.
@@ -184,16 +239,14 @@ fn around<'a, T: Drop>(
     front: &'a [Arc<Page<T>>],
     page: Page<T>,
     back: &'a [Arc<Page<T>>],
-) -> Result<Pages<T>, NoMemory>
-    ensures { IfOk result (λ pages. pages ≡ pages_of front.now ++ unless_empty (map arc_value page) ++ pages_of back.now) }
+) -> Result<List<Arc<Page<T>>>, NoMemory>
+    ensures { IfOk result (λ pages. pages_of pages ≡ pages_of front.now ++ unless_empty (map arc_value page) ++ pages_of back.now) }
 {
     let mut room = room_for(alloc, front, back)?;
     share_pages(&mut room, front)?;
     put_page(alloc, &mut room, page)?;
     share_pages(&mut room, back)?;
-    Ok(Pages {
-        spine: room.finish(),
-    })
+    Ok(room.finish())
 }
 
 /// Adds these pages at the end, for which there is room.

@@ -1,10 +1,10 @@
 //! Versions of the shared credentials.
 
-ghost use Rattle.std.specs.Prelude.{◌≡◌, ◌⊎◌, ◌<◌, ◌≤◌, ◌+◌, true, [], ◌∷◌, ◌++◌, map, length, Some, IfOk, IfErr, OnOk, slice_get};
+ghost use Rattle.std.specs.Prelude.{◌≡◌, ◌⊎◌, ◌<◌, ◌≤◌, ◌+◌, true, [], ◌∷◌, ◌++◌, map, length, reverse, Some, IfOk, IfErr, OnOk, slice_get};
 ghost use Rattle.kn_base.specs.declared.limits.TheConstants.{LIVE_CREDENTIALS, LIVE_BYTES, UPDATES};
 ghost use Rattle.kn_assert.specs.Reading.{assertion_of};
 ghost use Rattle.kn_store.specs.declared.fault.StoreFault.TheVariants.{NoMemory as Lacking};
-ghost use Rattle.kn_store.specs.History.{all_changes, additions, credentials_of, text_bytes, is_valid_history, update_may_follow, refusal_of_text, refusal_of_id, addition_by, removal_by};
+ghost use Rattle.kn_store.specs.History.{all_changes, additions, credentials_of, text_bytes, is_valid_history, update_may_follow, updates_may_follow, refusal_of_text, refusal_of_id, addition_by, additions_by, removal_by, IsFirstRefused};
 ghost use Rattle.kn_store.specs.LiveView.{live_view, IdsAscend};
 
 use crate::credential::{Credential, LiveCredential, Ready};
@@ -13,7 +13,7 @@ use crate::items::Items;
 use crate::live_set::LiveSet;
 use crate::log::Log;
 use crate::update::{Change, Numbered, Update};
-use kn_base::{List, NoMemory, Octets};
+use kn_base::{List, NoMemory, Octets, Reserved};
 use std::alloc::Global;
 use std::marker::Model;
 use std::sync::Arc;
@@ -99,25 +99,73 @@ impl Version {
         self.live.iter()
     }
 
+    /// The same version, which shares all pages but the last ones.
+    pub(crate) fn share(&self, alloc: Global) -> Result<Version, NoMemory>
+        ensures { IfOk result (λ version. version ≡ self.now) }
+    {
+        Ok(Version {
+            live: self.live.share(alloc)?,
+            updates: self.updates.share(alloc)?,
+            number: self.number,
+        })
+    }
+
     /// The version after one more update, which adds this text.
     pub(crate) fn with_addition(
-        &self,
+        self,
         alloc: Global,
         caller: u32,
         ready: Ready,
     ) -> Result<(Version, u32), StoreFault>
-        ensures id { IfOk result (λ next. next.1 ≡ additions (all_changes self.now) + 1) }
-        ensures version { IfOk result (λ next. next.0 ≡ self.now ++ addition_by caller ready next.1 ∷ []) }
-        ensures follows { IfOk result (λ next. update_may_follow (all_changes self.now) (addition_by caller ready next.1) ≡ true) }
-        ensures refused { IfErr result (λ fault. (fault ≡ Lacking) ⊎ (refusal_of_text (all_changes self.now) ready ≡ Some fault)) }
+        ensures id { IfOk result (λ next. next.1 ≡ additions (all_changes self) + 1) }
+        ensures version { IfOk result (λ next. next.0 ≡ self ++ addition_by caller ready next.1 ∷ []) }
+        ensures follows { IfOk result (λ next. update_may_follow (all_changes self) (addition_by caller ready next.1) ≡ true) }
+        ensures refused { IfErr result (λ fault. (fault ≡ Lacking) ⊎ (refusal_of_text (all_changes self) ready ≡ Some fault)) }
     {
         if let Some(fault) = self.live.refusal_of_size(ready.text().len()) {
             return Err(fault);
         }
         let id = self.live.next_id();
-        let update = addition(alloc, caller, ready.text(), id)?;
-        let live = self.live.with_addition(alloc, ready)?;
-        Ok((self.with_update(alloc, live, update)?, id))
+        let number = self.number() + 1;
+        let (credential, text) = ready.numbered(id);
+        let update = addition(alloc, caller, text, id)?;
+        let Version { live, updates, .. } = self;
+        let live = live.with_addition(alloc, credential)?;
+        let updates = updates.with_update(alloc, update)?;
+        Ok((
+            Version {
+                live,
+                updates,
+                number,
+            },
+            id,
+        ))
+    }
+
+    /// The version after updates that add these texts one after the other, or the place of the first that is refused,
+    /// counted from 0.
+    pub(crate) fn with_additions(
+        self,
+        alloc: Global,
+        caller: u32,
+        readies: List<Ready>,
+    ) -> Result<Version, (u32, StoreFault)>
+        ensures version { IfOk result (λ next. next ≡ self ++ additions_by caller (additions (all_changes self)) readies) }
+        ensures follow { OnOk result (updates_may_follow (all_changes self) (additions_by caller (additions (all_changes self)) readies) ≡ true) }
+        ensures refused { IfErr result (λ refused. (refused.1 ≡ Lacking) ⊎ IsFirstRefused self caller readies refused.0 refused.1) }
+    {
+        let count = readies.len();
+        let Ok(mut left) = reversed(alloc, readies) else {
+            return Err((0, StoreFault::NoMemory));
+        };
+        let mut next = self;
+        while let Some(ready) = left.pop() {
+            match next.with_addition(alloc, caller, ready) {
+                Ok((longer, _)) => next = longer,
+                Err(fault) => return Err((count - left.len() - 1, fault)),
+            }
+        }
+        Ok(next)
     }
 
     /// The version after one more update, which removes this id.
@@ -133,28 +181,33 @@ impl Version {
     {
         let live = self.live.with_removal(alloc, id)?;
         let update = removal(alloc, caller, id)?;
-        Ok(self.with_update(alloc, live, update)?)
-    }
-
-    /// The version after one more update, with what is live then.
-    fn with_update(&self, alloc: Global, live: LiveSet, update: Update) -> Result<Version, NoMemory>
-        requires live { live ≡ live_view (all_changes self.now ++ update.changes) }
-        requires follows { update_may_follow (all_changes self.now) update ≡ true }
-        ensures version { IfOk result (λ next. next ≡ self.now ++ update ∷ []) }
-    {
+        let updates = self.updates.share(alloc)?.with_update(alloc, update)?;
         Ok(Version {
             live,
-            updates: self.updates.with_update(alloc, update)?,
+            updates,
             number: self.number() + 1,
         })
     }
 }
 
-/// The update that adds a text.
-fn addition(alloc: Global, caller: u32, text: &[u8], id: u32) -> Result<Update, NoMemory>
-    ensures { IfOk result (λ update. update ≡ addition_by caller text.now id) }
+/// These texts, the last first: so they can be taken from the end in their order.
+#[tactic(auto, using(crate::proofs::Additions::turned_more))]
+fn reversed(alloc: Global, readies: List<Ready>) -> Result<List<Ready>, NoMemory>
+    ensures { IfOk result (λ last_first. last_first ≡ reverse readies) }
 {
-    let text = Octets::from_slice(alloc, text)?;
+    let mut left = readies;
+    let mut room = Reserved::new(alloc);
+    room.reserve(left.len())?;
+    while let Some(ready) = left.pop() {
+        room.put(ready);
+    }
+    Ok(room.finish())
+}
+
+/// The update that adds a text.
+fn addition(alloc: Global, caller: u32, text: Octets, id: u32) -> Result<Update, NoMemory>
+    ensures { IfOk result (λ update. update ≡ addition_by caller text id) }
+{
     one_change(alloc, caller, Change::Add(text), id)
 }
 

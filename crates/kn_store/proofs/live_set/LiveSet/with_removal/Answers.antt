@@ -5,7 +5,9 @@ use Rattle.kn_store.specs.declared.fault.StoreFault.TheVariants.{Unknown, Histor
 use Rattle.kn_store.specs.LiveView.{refusal_of_removal, with_removal}
 use Rattle.kn_store.specs.Pages.{without_item}
 use Rattle.kn_store.proofs.LiveLemmas.{cut_at}
-use Rattle.kn_store.proofs.LiveSetLemmas.{removed_set, removed_view, removed_size, removal_accepted, refused_unknown, refused_full}
+use Rattle.kn_store.proofs.LiveSetLemmas.{removed_set, removed_view, removed_size, removed_count, removal_accepted, refused_unknown, refused_full}
+use Rattle.kn_store.specs.declared.live_set.TheConstants.{CREDENTIALS_PAGE}
+use Rattle.kn_store.proofs.PageLemmas.{sized-some}
 use Rattle.kn_store.proofs.live_set.LiveSet.with_removal.Goals as goal
 
 pub returns-in_default-clause-refused : goal.returns-in_default-clause-refused
@@ -27,6 +29,16 @@ overflow_cast-size c =
     c.self.invariant in
     let most = c.self.invariant.bytes_limit in
     search rules
+
+pub without_item-requires-clause-none_empty : goal.without_item-requires-clause-none_empty
+without_item-requires-clause-none_empty c = sized-some CREDENTIALS_PAGE c.self.inside.pages c.self.invariant.pages
+
+pub overflow_sub-result : goal.overflow_sub-result
+overflow_sub-result c =
+    let cut = cut_at c.self.inside.pages c.args.id c.in-Some.page c.in-Some.place c.in-Some.ensures in
+    let long : c.len-size.result ≡ length cut.credential.text =
+    c.len-size.ensures ∙ ap length (c.credential.ensures.text ∙ ap (λ x. x.text) (same_Some c.item.result.now cut.credential (sym c.item.ensures ∙ cut.there))) in
+    removed_count c.self.inside c.in-Ok.pages c.args.id c.in-Some.page c.in-Some.place c.len-size.result cut c.in-Ok.ensures long c.self.invariant
 
 pub overflow_sub-result-2 : goal.overflow_sub-result-2
 overflow_sub-result-2 c =

@@ -1,17 +1,15 @@
-use Rattle.std.proofs.Common.{rules, ◌≡◌, ◌∙◌, ap, subst}
-use Rattle.std.specs.Prelude.{IfOk}
+use Rattle.std.proofs.Common.{rules, ◌∙◌, ap}
 use Rattle.kn_store.specs.Pages.{with_item}
-use Rattle.kn_store.proofs.PageLemmas.{spine-room, spine-full}
+use Rattle.kn_store.proofs.PageLemmas.{shared-room, shared-full}
 use Rattle.kn_store.proofs.pages.Pages.with_item.Goals as goal
 
 pub returns-then-len-most : goal.returns-then-len-most
 returns-then-len-most g c =
-    let longer = spine-room c.args.most c.self.inside.spine c.in-Some.front.now c.in-Some.last.now c.as_slice.result.now c.args.item (search rules) (search rules) (search rules) in
-    subst (λ rhs. IfOk c.with_page-then-len-most.result (λ pages. pages ≡ rhs)) (longer ∙ ap (λ pages. with_item c.args.most pages c.args.item) c.self.view_is)
-    (search rules)
+    shared-room c.args.most c.self.inside.closed c.self.inside.last c.add.new.self c.in-Ok.item c.args.item c.self.invariant (search rules) (search rules) (search rules)
+    ∙ ap (λ pages. with_item c.args.most pages c.args.item) c.self.view_is
 
-pub returns-else-len-most : goal.returns-else-len-most
-returns-else-len-most g c =
-    let longer = spine-full c.args.most c.self.inside.spine c.in-Some.front.now c.in-Some.last.now c.args.item (search rules) (search rules) in
-    subst (λ rhs. IfOk c.with_page-else-len-most.result (λ pages. pages ≡ rhs)) (longer ∙ ap (λ pages. with_item c.args.most pages c.args.item) c.self.view_is)
-    (search rules)
+pub returns : goal.returns
+returns g c =
+    shared-full c.args.most c.self.inside.closed c.closed-3.inside.items.items c.self.inside.last c.in-Ok-new.full c.in_ok-begun.field-0 c.in-Ok.item c.args.item
+    (search rules) (search rules) (search rules) (search rules) (search rules) (search rules)
+    ∙ ap (λ pages. with_item c.args.most pages c.args.item) c.self.view_is

@@ -1,15 +1,33 @@
-use Rattle.std.proofs.Common.{◌≡◌, ◌+◌, ◌++◌, sym, ap, ◌∙◌}
-use Rattle.kn_store.specs.History.{all_changes, addition_by}
-use Rattle.kn_store.specs.LiveView.{live_view, with_addition}
-use Rattle.kn_store.proofs.ViewLemmas.{view-addition}
+use Rattle.std.proofs.Common.{rules, ◌≡◌, ◌+◌, [], ◌∷◌, ◌++◌, true, length, sym, ap, subst, ◌∙◌}
+use Rattle.std.specs.Prelude.{None}
+use Rattle.kn_store.specs.History.{all_changes, addition_by, update_may_follow}
+use Rattle.kn_store.specs.LiveView.{live_view, refusal_of_size, with_addition}
+use Rattle.kn_store.specs.Pages.{joined}
+use Rattle.kn_store.specs.Versions.{IsVersion}
+use Rattle.kn_store.proofs.ViewLemmas.{view-addition, addition-follows}
+use Rattle.kn_store.proofs.VersionLemmas.{version_after}
 use Rattle.kn_store.proofs.version.Version.with_addition.Goals as goal
 
-pub with_update-requires-clause-live : goal.with_update-requires-clause-live
-with_update-requires-clause-live c =
-    let past = all_changes c.args.self.now in
+update_is : (c : goal.In_ok-updates) → c.in_ok-update.update ≡ addition_by c.args.caller c.args.ready c.next_id-id.result
+update_is c = c.in_ok-update.ensures ∙ ap (λ text. addition_by c.args.caller text c.next_id-id.result) c.numbered-credential.ensures.logged
+
+after : (c : goal.In_ok-updates) → IsVersion (record { live = c.in_ok-live.live; updates = c.in_ok-updates.updates; number = c.number-number.result + 1 })
+    × (joined c.in_ok-updates.updates ≡ c.args.self ++ c.in_ok-update.update ∷ [])
+after c =
+    let past = all_changes c.args.self in
     let before : c.self.inside.live ≡ live_view past = c.self.invariant.live ∙ ap (λ l. live_view (all_changes l)) c.self.view_is in
-    let changes =
-    ap (λ u. u.changes) c.in_ok-update.ensures
-    ∙ ap (λ t. (addition_by c.args.caller t c.next_id-id.result).changes) c.text-2.ensures.text
-    ∙ ap (λ i. (addition_by c.args.caller c.args.ready i).changes) (c.next_id-id.ensures ∙ ap (λ v. v.added + 1) before) in
-    c.in_ok-live.ensures.ok ∙ ap (λ v. with_addition v c.args.ready) before ∙ view-addition past c.args.ready ∙ ap (λ l. live_view (past ++ l)) (sym changes)
+    let update = update_is c ∙ ap (λ id. addition_by c.args.caller c.args.ready id) (c.next_id-id.ensures ∙ ap (λ v. v.added + 1) before) in
+    let accepted : refusal_of_size c.self.inside.live (length c.text.result.now) ≡ None = search rules in
+    let fits : refusal_of_size (live_view past) (length c.args.ready) ≡ None =
+    ap (λ v. refusal_of_size v (length c.args.ready)) (sym before) ∙ ap (λ text. refusal_of_size c.self.inside.live (length text)) (sym c.text.ensures.text) ∙ accepted in
+    version_after c.self.inside c.in_ok-updates.updates c.in_ok-update.update c.in_ok-live.live c.args.self c.number-number.result
+    c.in_ok-updates.ensures c.self.view_is c.number-number.ensures.number c.self.invariant
+    (c.in_ok-live.ensures.ok ∙ ap (λ text. with_addition c.self.inside.live text) c.numbered-credential.ensures.text ∙ ap (λ v. with_addition v c.args.ready) before
+    ∙ view-addition past c.args.ready ∙ ap (λ u. live_view (past ++ u.changes)) (sym update))
+    (subst (λ u. update_may_follow past u ≡ true) (sym update) (addition-follows past c.args.caller c.args.ready fits c.text.ensures.reading))
+
+pub invariant_of-result : goal.invariant_of-result
+invariant_of-result c = (after c).0
+
+pub returns-clause-version : goal.returns-clause-version
+returns-clause-version c = (after c).1 ∙ ap (λ u. c.args.self ++ u ∷ []) (update_is c)
