@@ -1,6 +1,6 @@
 -- The entries that name a pass, in a list that grows.
-use Rattle.std.proofs.Common.{◌≡◌, ◌≢◌, ℕ, ◌+◌, ◌<◌, ◌≤◌, ◌==◌, cond, Bool, true, false, List, [], ◌∷◌, ◌++◌, length, refl, ap, sym, ◌∙◌, subst, arith, append-nil, length-append, eq-eqb, ne_eqb}
-use Rattle.std.proofs.lemmas.List.Elements.{filter-append}
+use Rattle.std.proofs.Common.{◌≡◌, ◌≢◌, ℕ, ◌+◌, ◌<◌, ◌≤◌, ◌==◌, cond, Bool, List, [], ◌∷◌, ◌++◌, length, refl, ap, sym, ◌∙◌, subst, arith, append-nil, length-append, eq-eqb, ne_eqb, All}
+use Rattle.std.proofs.lemmas.List.Elements.{filter-append, All-head, All-tail}
 use mathlib.Core.List.{IsPrefix}
 use Rattle.kn_turn.specs.declared.view.EndedPass.{EndedPass}
 use Rattle.kn_turn.specs.Counts.{one_if}
@@ -12,11 +12,24 @@ module _ {E : Type 0} (by : E → ℕ) where
   pub entries_of-append : (n : ℕ) (xs ys : List E) → entries_of by n (xs ++ ys) ≡ entries_of by n xs ++ entries_of by n ys
   entries_of-append n xs ys = filter-append (λ (e : E). by e == n) xs ys
 
-  pub entries_of-own : (n : ℕ) (e : E) → by e ≡ n → entries_of by n (e ∷ []) ≡ e ∷ []
-  entries_of-own n e is = ap (λ (b : Bool). cond b (e ∷ []) []) (eq-eqb (by e) n is)
+  names_head : (n : ℕ) (e : E) (es : List E) → All (λ x. by x ≡ n) (e ∷ es) → by e ≡ n
+  names_head n e es own = All-head (λ x. by x ≡ n) e es own
 
-  pub entries_of-other : (n : ℕ) (e : E) → by e ≢ n → entries_of by n (e ∷ []) ≡ []
-  entries_of-other n e not = ap (λ (b : Bool). cond b (e ∷ []) []) (ne_eqb (by e) n not)
+  names_tail : (n : ℕ) (e : E) (es : List E) → All (λ x. by x ≡ n) (e ∷ es) → All (λ x. by x ≡ n) es
+  names_tail n e es own = All-tail (λ x. by x ≡ n) e es own
+
+  pub entries_of-own : (n : ℕ) (es : List E) → All (λ e. by e ≡ n) es → entries_of by n es ≡ es
+  entries_of-own n [] own = refl
+  entries_of-own n (e ∷ es) own = ap (λ (b : Bool). cond b (e ∷ entries_of by n es) (entries_of by n es)) (eq-eqb (by e) n (names_head n e es own)) ∙ ap (λ w. e ∷ w) (entries_of-own n es (names_tail n e es own))
+
+  -- entries of one pass are none of another's
+  pub entries_of-other : (n m : ℕ) (es : List E) → All (λ e. by e ≡ n) es → n ≢ m → entries_of by m es ≡ []
+  entries_of-other n m [] own not = refl
+  entries_of-other n m (e ∷ es) own not =
+      ap (λ (b : Bool). cond b (e ∷ entries_of by m es) (entries_of by m es)) (ne_eqb (by e) m (λ is. not (sym (names_head n e es own) ∙ is))) ∙ entries_of-other n m es (names_tail n e es own) not
+
+  pub entries_of-still : (n m : ℕ) (l es : List E) → All (λ e. by e ≡ n) es → n ≢ m → entries_of by m (l ++ es) ≡ entries_of by m l
+  entries_of-still n m l es own not = entries_of-append m l es ∙ (ap (λ w. entries_of by m l ++ w) (entries_of-other n m es own not) ∙ append-nil (entries_of by m l))
 
   -- a number above all that are named has no entry
   pub entries_of-above : (n m : ℕ) (l : List E) → AllNameUpTo by n l → n < m → entries_of by m l ≡ []
@@ -46,16 +59,13 @@ module _ {E : Type 0} (by : E → ℕ) where
   has_ended-append l [] ys p q = q
   has_ended-append l (x ∷ xs) ys p q = (p.0, has_ended-append l xs ys p.1 q)
 
-  -- an entry of a pass that hasn't ended changes nothing
-  pub has_ended-more : (n : ℕ) (l : List E) (e : E) (es : List (EndedPass E)) → by e ≡ n → ended_count n es ≡ 0 → HasEnded by l es → HasEnded by (l ++ e ∷ []) es
-  has_ended-more n l e [] is none has = tt
-  has_ended-more n l e (x ∷ xs) is none has =
+  -- entries of a pass that hasn't ended change nothing
+  pub has_ended-more : (n : ℕ) (l es : List E) (xs : List (EndedPass E)) → All (λ e. by e ≡ n) es → ended_count n xs ≡ 0 → HasEnded by l xs → HasEnded by (l ++ es) xs
+  has_ended-more n l es [] own none has = tt
+  has_ended-more n l es (x ∷ xs) own none has =
       let first : one_if (x.number == n) ≡ 0 = omega arith in
       let more : ended_count n xs ≡ 0 = omega arith in
-      let not : by e ≢ x.number = λ same. other-one_if x.number n first (sym same ∙ is) in (
-        entries_of-append x.number l (e ∷ []) ∙ (ap (λ w. entries_of by x.number l ++ w) (entries_of-other x.number e not) ∙ (append-nil (entries_of by x.number l) ∙ has.0)),
-        has_ended-more n l e xs is more has.1,
-      )
+      (entries_of-still n x.number l es own (λ same. other-one_if x.number n first (sym same)) ∙ has.0, has_ended-more n l es xs own more has.1)
 
   pub all_up_to-prefix : (n : ℕ) (a h : List E) → IsPrefix a h → AllNameUpTo by n h → AllNameUpTo by n a
   all_up_to-prefix n [] h p all = tt
@@ -64,9 +74,13 @@ module _ {E : Type 0} (by : E → ℕ) where
       let same : x ≡ y = cc (p.1) in
       (subst (λ (z : E). by z ≤ n) (sym same) all.0, all_up_to-prefix n xs ys (p.0, cc (p.1)) all.1)
 
-  pub all_up_to-more : (n : ℕ) (l : List E) (e : E) → AllNameUpTo by n l → by e ≤ n → AllNameUpTo by n (l ++ e ∷ [])
-  all_up_to-more n [] e all low = (low, tt)
-  all_up_to-more n (x ∷ xs) e all low = (all.0, all_up_to-more n xs e all.1 low)
+  all_up_to-own : (n m : ℕ) (es : List E) → All (λ e. by e ≡ m) es → m ≤ n → AllNameUpTo by n es
+  all_up_to-own n m [] own low = tt
+  all_up_to-own n m (e ∷ es) own low = (subst (λ (k : ℕ). k ≤ n) (sym (names_head m e es own)) low, all_up_to-own n m es (names_tail m e es own) low)
+
+  pub all_up_to-more : (n m : ℕ) (l es : List E) → AllNameUpTo by n l → All (λ e. by e ≡ m) es → m ≤ n → AllNameUpTo by n (l ++ es)
+  all_up_to-more n m [] es all own low = all_up_to-own n m es own low
+  all_up_to-more n m (x ∷ xs) es all own low = (all.0, all_up_to-more n m xs es all.1 own low)
 
   pub all_up_to-later : (n : ℕ) (l : List E) → AllNameUpTo by n l → AllNameUpTo by (n + 1) l
   all_up_to-later n [] all = tt

@@ -1,26 +1,24 @@
 -- A seat that is split or joined keeps the turn's invariant, and so do its first state and the look after a join.
-use Rattle.std.proofs.Common.{◌≡◌, ◌≢◌, ◌⊎◌, ℕ, zero, suc, ◌+◌, ◌%◌, ◌^◌, ◌<◌, ◌≤◌, ◌==◌, List, [], ◌∷◌, ◌++◌, map, length, set, slice_index, slice_set, Bool, true, false, refl, sym, ap, ◌∙◌, subst, inl, inr, ⊎_elim, arith, append-nil, true≢false}
+use Rattle.std.proofs.Common.{◌≡◌, ◌≢◌, ℕ, zero, suc, ◌+◌, ◌<◌, ◌≤◌, ◌==◌, List, [], ◌∷◌, ◌++◌, map, set, slice_index, slice_set, Bool, true, false, refl, sym, ap, ◌∙◌, subst, inl, ⊎_elim, arith, true≢false}
 use Rattle.std.specs.Prelude.{Option, Some}
 use mathlib.Core.Option.{some, none, some-injective, some-ne-none}
-use mathlib.Core.Option as maybe
-use mathlib.Core.List.{IsPrefix}
 use mathlib.Core.Logic.{dite}
 use native.Mathlib.Decide.{ℕ_discrete}
 use lib.ListN.{get_elem?}
-use Rattle.atomic_table.specs.Table.{State, Me, Step, step, keeps, stepped, Allows, Splits, Joins, opening}
+use Rattle.atomic_table.specs.Table.{step, keeps, Allows, Splits, Joins, opening}
 use Rattle.atomic_table.proofs.Lists.{at_set, at_snoc, set_else}
 use Rattle.kn_turn.specs.declared.view.EndedPass.{EndedPass}
 use Rattle.kn_turn.specs.declared.view.View.{View}
 use Rattle.kn_turn.specs.declared.view.Stage.{Stage}
-use Rattle.kn_turn.specs.declared.view.Stage.TheVariants.{Idle, Waits, Served, Holds}
-use Rattle.kn_turn.specs.Counts.{one_if, total}
-use Rattle.kn_turn.specs.Entries.{entries_of, AllNameUpTo, longer}
-use Rattle.kn_turn.specs.Views.{ticket_at, value_at, ticket_if, ticket_count, value_count, count_of_ticket, live_count, ended_count, number_if, number_count, known_entries, HasEnded, first_view, child_view, parent_view, note_view, spent_view, ended_of, after_absorb, after_inform, after_settle}
-use Rattle.kn_turn.specs.Invariant.{IsAtStage, IsSound, IsSoundView, Fits, IsHome, IsKept, settles}
-use Rattle.kn_turn.proofs.Sums.{one_if-le, one_if-same, one_if-other, total-append, total-set, total-snoc, total-at, total-two}
-use Rattle.kn_turn.proofs.Prefixes.{prefix_trans, longer_between, longer-nil}
+use Rattle.kn_turn.specs.declared.view.Stage.TheVariants.{Idle}
+use Rattle.kn_turn.specs.Counts.{one_if}
+use Rattle.kn_turn.specs.Entries.{entries_of, longer}
+use Rattle.kn_turn.specs.Views.{ticket_at, value_at, ticket_if, ticket_count, value_count, count_of_ticket, live_count, number_if, number_count, known_entries, HasEnded, first_view, child_view, parent_view, note_view, spent_view, ended_of, after_absorb, after_inform, after_settle}
+use Rattle.kn_turn.specs.Invariant.{Fits, IsHome, IsKept, settles}
+use Rattle.kn_turn.proofs.Sums.{one_if-le, one_if-same, one_if-other, total-append, total-set, total-snoc, total-two}
+use Rattle.kn_turn.proofs.Prefixes.{longer_between, longer-nil}
 use Rattle.kn_turn.proofs.Named.{entries_of-above, entries_of-between, has_ended-between, has_ended-append, all_up_to-prefix, all_up_to-later}
-use Rattle.kn_turn.proofs.StepLemmas.{St, M, Rule, one_changes, apart_still, home_still, sound_of, named_live, named_self}
+use Rattle.kn_turn.proofs.StepLemmas.{St, M, one_changes, apart_still, home_still, sound_of, named_live}
 
 module _ {S E : Type 0} (by : E → ℕ) (log : S → List E) where
   -- the view of the first seat, over a value with no entries

@@ -1,5 +1,5 @@
 -- Each kind of step keeps the turn's invariant.
-use Rattle.std.proofs.Common.{◌≡◌, ◌≢◌, ◌⊎◌, ℕ, zero, suc, ◌+◌, ◌%◌, ◌^◌, ◌<◌, ◌≤◌, ◌==◌, List, [], ◌∷◌, ◌++◌, length, set, slice_index, slice_set, Bool, true, false, refl, sym, ap, ◌∙◌, subst, inl, inr, ⊎_elim, arith, append-nil, lt_of_not-le, true≢false}
+use Rattle.std.proofs.Common.{◌≡◌, ◌≢◌, ℕ, ◌+◌, ◌%◌, ◌^◌, ◌<◌, ◌≤◌, ◌==◌, List, [], ◌∷◌, ◌++◌, length, set, slice_index, slice_set, Bool, true, refl, sym, ap, ◌∙◌, subst, inl, inr, ⊎_elim, arith, lt_of_not-le, All}
 use Rattle.std.proofs.Math.Nat.{mod-add-mod}
 use Rattle.std.specs.Prelude.{Option, Some}
 use mathlib.Core.Option.{some, none, some-injective, some-ne-none}
@@ -8,19 +8,18 @@ use mathlib.Core.List.{IsPrefix}
 use mathlib.Core.Logic.{dite}
 use native.Mathlib.Decide.{ℕ_discrete, dec_le}
 use lib.ListN.{get_elem?}
-use Rattle.atomic_table.specs.Table.{State, Me, Step, step, keeps, takes, gives, stepped, put_back, rest, Allows, Splits, Joins, opening}
-use Rattle.atomic_table.proofs.Lists.{at_set, set_again, at_snoc, set_else, one_turn}
-use Rattle.kn_turn.specs.declared.view.EndedPass.{EndedPass}
+use Rattle.atomic_table.specs.Table.{State, Me, step, keeps, takes, gives, put_back, Allows}
+use Rattle.atomic_table.proofs.Lists.{at_set, one_turn}
 use Rattle.kn_turn.specs.declared.view.View.{View}
 use Rattle.kn_turn.specs.declared.view.Stage.{Stage}
 use Rattle.kn_turn.specs.declared.view.Stage.TheVariants.{Idle, Waits, Served, Holds}
 use Rattle.kn_turn.specs.Counts.{one_if, total}
-use Rattle.kn_turn.specs.Entries.{entries_of, AllNameUpTo, longer}
-use Rattle.kn_turn.specs.Views.{ticket_at, value_at, ticket_if, ticket_count, value_count, count_of_ticket, live_count, ended_count, number_if, number_count, known_entries, HasEnded, first_view, after_draw, after_serve, after_take, after_append, after_look, after_give, child_view, parent_view, note_view, spent_view, ended_of, after_absorb, after_inform, after_settle}
-use Rattle.kn_turn.specs.Invariant.{IsAtStage, IsSound, IsSoundView, Fits, IsHome, IsKept, draws_ticket, sees_served, takes_value, appends, looks, passes_on, settles}
-use Rattle.kn_turn.proofs.Sums.{one_if-le, one_if-same, one_if-other, other-one_if, total-set, total-append, total-snoc, total-at, total-two, total-zero, total-le, total-gap}
-use Rattle.kn_turn.proofs.Prefixes.{prefix_self, prefix_same, prefix_more, prefix_trans, longer_between, longer-nil}
-use Rattle.kn_turn.proofs.Named.{entries_of-append, entries_of-own, entries_of-other, entries_of-above, entries_of-between, has_ended-between, has_ended-append, has_ended-more, all_up_to-prefix, all_up_to-more, all_up_to-later}
+use Rattle.kn_turn.specs.Entries.{entries_of, AllNameUpTo}
+use Rattle.kn_turn.specs.Views.{ticket_at, value_at, ticket_if, ticket_count, value_count, count_of_ticket, live_count, ended_count, number_if, number_count, HasEnded, after_draw, after_serve, after_take, after_append, after_look, after_give}
+use Rattle.kn_turn.specs.Invariant.{IsAtStage, IsSoundView, Fits, IsHome, IsKept, draws_ticket, sees_served, takes_value, appends, looks, passes_on}
+use Rattle.kn_turn.proofs.Sums.{one_if-same, one_if-other, other-one_if, total-set, total-at, total-two, total-zero, total-le, total-gap}
+use Rattle.kn_turn.proofs.Prefixes.{prefix_self, prefix_same, prefix_more, longer-nil}
+use Rattle.kn_turn.proofs.Named.{entries_of-append, entries_of-own, entries_of-still, has_ended-more, all_up_to-prefix, all_up_to-more}
 
 module _ {S E : Type 0} (by : E → ℕ) (log : S → List E) where
   abbrev pub St : Type 0
@@ -226,36 +225,35 @@ module _ {S E : Type 0} (by : E → ℕ) (log : S → List E) where
   stands_longer history history' passed drawn ticket taken Served out k = k
   stands_longer history history' passed drawn ticket taken Holds out k = absurd (omega arith)
 
-  -- an entry of another pass is one more of the history
-  fits_more : (history : List E) (passed drawn limit n : ℕ) (e : E) (u : View E) → by e ≡ n → number_count n u ≡ 0 → value_count u ≡ 0 → Fits by history passed drawn limit u → Fits by (history ++ e ∷ []) passed drawn limit u
-  fits_more history passed drawn limit n e u names absent out f = record {
-    seen = prefix_more u.seen history (e ∷ []) f.seen;
-    old = prefix_more u.old history (e ∷ []) f.old;
+  -- entries of another pass are more of the history
+  fits_more : (history : List E) (passed drawn limit n : ℕ) (es : List E) (u : View E) → All (λ e. by e ≡ n) es → number_count n u ≡ 0 → value_count u ≡ 0 → Fits by history passed drawn limit u → Fits by (history ++ es) passed drawn limit u
+  fits_more history passed drawn limit n es u names absent out f = record {
+    seen = prefix_more u.seen history es f.seen;
+    old = prefix_more u.old history es f.old;
     queue = f.queue;
     mine = λ live.
         let count = named_live n u live in
         let first : one_if (u.number == n) ≡ 0 = omega arith in
-        let not : by e ≢ u.number = λ same. other-one_if u.number n first (sym same ∙ names) in
-        (entries_of-append by u.number history (e ∷ []) ∙ (ap (λ w. entries_of by u.number history ++ w) (entries_of-other by u.number e not) ∙ (append-nil (entries_of by u.number history) ∙ (f.mine live).0)), (f.mine live).1);
+        (entries_of-still by n u.number history es names (λ same. other-one_if u.number n first (sym same)) ∙ (f.mine live).0, (f.mine live).1);
     ended = λ live.
         let count = named_live n u live in
         let more : ended_count n u.ended ≡ 0 = omega arith in
-        (has_ended-more by n history e u.ended names more (f.ended live).0, (f.ended live).1);
+        (has_ended-more by n history es u.ended names more (f.ended live).0, (f.ended live).1);
     splits = f.splits;
-    stage = stands_longer history (history ++ e ∷ []) passed drawn u.ticket u.taken u.stage out f.stage;
+    stage = stands_longer history (history ++ es) passed drawn u.ticket u.taken u.stage out f.stage;
   }
 
-  -- one more entry of this pass
-  fits_own : (history : List E) (passed drawn limit : ℕ) (e : E) (v : View E) → by e ≡ v.number → v.live ≡ true → v.old ≡ [] → v.stage ≡ Holds → v.taken ≡ history → ended_count v.number v.ended ≡ 0
-      → Fits by history passed drawn limit v → Fits by (v.taken ++ e ∷ []) passed drawn limit (after_append v (e ∷ []))
-  fits_own history passed drawn limit e v names live fresh stage taken absent f =
-      let l : List E = v.taken ++ e ∷ [] in
-      let own : entries_of by v.number l ≡ v.mine ++ e ∷ [] =
-      entries_of-append by v.number v.taken (e ∷ []) ∙ (ap (λ w. w ++ entries_of by v.number (e ∷ [])) (ap (entries_of by v.number) taken ∙ (f.mine live).0) ∙ ap (λ w. v.mine ++ w) (entries_of-own by v.number e names)) in
-      let has : HasEnded by l v.ended = has_ended-more by v.number v.taken e v.ended names absent (subst (λ (x : List E). HasEnded by x v.ended) (sym taken) (f.ended live).0) in
+  -- more entries of this pass
+  fits_own : (history : List E) (passed drawn limit : ℕ) (es : List E) (v : View E) → All (λ e. by e ≡ v.number) es → v.live ≡ true → v.old ≡ [] → v.stage ≡ Holds → v.taken ≡ history → ended_count v.number v.ended ≡ 0
+      → Fits by history passed drawn limit v → Fits by (v.taken ++ es) passed drawn limit (after_append v es)
+  fits_own history passed drawn limit es v names live fresh stage taken absent f =
+      let l : List E = v.taken ++ es in
+      let own : entries_of by v.number l ≡ v.mine ++ es =
+      entries_of-append by v.number v.taken es ∙ (ap (λ w. w ++ entries_of by v.number es) (ap (entries_of by v.number) taken ∙ (f.mine live).0) ∙ ap (λ w. v.mine ++ w) (entries_of-own by v.number es names)) in
+      let has : HasEnded by l v.ended = has_ended-more by v.number v.taken es v.ended names absent (subst (λ (x : List E). HasEnded by x v.ended) (sym taken) (f.ended live).0) in
       let stands : IsAtStage history passed drawn v.ticket v.taken Holds = subst (IsAtStage history passed drawn v.ticket v.taken) stage f.stage in record {
         seen = prefix_self l;
-        old = subst (λ (x : List E). IsPrefix v.old (x ++ e ∷ [])) (sym taken) (prefix_more v.old history (e ∷ []) f.old);
+        old = subst (λ (x : List E). IsPrefix v.old (x ++ es)) (sym taken) (prefix_more v.old history es f.old);
         queue = f.queue;
         mine = λ _. (own, own);
         ended = λ _. (has, subst (λ (x : List E). HasEnded by x v.ended) (sym (longer-nil l v.old fresh)) has);
@@ -263,15 +261,16 @@ module _ {S E : Type 0} (by : E → ℕ) (log : S → List E) where
         stage = subst (IsAtStage l passed drawn v.ticket l) (sym stage) (stands.0, stands.1, refl);
       }
 
-  pub appends_one : (n id : ℕ) (me : M) (new : ℕ) (e : E) → me.0.stage ≡ Holds → me.0.live ≡ true → me.0.old ≡ [] → by e ≡ me.0.number → new ≡ length (me.0.taken ++ e ∷ [])
-      → Allows Rule n id me 2 (λ _. new) (λ _. appends by (e ∷ []) (step n 2 new 0 none) me new)
-  appends_one n id me new e stage live fresh names new_is s k _ at _ =
+  -- more entries join the history, all of which name the pass that has the turn
+  pub appends_more : (n id : ℕ) (me : M) (new : ℕ) (es : List E) → me.0.stage ≡ Holds → me.0.live ≡ true → me.0.old ≡ [] → All (λ e. by e ≡ me.0.number) es → new ≡ length (me.0.taken ++ es)
+      → Allows Rule n id me 2 (λ _. new) (λ _. appends by es (step n 2 new 0 none) me new)
+  appends_more n id me new es stage live fresh names new_is s k _ at _ =
       let v : View E = me.0 in
       let f = k.each id v at in
-      let l : List E = v.taken ++ e ∷ [] in
-      let w : View E = after_append v (e ∷ []) in
+      let l : List E = v.taken ++ es in
+      let w : View E = after_append v es in
       let stands : IsAtStage k.history k.passed k.drawn v.ticket v.taken Holds = subst (IsAtStage k.history k.passed k.drawn v.ticket v.taken) stage f.stage in
-      let l_is : k.history ++ e ∷ [] ≡ l = ap (λ (x : List E). x ++ e ∷ []) (sym stands.2) in
+      let l_is : k.history ++ es ≡ l = ap (λ (x : List E). x ++ es) (sym stands.2) in
       let out : value_count v ≡ 1 = ap value_at stage in
       let empty = home_empty s k id v at out in
       let self = named_self v live in
@@ -281,8 +280,8 @@ module _ {S E : Type 0} (by : E → ℕ) (log : S → List E) where
       let c = total-set value_count s.views id v w at in
       let total_out = empty.1 in
       let absent : ended_count v.number v.ended ≡ 0 = omega arith in
-      let mine = fits_own k.history k.passed k.drawn k.limit e v names live fresh stage stands.2 absent f in
-      let inside : AllNameUpTo by k.limit l = subst (AllNameUpTo by k.limit) l_is (all_up_to-more by k.limit k.history e k.inside (omega arith)) in (
+      let mine = fits_own k.history k.passed k.drawn k.limit es v names live fresh stage stands.2 absent f in
+      let inside : AllNameUpTo by k.limit l = subst (AllNameUpTo by k.limit) l_is (all_up_to-more by k.limit v.number k.history es k.inside names low) in (
         w,
         keeps,
         tt,
@@ -293,15 +292,9 @@ module _ {S E : Type 0} (by : E → ℕ) (log : S → List E) where
             let two = total-two (number_count v.number) s.views id j v u (λ is. other (sym is)) at d in
             let outs = total-two value_count s.views id j v u (λ is. other (sym is)) at d in
             let once_out = out_once s k in
-            subst (λ (x : List E). Fits by x k.passed k.drawn k.limit u) l_is (fits_more k.history k.passed k.drawn k.limit v.number e u names (omega arith) (omega arith) (k.each j u d))),
+            subst (λ (x : List E). Fits by x k.passed k.drawn k.limit u) l_is (fits_more k.history k.passed k.drawn k.limit v.number es u names (omega arith) (omega arith) (k.each j u d))),
         (refl, sound_of l k.passed k.drawn k.limit w mine inside live fresh),
       )
-
-  pub appends_more : (n id : ℕ) (me : M) (new : ℕ) (more : List E) (e : E) → me.0.stage ≡ Holds → me.0.live ≡ true → me.0.old ≡ [] → more ≡ e ∷ [] → by e ≡ me.0.number → new ≡ length (me.0.taken ++ more)
-      → Allows Rule n id me 2 (λ _. new) (λ _. appends by more (step n 2 new 0 none) me new)
-  appends_more n id me new more e stage live fresh is names new_is =
-      subst (λ (m : List E). new ≡ length (me.0.taken ++ m) → Allows Rule n id me 2 (λ _. new) (λ _. appends by m (step n 2 new 0 none) me new)) (sym is)
-      (appends_one n id me new e stage live fresh names) new_is
 
   -- the history is seen
   pub looks_at : (n id : ℕ) (me : M) → me.0.stage ≡ Holds → me.0.live ≡ true → me.0.old ≡ [] → Allows Rule n id me 2 (λ x. x) (looks by (step n 2 0 0 none) me)

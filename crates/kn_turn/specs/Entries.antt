@@ -1,5 +1,5 @@
 -- Which entries of a list name a pass, and the longer of two lists.
-use Rattle.std.specs.Prelude.{◌≡◌, ℕ, ◌≤◌, ◌==◌, List, [], ◌∷◌, Bool, true, false, filter, length, nat_lt}
+use Rattle.std.specs.Prelude.{ℕ, ◌≤◌, ◌==◌, List, [], ◌∷◌, Bool, true, false, filter, length, nat_lt}
 
 module _ {E : Type 0} where
   -- the entries that name n

@@ -1,6 +1,6 @@
 -- The turn's invariant, and what each kind of step tells.
 -- Word 0 is the next ticket, word 1 the ticket that is served, and word 2, the front, the length of the history.
-use Rattle.std.specs.Prelude.{◌≡◌, ◌≢◌, ◌⊎◌, ℕ, ◌+◌, ◌%◌, ◌^◌, ◌<◌, ◌≤◌, List, [], ◌∷◌, ◌++◌, length, Option, Some, true}
+use Rattle.std.specs.Prelude.{◌≡◌, ◌≢◌, ◌⊎◌, ℕ, ◌+◌, ◌%◌, ◌^◌, ◌<◌, ◌≤◌, List, [], ◌∷◌, length, Option, Some, true}
 use mathlib.Core.Option.{some, none}
 use mathlib.Core.Option as maybe
 use mathlib.Core.List.{IsPrefix}
@@ -81,7 +81,7 @@ module _ {S E : Type 0} where
   abbrev pub takes_value : (S → List E) → Step (Option S) → Sat S E → ℕ → Sat S E → Type 0
   takes_value log st m r m' = (x : S) × (r ≡ length (log x)) × IsPrefix m.0.seen (log x) × (m' ≡ (after_take m.0 (log x), (0, Some x) ∷ m.1))
 
-  -- one more entry joins the history
+  -- more entries join the history
   abbrev pub appends : (E → ℕ) → List E → Step (Option S) → Sat S E → ℕ → Sat S E → Type 0
   appends by more st m r m' = (m' ≡ (after_append m.0 more, m.1)) × IsSoundView by m'.0
 

@@ -57,9 +57,13 @@ module _ {E : Type 0} where
   abbrev pub after_take : PassView E → List E → PassView E
   after_take p log = record p { is_idle = false; taken = log }
 
+  -- after `append_all` of these entries: the turn was had once
+  abbrev pub after_append_all : PassView E → List E → PassView E
+  after_append_all p entries = record p { seen = p.taken ++ entries; mine = p.mine ++ entries; taken = p.taken ++ entries; stops = p.stops ++ (length p.taken + length entries) ∷ [] }
+
   -- after `append` of one entry
   abbrev pub after_append : PassView E → E → PassView E
-  after_append p entry = record p { seen = p.taken ++ entry ∷ []; mine = p.mine ++ entry ∷ []; taken = p.taken ++ entry ∷ []; stops = p.stops ++ (length p.taken + 1) ∷ [] }
+  after_append p entry = after_append_all p (entry ∷ [])
 
   -- after `look`
   abbrev pub after_look : PassView E → PassView E

@@ -52,7 +52,7 @@ impl<S: Logged> Play<Option<S>, View<S::Entry>> for Takes<S> {
     ghost then = { takes_value S.log };
 }
 
-/// What is appended: a list of one entry, which the caller's proof picks.
+/// What is appended: entries that all name one pass, which the caller's proof picks.
 pub trait Addition<E> {
     ghost entries: { List E };
 }
@@ -63,7 +63,7 @@ impl<E> Addition<E> for Brand {
     ghost entries = { [] };
 }
 
-/// One more entry joins the history.
+/// More entries join the history.
 pub struct Appends<S, A> {
     of: PhantomData<(S, A)>,
 }

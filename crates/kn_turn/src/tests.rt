@@ -1,5 +1,5 @@
 //! A list of callers under a turn.
-ghost use Rattle.std.specs.Prelude.{◌≡◌, ◌≢◌, ◌+◌, ◌<◌, ◌++◌, ◌∷◌, [], length, true, All, IfOk, OnErr, OnOk};
+ghost use Rattle.std.specs.Prelude.{◌≡◌, ◌≢◌, ◌+◌, ◌<◌, ◌++◌, ◌∷◌, [], ℕ, length, replicate, true, All, IfOk, OnErr, OnOk};
 ghost use Rattle.kn_turn.specs.Passes.{PassView};
 
 use super::*;
@@ -52,6 +52,34 @@ fn add<R: Wait>(rt: &R, turn: &Turn<Callers>, pass: &mut Pass<Callers>) -> Resul
             Err(NoMemory)
         }
     }
+}
+
+/// Pushes the number so many times, or as often as there is memory for it.
+fn push_many(numbers: &mut List<u32>, number: u32, count: u32)
+    ensures { (times : ℕ) × (numbers.new ≡ numbers.old ++ replicate times number) }
+{
+    for _ in 0..count {
+        if numbers.push(number).is_err() {
+            return;
+        }
+    }
+}
+
+/// Adds the pass's number so many times at one turn, or as often as there is memory for it.
+fn add_at_once<R: Wait>(rt: &R, turn: &Turn<Callers>, pass: &mut Pass<Callers>, count: u32) -> u32
+    requires turn { pass.old.turn ≡ turn.now }
+    requires idle { pass.old.is_idle ≡ true }
+    ensures turn { pass.new.turn ≡ turn.now }
+    ensures idle { pass.new.is_idle ≡ true }
+    ensures number { pass.new.number ≡ pass.old.number }
+    ensures stops { pass.new.stops ≡ pass.old.stops ++ result ∷ [] }
+{
+    let number = pass.number();
+    let mut callers = turn.take(rt, pass);
+    push_many(&mut callers.numbers, number, count);
+    let length = turn.append_all(pass, &callers);
+    turn.give(pass, callers);
+    length
 }
 
 fn add_many<R: Wait>(rt: &R, turn: &Turn<Callers>, pass: &mut Pass<Callers>, count: u32)
@@ -158,15 +186,15 @@ fn passes_in_turn_and_side_by_side(rt: HostRuntime) -> Result<(), Fail> {
     turn.meet(&mut a, &mut b);
     assert_eq!(rt; (a.seen_length(), b.seen_length()), (1, 1));
     assert_eq!(rt; add(&rt, &turn, &mut a), Ok(2));
-    assert_eq!(rt; add(&rt, &turn, &mut b), Ok(3));
-    assert_eq!(rt; a.seen_length(), 2);
+    assert_eq!(rt; add_at_once(&rt, &turn, &mut b, 3), 5);
+    assert_eq!(rt; (a.seen_length(), b.seen_length()), (2, 5));
     add_and_join(&rt, &turn, &mut a, passes, 100);
-    assert_eq!(rt; a.seen_length(), 803);
+    assert_eq!(rt; a.seen_length(), 805);
     turn.join(&mut a, b);
     let callers = turn.take(&rt, &mut a);
-    assert!(rt; callers.numbers.as_slice().starts_with(&[1, 0, 1]));
+    assert!(rt; callers.numbers.as_slice().starts_with(&[1, 0, 1, 1, 1]));
     assert!(rt; each_stands(&callers.numbers, 2, 10, 100));
-    assert_eq!(rt; turn.look(&mut a, &callers), 803);
+    assert_eq!(rt; turn.look(&mut a, &callers), 805);
     turn.give(&mut a, callers);
     Ok(())
 }

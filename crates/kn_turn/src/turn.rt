@@ -1,9 +1,9 @@
 //! The turn: a value in the one slot of a table, and tickets for it.
-ghost use Rattle.std.specs.Prelude.{◌≡◌, ◌≢◌, ◌+◌, ◌<◌, ◌%◌, ◌^◌, ◌++◌, ◌∷◌, [], length, true, false, None, IfOk, OnErr, MatchBool};
+ghost use Rattle.std.specs.Prelude.{◌≡◌, ◌≢◌, ◌+◌, ◌<◌, ◌%◌, ◌^◌, ◌++◌, ◌∷◌, [], List, length, true, false, None, All, IfOk, OnErr, MatchBool};
 ghost use mathlib.Core.List.{IsPrefix};
 ghost use Rattle.kn_turn.specs.declared.view.Stage.TheVariants.{Idle, Waits, Served};
 ghost use Rattle.kn_turn.specs.Invariant.{IsSoundView};
-ghost use Rattle.kn_turn.specs.Passes.{IsSoundPass, root_of, after_take, after_append, after_look, after_give, split_of, after_split, after_join, after_meet};
+ghost use Rattle.kn_turn.specs.Passes.{IsSoundPass, root_of, after_take, after_append, after_append_all, after_look, after_give, split_of, after_split, after_join, after_meet};
 ghost use Rattle.kn_turn.specs.Views.{after_serve};
 
 use crate::logged::Logged;
@@ -156,15 +156,27 @@ impl<S: Logged> Turn<S> {
         ensures length { result ≡ length (S.log value.now) }
         ensures sound { IsSoundPass S.by pass.new }
     {
+        self.append_all(pass, value)
+    }
+
+    /// Makes the value's last entries, all of which name this pass, the last ones of the history, at one turn, and answers its length.
+    pub fn append_all(&self, pass: &mut Pass<S>, value: &S) -> u32
+        requires turn { pass.old.turn ≡ self.now }
+        requires taken { pass.old.is_idle ≡ false }
+        requires more { (entries : List S.Entry) × All (λ entry. S.by entry ≡ pass.old.number) entries × (S.log value.now ≡ pass.old.taken ++ entries) }
+        ensures appended { (entries : List S.Entry) → S.log value.now ≡ pass.old.taken ++ entries → pass.new ≡ after_append_all pass.old entries }
+        ensures length { result ≡ length (S.log value.now) }
+        ensures sound { IsSoundPass S.by pass.new }
+    {
         self.append_as::<Brand>(pass, value)
     }
 
     fn append_as<A: Addition<S::Entry>>(&self, pass: &mut Pass<S>, value: &S) -> u32
         requires turn { pass.old.turn ≡ self.now }
         requires taken { pass.old.is_idle ≡ false }
-        requires more { (entry : S.Entry) × (S.by entry ≡ pass.old.number) × (A.entries ≡ entry ∷ []) }
+        requires named { All (λ entry. S.by entry ≡ pass.old.number) A.entries }
         requires value { S.log value.now ≡ pass.old.taken ++ A.entries }
-        ensures appended { (entry : S.Entry) → A.entries ≡ entry ∷ [] → pass.new ≡ after_append pass.old entry }
+        ensures appended { pass.new ≡ after_append_all pass.old A.entries }
         ensures length { result ≡ length (S.log value.now) }
         ensures sound { IsSoundPass S.by pass.new }
     {

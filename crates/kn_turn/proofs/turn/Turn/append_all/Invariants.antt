@@ -1,5 +1,5 @@
 use Rattle.std.proofs.Common.{drop, length}
-use Rattle.kn_turn.proofs.turn.Turn.append.Given as goal
+use Rattle.kn_turn.proofs.turn.Turn.append_all.Given as goal
 
 -- what the value's list has beyond what was taken
 abbrev pub ghosts-append_as : goal.ghosts-append_as
