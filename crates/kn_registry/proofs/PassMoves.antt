@@ -1,13 +1,13 @@
 -- How the calls of a turn move a pass.
-use Rattle.std.proofs.Common.{◌≡◌, ℕ, ◌+◌, ◌==◌, ◌≤◌, ◌⊎◌, ⊎_elim, Option, Some, List, [], ◌∷◌, ◌++◌, length, true, refl, ap, sym, ◌∙◌, subst, append_assoc, append-nil, arith, length-append}
-use Rattle.std.proofs.lemmas.List.Elements.{filter-append}
+use Rattle.std.proofs.Common.{◌≡◌, ℕ, ◌+◌, ◌==◌, ◌⊎◌, ⊎_elim, Some, List, [], ◌∷◌, ◌++◌, length, true, refl, ap, sym, ◌∙◌, subst, append_assoc, append-nil, arith, length-append, All}
+use Rattle.std.proofs.lemmas.List.Elements.{filter-append, All-nil, All-cons}
 use mathlib.Core.List.{IsPrefix}
 use Rattle.kn_store.specs.declared.update.Update.{Update}
 use Rattle.kn_store.specs.declared.fault.StoreFault.{StoreFault}
 use Rattle.kn_store.specs.declared.fault.StoreFault.TheVariants.{Unknown, LiveFull, BytesFull, HistoryFull, LogFull, NoMemory}
-use Rattle.kn_store.specs.History.{all_changes, update_may_follow, refusal_of_text, refusal_of_id, addition_by, removal_by, own_updates}
-use Rattle.kn_turn.specs.Passes.{after_take, after_look, after_append, after_give}
-use Rattle.kn_registry.specs.Passes.{PassSeen, IsSoundPass, Moves, Looks, Stays, Commits, Adds, Removes, IsRefused, RefusesText, RefusesId}
+use Rattle.kn_store.specs.History.{all_changes, additions, update_may_follow, updates_may_follow, refusal_of_text, refusal_of_id, addition_by, additions_by, removal_by, own_updates, IsFirstRefused}
+use Rattle.kn_turn.specs.Passes.{after_take, after_look, after_append, after_append_all, after_give}
+use Rattle.kn_registry.specs.Passes.{PassSeen, IsSoundPass, Moves, Looks, Stays, Commits, Adds, AddsAll, Removes, RefusesText, RefusesOne, RefusesId}
 
 append_left : {A : Type 0} (xs ys zs : List A) → xs ++ ys ≡ xs ++ zs → ys ≡ zs
 append_left [] ys zs e = e
@@ -69,25 +69,30 @@ stays_of v w l = record {
   moves = l.moves;
 }
 
+-- a turn at which the pass added updates
+appends_once : (v : PassSeen) (before updates : List Update) → (p : IsPrefix v.seen before) → IsSoundPass v → IsSoundPass (after_append_all (after_take v before) updates)
+    → Moves v (after_give (after_append_all (after_take v before) updates)) (p.0 ++ updates) updates (length (before ++ updates) ∷ [])
+appends_once v before updates p sound sound' =
+    let seen : before ++ updates ≡ v.seen ++ (p.0 ++ updates) = ap (λ (l : List Update). l ++ updates) (sym p.1) ∙ append_assoc v.seen p.0 updates in record {
+      number = refl;
+      seen = seen;
+      named = named_more v.number v.seen (p.0 ++ updates) v.mine updates sound.own (ap (own_updates v.number) (sym seen) ∙ sound'.own);
+      mine = refl;
+      stops = ap (λ (n : ℕ). v.stops ++ n ∷ []) (sym (length-append before updates));
+      splits = refl;
+      ended = refl;
+    }
+
 commits_once : (v : PassSeen) (before : List Update) (update : Update) (version : ℕ) → IsPrefix v.seen before → IsSoundPass v → IsSoundPass (after_append (after_take v before) update)
     → update_may_follow (all_changes before) update ≡ true → version ≡ length (before ++ update ∷ []) → Commits v (after_give (after_append (after_take v before) update)) update version
-commits_once v before update version p sound sound' follows version_is =
-    let seen : before ++ update ∷ [] ≡ v.seen ++ (p.0 ++ update ∷ []) = ap (λ (l : List Update). l ++ update ∷ []) (sym p.1) ∙ append_assoc v.seen p.0 (update ∷ []) in record {
-      more = p.0 ++ update ∷ [];
-      before = before;
-      moves = record {
-        number = refl;
-        seen = seen;
-        named = named_more v.number v.seen (p.0 ++ update ∷ []) v.mine (update ∷ []) sound.own (ap (own_updates v.number) (sym seen) ∙ sound'.own);
-        mine = refl;
-        stops = ap (λ (n : ℕ). v.stops ++ n ∷ []) (sym (length-append before (update ∷ [])));
-        splits = refl;
-        ended = refl;
-      };
-      ends = refl;
-      follows = follows;
-      at = version_is;
-    }
+commits_once v before update version p sound sound' follows version_is = record {
+  more = p.0 ++ update ∷ [];
+  before = before;
+  moves = appends_once v before (update ∷ []) p sound sound';
+  ends = refl;
+  follows = follows;
+  at = version_is;
+}
 
 -- a turn at which the pass added an update
 pub commits_of : (v w : PassSeen) (before : List Update) (update : Update) (version : ℕ) → w ≡ after_give (after_append (after_take v before) update) → IsPrefix v.seen before → IsSoundPass v → IsSoundPass w
@@ -107,6 +112,32 @@ pub removes_of : (v w : PassSeen) (before : List Update) (number id version : �
 removes_of v w before number id version is number_is p sound sound' follows version_is =
     subst (λ (n : ℕ). Commits v w (removal_by n id) version) number_is (commits_of v w before (removal_by number id) version is p sound sound' follows version_is)
 
+-- each update that adds one of these texts names the caller
+pub additions_name : (caller n : ℕ) (texts : List (List ℕ)) → All (λ (u : Update). u.caller ≡ caller) (additions_by caller n texts)
+additions_name caller n [] = All-nil (λ (u : Update). u.caller ≡ caller)
+additions_name caller n (text ∷ texts) =
+    All-cons (λ (u : Update). u.caller ≡ caller) (addition_by caller text (n + 1)) (additions_by caller (n + 1) texts) refl (additions_name caller (n + 1) texts)
+
+adds_all_once : (v : PassSeen) (before : List Update) (texts : List (List ℕ)) → IsPrefix v.seen before → IsSoundPass v → IsSoundPass (after_append_all (after_take v before) (additions_by v.number (additions (all_changes before)) texts))
+    → updates_may_follow (all_changes before) (additions_by v.number (additions (all_changes before)) texts) ≡ true → AddsAll v (after_give (after_append_all (after_take v before) (additions_by v.number (additions (all_changes before)) texts))) texts
+adds_all_once v before texts p sound sound' follow =
+    let updates : List Update = additions_by v.number (additions (all_changes before)) texts in record {
+      more = p.0 ++ updates;
+      before = before;
+      moves = appends_once v before updates p sound sound';
+      ends = refl;
+      follow = follow;
+    }
+
+-- a turn at which the pass added texts
+pub adds_all_of : (v w : PassSeen) (before : List Update) (number : ℕ) (texts : List (List ℕ)) → w ≡ after_give (after_append_all (after_take v before) (additions_by number (additions (all_changes before)) texts)) → number ≡ v.number
+    → IsPrefix v.seen before → IsSoundPass v → IsSoundPass w → updates_may_follow (all_changes before) (additions_by number (additions (all_changes before)) texts) ≡ true → AddsAll v w texts
+adds_all_of v w before number texts is number_is p sound sound' follow =
+    let updates = λ (n : ℕ). additions_by n (additions (all_changes before)) texts in
+    let is' : w ≡ after_give (after_append_all (after_take v before) (updates v.number)) = is ∙ ap (λ (n : ℕ). after_give (after_append_all (after_take v before) (updates n))) number_is in
+    subst (λ (x : PassSeen). AddsAll v x texts) (sym is')
+    (adds_all_once v before texts p sound (subst IsSoundPass is' sound') (subst (λ (n : ℕ). updates_may_follow (all_changes before) (updates n) ≡ true) number_is follow))
+
 -- a turn at which a text was refused
 pub refuses_text : (v w : PassSeen) (text : List ℕ) (fault : StoreFault) → Looks v w → (fault ≡ NoMemory) ⊎ (refusal_of_text (all_changes w.seen) text ≡ Some fault) → RefusesText v w text fault
 refuses_text v w text (Unknown id) l why = ⊎_elim (λ (e : Unknown id ≡ NoMemory). absurd (cc e)) (λ (r : refusal_of_text (all_changes w.seen) text ≡ Some (Unknown id)). record { refusal_is = r; looks = l }) why
@@ -124,3 +155,12 @@ refuses_id v w id (BytesFull bytes) l why = ⊎_elim (λ (e : BytesFull bytes �
 refuses_id v w id (HistoryFull updates) l why = ⊎_elim (λ (e : HistoryFull updates ≡ NoMemory). absurd (cc e)) (λ (r : refusal_of_id (all_changes w.seen) id ≡ Some (HistoryFull updates)). record { refusal_is = r; looks = l }) why
 refuses_id v w id (LogFull bytes) l why = ⊎_elim (λ (e : LogFull bytes ≡ NoMemory). absurd (cc e)) (λ (r : refusal_of_id (all_changes w.seen) id ≡ Some (LogFull bytes)). record { refusal_is = r; looks = l }) why
 refuses_id v w id NoMemory l why = stays_of v w l
+
+-- a turn at which one of many texts was refused
+pub refuses_one : (v w : PassSeen) (texts : List (List ℕ)) (place : ℕ) (fault : StoreFault) → Looks v w → (fault ≡ NoMemory) ⊎ IsFirstRefused w.seen v.number texts place fault → RefusesOne v w texts place fault
+refuses_one v w texts place (Unknown id) l why = ⊎_elim (λ (e : Unknown id ≡ NoMemory). absurd (cc e)) (λ (r : IsFirstRefused w.seen v.number texts place (Unknown id)). record { first = r; looks = l }) why
+refuses_one v w texts place (LiveFull count) l why = ⊎_elim (λ (e : LiveFull count ≡ NoMemory). absurd (cc e)) (λ (r : IsFirstRefused w.seen v.number texts place (LiveFull count)). record { first = r; looks = l }) why
+refuses_one v w texts place (BytesFull bytes) l why = ⊎_elim (λ (e : BytesFull bytes ≡ NoMemory). absurd (cc e)) (λ (r : IsFirstRefused w.seen v.number texts place (BytesFull bytes)). record { first = r; looks = l }) why
+refuses_one v w texts place (HistoryFull updates) l why = ⊎_elim (λ (e : HistoryFull updates ≡ NoMemory). absurd (cc e)) (λ (r : IsFirstRefused w.seen v.number texts place (HistoryFull updates)). record { first = r; looks = l }) why
+refuses_one v w texts place (LogFull bytes) l why = ⊎_elim (λ (e : LogFull bytes ≡ NoMemory). absurd (cc e)) (λ (r : IsFirstRefused w.seen v.number texts place (LogFull bytes)). record { first = r; looks = l }) why
+refuses_one v w texts place NoMemory l why = stays_of v w l

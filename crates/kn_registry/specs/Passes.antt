@@ -4,7 +4,7 @@ use Rattle.atomic_table.specs.Seated.{TableId}
 use Rattle.kn_store.specs.declared.update.Update.{Update}
 use Rattle.kn_store.specs.declared.fault.StoreFault.{StoreFault}
 use Rattle.kn_store.specs.declared.fault.StoreFault.TheVariants.{Unknown, LiveFull, BytesFull, HistoryFull, LogFull, NoMemory}
-use Rattle.kn_store.specs.History.{all_changes, is_valid_history, update_may_follow, refusal_of_text, refusal_of_id, addition_by, removal_by, own_updates}
+use Rattle.kn_store.specs.History.{all_changes, additions, is_valid_history, update_may_follow, updates_may_follow, refusal_of_text, refusal_of_id, addition_by, additions_by, removal_by, own_updates, IsFirstRefused}
 use Rattle.kn_turn.specs.Passes.{PassView}
 use Rattle.kn_turn.specs.Passes as T
 use Rattle.kn_registry.specs.Callers.{caller_of}
@@ -62,6 +62,14 @@ Adds old new text id version = Commits old new (addition_by old.number text id) 
 abbrev pub Removes : PassSeen → PassSeen → ℕ → ℕ → Type 0
 Removes old new id version = Commits old new (removal_by old.number id) version
 
+-- these texts were added one after the other, each by an update of the pass's own, as the last updates of all that is then seen
+pub record AddsAll (old new : PassSeen) (texts : List (List ℕ)) : Type 0 where
+  pub more : List Update
+  pub before : List Update
+  pub moves : Moves old new more (additions_by old.number (additions (all_changes before)) texts) (length new.seen ∷ [])
+  pub ends : new.seen ≡ before ++ additions_by old.number (additions (all_changes before)) texts
+  pub follow : updates_may_follow (all_changes before) (additions_by old.number (additions (all_changes before)) texts) ≡ true
+
 -- the change was refused at what is then seen; without memory it wasn't tried
 pub record IsRefused (refusal : Option StoreFault) (fault : StoreFault) (old new : PassSeen) : Type 0 where
   pub refusal_is : refusal ≡ Some fault
@@ -74,6 +82,20 @@ RefusesText old new text (LiveFull count) = IsRefused (refusal_of_text (all_chan
 RefusesText old new text (BytesFull bytes) = IsRefused (refusal_of_text (all_changes new.seen) text) (BytesFull bytes) old new
 RefusesText old new text (HistoryFull updates) = IsRefused (refusal_of_text (all_changes new.seen) text) (HistoryFull updates) old new
 RefusesText old new text (LogFull bytes) = IsRefused (refusal_of_text (all_changes new.seen) text) (LogFull bytes) old new
+
+-- none of the texts was added, since the one at this place is the first that is refused at what is then seen
+pub record IsOneRefused (old new : PassSeen) (texts : List (List ℕ)) (place : ℕ) (fault : StoreFault) : Type 0 where
+  pub first : IsFirstRefused new.seen old.number texts place fault
+  pub looks : Looks old new
+
+-- so it was; without memory none was tried
+abbrev pub RefusesOne : PassSeen → PassSeen → List (List ℕ) → ℕ → StoreFault → Type 0
+RefusesOne old new texts place NoMemory = Stays old new
+RefusesOne old new texts place (Unknown id) = IsOneRefused old new texts place (Unknown id)
+RefusesOne old new texts place (LiveFull count) = IsOneRefused old new texts place (LiveFull count)
+RefusesOne old new texts place (BytesFull bytes) = IsOneRefused old new texts place (BytesFull bytes)
+RefusesOne old new texts place (HistoryFull updates) = IsOneRefused old new texts place (HistoryFull updates)
+RefusesOne old new texts place (LogFull bytes) = IsOneRefused old new texts place (LogFull bytes)
 
 abbrev pub RefusesId : PassSeen → PassSeen → ℕ → StoreFault → Type 0
 RefusesId old new id NoMemory = Stays old new

@@ -1,13 +1,13 @@
 //! The registry, and its calls.
-ghost use Rattle.std.specs.Prelude.{◌≡◌, ◌≢◌, ◌<◌, ◌++◌, ◌∷◌, [], true, false, IfOk, IfErr, OnErr};
+ghost use Rattle.std.specs.Prelude.{◌≡◌, ◌≢◌, ◌<◌, ◌++◌, ◌∷◌, [], true, false, All, IfOk, IfErr, OnOk, OnErr};
 ghost use mathlib.Core.List.{IsPrefix};
 ghost use Rattle.std.specs.Arc.{arc_value};
 ghost use Rattle.kn_store.specs.declared.update.Update.{Update};
 ghost use Rattle.kn_store.specs.History.{is_valid_history};
-ghost use Rattle.kn_turn.specs.Passes.{root_of, split_of, after_give, after_look, after_append, after_split, after_join, after_meet};
-ghost use Rattle.kn_registry.specs.Passes.{IsReady, IsSoundPass, Looks, Stays, Adds, Removes, RefusesText, RefusesId};
+ghost use Rattle.kn_turn.specs.Passes.{root_of, split_of, after_give, after_look, after_append, after_append_all, after_split, after_join, after_meet};
+ghost use Rattle.kn_registry.specs.Passes.{IsReady, IsSoundPass, Looks, Stays, Adds, AddsAll, Removes, RefusesText, RefusesOne, RefusesId};
 
-use kn_base::NoMemory;
+use kn_base::{List, NoMemory};
 use kn_store::{Book, Ready, Snapshot, StoreFault, Update};
 use kn_turn::{Logged, Turn};
 use std::alloc::{AllocError, Global};
@@ -118,6 +118,32 @@ impl Registry {
         }
     }
 
+    /// Adds texts, each by an update of its own, at one turn; or none of them where one is refused: then its place is told, counted from 0.
+    pub fn add_all<R: Wait>(
+        &self,
+        rt: &R,
+        pass: &mut Pass,
+        readies: List<Ready>,
+    ) -> Result<(), (u32, StoreFault)>
+        requires ready { IsReady self.now pass.old }
+        ensures ready { IsReady self.now pass.new }
+        ensures sound { IsSoundPass pass.new }
+        ensures added { OnOk result (AddsAll pass.old pass.new readies) }
+        ensures refused { IfErr result (λ refused. RefusesOne pass.old pass.new readies refused.0 refused.1) }
+    {
+        let mut shared = self.turn.take(rt, pass);
+        match shared.book.add_all(pass.number(), readies) {
+            Ok(()) => {
+                self.append_all(pass, shared);
+                Ok(())
+            }
+            Err(refused) => {
+                self.look(pass, shared);
+                Err(refused)
+            }
+        }
+    }
+
     /// Removes the credential of this id, and answers the version without it.
     pub fn drop_id<R: Wait>(&self, rt: &R, pass: &mut Pass, id: u32) -> Result<u32, StoreFault>
         requires ready { IsReady self.now pass.old }
@@ -167,6 +193,21 @@ impl Registry {
         // what the length tells with it is that the history is valid
         let _length = shared.book.length();
         self.turn.append(pass, &shared);
+        self.turn.give(pass, shared);
+    }
+
+    /// Makes the book's last updates, all of which name this pass, the last ones of all, and gives the book back.
+    fn append_all(&self, pass: &mut Pass, shared: SharedBook)
+        requires turn { pass.old.turn ≡ self.now }
+        requires taken { pass.old.is_idle ≡ false }
+        requires more { (updates : List Update) × All (λ update. update.caller ≡ pass.old.number) updates × (shared ≡ pass.old.taken ++ updates) }
+        ensures appended { (updates : List Update) → shared ≡ pass.old.taken ++ updates → pass.new ≡ after_give (after_append_all pass.old updates) }
+        ensures valid { is_valid_history pass.new.seen ≡ true }
+        ensures sound { IsSoundPass pass.new }
+    {
+        // what the length tells with it is that the history is valid
+        let _length = shared.book.length();
+        self.turn.append_all(pass, &shared);
         self.turn.give(pass, shared);
     }
 
