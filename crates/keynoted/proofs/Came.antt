@@ -27,8 +27,7 @@ use Rattle.kn_commands.specs.declared.ending.Source.{Source}
 use Rattle.kn_commands.specs.declared.ending.Source.TheVariants.{Policy, Script as TheScript, Reply}
 use Rattle.kn_commands.specs.Names.{AskNames, CheckNames}
 use Rattle.kn_commands.specs.Held.{HasContent, IsTooLarge, AreKeys}
-use Rattle.kn_commands.specs.Loaded.{IsLimitAt}
-use Rattle.kn_commands.specs.Stopping.{policy_fault_line, limit_line}
+use Rattle.kn_commands.specs.Stopping.{IsLimitAt, policy_fault_line, limit_line}
 use Rattle.kn_commands.specs.Asking.{status_of_ended}
 use Rattle.kn_commands.specs.Checking.{HasQuery, Reached, name_of, IsFaultyText, IsUnprovedText}
 use Rattle.kn_commands.specs.declared.generating.GenNumbers.{GenNumbers}

@@ -15,8 +15,7 @@ use Rattle.kn_store.specs.Loading.{IsFaultyAt}
 use Rattle.kn_commands.specs.declared.stop.Stop.TheVariants.{KeyLine}
 use Rattle.kn_commands.specs.Names.{AskNames, CheckNames, in_order}
 use Rattle.kn_commands.specs.Held.{IsTooLarge, IsPolicy, IsFileRead}
-use Rattle.kn_commands.specs.Loaded.{IsLimitAt}
-use Rattle.kn_commands.specs.Stopping.{policy_fault_line, limit_line, keys_line}
+use Rattle.kn_commands.specs.Stopping.{IsLimitAt, policy_fault_line, limit_line, keys_line}
 use Rattle.kn_commands.specs.Asking.{IsLinkAnswered, AreKeysStopped, status_of_ended, line_of_ended}
 use Rattle.kn_commands.specs.Checking.{IsTried, IsFaultyText, IsUnprovedText, IsProvedText, HasQuery, HasNoQuery, text_line, reject_line, proved_line}
 use Rattle.kn_commands.specs.Generating.{IsGenLine}

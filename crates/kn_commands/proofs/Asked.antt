@@ -19,11 +19,14 @@ use Rattle.kn_serve.specs.Serving.{Serves, is_over, IsOrderly, IsFaultless}
 use Rattle.kn_commands.specs.declared.stop.Stop.{Stop}
 use Rattle.kn_commands.specs.declared.stop.Stop.TheVariants.{Words, FileFailed, FileTooLarge, Policy, Limit, KeyLine, Memory}
 use Rattle.kn_commands.specs.Names.{AskNames}
-use Rattle.kn_commands.specs.Held.{HasContent, IsPolicy, AreKeys}
-use Rattle.kn_commands.specs.Loaded.{StopsLoading}
-use Rattle.kn_commands.specs.Stopping.{IsUnread}
+use Rattle.kn_commands.specs.Held.{HasContent, IsPolicy, AreKeys, IsFileRead}
+use Rattle.kn_load.specs.Loaded.{StopsLoading}
+use Rattle.kn_load.specs.declared.fault.LoadFault.{LoadFault}
+use Rattle.kn_load.specs.declared.fault.LoadFault.TheVariants as L
+use Rattle.kn_store.specs.declared.fault.StoreFault.TheVariants as F
+use Rattle.kn_load.proofs.Alone.{alone}
+use Rattle.kn_commands.specs.Stopping.{IsUnread, stop_of}
 use Rattle.kn_commands.specs.Asking.{IsLinkServed, IsLinkAnswered, StopsAtPolicy, StopsAtKeys, AreKeysStopped, grounds_of}
-use Rattle.kn_commands.proofs.Alone.{alone}
 use Rattle.kn_commands.proofs.Files.{content_there, too_large_there, keeps_content, asked_both, failed_behind, asked_nothing}
 
 -- a policy file that isn't read stops the command
@@ -37,14 +40,22 @@ unread_policy f f' name (Limit n word count) unread = absurd unread
 unread_policy f f' name (KeyLine n) unread = absurd unread
 
 -- and so does one that isn't loaded
-pub unloaded_policy : (f f' : FilesSeen) (name bytes : List ℕ) (stop : Stop) → HasAsked (name ∷ []) f f' → HasContent f name bytes → StopsLoading (pieces_of bytes) stop → StopsAtPolicy f f' name stop
-unloaded_policy f f' name bytes (Policy n fault) asked has stops = (bytes, record { asked = asked; content = has }, stops)
-unloaded_policy f f' name bytes (Limit n word count) asked has stops = (bytes, record { asked = asked; content = has }, stops)
-unloaded_policy f f' name bytes Memory asked has stops = inr asked
-unloaded_policy f f' name bytes FileFailed asked has stops = absurd stops
-unloaded_policy f f' name bytes FileTooLarge asked has stops = absurd stops
-unloaded_policy f f' name bytes Words asked has stops = absurd stops
-unloaded_policy f f' name bytes (KeyLine n) asked has stops = absurd stops
+pub unloaded_policy : (f f' : FilesSeen) (name bytes : List ℕ) (fault : LoadFault) (stop : Stop) → stop ≡ stop_of fault → HasAsked (name ∷ []) f f' → HasContent f name bytes →
+    StopsLoading (pieces_of bytes) fault → StopsAtPolicy f f' name stop
+unloaded_policy f f' name bytes fault stop is asked has stops = subst (StopsAtPolicy f f' name) (sym is) (by fault stops)
+  where
+    read : IsFileRead name f f' bytes
+    read = record { asked = asked; content = has }
+
+    by : (why : LoadFault) → StopsLoading (pieces_of bytes) why → StopsAtPolicy f f' name (stop_of why)
+    by (L.Faulty n fault) found = (bytes, read, found)
+    by (L.Full n (F.LiveFull count)) found = (bytes, read, record { refusal = F.LiveFull count; full = found; told = refl })
+    by (L.Full n (F.BytesFull count)) found = (bytes, read, record { refusal = F.BytesFull count; full = found; told = refl })
+    by (L.Full n (F.HistoryFull count)) found = (bytes, read, record { refusal = F.HistoryFull count; full = found; told = refl })
+    by (L.Full n (F.LogFull count)) found = (bytes, read, record { refusal = F.LogFull count; full = found; told = refl })
+    by (L.Full n (F.Unknown id)) found = inr asked
+    by (L.Full n F.NoMemory) found = inr asked
+    by L.NoMemory found = inr asked
 
 -- a key file that isn't read stops the command
 pub unread_keys : (f f' : FilesSeen) (name : List ℕ) (stop : Stop) → IsUnread f f' name stop → StopsAtKeys f f' [] name stop

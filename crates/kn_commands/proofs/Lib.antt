@@ -1,6 +1,3 @@
-pub mod Alone
-pub mod Loaded
-pub mod DraftLaws
 pub mod Files
 pub mod Printed
 pub mod Told

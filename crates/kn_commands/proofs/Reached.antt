@@ -12,9 +12,12 @@ use Rattle.kn_commands.specs.declared.ending.Source.TheVariants.{Policy, Script 
 use Rattle.kn_commands.specs.declared.ending.Ending.{Ending}
 use Rattle.kn_commands.specs.declared.ending.Ending.TheVariants.{Stopped, NoQuery, Faulty, Rejected, Proved}
 use Rattle.kn_commands.specs.Names.{CheckNames, in_order}
-use Rattle.kn_commands.specs.Held.{HasContent}
-use Rattle.kn_commands.specs.Loaded.{StopsLoading}
-use Rattle.kn_commands.specs.Stopping.{IsUnread}
+use Rattle.kn_commands.specs.Held.{HasContent, IsFileRead}
+use Rattle.kn_load.specs.Loaded.{StopsLoading}
+use Rattle.kn_load.specs.declared.fault.LoadFault.{LoadFault}
+use Rattle.kn_load.specs.declared.fault.LoadFault.TheVariants as L
+use Rattle.kn_store.specs.declared.fault.StoreFault.TheVariants as F
+use Rattle.kn_commands.specs.Stopping.{IsUnread, stop_of}
 use Rattle.kn_commands.specs.Checking.{name_of, count_before, count_to, Reached, HasComeTo, StopsCheckAt, ReplyShows, IsTried, CheckCause}
 use Rattle.kn_commands.proofs.Files.{too_large_there, keeps_content, asked_both, failed_behind}
 
@@ -50,15 +53,22 @@ unread_stops f f' f'' names source (Limit n word count) before reached unread = 
 unread_stops f f' f'' names source (KeyLine n) before reached unread = absurd unread
 
 -- and so does a policy that isn't loaded
-pub load_stops : (f f' : FilesSeen) (names : CheckNames) (bytes : List ℕ) (stop : Stop) → HasAsked (names.policy ∷ []) f f' → HasContent f names.policy bytes →
-    StopsLoading (pieces_of bytes) stop → StopsCheckAt f f' names Policy stop
-load_stops f f' names bytes (S.Policy n fault) asked has stops = (refl, bytes, record { asked = asked; content = has }, stops)
-load_stops f f' names bytes (Limit n word count) asked has stops = (refl, bytes, record { asked = asked; content = has }, stops)
-load_stops f f' names bytes Memory asked has stops = (tt, inr asked)
-load_stops f f' names bytes Words asked has stops = absurd stops
-load_stops f f' names bytes FileFailed asked has stops = absurd stops
-load_stops f f' names bytes FileTooLarge asked has stops = absurd stops
-load_stops f f' names bytes (KeyLine n) asked has stops = absurd stops
+pub load_stops : (f f' : FilesSeen) (names : CheckNames) (bytes : List ℕ) (fault : LoadFault) (stop : Stop) → stop ≡ stop_of fault → HasAsked (names.policy ∷ []) f f' →
+    HasContent f names.policy bytes → StopsLoading (pieces_of bytes) fault → StopsCheckAt f f' names Policy stop
+load_stops f f' names bytes fault stop is asked has stops = subst (StopsCheckAt f f' names Policy) (sym is) (by fault stops)
+  where
+    read : IsFileRead names.policy f f' bytes
+    read = record { asked = asked; content = has }
+
+    by : (why : LoadFault) → StopsLoading (pieces_of bytes) why → StopsCheckAt f f' names Policy (stop_of why)
+    by (L.Faulty n fault) found = (refl, bytes, read, found)
+    by (L.Full n (F.LiveFull count)) found = (refl, bytes, read, record { refusal = F.LiveFull count; full = found; told = refl })
+    by (L.Full n (F.BytesFull count)) found = (refl, bytes, read, record { refusal = F.BytesFull count; full = found; told = refl })
+    by (L.Full n (F.HistoryFull count)) found = (refl, bytes, read, record { refusal = F.HistoryFull count; full = found; told = refl })
+    by (L.Full n (F.LogFull count)) found = (refl, bytes, read, record { refusal = F.LogFull count; full = found; told = refl })
+    by (L.Full n (F.Unknown id)) found = (tt, inr asked)
+    by (L.Full n F.NoMemory) found = (tt, inr asked)
+    by L.NoMemory found = (tt, inr asked)
 
 -- a text that shows how the run ends
 pub shown_cause : (f f' : FilesSeen) (names : CheckNames) (session : Session) (values : List (List ℕ)) (text : List ℕ) (ending : Ending) → IsTried f f' names session values text →

@@ -19,8 +19,7 @@ use Rattle.kn_daemon.specs.declared.ended.Ended.TheVariants as E
 use Rattle.kn_serve.specs.Serving.{is_over, HasCause, IsOrderly, IsFaultless}
 use Rattle.kn_commands.specs.Names.{AskNames, ask_order}
 use Rattle.kn_commands.specs.Held.{HasContent, IsTooLarge, IsPolicy, AreKeys, IsFileRead}
-use Rattle.kn_commands.specs.Loaded.{IsLimitAt}
-use Rattle.kn_commands.specs.Stopping.{status_of, stop_line}
+use Rattle.kn_commands.specs.Stopping.{IsLimitAt, status_of, stop_line}
 use Rattle.kn_commands.specs.declared.stop.Stop.{Stop}
 use Rattle.kn_commands.specs.declared.stop.Stop.TheVariants.{FileFailed, FileTooLarge, Policy, Limit, KeyLine, Memory}
 use Rattle.kn_commands.specs.declared.ask_ending.AskEnding.{AskEnding}

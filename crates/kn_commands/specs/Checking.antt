@@ -23,9 +23,8 @@ use Rattle.kn_commands.specs.declared.ending.Source.TheVariants.{Policy, Script 
 use Rattle.kn_commands.specs.declared.ending.Ending.{Ending}
 use Rattle.kn_commands.specs.declared.ending.Ending.TheVariants.{Stopped, NoQuery, Faulty, Rejected, Proved}
 use Rattle.kn_commands.specs.Names.{CheckNames, in_order}
-use Rattle.kn_commands.specs.Loaded.{IsLimitAt}
 use Rattle.kn_commands.specs.Held.{HasContent, IsTooLarge, IsPolicy, IsFileRead}
-use Rattle.kn_commands.specs.Stopping.{stop_line, status_of}
+use Rattle.kn_commands.specs.Stopping.{IsLimitAt, stop_line, status_of}
 
 -- the files hold a policy, and a script that means this query over it
 pub record HasQuery (f : FilesSeen) (names : CheckNames) (session : Session) (values : List (List ℕ)) : Type 0 where

@@ -1,7 +1,5 @@
 pub mod Names
 pub mod Held
-pub mod Drafting
-pub mod Loaded
 pub mod Stopping
 pub mod Asking
 pub mod Checking

@@ -1,12 +1,20 @@
 -- What stops a command before its work is done: its status, and the line that tells it (keynoted's own).
-use Rattle.std.specs.Prelude.{ℕ, ◌≡◌, List, [], ◌∷◌, ◌++◌, codes, decimal}
+use Rattle.std.specs.Prelude.{ℕ, ◌≡◌, List, [], ◌∷◌, ◌++◌, codes, decimal, Some}
 use Rattle.std.specs.Option.{unwrap_or}
 use Rattle.kn_outside.specs.Seen.{FilesSeen}
 use Rattle.kn_outside.specs.Asked.{HasAsked, HasFailed}
 use Rattle.kn_fields.specs.declared.fault.ReadFault.{ReadFault}
 use Rattle.kn_fields.specs.Numbers.{fault_number, fault_place}
+use Rattle.kn_store.specs.declared.fault.StoreFault.{StoreFault}
+use Rattle.kn_store.specs.declared.fault.StoreFault.TheVariants as F
+use Rattle.kn_store.specs.Loading.{IsFullAt}
+use Rattle.kn_load.specs.declared.fault.LoadFault.{LoadFault}
+use Rattle.kn_load.specs.declared.fault.LoadFault.TheVariants as L
 use Rattle.kn_reply.specs.declared.refusal.LimitWord.{LimitWord}
+use Rattle.kn_reply.specs.declared.refusal.LimitWord.TheVariants as W
+use Rattle.kn_reply.specs.declared.refusal.Refusal.TheVariants.{Limit as TheLimit}
 use Rattle.kn_reply.specs.Replies.{word_text}
+use Rattle.kn_daemon.specs.Daemon.{refusal_of_store}
 use Rattle.kn_commands.specs.Held.{IsTooLarge}
 use Rattle.kn_commands.specs.declared.stop.Stop.{Stop}
 use Rattle.kn_commands.specs.declared.stop.Stop.TheVariants.{Words, FileFailed, FileTooLarge, Policy, Limit, KeyLine, Memory}
@@ -20,6 +28,22 @@ IsUnread f f' name Words = ⊥
 IsUnread f f' name (Policy n fault) = ⊥
 IsUnread f f' name (Limit n word count) = ⊥
 IsUnread f f' name (KeyLine n) = ⊥
+
+-- the n-th text is the first that isn't added, for the limit of this word, where the counted quantity was this
+pub record IsLimitAt (texts : List (List ℕ)) (n : ℕ) (word : LimitWord) (count : ℕ) : Type 0 where
+  pub refusal : StoreFault
+  pub full : IsFullAt texts n refusal
+  pub told : refusal_of_store refusal ≡ Some (TheLimit word count)
+
+-- what stops a command whose policy isn't loaded for this; no text is refused for an unknown id
+abbrev pub stop_of : LoadFault → Stop
+stop_of (L.Faulty n fault) = Policy n fault
+stop_of (L.Full n (F.LiveFull count)) = Limit n W.Live count
+stop_of (L.Full n (F.BytesFull bytes)) = Limit n W.LiveBytes bytes
+stop_of (L.Full n (F.HistoryFull updates)) = Limit n W.Updates updates
+stop_of (L.Full n (F.LogFull bytes)) = Limit n W.LogBytes bytes
+stop_of (L.Full n refusal) = Memory
+stop_of L.NoMemory = Memory
 
 abbrev pub status_of : Stop → ℕ
 status_of Words = 1

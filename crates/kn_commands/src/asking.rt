@@ -5,15 +5,15 @@ ghost use Rattle.kn_outside.specs.Seen.{FilesSeen};
 ghost use Rattle.kn_outside.specs.Asked.{HasAsked};
 ghost use Rattle.kn_store.specs.History.{loaded_history};
 ghost use Rattle.kn_commands.specs.Held.{IsPolicy, AreKeys};
-ghost use Rattle.kn_commands.specs.Loaded.{IsLoaded};
+ghost use Rattle.kn_load.specs.Loaded.{IsLoaded};
 ghost use Rattle.kn_commands.specs.Asking.{AskCause, IsLinkServed, StopsAtKeys, grounds_of};
 
 use crate::ask_ending::AskEnding;
 use crate::content::read_file;
-use crate::load::load;
 use crate::stop::Stop;
 use kn_auth::{KeyFault, KeyFile, read_keys};
 use kn_daemon::laws::served_alone;
+use kn_load::load_file;
 use kn_outside::{Files, Gate, Link};
 use kn_registry::{Pass, Registry};
 use kn_serve::{Ended, serve_connection};
@@ -57,14 +57,14 @@ pub fn ask<R: Threads + Wait + Sync, F: Files, L: Link, G: Gate>(
         Ok(file) => file,
         Err(stop) => return AskEnding::PolicyStopped(stop),
     };
-    match load(rt, alloc, file.as_slice()) {
+    match load_file(rt, alloc, file.as_slice()) {
         Ok((registry, root)) => {
             let ending = ask_loaded(rt, alloc, &registry, root, names, files, own, gate);
             // the program ends behind this, and the system takes all memory back at once
             mem::forget(registry);
             ending
         }
-        Err(stop) => AskEnding::PolicyStopped(stop),
+        Err(fault) => AskEnding::PolicyStopped(Stop::from(fault)),
     }
 }
 

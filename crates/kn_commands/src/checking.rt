@@ -8,15 +8,15 @@ ghost use Rattle.kn_session.specs.Sessions.{Session, session_in};
 ghost use Rattle.kn_session.specs.Views.{session_of_view, AreReadPrivates, ArePrivates};
 ghost use Rattle.kn_commands.specs.Held.{HasContent};
 ghost use Rattle.kn_commands.specs.Names.{in_order};
-ghost use Rattle.kn_commands.specs.Loaded.{IsLoaded};
+ghost use Rattle.kn_load.specs.Loaded.{IsLoaded};
 ghost use Rattle.kn_commands.specs.Checking.{CheckCause, HasQuery, ReplyShows, ending_of_fault, name_of};
 
 use crate::content::read_file;
 use crate::ending::{Ending, Source};
-use crate::load::load;
 use crate::stop::Stop;
 use kn_base::NoMemory;
 use kn_env::Values;
+use kn_load::load_file;
 use kn_outside::Files;
 use kn_play::{Meant, find_query};
 use kn_proof::{ProofFault, read_reply};
@@ -73,9 +73,12 @@ pub fn check<R: Threads + Wait + Sync, F: Files>(
         Ok(file) => file,
         Err(stop) => return Ending::Stopped { source, stop },
     };
-    match load(rt, alloc, file.as_slice()) {
+    match load_file(rt, alloc, file.as_slice()) {
         Ok((registry, root)) => check_script(rt, alloc, &registry, root, names, files),
-        Err(stop) => Ending::Stopped { source, stop },
+        Err(fault) => {
+            let stop = Stop::from(fault);
+            Ending::Stopped { source, stop }
+        }
     }
 }
 

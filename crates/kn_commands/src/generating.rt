@@ -1,16 +1,13 @@
 //! Generating credentials, adding them to a new registry, and settling one query over them.
-ghost use Rattle.std.specs.Prelude.{◌<◌, ◌≤◌, [], length, IfOk, IfErr, OnOk};
+ghost use Rattle.std.specs.Prelude.{◌<◌, ◌≤◌, length, IfOk};
 ghost use Rattle.kn_base.specs.declared.limits.TheConstants.{GENERATED_CREDENTIALS};
 ghost use Rattle.kn_generate.specs.Generated.{generated_query, generated_values};
 ghost use Rattle.kn_generate.specs.Measured.{IsMeasured};
-ghost use Rattle.kn_commands.specs.Loaded.{IsLoaded, StopsLoading};
 
-use crate::load::add;
-use crate::stop::Stop;
-use kn_base::{List, NoMemory, Octets};
+use kn_base::NoMemory;
 use kn_generate::laws::generated_texts_load;
 use kn_generate::{Measured, generate_texts, measure};
-use kn_registry::{Pass, Registry};
+use kn_load::{LoadFault, load_texts};
 use kn_store::laws::loading_ends;
 use std::alloc::Global;
 use std::sync::Wait;
@@ -36,35 +33,11 @@ pub fn generate<R: Wait>(rt: &R, alloc: Global, numbers: GenNumbers) -> Result<M
     generated_texts_load();
     loading_ends();
     let texts = generate_texts(alloc, numbers.start, numbers.count)?;
-    let (registry, mut root) = Registry::start(alloc)?;
-    match add_texts(rt, alloc, &registry, &mut root, &texts) {
-        Ok(()) => {}
-        Err(Stop::Memory) => return Err(NoMemory),
+    let (registry, mut root) = match load_texts(rt, alloc, &texts) {
+        Ok(made) => made,
+        Err(LoadFault::NoMemory) => return Err(NoMemory),
         Err(_) => unreachable!(),
-    }
+    };
     let snapshot = registry.pin(rt, &mut root)?;
     measure(alloc, &snapshot, numbers.count)
-}
-
-/// Adds the assertions of texts, in their order.
-fn add_texts<R: Wait>(
-    rt: &R,
-    alloc: Global,
-    registry: &Registry,
-    root: &mut Pass,
-    texts: &List<Octets>,
-) -> Result<(), Stop>
-    requires none { IsLoaded [] registry.now root.old }
-    ensures loaded { OnOk result (IsLoaded texts.now registry.now root.new) }
-    ensures stopped { IfErr result (λ stop. StopsLoading texts.now stop) }
-{
-    let items = texts.as_slice();
-    for place in 0..texts.len() {
-        let text = items[place as usize].as_slice();
-        match add(rt, alloc, registry, root, text, place + 1) {
-            Ok(()) => {}
-            Err(stop) => return Err(stop),
-        }
-    }
-    Ok(())
 }

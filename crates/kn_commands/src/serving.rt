@@ -6,16 +6,17 @@ ghost use Rattle.kn_outside.specs.Seen.{FilesSeen};
 ghost use Rattle.kn_outside.specs.Asked.{HasAsked};
 ghost use Rattle.kn_store.specs.History.{loaded_history};
 ghost use Rattle.kn_commands.specs.Held.{IsPolicy};
-ghost use Rattle.kn_commands.specs.Loaded.{IsLoaded};
+ghost use Rattle.kn_load.specs.Loaded.{IsLoaded};
 ghost use Rattle.kn_commands.specs.Asking.{grounds_of};
 ghost use Rattle.kn_commands.specs.Serving.{ServeCause, ServesOver};
 
 use crate::asking::keys_of;
 use crate::content::read_file;
-use crate::load::load;
 use crate::serve_ending::ServeEnding;
 use crate::service::Service;
+use crate::stop::Stop;
 use kn_auth::KeyFile;
+use kn_load::load_file;
 use kn_outside::{Files, Gate};
 use kn_registry::{Pass, Registry};
 use kn_workers::{BindFault, Door, Net, serve_all};
@@ -48,11 +49,11 @@ where
         Ok(file) => file,
         Err(stop) => return ServeEnding::PolicyStopped(stop),
     };
-    match load(rt, alloc, file.as_slice()) {
+    match load_file(rt, alloc, file.as_slice()) {
         Ok((registry, root)) => {
             serve_loaded(rt, alloc, &registry, root, service, files, net, gate)
         }
-        Err(stop) => ServeEnding::PolicyStopped(stop),
+        Err(fault) => ServeEnding::PolicyStopped(Stop::from(fault)),
     }
 }
 

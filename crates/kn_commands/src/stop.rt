@@ -2,7 +2,9 @@
 ghost use Rattle.std.specs.Prelude.{◌≡◌};
 
 use kn_assert::ReadFault;
+use kn_load::LoadFault;
 use kn_reply::LimitWord;
+use kn_store::StoreFault;
 
 /// What stops a command before its work is done.
 #[derive(Debug, Clone, Copy, PartialEq, Eq)]
@@ -46,6 +48,34 @@ impl Stop {
             Stop::Policy { .. } | Stop::Limit { .. } => 3,
             Stop::KeyLine { .. } => 8,
             Stop::Memory => 5,
+        }
+    }
+}
+
+impl From<LoadFault> for Stop {
+    ghost use Rattle.std.specs.Prelude.{◌≡◌};
+    ghost use Rattle.kn_commands.specs.Stopping.{stop_of};
+
+    ghost from_gives = { λ fault stop. stop ≡ stop_of fault };
+
+    fn from(fault: LoadFault) -> Stop {
+        let (assertion, refusal) = match fault {
+            LoadFault::Faulty { assertion, fault } => return Stop::Policy { assertion, fault },
+            LoadFault::Full { assertion, refusal } => (assertion, refusal),
+            LoadFault::NoMemory => return Stop::Memory,
+        };
+        let (word, count) = match refusal {
+            StoreFault::LiveFull { count } => (LimitWord::Live, count),
+            StoreFault::BytesFull { bytes } => (LimitWord::LiveBytes, bytes),
+            StoreFault::HistoryFull { updates } => (LimitWord::Updates, updates),
+            StoreFault::LogFull { bytes } => (LimitWord::LogBytes, bytes),
+            // no text is refused for these
+            StoreFault::Unknown { .. } | StoreFault::NoMemory => return Stop::Memory,
+        };
+        Stop::Limit {
+            assertion,
+            word,
+            count,
         }
     }
 }

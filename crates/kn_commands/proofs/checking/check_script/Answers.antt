@@ -10,7 +10,7 @@ use Rattle.kn_commands.specs.Names.{in_order}
 use Rattle.kn_commands.specs.declared.ending.Source.TheVariants.{Script as TheScript}
 use Rattle.kn_commands.specs.Held.{HasContent}
 use Rattle.kn_commands.specs.Checking.{HasQuery}
-use Rattle.kn_commands.proofs.Alone.{looks_alone}
+use Rattle.kn_load.proofs.Alone.{looks_alone}
 use Rattle.kn_commands.proofs.Files.{content_there, keeps_content}
 use Rattle.kn_commands.proofs.Reached.{read_more}
 use Rattle.kn_commands.proofs.checking.check_script.Goals as goal

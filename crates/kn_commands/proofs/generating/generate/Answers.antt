@@ -5,12 +5,8 @@ use Rattle.kn_store.specs.declared.update.Update.{Update}
 use Rattle.kn_store.specs.History.{loaded_history}
 use Rattle.kn_generate.specs.Generated.{query_over, generated_texts}
 use Rattle.kn_generate.specs.Measured.{IsMeasured}
-use Rattle.kn_commands.proofs.Loaded.{loaded_nothing}
 use Rattle.kn_commands.proofs.GenLoads.{looks_loaded}
 use Rattle.kn_commands.proofs.generating.generate.Goals as goal
-
-pub add_texts-requires : goal.add_texts-requires
-add_texts-requires g c = record { none = loaded_nothing c.in_ok-registry.registry c.in_ok-registry.root c.in_ok-registry.ensures.root c.in_ok-registry.ensures.ready }
 
 pub returns-clause-measured : goal.returns-clause-measured
 returns-clause-measured g c =

@@ -1,6 +1,8 @@
+use Rattle.std.proofs.Common.{◌++◌, ◌∷◌, subst, sym}
+use Rattle.kn_load.specs.Loaded.{StopsLoading}
 use Rattle.kn_registry.specs.Passes.{Adds, RefusesText}
-use Rattle.kn_commands.proofs.Loaded.{fault_stops, loaded_more, limit_stops}
-use Rattle.kn_commands.proofs.load.add_draft.Goals as goal
+use Rattle.kn_load.proofs.Loaded.{fault_stops, loaded_more, refusal_stops}
+use Rattle.kn_load.proofs.load.add_draft.Goals as goal
 
 pub returns-in-Faulty-clause-stopped : goal.returns-in-Faulty-clause-stopped
 returns-in-Faulty-clause-stopped g c = λ text front rest d l place.
@@ -15,5 +17,6 @@ returns-in-Ok-clause-ok g c = λ text front d l.
 pub returns-in-Err-clause-stopped : goal.returns-in-Err-clause-stopped
 returns-in-Err-clause-stopped g c = λ text front rest d l place.
     let is = rw c.in-Read.is at d in
-    let refuses : RefusesText c.args.root.now c.add.new.pass text c.in-Err.fault = rw is.0 at c.in-Err.ensures.refused in
-    limit_stops front text c.args.registry.now c.args.root.now c.add.new.pass l c.in-Err.ensures.sound rest c.args.number place c.in-Err.fault c.limit_stop.result is.1 refuses c.limit_stop.ensures
+    let refuses : RefusesText c.args.root.now c.add.new.pass text c.in-Err.refusal = rw is.0 at c.in-Err.ensures.refused in
+    subst (StopsLoading (front ++ text ∷ rest)) (sym c.refusal_stop.ensures)
+    (refusal_stops front text c.args.registry.now c.args.root.now c.add.new.pass l c.in-Err.ensures.sound rest c.args.number place c.in-Err.refusal is.1 refuses)

@@ -2,7 +2,7 @@
 ghost use Rattle.std.specs.Prelude.{◌≡◌, ◌<◌, length, vec_len, All, IfOk, map, slice_index_or};
 ghost use Rattle.std.specs.List.{AllZip};
 ghost use Rattle.kn_files.specs.Pieces.{bytes_at, IsWithin};
-ghost use Rattle.kn_commands.specs.Drafting.{IsDraftOf};
+ghost use Rattle.kn_load.specs.Drafting.{IsDraftOf};
 
 use kn_assert::{ReadFault, read};
 use kn_base::{NoMemory, Span};

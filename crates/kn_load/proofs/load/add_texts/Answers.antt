@@ -1,8 +1,8 @@
 use Rattle.std.proofs.Common.{◌≡◌, ◌∙◌, ◌+◌, ◌<◌, ◌≤◌, List, ℕ, take, drop, suc, length, subst, sym, ap, arith}
 use Rattle.std.proofs.lemmas.List.{length-take-le}
-use Rattle.kn_commands.specs.Loaded.{StopsLoading}
-use Rattle.kn_commands.proofs.Loaded.{texts-around}
-use Rattle.kn_commands.proofs.generating.add_texts.Goals as goal
+use Rattle.kn_load.specs.Loaded.{StopsLoading}
+use Rattle.kn_load.proofs.Loaded.{texts-around}
+use Rattle.kn_load.proofs.load.add_texts.Goals as goal
 
 pub returns-in-Err-clause-stopped : goal.returns-in-Err-clause-stopped
 returns-in-Err-clause-stopped g c =
@@ -13,4 +13,5 @@ returns-in-Err-clause-stopped g c =
     let most : i ≤ length items = omega (arith, within) in
     let cut = texts-around c.args.texts.now items i _ c.as_slice-text.result.now within c.as_slice-items.ensures (c.as_slice-text.ensures ∙ c.index-items-place.is) in
     let place : i + 1 ≡ length (take i items) + 1 = ap (λ (k : ℕ). k + 1) (sym (length-take-le i items most)) in
-    subst (λ (texts : List (List ℕ)). StopsLoading texts c.in-Err.stop) (sym cut) (c.in-Err.ensures.stopped (take i items) (drop (suc i) items) c.loop-place.invariant place)
+    subst (λ (texts : List (List ℕ)). StopsLoading texts c.in-Err.fault) (sym cut)
+    (c.in-Err.ensures.stopped c.as_slice-text.result.now (take i items) (drop (suc i) items) c.read_draft-draft.ensures c.loop-place.invariant place)

@@ -1,20 +1,19 @@
-//! Loading a policy file: its assertions, added in their order to a new registry by its root pass.
-ghost use Rattle.std.specs.Prelude.{◌≡◌, ◌≢◌, ◌+◌, ◌<◌, ◌≤◌, ◌∷◌, ◌++◌, [], length, map, take, All, OnOk, IfOk, IfErr, MatchOption, Some, ℕ, List as Of};
+//! Loading texts, those of a policy file or others: added in their order to a new registry by its root pass.
+ghost use Rattle.std.specs.Prelude.{◌≡◌, ◌≢◌, ◌+◌, ◌<◌, ◌≤◌, ◌∷◌, ◌++◌, [], length, map, take, All, OnOk, IfOk, IfErr, MatchOption, ℕ, List as Of};
 ghost use Rattle.kn_fields.specs.Numbers.{fault_number};
 ghost use Rattle.kn_files.specs.Pieces.{pieces_of, spans_of, bytes_at, IsWithin};
 ghost use Rattle.kn_store.specs.declared.fault.StoreFault.TheVariants as F;
-ghost use Rattle.kn_commands.specs.Drafting.{IsDraftOf};
-ghost use Rattle.kn_commands.specs.Loaded.{IsUnsplitRoot, IsLoaded, IsLimitStop, StopsLoading};
-ghost use Rattle.kn_commands.specs.declared.stop.Stop.TheVariants as S;
+ghost use Rattle.kn_load.specs.Drafting.{IsDraftOf};
+ghost use Rattle.kn_load.specs.Loaded.{IsUnsplitRoot, IsLoaded, StopsLoading, refused_at};
+ghost use Rattle.kn_load.specs.declared.fault.LoadFault.TheVariants as L;
 
 use crate::drafts::{Draft, read_draft, read_drafts};
-use crate::stop::Stop;
+use crate::fault::LoadFault;
 use kn_assert::ReadFault;
 use kn_base::limits::{FILE_BYTES, LIVE_BYTES, LIVE_CREDENTIALS};
-use kn_base::{List, NoMemory, Span};
+use kn_base::{List, NoMemory, Octets, Span};
 use kn_files::split_file;
 use kn_registry::{Pass, Registry};
-use kn_reply::LimitWord;
 use kn_store::StoreFault;
 use std::alloc::Global;
 use std::sync::Wait;
@@ -24,50 +23,84 @@ use std::thread::Threads;
 ///
 /// What stops loading is the first of its assertions that has a fault, or that a limit of the store refuses.
 /// That is as if both were tried for one assertion before the next, the fault first (keynoted's own).
-pub(crate) fn load<R: Threads + Wait + Sync>(
+pub fn load_file<R: Threads + Wait + Sync>(
     rt: &R,
     alloc: Global,
     file: &[u8],
-) -> Result<(Registry, Pass), Stop>
+) -> Result<(Registry, Pass), LoadFault>
     requires { length file.now ≤ FILE_BYTES }
     ensures loaded { IfOk result (λ made. IsLoaded (pieces_of file.now) made.0 made.1) }
-    ensures stopped { IfErr result (λ stop. StopsLoading (pieces_of file.now) stop) }
+    ensures stopped { IfErr result (λ fault. StopsLoading (pieces_of file.now) fault) }
 {
-    let spans = match split_file(alloc, file) {
-        Ok(spans) => spans,
-        Err(NoMemory) => return Err(Stop::Memory),
-    };
-    let (registry, mut root) = match Registry::start(alloc) {
-        Ok(made) => made,
-        Err(NoMemory) => return Err(Stop::Memory),
-    };
-    match add_all(rt, alloc, &registry, &mut root, file, &spans) {
+    let spans = split_file(alloc, file)?;
+    let (registry, mut root) = Registry::start(alloc)?;
+    match add_file(rt, alloc, &registry, &mut root, file, &spans) {
         Ok(()) => Ok((registry, root)),
-        Err(stop) => Err(stop),
+        Err(fault) => Err(fault),
     }
 }
 
+/// A registry with these assertions, added by its root pass, caller 0, in their order. What stops loading is as of a file.
+pub fn load_texts<R: Wait>(
+    rt: &R,
+    alloc: Global,
+    texts: &List<Octets>,
+) -> Result<(Registry, Pass), LoadFault>
+    ensures loaded { IfOk result (λ made. IsLoaded texts.now made.0 made.1) }
+    ensures stopped { IfErr result (λ fault. StopsLoading texts.now fault) }
+{
+    let (registry, mut root) = Registry::start(alloc)?;
+    match add_texts(rt, alloc, &registry, &mut root, texts) {
+        Ok(()) => Ok((registry, root)),
+        Err(fault) => Err(fault),
+    }
+}
+
+/// Adds the assertions of texts, in their order.
+fn add_texts<R: Wait>(
+    rt: &R,
+    alloc: Global,
+    registry: &Registry,
+    root: &mut Pass,
+    texts: &List<Octets>,
+) -> Result<(), LoadFault>
+    requires none { IsLoaded [] registry.now root.old }
+    ensures loaded { OnOk result (IsLoaded texts.now registry.now root.new) }
+    ensures stopped { IfErr result (λ fault. StopsLoading texts.now fault) }
+{
+    let items = texts.as_slice();
+    for place in 0..texts.len() {
+        let text = items[place as usize].as_slice();
+        let draft = read_draft(alloc, text);
+        match add_draft(rt, registry, root, draft, place + 1) {
+            Ok(()) => {}
+            Err(fault) => return Err(fault),
+        }
+    }
+    Ok(())
+}
+
 /// Adds the assertions at the spans of a file, in their order.
-fn add_all<R: Threads + Wait + Sync>(
+fn add_file<R: Threads + Wait + Sync>(
     rt: &R,
     alloc: Global,
     registry: &Registry,
     root: &mut Pass,
     file: &[u8],
     spans: &List<Span>,
-) -> Result<(), Stop>
+) -> Result<(), LoadFault>
     requires none { IsLoaded [] registry.now root.old }
     requires spans { spans.now ≡ spans_of file.now }
     requires within { All (IsWithin file.now) spans.now }
     ensures loaded { OnOk result (IsLoaded (pieces_of file.now) registry.now root.new) }
-    ensures stopped { IfErr result (λ stop. StopsLoading (pieces_of file.now) stop) }
+    ensures stopped { IfErr result (λ fault. StopsLoading (pieces_of file.now) fault) }
 {
     let mut from = 0;
     while from < spans.len() {
         let to = batch_end(spans, from);
         match add_batch(rt, alloc, registry, root, file, spans, from, to) {
             Ok(()) => from = to,
-            Err(stop) => return Err(stop),
+            Err(fault) => return Err(fault),
         }
     }
     Ok(())
@@ -102,47 +135,29 @@ fn add_batch<R: Threads + Wait + Sync>(
     spans: &List<Span>,
     from: u32,
     to: u32,
-) -> Result<(), Stop>
+) -> Result<(), LoadFault>
     requires order { from ≤ to }
     requires end { to ≤ length spans.now }
     requires before { IsLoaded (take from (pieces_of file.now)) registry.now root.old }
     requires spans { spans.now ≡ spans_of file.now }
     requires within { All (IsWithin file.now) spans.now }
     ensures loaded { OnOk result (IsLoaded (take to (pieces_of file.now)) registry.now root.new) }
-    ensures stopped { IfErr result (λ stop. StopsLoading (pieces_of file.now) stop) }
+    ensures stopped { IfErr result (λ fault. StopsLoading (pieces_of file.now) fault) }
 {
     let batch = &spans.as_slice()[from as usize..to as usize];
     let drafts = match read_drafts(rt, alloc, file, batch) {
         Ok(drafts) => drafts,
-        Err(NoMemory) => return Err(Stop::Memory),
+        Err(NoMemory) => return Err(LoadFault::NoMemory),
     };
     let mut number = from;
     for draft in drafts {
         number += 1;
         match add_draft(rt, registry, root, draft, number) {
             Ok(()) => {}
-            Err(stop) => return Err(stop),
+            Err(fault) => return Err(fault),
         }
     }
     Ok(())
-}
-
-/// Adds the assertion of a text, the one of this number, behind those that were loaded before.
-pub(crate) fn add<R: Wait>(
-    rt: &R,
-    alloc: Global,
-    registry: &Registry,
-    root: &mut Pass,
-    text: &[u8],
-    number: u32,
-) -> Result<(), Stop>
-    requires root { IsUnsplitRoot registry.now root.old }
-    ensures ok { (front : Of (Of ℕ)) → IsLoaded front registry.now root.old
-        → OnOk result (IsLoaded (front ++ text.now ∷ []) registry.now root.new) }
-    ensures stopped { (front rest : Of (Of ℕ)) → IsLoaded front registry.now root.old → number ≡ length front + 1
-        → IfErr result (λ stop. StopsLoading (front ++ text.now ∷ rest) stop) }
-{
-    add_draft(rt, registry, root, read_draft(alloc, text), number)
 }
 
 /// Adds the assertion of the text of a draft, the one of this number, behind those that were loaded before.
@@ -152,13 +167,13 @@ fn add_draft<R: Wait>(
     root: &mut Pass,
     draft: Draft,
     number: u32,
-) -> Result<(), Stop>
+) -> Result<(), LoadFault>
     requires root { IsUnsplitRoot registry.now root.old }
     requires draft { (text : Of ℕ) × IsDraftOf text draft }
     ensures ok { (text : Of ℕ) (front : Of (Of ℕ)) → IsDraftOf text draft → IsLoaded front registry.now root.old
         → OnOk result (IsLoaded (front ++ text ∷ []) registry.now root.new) }
     ensures stopped { (text : Of ℕ) (front rest : Of (Of ℕ)) → IsDraftOf text draft → IsLoaded front registry.now root.old
-        → number ≡ length front + 1 → IfErr result (λ stop. StopsLoading (front ++ text ∷ rest) stop) }
+        → number ≡ length front + 1 → IfErr result (λ fault. StopsLoading (front ++ text ∷ rest) fault) }
 {
     let ready = match draft {
         Draft::Unread => unreachable!(),
@@ -167,36 +182,26 @@ fn add_draft<R: Wait>(
     };
     match registry.add(rt, root, ready) {
         Ok(_) => Ok(()),
-        Err(fault) => Err(limit_stop(number, fault)),
+        Err(refusal) => Err(refusal_stop(number, refusal)),
     }
 }
 
-/// What stops loading at an assertion that has this fault.
-fn fault_stop(assertion: u32, fault: ReadFault) -> Stop
-    ensures { MatchOption (fault_number fault) (result ≡ S.Memory) (λ _. result ≡ S.Policy assertion fault) }
+/// What stops loading at an assertion that has this fault. Want of memory has no number.
+fn fault_stop(assertion: u32, fault: ReadFault) -> LoadFault
+    ensures { MatchOption (fault_number fault) (result ≡ L.NoMemory) (λ _. result ≡ L.Faulty assertion fault) }
 {
     match fault.number() {
-        Some(_) => Stop::Policy { assertion, fault },
-        None => Stop::Memory,
+        Some(_) => LoadFault::Faulty { assertion, fault },
+        None => LoadFault::NoMemory,
     }
 }
 
-/// What stops loading at an assertion that is refused for this. No text is refused for an unknown id.
-fn limit_stop(assertion: u32, fault: StoreFault) -> Stop
-    requires known { (id : ℕ) → fault ≢ F.Unknown id }
-    ensures { IsLimitStop assertion fault result }
+/// What stops loading at an assertion that is refused for this.
+fn refusal_stop(assertion: u32, refusal: StoreFault) -> LoadFault
+    ensures { result ≡ refused_at assertion refusal }
 {
-    let (word, count) = match fault {
-        StoreFault::LiveFull { count } => (LimitWord::Live, count),
-        StoreFault::BytesFull { bytes } => (LimitWord::LiveBytes, bytes),
-        StoreFault::HistoryFull { updates } => (LimitWord::Updates, updates),
-        StoreFault::LogFull { bytes } => (LimitWord::LogBytes, bytes),
-        StoreFault::Unknown { .. } => unreachable!(),
-        StoreFault::NoMemory => return Stop::Memory,
-    };
-    Stop::Limit {
-        assertion,
-        word,
-        count,
+    match refusal {
+        StoreFault::NoMemory => LoadFault::NoMemory,
+        _ => LoadFault::Full { assertion, refusal },
     }
 }

@@ -1,9 +1,9 @@
 use Rattle.std.proofs.Common.{◌≡◌, ◌≤◌, length, take}
 use Rattle.std.specs.Vec.Iter.{into_iter_items, into_iter_len}
 use Rattle.kn_files.specs.Pieces.{pieces_of}
-use Rattle.kn_commands.specs.Loaded.{IsLoaded}
-use Rattle.kn_commands.proofs.DraftLaws.{AreLeft}
-use Rattle.kn_commands.proofs.load.add_batch.Given as goal
+use Rattle.kn_load.specs.Loaded.{IsLoaded}
+use Rattle.kn_load.proofs.DraftLaws.{AreLeft}
+use Rattle.kn_load.proofs.load.add_batch.Given as goal
 
 abbrev pub invariant-loop-draft : goal.invariant-loop-draft
 invariant-loop-draft g l =

@@ -1,6 +1,6 @@
 -- Loading texts by a root pass that is alone.
-use Rattle.std.proofs.Common.{◌≡◌, ℕ, ◌+◌, ◌==◌, ◌&&◌, ◌<◌, Bool, true, false, List, [], ◌∷◌, ◌++◌, length, get_or, take, drop, suc, drop-cons, refl, sym, ap, subst, ◌∙◌, ◌⊎◌, inl, inr, arith, eqb-true, Option, Some, None, if◌then◌else◌}
-use Rattle.std.specs.Prelude.{is_none, is_some, IsSome, MatchOption, nat_le, nat_lt}
+use Rattle.std.proofs.Common.{◌≡◌, ℕ, ◌+◌, ◌==◌, ◌&&◌, ◌<◌, true, List, [], ◌∷◌, ◌++◌, length, get_or, take, drop, suc, drop-cons, refl, sym, ap, subst, ◌∙◌, ◌⊎◌, inl, inr, arith, eqb-true, Option, Some, None}
+use Rattle.std.specs.Prelude.{is_none, is_some, IsSome, MatchOption}
 use Rattle.std.proofs.lemmas.Bool.{and_parts}
 use Rattle.std.proofs.lemmas.List.{take-append-drop}
 use Rattle.std.proofs.lemmas.List.Sums.{sum_by-cons}
@@ -14,16 +14,16 @@ use Rattle.kn_store.specs.declared.update.Numbered.{Numbered}
 use Rattle.kn_store.specs.declared.update.Update.{Update}
 use Rattle.kn_store.specs.declared.fault.StoreFault.{StoreFault}
 use Rattle.kn_store.specs.declared.fault.StoreFault.TheVariants.{Unknown, LiveFull, BytesFull, HistoryFull, LogFull, NoMemory}
-use Rattle.kn_store.specs.History.{all_changes, additions, added_count, addition_by, live, text_bytes, logged_bytes, may_follow, update_may_follow, refusal_of_text, is_valid_history, loaded_after, loaded_history}
+use Rattle.kn_store.specs.History.{all_changes, additions, added_count, addition_by, may_follow, update_may_follow, refusal_of_text, is_valid_history, loaded_after, loaded_history}
 use Rattle.kn_store.specs.Loading.{IsLoadable, IsNextText, IsFaultyAt, IsFullAt}
 use Rattle.kn_store.proofs.Loading.{loadable_nothing}
 use Rattle.kn_store.proofs.Valid.{loadable_is_valid}
 use Rattle.kn_registry.specs.Passes.{PassSeen, IsReady, IsSoundPass, Adds, IsRefused, RefusesText}
 use Rattle.kn_turn.specs.Passes.{root_of}
-use Rattle.kn_commands.specs.Loaded.{IsLoaded, IsLimitStop, StopsLoading}
-use Rattle.kn_commands.specs.declared.stop.Stop.{Stop}
-use Rattle.kn_commands.specs.declared.stop.Stop.TheVariants as S
-use Rattle.kn_commands.proofs.Alone.{alone, looks_alone}
+use Rattle.kn_load.specs.Loaded.{IsLoaded, StopsLoading, refused_at}
+use Rattle.kn_load.specs.declared.fault.LoadFault.{LoadFault}
+use Rattle.kn_load.specs.declared.fault.LoadFault.TheVariants as L
+use Rattle.kn_load.proofs.Alone.{alone, looks_alone}
 
 -- one more text is one more addition
 loaded-more : (n : ℕ) (front : List (List ℕ)) (text : List ℕ) → loaded_after n (front ++ text ∷ []) ≡ loaded_after n front ++ addition_by 0 text (n + length front + 1) ∷ []
@@ -60,21 +60,6 @@ id_follows past text caller id h =
     let this : may_follow past c ≡ true = (and_parts (may_follow past c) true (and_parts true (may_follow past c && true) h).1).0 in
     let parts = and_parts (is_none (refusal_of_text past text)) ((id == additions past + 1) && is_some (assertion_of text)) this in
     eqb-true id (additions past + 1) (and_parts (id == additions past + 1) (is_some (assertion_of text)) parts.1).0
-
--- no text is refused for an id
-not_unknown : (a b c d : Bool) (w x y z id : ℕ) →
-    (if a then Some (LiveFull w) else if b then Some (BytesFull x) else if c then Some (HistoryFull y) else if d then Some (LogFull z) else None) ≡ Some (Unknown id) → ⊥
-not_unknown true b c d w x y z id e = cc
-not_unknown false true c d w x y z id e = cc
-not_unknown false false true d w x y z id e = cc
-not_unknown false false false true w x y z id e = cc
-not_unknown false false false false w x y z id e = cc
-
-pub text_is_known : (v w : PassSeen) (text : List ℕ) (fault : StoreFault) (id : ℕ) → RefusesText v w text fault → fault ≡ Unknown id → ⊥
-text_is_known v w text fault id refuses e =
-    let unknown : RefusesText v w text (Unknown id) = subst (RefusesText v w text) e refuses in
-    let past = all_changes w.seen in
-    not_unknown (nat_le 2048 (length (live past))) (nat_lt 4194304 (text_bytes (live past) + length text)) (nat_le 65536 (length past)) (nat_lt 67108864 (logged_bytes past + length text)) _ _ _ _ id unknown.refusal_is
 
 -- nothing is loaded yet
 pub loaded_nothing : (registry : TableId) (root : PassSeen) → root ≡ root_of registry → IsReady registry root → IsLoaded [] registry root
@@ -121,30 +106,26 @@ module _ (front : List (List ℕ)) (text : List ℕ) (registry : TableId) (v w :
         }
 
     -- what the next text is refused for stops loading
-    pub limit_stops : (fault : StoreFault) (stop : Stop) → IsSome (assertion_of text) → RefusesText v w text fault → IsLimitStop number fault stop → StopsLoading (front ++ text ∷ rest) stop
-    limit_stops (Unknown id) stop reads refuses is = absurd is
-    limit_stops (LiveFull count) stop reads refuses is =
-        subst (StopsLoading (front ++ text ∷ rest)) (sym is) (record { refusal = LiveFull count; full = full_here (LiveFull count) reads refuses; told = refl })
-    limit_stops (BytesFull bytes) stop reads refuses is =
-        subst (StopsLoading (front ++ text ∷ rest)) (sym is) (record { refusal = BytesFull bytes; full = full_here (BytesFull bytes) reads refuses; told = refl })
-    limit_stops (HistoryFull updates) stop reads refuses is =
-        subst (StopsLoading (front ++ text ∷ rest)) (sym is) (record { refusal = HistoryFull updates; full = full_here (HistoryFull updates) reads refuses; told = refl })
-    limit_stops (LogFull bytes) stop reads refuses is =
-        subst (StopsLoading (front ++ text ∷ rest)) (sym is) (record { refusal = LogFull bytes; full = full_here (LogFull bytes) reads refuses; told = refl })
-    limit_stops NoMemory stop reads refuses is = subst (StopsLoading (front ++ text ∷ rest)) (sym is) tt
+    pub refusal_stops : (refusal : StoreFault) → IsSome (assertion_of text) → RefusesText v w text refusal → StopsLoading (front ++ text ∷ rest) (refused_at number refusal)
+    refusal_stops (Unknown id) reads refuses = full_here (Unknown id) reads refuses
+    refusal_stops (LiveFull count) reads refuses = full_here (LiveFull count) reads refuses
+    refusal_stops (BytesFull bytes) reads refuses = full_here (BytesFull bytes) reads refuses
+    refusal_stops (HistoryFull updates) reads refuses = full_here (HistoryFull updates) reads refuses
+    refusal_stops (LogFull bytes) reads refuses = full_here (LogFull bytes) reads refuses
+    refusal_stops NoMemory reads refuses = tt
 
 -- a fault of the next text stops loading, and so does want of memory
-pub fault_stops : (front rest : List (List ℕ)) (text : List ℕ) (number : ℕ) (fault : ReadFault) (stop : Stop) → IsLoadable front → number ≡ length front + 1 →
+pub fault_stops : (front rest : List (List ℕ)) (text : List ℕ) (number : ℕ) (fault : ReadFault) (stop : LoadFault) → IsLoadable front → number ≡ length front + 1 →
     (fault ≡ R.NoMemory) ⊎ (fault_of text ≡ Some fault) →
-    MatchOption (fault_number fault) (stop ≡ S.Memory) (λ _. stop ≡ S.Policy number fault) → StopsLoading (front ++ text ∷ rest) stop
+    MatchOption (fault_number fault) (stop ≡ L.NoMemory) (λ _. stop ≡ L.Faulty number fault) → StopsLoading (front ++ text ∷ rest) stop
 fault_stops front rest text number fault stop loadable place (inl none) is =
-    subst (StopsLoading (front ++ text ∷ rest)) (sym (subst (λ f. MatchOption (fault_number f) (stop ≡ S.Memory) (λ _. stop ≡ S.Policy number f)) none is)) tt
+    subst (StopsLoading (front ++ text ∷ rest)) (sym (subst (λ f. MatchOption (fault_number f) (stop ≡ L.NoMemory) (λ _. stop ≡ L.Faulty number f)) none is)) tt
 fault_stops front rest text number fault stop loadable place (inr told) is = by (fault_number fault) is
   where
     here : IsFaultyAt (front ++ text ∷ rest) number fault
     here = record { front = front; text = text; reached = record { rest = rest; cut = refl; place = place; loadable = loadable }; fault_there = told }
 
-    by : (found : Option ℕ) → MatchOption found (stop ≡ S.Memory) (λ _. stop ≡ S.Policy number fault) → StopsLoading (front ++ text ∷ rest) stop
+    by : (found : Option ℕ) → MatchOption found (stop ≡ L.NoMemory) (λ _. stop ≡ L.Faulty number fault) → StopsLoading (front ++ text ∷ rest) stop
     by None e = subst (StopsLoading (front ++ text ∷ rest)) (sym e) tt
     by (Some n) e = subst (StopsLoading (front ++ text ∷ rest)) (sym e) here
 

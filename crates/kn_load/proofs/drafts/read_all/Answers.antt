@@ -1,8 +1,8 @@
 use Rattle.std.proofs.Common.{rules, arith}
 use Rattle.std.proofs.lemmas.Grind.{common_steps}
 use Rattle.kn_files.specs.Pieces.{bytes_at}
-use Rattle.kn_commands.proofs.DraftLaws.{drafts_of_spans}
-use Rattle.kn_commands.proofs.drafts.read_all.Goals as goal
+use Rattle.kn_load.proofs.DraftLaws.{drafts_of_spans}
+use Rattle.kn_load.proofs.drafts.read_all.Goals as goal
 
 pub returns : goal.returns
 returns g c =

@@ -2,9 +2,9 @@ use Rattle.std.proofs.Common.{◌≡◌, ◌∙◌, ◌+◌, ◌≤◌, List, �
 use Rattle.std.proofs.lemmas.List.{length-take-le, length-map}
 use Rattle.std.specs.Vec.Iter.{into_iter_items}
 use Rattle.kn_files.specs.Pieces.{pieces_of, bytes_at}
-use Rattle.kn_commands.specs.Loaded.{IsLoaded, StopsLoading}
-use Rattle.kn_commands.proofs.DraftLaws.{AreLeft, next_draft, none_left, nothing_left, batch_left}
-use Rattle.kn_commands.proofs.load.add_batch.Goals as goal
+use Rattle.kn_load.specs.Loaded.{IsLoaded, StopsLoading}
+use Rattle.kn_load.proofs.DraftLaws.{AreLeft, next_draft, none_left, nothing_left, batch_left}
+use Rattle.kn_load.proofs.load.add_batch.Goals as goal
 
 pub loop-draft-init : goal.loop-draft-init
 loop-draft-init g c =
@@ -42,7 +42,7 @@ returns-in-Err-add_draft-clause-stopped g c =
     let next = next_draft texts n c.args.to c.in-Some.draft (into_iter_items c.next.new.self) (rw c.in-Some.ensures.steps.0 at c.loop-draft.invariant.2) in
     let most : n ≤ length texts = omega (arith, next.within) in
     let place : n + 1 ≡ length (take n texts) + 1 = ap (λ (k : ℕ). k + 1) (sym (length-take-le n texts most)) in
-    subst (λ (l : List (List ℕ)). StopsLoading l c.in-Err-add_draft.stop) (sym next.cut)
+    subst (λ (l : List (List ℕ)). StopsLoading l c.in-Err-add_draft.fault) (sym next.cut)
     (c.in-Err-add_draft.ensures.stopped next.text (take n texts) (drop (suc n) texts) next.of_text c.loop-draft.invariant.1 place)
 
 pub returns-clause-loaded : goal.returns-clause-loaded

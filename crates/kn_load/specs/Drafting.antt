@@ -2,8 +2,8 @@
 use Rattle.std.specs.Prelude.{ℕ, ◌≡◌, ◌⊎◌, List, Some, IsSome}
 use Rattle.kn_fields.specs.declared.fault.ReadFault.TheVariants.{NoMemory}
 use Rattle.kn_assert.specs.Reading.{assertion_of, fault_of}
-use Rattle.kn_commands.specs.declared.drafts.Draft.{Draft}
-use Rattle.kn_commands.specs.declared.drafts.Draft.TheVariants.{Unread, Read, Faulty}
+use Rattle.kn_load.specs.declared.drafts.Draft.{Draft}
+use Rattle.kn_load.specs.declared.drafts.Draft.TheVariants.{Unread, Read, Faulty}
 
 -- the draft has the text with its reading, or the text's first fault, or there was no memory
 abbrev pub IsDraftOf : List ℕ → Draft → Type 0

@@ -5,8 +5,8 @@ use Rattle.std.specs.List.{AllZip}
 use Rattle.std.proofs.lemmas.List.{take-map, drop-map, drop-take}
 use Rattle.kn_base.specs.declared.span.Span.{Span}
 use Rattle.kn_files.specs.Pieces.{spans_of, bytes_at, pieces_of}
-use Rattle.kn_commands.specs.declared.drafts.Draft.{Draft}
-use Rattle.kn_commands.specs.Drafting.{IsDraftOf}
+use Rattle.kn_load.specs.declared.drafts.Draft.{Draft}
+use Rattle.kn_load.specs.Drafting.{IsDraftOf}
 
 -- drafts at the places of some spans are the drafts of the texts there
 pub drafts_of_spans : (text_at : Span → List ℕ) (spans : List Span) (drafts : List Draft) → length drafts ≡ length spans
