@@ -1,3 +1,4 @@
 pub mod Alone
 pub mod Loaded
 pub mod DraftLaws
+pub mod ReadingLaws

@@ -1,65 +1,50 @@
 -- Loading texts by a root pass that is alone.
-use Rattle.std.proofs.Common.{◌≡◌, ℕ, ◌+◌, ◌==◌, ◌&&◌, ◌<◌, true, List, [], ◌∷◌, ◌++◌, length, get_or, take, drop, suc, drop-cons, refl, sym, ap, subst, ◌∙◌, ◌⊎◌, inl, inr, arith, eqb-true, Option, Some, None}
-use Rattle.std.specs.Prelude.{is_none, is_some, IsSome, MatchOption}
-use Rattle.std.proofs.lemmas.Bool.{and_parts}
-use Rattle.std.proofs.lemmas.List.{take-append-drop}
-use Rattle.std.proofs.lemmas.List.Sums.{sum_by-cons}
+use Rattle.std.proofs.Common.{◌≡◌, ◌≢◌, ℕ, ◌+◌, ◌<◌, true, List, [], ◌∷◌, ◌++◌, length, length-append, suc, refl, sym, ap, subst, ◌∙◌, inl, inr, arith, append_assoc, append-nil, Option, Some, None}
+use Rattle.std.specs.Prelude.{All, IsSome, MatchOption}
+use Rattle.std.proofs.lemmas.Bool.{and_parts, and_from}
+use Rattle.std.proofs.lemmas.List.{append_cancel_right}
 use Rattle.atomic_table.specs.Seated.{TableId}
 use Rattle.kn_fields.specs.declared.fault.ReadFault.{ReadFault}
-use Rattle.kn_fields.specs.declared.fault.ReadFault.TheVariants as R
 use Rattle.kn_fields.specs.Numbers.{fault_number}
-use Rattle.kn_assert.specs.Reading.{assertion_of, fault_of}
-use Rattle.kn_store.specs.declared.update.Change.TheVariants.{Add}
+use Rattle.kn_assert.specs.Reading.{assertion_of}
 use Rattle.kn_store.specs.declared.update.Numbered.{Numbered}
 use Rattle.kn_store.specs.declared.update.Update.{Update}
 use Rattle.kn_store.specs.declared.fault.StoreFault.{StoreFault}
 use Rattle.kn_store.specs.declared.fault.StoreFault.TheVariants.{Unknown, LiveFull, BytesFull, HistoryFull, LogFull, NoMemory}
-use Rattle.kn_store.specs.History.{all_changes, additions, added_count, addition_by, may_follow, update_may_follow, refusal_of_text, is_valid_history, loaded_after, loaded_history}
-use Rattle.kn_store.specs.Loading.{IsLoadable, IsNextText, IsFaultyAt, IsFullAt}
+use Rattle.kn_store.specs.History.{all_changes, additions, addition_by, additions_by, update_may_follow, updates_may_follow, refusal_of_text, is_valid_history, loaded_history, IsFirstRefused}
+use Rattle.kn_store.specs.Loading.{IsLoadable, IsFaultyAt, IsFullAt}
+use Rattle.kn_store.proofs.Additions.{additions-texts}
 use Rattle.kn_store.proofs.Loading.{loadable_nothing}
 use Rattle.kn_store.proofs.Valid.{loadable_is_valid}
-use Rattle.kn_registry.specs.Passes.{PassSeen, IsReady, IsSoundPass, Adds, IsRefused, RefusesText}
+use Rattle.kn_registry.specs.Passes.{PassSeen, IsReady, IsSoundPass, AddsAll, IsOneRefused, RefusesOne}
 use Rattle.kn_turn.specs.Passes.{root_of}
+use Rattle.kn_load.specs.Drafting.{IsUnreadFor}
 use Rattle.kn_load.specs.Loaded.{IsLoaded, StopsLoading, refused_at}
 use Rattle.kn_load.specs.declared.fault.LoadFault.{LoadFault}
 use Rattle.kn_load.specs.declared.fault.LoadFault.TheVariants as L
 use Rattle.kn_load.proofs.Alone.{alone, looks_alone}
 
--- one more text is one more addition
-loaded-more : (n : ℕ) (front : List (List ℕ)) (text : List ℕ) → loaded_after n (front ++ text ∷ []) ≡ loaded_after n front ++ addition_by 0 text (n + length front + 1) ∷ []
-loaded-more n [] text = ap (λ (k : ℕ). addition_by 0 text k ∷ []) (omega arith)
-loaded-more n (x ∷ front) text =
-    let same : n + 1 + length front + 1 ≡ n + length (x ∷ front) + 1 = omega arith in
-    ap (λ (l : List Update). addition_by 0 x (n + 1) ∷ l) (loaded-more (n + 1) front text ∙ ap (λ (k : ℕ). loaded_after (n + 1) front ++ addition_by 0 text k ∷ []) same)
+-- updates that may follow, and others that may follow behind them
+updates-append : (past : List Numbered) (history more : List Update) → updates_may_follow past history ≡ true
+    → updates_may_follow (past ++ all_changes history) more ≡ true → updates_may_follow past (history ++ more) ≡ true
+updates-append past [] more h behind = subst (λ front. updates_may_follow front more ≡ true) (append-nil past) behind
+updates-append past (first ∷ history) more h behind =
+    let parts = and_parts (update_may_follow past first) (updates_may_follow (past ++ first.changes) history) h in
+    and_from (update_may_follow past first) (updates_may_follow (past ++ first.changes) (history ++ more)) parts.0
+    (updates-append (past ++ first.changes) history more parts.1
+    (subst (λ front. updates_may_follow front more ≡ true) (sym (append_assoc past first.changes (all_changes history))) behind))
 
--- there are as many additions as texts
-additions-texts : (n : ℕ) (texts : List (List ℕ)) → additions (all_changes (loaded_after n texts)) ≡ length texts
-additions-texts n [] = refl
-additions-texts n (text ∷ texts) =
-    let more : additions (all_changes (loaded_after (n + 1) texts)) ≡ length texts = additions-texts (n + 1) texts in
-    sum_by-cons (λ (c : Numbered). added_count c.change) (record { change = Add text; id = n + 1 }) (all_changes (loaded_after (n + 1) texts)) ∙ ap (λ (k : ℕ). 1 + k) more ∙ omega arith
+-- more texts are more additions
+additions-append : (n : ℕ) (front texts : List (List ℕ)) → additions_by 0 n front ++ additions_by 0 (n + length front) texts ≡ additions_by 0 n (front ++ texts)
+additions-append n [] texts = ap (λ (k : ℕ). additions_by 0 k texts) (omega arith)
+additions-append n (x ∷ front) texts =
+    let same : n + length (x ∷ front) ≡ n + 1 + length front = omega arith in
+    ap (λ (l : List Update). addition_by 0 x (n + 1) ∷ l) (ap (λ (k : ℕ). additions_by 0 (n + 1) front ++ additions_by 0 k texts) same ∙ additions-append (n + 1) front texts)
 
-not_empty : {A : Type 0} (xs : List A) (x : A) → [] ≡ xs ++ x ∷ [] → ⊥
-not_empty [] x e = cc
-not_empty (y ∷ xs) x e = cc
-
--- lists that agree but for their last item
-drop_last : {A : Type 0} (xs ys : List A) (x y : A) → xs ++ x ∷ [] ≡ ys ++ y ∷ [] → xs ≡ ys
-drop_last [] [] x y e = refl
-drop_last [] (b ∷ ys) x y e = let rest : [] ≡ ys ++ y ∷ [] = cc in absurd (not_empty ys y rest)
-drop_last (a ∷ xs) [] x y e = let rest : xs ++ x ∷ [] ≡ [] = cc in absurd (not_empty xs x (sym rest))
-drop_last (a ∷ xs) (b ∷ ys) x y e =
-    let first : a ≡ b = cc in
-    let rest : xs ++ x ∷ [] ≡ ys ++ y ∷ [] = cc in
-    ap (λ (z : _). z ∷ xs) first ∙ ap (λ (l : List _). b ∷ l) (drop_last xs ys x y rest)
-
--- an addition that may follow has the next id
-id_follows : (past : List Numbered) (text : List ℕ) (caller id : ℕ) → update_may_follow past (addition_by caller text id) ≡ true → id ≡ additions past + 1
-id_follows past text caller id h =
-    let c : Numbered = record { change = Add text; id = id } in
-    let this : may_follow past c ≡ true = (and_parts (may_follow past c) true (and_parts true (may_follow past c && true) h).1).0 in
-    let parts = and_parts (is_none (refusal_of_text past text)) ((id == additions past + 1) && is_some (assertion_of text)) this in
-    eqb-true id (additions past + 1) (and_parts (id == additions past + 1) (is_some (assertion_of text)) parts.1).0
+loaded_behind : (front texts : List (List ℕ)) → loaded_history front ++ additions_by 0 (additions (all_changes (loaded_history front))) texts ≡ loaded_history (front ++ texts)
+loaded_behind front texts =
+    let zero_first : length front ≡ 0 + length front = omega arith in
+    ap (λ (k : ℕ). loaded_history front ++ additions_by 0 k texts) (additions-texts 0 0 front ∙ zero_first) ∙ additions-append 0 front texts
 
 -- nothing is loaded yet
 pub loaded_nothing : (registry : TableId) (root : PassSeen) → root ≡ root_of registry → IsReady registry root → IsLoaded [] registry root
@@ -69,54 +54,90 @@ loaded_nothing registry root is ready = record {
   seen = ap (λ (p : PassSeen). p.seen) is;
 }
 
-module _ (front : List (List ℕ)) (text : List ℕ) (registry : TableId) (v w : PassSeen) (l : IsLoaded front registry v) (sound : IsSoundPass w) where
-  -- the next text is added
-  pub loaded_more : (id version : ℕ) → IsReady registry w → Adds v w text id version → IsLoaded (front ++ text ∷ []) registry w
-  loaded_more id version ready adds =
-      let own = alone v w adds.more (addition_by v.number text id ∷ []) _ l.root.number l.root.unsplit sound adds.moves in
-      let grown : w.seen ≡ v.seen ++ addition_by v.number text id ∷ [] = adds.moves.seen ∙ ap (λ (m : List Update). v.seen ++ m) own in
-      let before : adds.before ≡ v.seen = drop_last adds.before v.seen _ _ (sym adds.ends ∙ grown) in
-      let follows : update_may_follow (all_changes (loaded_history front)) (addition_by v.number text id) ≡ true =
-      subst (λ (h : List Update). update_may_follow (all_changes h) (addition_by v.number text id) ≡ true) (before ∙ l.seen) adds.follows in
-      let numbered : id ≡ length front + 1 = id_follows (all_changes (loaded_history front)) text v.number id follows ∙ ap (λ (k : ℕ). k + 1) (additions-texts 0 front) in
-      let zero_first : length front + 1 ≡ 0 + length front + 1 = omega arith in
-      let seen : w.seen ≡ loaded_history (front ++ text ∷ []) =
-      grown ∙ ap (λ (h : List Update). h ++ addition_by v.number text id ∷ []) l.seen
-      ∙ ap (λ (n : ℕ). loaded_history front ++ addition_by n text id ∷ []) l.root.number
-      ∙ ap (λ (k : ℕ). loaded_history front ++ addition_by 0 text k ∷ []) (numbered ∙ zero_first) ∙ sym (loaded-more 0 front text) in
+-- the refused one has its place among the texts
+pub place_within : (old new : PassSeen) (texts : List (List ℕ)) (place : ℕ) (refusal : StoreFault) → RefusesOne old new texts place refusal → refusal ≢ NoMemory → place < length texts
+place_within old new texts place refusal refuses other = by refusal refuses other
+  where
+    within : (past : List Update) (caller : ℕ) (fault : StoreFault) → IsFirstRefused past caller texts place fault → place < length texts
+    within past caller fault first =
+        let all = ap length first.cut in
+        let both = length-append first.front (first.text ∷ first.rest) in
+        let is = first.place_is in
+        omega arith
+
+    by : (fault : StoreFault) → RefusesOne old new texts place fault → fault ≢ NoMemory → place < length texts
+    by NoMemory stays none = absurd (none refl)
+    by (Unknown id) one none = within new.seen old.number (Unknown id) one.first
+    by (LiveFull count) one none = within new.seen old.number (LiveFull count) one.first
+    by (BytesFull bytes) one none = within new.seen old.number (BytesFull bytes) one.first
+    by (HistoryFull updates) one none = within new.seen old.number (HistoryFull updates) one.first
+    by (LogFull bytes) one none = within new.seen old.number (LogFull bytes) one.first
+
+around : (a b c d : List (List ℕ)) (t : List ℕ) → a ++ (b ++ t ∷ c) ++ d ≡ (a ++ b) ++ t ∷ (c ++ d)
+around a b c d t = simp append_assoc
+
+reads_there : (front : List (List ℕ)) (text : List ℕ) (rest : List (List ℕ)) → All (λ t. IsSome (assertion_of t)) (front ++ text ∷ rest) → IsSome (assertion_of text)
+reads_there [] text rest all = all 0 text (omega arith)
+reads_there (x ∷ front) text rest all = reads_there front text rest (λ k d lt. all (suc k) d (omega (arith, lt)))
+
+module _ (front texts rest : List (List ℕ)) (place : ℕ) (refusal : StoreFault) (loadable : IsLoadable front) (reads : All (λ t. IsSome (assertion_of t)) texts)
+    (first : IsFirstRefused (loaded_history front) 0 texts place refusal) where
+  before_it : IsLoadable (front ++ first.front)
+  before_it = (loadable_is_valid (front ++ first.front)).1
+      (subst (λ (h : List Update). is_valid_history h ≡ true) (loaded_behind front first.front)
+      (updates-append [] (loaded_history front) (additions_by 0 (additions (all_changes (loaded_history front))) first.front) ((loadable_is_valid front).0 loadable) first.follow))
+
+  full_there : IsFullAt (front ++ texts ++ rest) (length front + place + 1) refusal
+  full_there =
+      let both = length-append front first.front in
+      let is = first.place_is in record {
+        front = front ++ first.front;
+        text = first.text;
+        reached = record {
+          rest = first.rest ++ rest;
+          cut = ap (λ (l : List (List ℕ)). front ++ l ++ rest) first.cut ∙ around front first.front first.rest rest first.text;
+          place = omega arith;
+          loadable = before_it;
+        };
+        reads = reads_there first.front first.text first.rest (subst (All (λ t. IsSome (assertion_of t))) first.cut reads);
+        refused = subst (λ (h : List Update). refusal_of_text (all_changes h) first.text ≡ Some refusal) (loaded_behind front first.front) first.refused;
+      }
+
+module _ (front texts : List (List ℕ)) (registry : TableId) (v w : PassSeen) (l : IsLoaded front registry v) (sound : IsSoundPass w) where
+  -- the next texts are added
+  pub loaded_more : IsReady registry w → AddsAll v w texts → IsLoaded (front ++ texts) registry w
+  loaded_more ready adds =
+      let made = additions_by v.number (additions (all_changes adds.before)) texts in
+      let own = alone v w adds.more made _ l.root.number l.root.unsplit sound adds.moves in
+      let grown : w.seen ≡ v.seen ++ made = adds.moves.seen ∙ ap (λ (m : List Update). v.seen ++ m) own in
+      let before : adds.before ≡ loaded_history front = append_cancel_right adds.before v.seen made (sym adds.ends ∙ grown) ∙ l.seen in
+      let seen : w.seen ≡ loaded_history (front ++ texts) =
+      adds.ends ∙ ap (λ (h : List Update). h ++ additions_by v.number (additions (all_changes h)) texts) before
+      ∙ ap (λ (n : ℕ). loaded_history front ++ additions_by n (additions (all_changes (loaded_history front))) texts) l.root.number ∙ loaded_behind front texts in
       record {
-        loadable = (loadable_is_valid (front ++ text ∷ [])).1 (subst (λ (h : List Update). is_valid_history h ≡ true) seen ready.valid);
+        loadable = (loadable_is_valid (front ++ texts)).1 (subst (λ (h : List Update). is_valid_history h ≡ true) seen ready.valid);
         root = record { ready = ready; number = adds.moves.number ∙ l.root.number; unsplit = adds.moves.splits ∙ l.root.unsplit };
         seen = seen;
       }
 
-  module _ (rest : List (List ℕ)) (number : ℕ) (place : number ≡ length front + 1) where
-    reached : IsNextText (front ++ text ∷ rest) number front text
-    reached = record { rest = rest; cut = refl; place = place; loadable = l.loadable }
-
-    full_here : (fault : StoreFault) → IsSome (assertion_of text) → IsRefused (refusal_of_text (all_changes w.seen) text) fault v w → IsFullAt (front ++ text ∷ rest) number fault
-    full_here fault reads refused =
+  module _ (rest : List (List ℕ)) (place : ℕ) (reads : All (λ t. IsSome (assertion_of t)) texts) where
+    full_here : (refusal : StoreFault) → IsOneRefused v w texts place refusal → IsFullAt (front ++ texts ++ rest) (length front + place + 1) refusal
+    full_here refusal refused =
         let same : w.seen ≡ loaded_history front = looks_alone v w l.root.number l.root.unsplit sound refused.looks ∙ l.seen in
-        record {
-          front = front;
-          text = text;
-          reached = reached;
-          reads = reads;
-          refused = subst (λ (h : List Update). refusal_of_text (all_changes h) text ≡ Some fault) same refused.refusal_is;
-        }
+        full_there front texts rest place refusal l.loadable reads
+        (subst (λ (h : List Update). IsFirstRefused h 0 texts place refusal) same (subst (λ (n : ℕ). IsFirstRefused w.seen n texts place refusal) l.root.number refused.first))
 
-    -- what the next text is refused for stops loading
-    pub refusal_stops : (refusal : StoreFault) → IsSome (assertion_of text) → RefusesText v w text refusal → StopsLoading (front ++ text ∷ rest) (refused_at number refusal)
-    refusal_stops (Unknown id) reads refuses = full_here (Unknown id) reads refuses
-    refusal_stops (LiveFull count) reads refuses = full_here (LiveFull count) reads refuses
-    refusal_stops (BytesFull bytes) reads refuses = full_here (BytesFull bytes) reads refuses
-    refusal_stops (HistoryFull updates) reads refuses = full_here (HistoryFull updates) reads refuses
-    refusal_stops (LogFull bytes) reads refuses = full_here (LogFull bytes) reads refuses
-    refusal_stops NoMemory reads refuses = tt
+    -- what the first refused of them is refused for stops loading
+    pub refusal_stops : (refusal : StoreFault) → RefusesOne v w texts place refusal → StopsLoading (front ++ texts ++ rest) (refused_at (length front + place + 1) refusal)
+    refusal_stops (Unknown id) refused = full_here (Unknown id) refused
+    refusal_stops (LiveFull count) refused = full_here (LiveFull count) refused
+    refusal_stops (BytesFull bytes) refused = full_here (BytesFull bytes) refused
+    refusal_stops (HistoryFull updates) refused = full_here (HistoryFull updates) refused
+    refusal_stops (LogFull bytes) refused = full_here (LogFull bytes) refused
+    refusal_stops NoMemory refused = tt
 
 -- a fault of the next text stops loading, and so does want of memory
-pub fault_stops : (front rest : List (List ℕ)) (text : List ℕ) (number : ℕ) (fault : ReadFault) (stop : LoadFault) → IsLoadable front → number ≡ length front + 1 →
-    (fault ≡ R.NoMemory) ⊎ (fault_of text ≡ Some fault) →
+pub fault_stops : (front rest : List (List ℕ)) (text : List ℕ) (number : ℕ) (fault : ReadFault) (stop : LoadFault) → IsLoadable front → number ≡ length front + 1 → IsUnreadFor text fault →
     MatchOption (fault_number fault) (stop ≡ L.NoMemory) (λ _. stop ≡ L.Faulty number fault) → StopsLoading (front ++ text ∷ rest) stop
 fault_stops front rest text number fault stop loadable place (inl none) is =
     subst (StopsLoading (front ++ text ∷ rest)) (sym (subst (λ f. MatchOption (fault_number f) (stop ≡ L.NoMemory) (λ _. stop ≡ L.Faulty number f)) none is)) tt
@@ -128,8 +149,3 @@ fault_stops front rest text number fault stop loadable place (inr told) is = by 
     by : (found : Option ℕ) → MatchOption found (stop ≡ L.NoMemory) (λ _. stop ≡ L.Faulty number fault) → StopsLoading (front ++ text ∷ rest) stop
     by None e = subst (StopsLoading (front ++ text ∷ rest)) (sym e) tt
     by (Some n) e = subst (StopsLoading (front ++ text ∷ rest)) (sym e) here
-
--- texts around one of them
-pub texts-around : (texts items : List (List ℕ)) (i : ℕ) (d text : List ℕ) → i < length items → items ≡ texts → text ≡ get_or items i d → texts ≡ take i items ++ text ∷ drop (suc i) items
-texts-around texts items i d text within is here =
-    sym is ∙ sym (take-append-drop i items) ∙ ap (λ (l : List (List ℕ)). take i items ++ l) (drop-cons items i d within) ∙ ap (λ (t : List ℕ). take i items ++ t ∷ drop (suc i) items) (sym here)

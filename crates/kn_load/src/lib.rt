@@ -4,6 +4,7 @@
 mod drafts;
 mod fault;
 mod load;
+mod readings;
 
 pub use fault::LoadFault;
 pub use load::{load_file, load_texts};

@@ -1,0 +1,76 @@
+//! The readings of texts in their order, up to the first that has none.
+ghost use Rattle.std.specs.Prelude.{◌≡◌, ◌<◌, ◌^◌, ◌∷◌, ◌++◌, [], length, ℕ, List as Of, IfOk, OnOk};
+ghost use Rattle.std.specs.List.{AllZip};
+ghost use Rattle.kn_load.specs.Drafting.{IsDraftOf, AreReadings};
+
+use crate::drafts::{Draft, read_draft};
+use kn_assert::ReadFault;
+use kn_base::{List, NoMemory, Octets};
+use kn_store::Ready;
+use std::alloc::Global;
+
+/// What was read of texts, up to the first that has no reading.
+#[derive(Drop)]
+pub(crate) struct Readings {
+    /// The texts before it, with their readings.
+    pub readies: List<Ready>,
+    /// The fault of that text, or want of memory; none where all have a reading.
+    pub fault: Option<ReadFault>,
+}
+
+impl Readings {
+    /// Takes the draft of the next text in.
+    fn take(&mut self, draft: Draft) -> Result<(), NoMemory>
+        requires draft { (text : Of ℕ) × IsDraftOf text draft }
+        ensures { (texts : Of (Of ℕ)) (text : Of ℕ) → AreReadings texts self.old → IsDraftOf text draft
+            → OnOk result (AreReadings (texts ++ text ∷ []) self.new) }
+    {
+        if self.fault.is_some() {
+            return Ok(());
+        }
+        match draft {
+            Draft::Unread => unreachable!(),
+            Draft::Read(ready) => self.readies.add(ready),
+            Draft::Faulty(fault) => {
+                self.fault = Some(fault);
+                Ok(())
+            }
+        }
+    }
+}
+
+/// The readings of no text.
+fn no_readings(alloc: Global) -> Readings
+    ensures { AreReadings [] result }
+{
+    Readings {
+        readies: List::new(alloc),
+        fault: None,
+    }
+}
+
+/// The readings that drafts hold.
+pub(crate) fn readings_of(alloc: Global, drafts: Vec<Draft>) -> Result<Readings, NoMemory>
+    requires drafts { (texts : Of (Of ℕ)) × AllZip IsDraftOf texts drafts.items }
+    ensures { (texts : Of (Of ℕ)) → AllZip IsDraftOf texts drafts.items → IfOk result (λ readings. AreReadings texts readings) }
+{
+    let mut readings = no_readings(alloc);
+    for draft in drafts {
+        readings.take(draft)?;
+    }
+    Ok(readings)
+}
+
+/// The readings of texts.
+pub(crate) fn read_texts(alloc: Global, texts: &List<Octets>) -> Result<Readings, NoMemory>
+    ensures few { length texts.now < 2 ^ 32 }
+    ensures read { IfOk result (λ readings. AreReadings texts.now readings) }
+{
+    let mut readings = no_readings(alloc);
+    let items = texts.as_slice();
+    for place in 0..texts.len() {
+        let text = items[place as usize].as_slice();
+        readings.take(read_draft(alloc, text))?;
+    }
+    Ok(readings)
+}
