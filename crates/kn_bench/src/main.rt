@@ -1,43 +1,37 @@
-//! What parts of keynoted take by themselves: the lexer, the feed of requests, an update of the book, settling a system, and
-//! the steps of `gen`.
+//! What parts of keynoted take by themselves: the lexer, the feed of requests, an update of the book, and settling a system.
 //!
 //! Without words each part is run once, and what it gives is printed, which is the same on each machine. `PART` does that
-//! for one of `lexer`, `feed`, `updates`, `settling` and `generating`, and `PART time` prints what it takes.
+//! for one of `lexer`, `feed`, `updates` and `settling`, and `PART time` prints what it takes.
 //! `keep LIVE COUNT` makes so many updates at so many live credentials and keeps each version.
 #![tactic(auto)]
 
 mod clock;
 mod feeding;
-mod generating;
 mod lexing;
 mod settling;
 mod stated;
 mod updating;
 
 use feeding::measure_feeding;
-use generating::measure_generating;
 use kn_base::decimal;
 use lexing::measure_lexing;
 use settling::measure_settling;
-use std::rt::Clock;
-use std::sync::Wait;
 use std::{env, io};
 use updating::{keep_versions, measure_updates};
 
 /// Runs each part once.
-fn show_all<R: Wait + Clock>(handle: &R, rt: &HostRuntime) -> io::Result<()> {
+fn show_all(rt: &HostRuntime) -> io::Result<()> {
     measure_lexing(rt, false)?;
     measure_feeding(rt, false)?;
     measure_updates(rt, false)?;
-    measure_settling(rt, false)?;
-    measure_generating(handle, rt, false)
+    measure_settling(rt, false)
 }
 
 fn main(rt: HostRuntime) -> io::Result<()> {
     let mut words = env::args(&rt)?;
     let _program = words.next();
     let Some(part) = words.next() else {
-        return show_all(&rt, &rt);
+        return show_all(&rt);
     };
     let second = words.next();
     let is_timed = second.is_some();
@@ -46,7 +40,6 @@ fn main(rt: HostRuntime) -> io::Result<()> {
         "feed" => measure_feeding(&rt, is_timed),
         "updates" => measure_updates(&rt, is_timed),
         "settling" => measure_settling(&rt, is_timed),
-        "generating" => measure_generating(&rt, &rt, is_timed),
         "keep" => {
             let live = second.and_then(|word| decimal(word.as_bytes()));
             let count = words.next().and_then(|word| decimal(word.as_bytes()));

@@ -5,6 +5,7 @@
 //! the bytes of all texts.
 
 use kn_assert::read;
+use kn_base::List;
 use kn_store::{Book, Ready, Snapshot, StoreFault};
 use std::alloc::{AllocError, Global};
 use std::io;
@@ -30,11 +31,29 @@ fn make_ready(alloc: Global, text: &[u8]) -> Result<Ready, StoreFault> {
     }
 }
 
-/// Adds the text, and answers its id.
-fn add(alloc: Global, book: &mut Book, text: &[u8]) -> Result<u32, StoreFault> {
-    let ready = make_ready(alloc, text)?;
+/// Adds a text that is ready, and answers its id.
+fn add_ready(book: &mut Book, ready: Ready) -> Result<u32, StoreFault> {
     let prepared = book.prepare_add(0, ready)?;
     Ok(book.commit(prepared).id)
+}
+
+/// Adds the text, and answers its id.
+fn add(alloc: Global, book: &mut Book, text: &[u8]) -> Result<u32, StoreFault> {
+    add_ready(book, make_ready(alloc, text)?)
+}
+
+/// Adds the text so many times at once, unless one of them is refused: then its place is told, counted from 0.
+fn add_at_once(alloc: Global, book: &mut Book, count: u32) -> Result<(), (u32, StoreFault)> {
+    let mut readies = List::new(alloc);
+    for place in 0..count {
+        let Ok(ready) = make_ready(alloc, TEXT) else {
+            return Err((place, StoreFault::NoMemory));
+        };
+        if readies.add(ready).is_err() {
+            return Err((place, StoreFault::NoMemory));
+        }
+    }
+    book.add_all(0, readies)
 }
 
 /// Removes the id, and answers the version.
@@ -46,36 +65,46 @@ fn remove(book: &mut Book, id: u32) -> Result<u32, StoreFault> {
 /// A book with so many live credentials.
 fn filled(alloc: Global, live: u32) -> Result<Book, StoreFault> {
     let mut book = Book::empty(alloc)?;
-    for _ in 0..live {
-        add(alloc, &mut book, TEXT)?;
+    match add_at_once(alloc, &mut book, live) {
+        Ok(()) => Ok(book),
+        Err((_, fault)) => Err(fault),
     }
-    Ok(book)
+}
+
+/// The nanoseconds of one removal of the first id, or None where there is no memory for it.
+fn time_removal(clock: &impl Clock, book: &mut Book) -> io::Result<Option<u128>> {
+    let id = if book.snapshot().len() > 0 {
+        book.snapshot().id(0)
+    } else {
+        0
+    };
+    let start = Instant::now(clock)?;
+    match remove(book, id) {
+        Ok(_) => Ok(Some(start.elapsed(clock)?.as_nanos())),
+        Err(_) => Ok(None),
+    }
+}
+
+/// The nanoseconds of one addition of a text that was read before, or None where there is no memory for it.
+fn time_addition(clock: &impl Clock, alloc: Global, book: &mut Book) -> io::Result<Option<u128>> {
+    let Ok(ready) = make_ready(alloc, TEXT) else {
+        return Ok(None);
+    };
+    let start = Instant::now(clock)?;
+    match add_ready(book, ready) {
+        Ok(_) => Ok(Some(start.elapsed(clock)?.as_nanos())),
+        Err(_) => Ok(None),
+    }
 }
 
 /// The nanoseconds of the removals and of the additions of one measurement.
 fn measure(clock: &impl Clock, alloc: Global, book: &mut Book) -> io::Result<(u128, u128)> {
     let (mut removals, mut additions) = (0u128, 0u128);
     for _ in 0..PAIRS {
-        let Ok(ready) = make_ready(alloc, TEXT) else {
-            break;
-        };
-        let id = if book.snapshot().len() > 0 {
-            book.snapshot().id(0)
-        } else {
-            0
-        };
-        let start = Instant::now(clock)?;
-        let Ok(prepared) = book.prepare_drop(0, id) else {
-            break;
-        };
-        book.commit(prepared);
-        removals = removals.saturating_add(start.elapsed(clock)?.as_nanos());
-        let start = Instant::now(clock)?;
-        let Ok(prepared) = book.prepare_add(0, ready) else {
-            break;
-        };
-        book.commit(prepared);
-        additions = additions.saturating_add(start.elapsed(clock)?.as_nanos());
+        let removal = time_removal(clock, book)?;
+        let addition = time_addition(clock, alloc, book)?;
+        removals = removals.saturating_add(removal.unwrap_or(0));
+        additions = additions.saturating_add(addition.unwrap_or(0));
     }
     Ok((removals, additions))
 }
@@ -211,6 +240,19 @@ fn show_limit_of_log(rt: &HostRuntime, text: &[u8]) -> io::Result<()> {
     Ok(())
 }
 
+/// Three texts at once where there is room for one.
+fn show_refused_place(rt: &HostRuntime) -> io::Result<()> {
+    if let Ok(mut book) = filled(rt.alloc(), 2_047)
+        && let Err((place, fault)) = add_at_once(rt.alloc(), &mut book, 3)
+    {
+        println!(rt;
+            "{} live, 3 at once: {fault:?} at {place}",
+            book.snapshot().len()
+        )?;
+    }
+    Ok(())
+}
+
 fn show_limits(rt: &HostRuntime) -> io::Result<()> {
     let Ok(long) = longest_text(rt.alloc()) else {
         return Ok(());
@@ -228,5 +270,6 @@ pub(crate) fn measure_updates(rt: &HostRuntime, is_timed: bool) -> io::Result<()
         return time(rt);
     }
     show(rt)?;
+    show_refused_place(rt)?;
     show_limits(rt)
 }

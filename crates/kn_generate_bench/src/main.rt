@@ -1,21 +1,22 @@
-//! How long the parts of `gen` take: generating texts, reading them, adding them, building the system and settling it.
+//! How long the parts of `gen` take: generating texts, reading them, adding them at one turn, building the system and settling
+//! it.
 //!
-//! Untimed, what is told of the query over 128 to 2,048 credentials is printed. Timed, it is the nanoseconds of each part
-//! over so many, each the least of several rounds.
-ghost use Rattle.std.specs.Prelude.{◌≤◌};
-ghost use Rattle.kn_registry.specs.Passes.{IsReady};
+//! Without words what is told of the query over 128 to 2,048 credentials is printed. With `time` it is the nanoseconds of each
+//! part over so many, each the least of several rounds.
+#![tactic(auto)]
 
-use crate::clock::{lacks_memory, since};
+ghost use Rattle.std.specs.Prelude.{◌≤◌};
+
 use kn_assert::read;
 use kn_base::{List, Octets};
 use kn_generate::{Measured, build_generated, generate_texts, measure_built};
-use kn_registry::{Pass, Registry};
+use kn_registry::Registry;
 use kn_store::{Ready, Snapshot};
 use std::alloc::Global;
-use std::io;
 use std::rt::Clock;
 use std::sync::Wait;
 use std::time::Instant;
+use std::{env, io};
 
 const SIZES: [u32; 5] = [128, 256, 512, 1_024, 2_048];
 
@@ -43,34 +44,36 @@ fn least(a: Parts, b: Parts) -> Parts {
     }
 }
 
-/// Reads and adds the texts, and answers the nanoseconds of the readings and of the additions.
-fn add_all<R: Wait + Clock>(
-    rt: &R,
+/// Nanoseconds since then.
+fn since(clock: &impl Clock, start: Instant) -> io::Result<u128> {
+    Ok(start.elapsed(clock)?.as_nanos())
+}
+
+fn lacks_memory() -> io::Error {
+    io::Error::from(io::ErrorKind::OutOfMemory)
+}
+
+/// The text with its reading, ready to be added.
+fn make_ready(alloc: Global, text: &[u8]) -> io::Result<Ready> {
+    let Ok(assertion) = read(alloc, text) else {
+        return Err(lacks_memory());
+    };
+    Ready::of(alloc, text, assertion).or(Err(lacks_memory()))
+}
+
+/// Reads the texts, and answers the nanoseconds of that.
+fn read_all(
+    clock: &impl Clock,
     alloc: Global,
-    registry: &Registry,
-    root: &mut Pass,
     texts: &List<Octets>,
-) -> io::Result<(u128, u128)>
-    requires { IsReady registry.now root.old }
-    ensures { IsReady registry.now root.new }
-{
-    let (mut reading, mut adding) = (0u128, 0u128);
+) -> io::Result<(u128, List<Ready>)> {
+    let start = Instant::now(clock)?;
+    let mut readies = List::new(alloc);
     for text in texts.as_slice() {
-        let start = Instant::now(rt)?;
-        let Ok(assertion) = read(alloc, text.as_slice()) else {
-            return Err(lacks_memory());
-        };
-        reading = reading.saturating_add(since(rt, start)?);
-        let start = Instant::now(rt)?;
-        let Ok(ready) = Ready::of(alloc, text.as_slice(), assertion) else {
-            return Err(lacks_memory());
-        };
-        let Ok(_) = registry.add(rt, root, ready) else {
-            return Err(lacks_memory());
-        };
-        adding = adding.saturating_add(since(rt, start)?);
+        let ready = make_ready(alloc, text.as_slice())?;
+        readies.add(ready).or(Err(lacks_memory()))?;
     }
-    Ok((reading, adding))
+    Ok((since(clock, start)?, readies))
 }
 
 /// Builds and settles the query over a version, and answers the nanoseconds of each, and what is told.
@@ -108,7 +111,12 @@ fn measure_once<R: Wait + Clock>(rt: &R, alloc: Global, count: u32) -> io::Resul
     let Ok((registry, mut root)) = Registry::start(alloc) else {
         return Err(lacks_memory());
     };
-    let (reading, adding) = add_all(rt, alloc, &registry, &mut root, &texts)?;
+    let (reading, readies) = read_all(rt, alloc, &texts)?;
+    let start = Instant::now(rt)?;
+    let Ok(()) = registry.add_all(rt, &mut root, readies) else {
+        return Err(lacks_memory());
+    };
+    let adding = since(rt, start)?;
     let Ok(snapshot) = registry.pin(rt, &mut root) else {
         return Err(lacks_memory());
     };
@@ -138,7 +146,7 @@ fn measure_often<R: Wait + Clock>(rt: &R, alloc: Global, count: u32) -> io::Resu
 /// Prints what each part of `gen` takes at each size, or what is told of the query.
 ///
 /// `handle` is the runtime that may wait, and `rt` the same one, which prints.
-pub(crate) fn measure_generating<R: Wait + Clock>(
+fn measure_generating<R: Wait + Clock>(
     handle: &R,
     rt: &HostRuntime,
     is_timed: bool,
@@ -159,4 +167,9 @@ pub(crate) fn measure_generating<R: Wait + Clock>(
         }
     }
     Ok(())
+}
+
+fn main(rt: HostRuntime) -> io::Result<()> {
+    let is_timed = env::args(&rt)?.len() > 1;
+    measure_generating(&rt, &rt, is_timed)
 }
