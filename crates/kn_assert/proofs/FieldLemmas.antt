@@ -1,16 +1,16 @@
--- The one token of a field, and what is stated label by label.
-use Rattle.std.proofs.Common.{◌≡◌, ℕ, ◌+◌, ◌<◌, ◌≤◌, ◌⊎◌, Bool, true, false, inl, inr, None, Result, Ok, Err, List, [], ◌∷◌, length, drop, arith, refl, ◌∙◌, ap}
-use Rattle.std.specs.Prelude.{slice_get, option_and_then, take_while, if◌then◌else◌}
-use Rattle.std.specs.List.{prefix_len}
+-- The one token of a field, and what is stated heading by heading.
+use Rattle.std.proofs.Common.{◌≡◌, ℕ, ◌+◌, ◌≤◌, ◌⊎◌, inl, inr, None, Result, Ok, Err, List, [], ◌∷◌, length, drop, arith, refl, ◌∙◌, ap}
+use Rattle.std.specs.Prelude.{slice_get}
 use Rattle.std.proofs.lemmas.Option.{slice_get_cases}
 use Rattle.std.proofs.lemmas.List.{drop_all}
 use Rattle.kn_env.specs.declared.constant.Constant.{Constant as Set}
 use Rattle.kn_lex.specs.Cutting.{Seen}
-use Rattle.kn_fields.specs.Fields.{is_label, field_number, field_of, fields_of, between}
+use Rattle.kn_fields.specs.Fields.{fields_of, between, AreHeadings}
+use Rattle.kn_fields.specs.declared.heading.Heading.{Heading}
 use Rattle.kn_fields.specs.declared.fault.ReadFault.{ReadFault}
 use Rattle.kn_fields.specs.declared.fault.ReadFault.TheVariants.{NoMemory}
 use Rattle.kn_fields.proofs.Between.{drop_here, between_here, between_none, between_length}
-use Rattle.kn_fields.proofs.Parts.{goes_on, own_tokens, fields_from}
+use Rattle.kn_fields.proofs.Headings.{Told, headings_length}
 use Rattle.kn_assert.specs.Parts.{only_of}
 use Rattle.kn_assert.specs.Reading.{and_then, nothing, with_field, stated_by}
 use Rattle.kn_assert.specs.declared.stated.Stated.{Stated}
@@ -34,41 +34,26 @@ only_some xs i to e fits =
       | inr h ↦ absurd (omega (arith, h.0, e, fits))
     ]
 
--- label by label
+-- heading by heading
 
-stated_front : (constants : List Set) (s : Stated) (t : Seen) (ts : List Seen)
-    → stated_by constants s (fields_of (t ∷ ts)) ≡ and_then (with_field constants s (field_of t) (take_while goes_on ts)) (λ next. stated_by constants next (fields_of ts))
-unfolding stated_by fields_of field_of
-stated_front constants s t ts = by (is_label t) refl
-  where
-    by : (b : Bool) → is_label t ≡ b → stated_by constants s (if b then record { label = t; tokens = take_while goes_on ts } ∷ fields_of ts else fields_of ts)
-        ≡ and_then (with_field constants s (if b then field_number t.text else None) (take_while goes_on ts)) (λ next. stated_by constants next (fields_of ts))
-    by true e = rw e refl
-    by false e = refl
-
--- the field whose label stands at a place comes first of those from there on
-stated_next : (constants : List Set) (s : Stated) (xs : List Seen) (label end : ℕ) → label < length xs → end ≡ label + 1 + prefix_len goes_on (drop (label + 1) xs)
-    → stated_by constants s (fields_of (drop label xs))
-    ≡ and_then (with_field constants s (option_and_then field_of (slice_get xs label)) (between (label + 1) end xs)) (λ next. stated_by constants next (fields_of (drop end xs)))
-stated_next constants s xs label end below is =
-    elim (slice_get_cases xs label).1 [
-      | inl h ↦
-          rw (drop_here xs label h.0 h.2, h.2, ← own_tokens xs (label + 1) end is, ← fields_from xs (label + 1) end is) (stated_front constants s h.0 (drop (label + 1) xs))
-      | inr h ↦ absurd (omega (arith, h.0, below))
-    ]
-
--- what is left decides, where this is stated up to a place
+-- what is left decides, where this is stated up to a place among the fields
 abbrev pub IsLeft : List Set → List Seen → Stated → ℕ → Type 0
-IsLeft constants xs s label = stated_by constants nothing (fields_of xs) ≡ stated_by constants s (fields_of (drop label xs))
+IsLeft constants xs s i = stated_by constants nothing (fields_of xs) ≡ stated_by constants s (drop i (fields_of xs))
 
-pub left_first : (constants : List Set) (xs : List Seen) (label : ℕ) → label ≡ 0 + prefix_len goes_on (drop 0 xs) → IsLeft constants xs nothing label
-left_first constants xs label is = ap (stated_by constants nothing) (fields_from xs 0 label is)
+-- what the field of this heading states
+abbrev stated_here : List Set → List Seen → Stated → Heading → Result Stated ReadFault
+stated_here constants xs s h = with_field constants s h.number (between (h.part.label + 1) h.part.end xs)
 
-pub left_next : (constants : List Set) (xs : List Seen) (s next : Stated) (label end : ℕ) → IsLeft constants xs s label → label < length xs
-    → end ≡ label + 1 + prefix_len goes_on (drop (label + 1) xs)
-    → with_field constants s (option_and_then field_of (slice_get xs label)) (between (label + 1) end xs) ≡ Ok next → IsLeft constants xs next end
-left_next constants xs s next label end so below is read =
-    so ∙ stated_next constants s xs label end below is ∙ ap (λ (r : Result Stated ReadFault). and_then r (λ next. stated_by constants next (fields_of (drop end xs)))) read
+-- the field of the heading here comes first of those that are left
+stated_next : (constants : List Set) (s : Stated) (xs : List Seen) (h : Heading) (i : ℕ) → Told xs (fields_of xs) h i
+    → stated_by constants s (drop i (fields_of xs)) ≡ and_then (stated_here constants xs s h) (λ next. stated_by constants next (drop (i + 1) (fields_of xs)))
+unfolding stated_by
+stated_next constants s xs h i t = rw (drop_here (fields_of xs) i t.field t.there, t.told.number, t.told.part.own) refl
+
+pub left_next : (constants : List Set) (xs : List Seen) (s next : Stated) (h : Heading) (i : ℕ) → IsLeft constants xs s i → Told xs (fields_of xs) h i
+    → stated_here constants xs s h ≡ Ok next → IsLeft constants xs next (i + 1)
+left_next constants xs s next h i so t read =
+    so ∙ stated_next constants s xs h i t ∙ ap (λ (r : Result Stated ReadFault). and_then r (λ next. stated_by constants next (drop (i + 1) (fields_of xs)))) read
 
 -- the fault of a first step is that of the whole
 pub fault_passed : {X Y : Type 0} (fault : ReadFault) (read : Result X ReadFault) (go : X → Result Y ReadFault) (whole : Result Y ReadFault) → whole ≡ and_then read go
@@ -76,13 +61,12 @@ pub fault_passed : {X Y : Type 0} (fault : ReadFault) (read : Result X ReadFault
 fault_passed fault read go whole is (inl none) = inl none
 fault_passed fault read go whole is (inr e) = inr (is ∙ ap (λ r. and_then r go) e)
 
-pub left_fault : (constants : List Set) (xs : List Seen) (s : Stated) (fault : ReadFault) (label end : ℕ) → IsLeft constants xs s label → label < length xs
-    → end ≡ label + 1 + prefix_len goes_on (drop (label + 1) xs)
-    → (fault ≡ NoMemory) ⊎ (with_field constants s (option_and_then field_of (slice_get xs label)) (between (label + 1) end xs) ≡ Err fault)
-    → (fault ≡ NoMemory) ⊎ (stated_by constants nothing (fields_of xs) ≡ Err fault)
-left_fault constants xs s fault label end so below is h = fault_passed fault _ _ _ (so ∙ stated_next constants s xs label end below is) h
+pub left_fault : (constants : List Set) (xs : List Seen) (s : Stated) (fault : ReadFault) (h : Heading) (i : ℕ) → IsLeft constants xs s i → Told xs (fields_of xs) h i
+    → (fault ≡ NoMemory) ⊎ (stated_here constants xs s h ≡ Err fault) → (fault ≡ NoMemory) ⊎ (stated_by constants nothing (fields_of xs) ≡ Err fault)
+left_fault constants xs s fault h i so t here = fault_passed fault _ _ _ (so ∙ stated_next constants s xs h i t) here
 
-pub left_last : (constants : List Set) (xs : List Seen) (s : Stated) (label : ℕ) → IsLeft constants xs s label → length xs ≤ label
+pub left_last : (constants : List Set) (xs : List Seen) (hs : List Heading) (s : Stated) (i : ℕ) → AreHeadings xs (fields_of xs) hs → IsLeft constants xs s i → length hs ≤ i
     → stated_by constants nothing (fields_of xs) ≡ Ok s
-unfolding stated_by fields_of
-left_last constants xs s label so over = so ∙ ap (λ (ts : List Seen). stated_by constants s (fields_of ts)) (drop_all label xs over)
+unfolding stated_by
+left_last constants xs hs s i all so over =
+    so ∙ ap (stated_by constants s) (drop_all i (fields_of xs) (omega (arith, over, headings_length xs (fields_of xs) hs all)))

@@ -105,8 +105,8 @@ pub(crate) fn authorizer(
     requires within { part.end ≤ length fields.now.tokens }
     ensures { Gives result (authorizer_in fields.now.constants (between (part.label + 1) part.end fields.now.tokens)) }
 {
-    check_depth(&fields.tokens, part, AUTHORIZER)?;
-    match only(&fields.tokens, part) {
+    check_depth(fields.tokens.tokens(), part, AUTHORIZER)?;
+    match only(fields.tokens.tokens(), part) {
         Some(token) => authorizer_by(alloc, &fields.constants, token),
         None => Err(ReadFault::Syntax { field: AUTHORIZER }),
     }
@@ -123,8 +123,8 @@ pub(crate) fn conditions(
     ensures { Gives result (conditions_in (between (part.label + 1) part.end fields.now.tokens)) }
 {
     kn_fields::laws::depth_is_computed();
-    check_depth(&fields.tokens, part, CONDITIONS)?;
-    match kn_program::conditions(alloc, &fields.tokens, part) {
+    check_depth(fields.tokens.tokens(), part, CONDITIONS)?;
+    match kn_program::conditions(alloc, fields.tokens.tokens(), part) {
         Ok(conditions) => Ok(conditions),
         Err(ProgramFault::Syntax) => Err(ReadFault::Syntax { field: CONDITIONS }),
         Err(ProgramFault::Kind) => Err(ReadFault::Kind { field: CONDITIONS }),
@@ -143,8 +143,8 @@ pub(crate) fn licensees(
     ensures { Gives result (licensees_in fields.now.constants (between (part.label + 1) part.end fields.now.tokens)) }
 {
     kn_fields::laws::depth_is_computed();
-    check_depth(&fields.tokens, part, LICENSEES)?;
-    match kn_formula::licensees(alloc, &fields.tokens, part, &fields.constants) {
+    check_depth(fields.tokens.tokens(), part, LICENSEES)?;
+    match kn_formula::licensees(alloc, fields.tokens.tokens(), part, &fields.constants) {
         Ok(licensees) => Ok(licensees),
         Err(FormulaFault::Syntax) => Err(ReadFault::Syntax { field: LICENSEES }),
         Err(FormulaFault::Threshold) => Err(ReadFault::Threshold { field: LICENSEES }),
@@ -174,8 +174,8 @@ pub(crate) fn signature(
     requires within { part.end ≤ length fields.now.tokens }
     ensures { Gives result (signature_in (between (part.label + 1) part.end fields.now.tokens)) }
 {
-    check_depth(&fields.tokens, part, SIGNATURE)?;
-    match only(&fields.tokens, part) {
+    check_depth(fields.tokens.tokens(), part, SIGNATURE)?;
+    match only(fields.tokens.tokens(), part) {
         Some(token) => signature_by(alloc, token),
         None => Err(ReadFault::Syntax { field: SIGNATURE }),
     }

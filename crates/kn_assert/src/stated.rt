@@ -1,12 +1,12 @@
 //! What the fields state, read in their order in the text.
-ghost use Rattle.std.specs.Prelude.{◌+◌, ◌≤◌, ◌<◌, length, slice_get, option_and_then};
-ghost use Rattle.kn_fields.specs.Fields.{between, field_of, fields_of};
+ghost use Rattle.std.specs.Prelude.{◌+◌, ◌≤◌, ◌<◌, length};
+ghost use Rattle.kn_fields.specs.Fields.{between, fields_of};
 ghost use Rattle.kn_assert.specs.Parts.{Gives};
 ghost use Rattle.kn_assert.specs.Reading.{nothing, with_field, stated_by};
 
 use crate::parts::{authorizer, conditions, licensees, signature};
 use kn_base::Octets;
-use kn_fields::{AUTHORIZER, CONDITIONS, Fields, LICENSEES, Part, ReadFault, SIGNATURE};
+use kn_fields::{AUTHORIZER, CONDITIONS, Fields, Heading, LICENSEES, ReadFault, SIGNATURE};
 use kn_trees::{Formula, Program};
 use std::alloc::Global;
 
@@ -23,15 +23,16 @@ pub struct Stated {
 fn with_field(
     alloc: Global,
     fields: &Fields<'_>,
-    part: Part,
+    heading: Heading,
     stated: Stated,
 ) -> Result<Stated, ReadFault>
-    requires before { part.label < part.end }
-    requires within { part.end ≤ length fields.now.tokens }
-    ensures { Gives result (with_field fields.now.constants stated (option_and_then field_of (slice_get fields.now.tokens part.label)) (between (part.label + 1) part.end fields.now.tokens)) }
+    requires before { heading.part.label < heading.part.end }
+    requires within { heading.part.end ≤ length fields.now.tokens }
+    ensures { Gives result (with_field fields.now.constants stated heading.number (between (heading.part.label + 1) heading.part.end fields.now.tokens)) }
 {
     let mut stated = stated;
-    let Some(number) = fields.number_at(part.label) else {
+    let part = heading.part;
+    let Some(number) = heading.number else {
         return Ok(stated);
     };
     if number == AUTHORIZER {
@@ -56,11 +57,8 @@ pub(crate) fn read_fields(alloc: Global, fields: &Fields<'_>) -> Result<Stated, 
         conditions: None,
         signature: None,
     };
-    let mut label = fields.tokens.next_label(0);
-    while label < fields.tokens.len() {
-        let end = fields.tokens.next_label(label + 1);
-        stated = with_field(alloc, fields, Part { label, end }, stated)?;
-        label = end;
+    for heading in fields.tokens.headings() {
+        stated = with_field(alloc, fields, *heading, stated)?;
     }
     Ok(stated)
 }

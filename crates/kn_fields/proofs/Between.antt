@@ -1,20 +1,18 @@
 -- The tokens from one place up to another, token by token.
-use Rattle.std.proofs.Common.{◌≡◌, ℕ, ◌+◌, ◌-◌, ◌<◌, ◌≤◌, false, ◌||◌, Option, Some, None, List, [], ◌∷◌, ◌++◌, length, drop, arith, append-nil}
-use Rattle.std.specs.Prelude.{◌==◌, slice_get}
+use Rattle.std.proofs.Common.{◌≡◌, ℕ, ◌+◌, ◌-◌, ◌<◌, ◌≤◌, Option, Some, None, List, [], ◌∷◌, ◌++◌, length, drop, arith, append-nil}
+use Rattle.std.specs.Prelude.{slice_get}
 use Rattle.std.proofs.lemmas.Option.{gets, slice_get_cases, slice_get_past}
 use Rattle.std.proofs.lemmas.List.{take_all, length-drop, length-take-le, drop_all, drop_more}
 use Rattle.std.proofs.lemmas.List.Edits.{between_more as between_pushed}
 use Rattle.kn_lex.specs.Cutting.{Seen}
-use Rattle.kn_fields.specs.Fields.{between, is_label, field_of}
-use Rattle.kn_fields.specs.Scanning.{is_wrong}
-use Rattle.kn_fields.specs.declared.labels.Wrong.{Wrong}
+use Rattle.kn_fields.specs.Fields.{between}
 
 -- these tokens behind the one that may stand at a place
 abbrev pub first_then : Option Seen → List Seen → List Seen
 first_then None rest = []
 first_then (Some token) rest = token ∷ rest
 
-pub drop_here : (xs : List Seen) (i : ℕ) (t : Seen) → slice_get xs i ≡ Some t → drop i xs ≡ t ∷ drop (i + 1) xs
+pub drop_here : {X : Type 0} (xs : List X) (i : ℕ) (t : X) → slice_get xs i ≡ Some t → drop i xs ≡ t ∷ drop (i + 1) xs
 drop_here xs i t is = grind (arith, gets, drop_more)
 
 pub between_step : (xs : List Seen) (i to : ℕ) → i < to → between i to xs ≡ first_then (slice_get xs i) (between (i + 1) to xs)
@@ -54,9 +52,3 @@ three_here xs i to below within = grind (arith, between_step, slice_get_cases xs
 
 -- a step of a loop over them
 pub ruleset steps = (between_step, between_more, between_none, between_whole, gets)
-
--- a token within a line that is no label is never wrong
-pub quiet : (wrong : Wrong) (before : List Seen) (token : Seen) → (length before == 0 || token.first) ≡ false → is_label token ≡ false
-    → is_wrong wrong before token ≡ false
-unfolding field_of
-quiet wrong before token within other = grind arith

@@ -1,7 +1,6 @@
-pub mod Before
+pub mod Headings
 pub mod Between
 pub mod Parts
-pub mod Quiet
 pub mod Lists
 pub mod Places
 pub mod Shown

@@ -4,6 +4,7 @@ use Rattle.std.specs.Prelude.{◌≡◌, ℕ, ◌+◌, ◌-◌, ◌<◌, ◌≤�
 use Rattle.std.specs.Str.{str_eq_ignore_ascii_case}
 use Rattle.kn_lex.specs.Cutting.{Seen}
 use Rattle.kn_lex.specs.Seeing.{is_label_sort}
+use Rattle.kn_fields.specs.declared.heading.Heading.{Heading}
 use Rattle.kn_fields.specs.declared.part.Part.{Part}
 
 -- the number of the field that a label names, in any case of letters
@@ -74,3 +75,14 @@ pub record IsPart (tokens : List Seen) (part : Part) (field : Field) : Type 0 wh
 abbrev pub PartIs : ℕ → List Seen → Option Part → Type 0
 PartIs number tokens None = field_with number tokens ≡ None
 PartIs number tokens (Some part) = (field : Field) × (field_with number tokens ≡ Some field) × IsPart tokens part field
+
+-- it tells where a field stands, and its number
+pub record IsHeading (tokens : List Seen) (field : Field) (heading : Heading) : Type 0 where
+  pub part : IsPart tokens heading.part field
+  pub number : heading.number ≡ field_of field.label
+
+-- each of these tells of the field at its place in the list
+abbrev pub AreHeadings : List Seen → List Field → List Heading → Type 0
+AreHeadings tokens [] [] = Unit {0}
+AreHeadings tokens (field ∷ fields) (heading ∷ headings) = IsHeading tokens field heading × AreHeadings tokens fields headings
+AreHeadings tokens fields headings = ⊥

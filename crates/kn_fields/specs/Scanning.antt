@@ -1,16 +1,18 @@
 -- What the private readers give: the first fault, computed.
-use Rattle.std.specs.Prelude.{◌≡◌, ℕ, Bool, List, [], ◌∷◌, ◌++◌, Option, Some, None, if◌then◌else◌, ◌||◌, nat_lt, false}
+use Rattle.std.specs.Prelude.{◌≡◌, ℕ, Bool, List, [], ◌∷◌, ◌++◌, Option, Some, None, if◌then◌else◌, ◌||◌, nat_lt, true, false, map}
+use Rattle.std.specs.List.{list_all}
 use Rattle.std.specs.Option.{option_or}
 use Rattle.kn_base.specs.declared.limits.TheConstants.{OPEN_BRACKETS, PREFIX_SIGNS}
 use Rattle.kn_lex.specs.Cutting.{Seen}
-use Rattle.kn_fields.specs.Fields.{Field, field_with}
+use Rattle.kn_fields.specs.Fields.{is_label, field_of, Field, field_with}
 use Rattle.kn_fields.specs.Turns.{turn_behind, departs}
 use Rattle.kn_fields.specs.Depth.{depth_behind, run_behind}
 use Rattle.kn_fields.specs.Faults.{is_bad_field, is_second, is_late_version, is_behind_signature, is_version}
 use Rattle.kn_fields.specs.declared.constants.Turn.{Turn}
 use Rattle.kn_fields.specs.declared.constants.Turn.TheVariants.{Setting}
+use Rattle.kn_fields.specs.declared.heading.Heading.{Heading}
 use Rattle.kn_fields.specs.declared.labels.Wrong.{Wrong}
-use Rattle.kn_fields.specs.declared.labels.Wrong.TheVariants.{NoField, Second, LateVersion, BehindSignature}
+use Rattle.kn_fields.specs.declared.labels.Wrong.TheVariants.{Second, LateVersion, BehindSignature}
 use Rattle.kn_fields.specs.declared.fault.ReadFault.{ReadFault}
 use Rattle.kn_fields.specs.declared.fault.ReadFault.TheVariants.{BadField, FieldTwice, FieldOrder, NoAuthorizer, Version, Constant}
 
@@ -21,10 +23,13 @@ first_place is_bad before (token ∷ tokens) =
     if is_bad before token then Some token.span.start else first_place is_bad (before ++ token ∷ []) tokens
 
 abbrev pub is_wrong : Wrong → List Seen → Seen → Bool
-is_wrong NoField = is_bad_field
 is_wrong Second = is_second
 is_wrong LateVersion = is_late_version
 is_wrong BehindSignature = is_behind_signature
+
+-- these labels, in their order, are those of fields of these numbers
+abbrev pub AreNumbered : List Seen → List Heading → Type 0
+AreNumbered labels headings = (list_all is_label labels ≡ true) × (map field_of labels ≡ map (λ heading. heading.number) headings)
 
 abbrev pub order_place : List Seen → Option ℕ
 order_place tokens = option_or (first_place is_late_version [] tokens) (first_place is_behind_signature [] tokens)

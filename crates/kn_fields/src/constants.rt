@@ -9,8 +9,9 @@ ghost use Rattle.kn_fields.specs.Turns.{is_name, next_turn, fits};
 ghost use Rattle.kn_fields.specs.Faults.{constants_in};
 ghost use Rattle.kn_fields.specs.Scanning.{end_place, departure, constant_place};
 
+use crate::heading::Labelled;
 use crate::label::LOCAL_CONSTANTS;
-use crate::part::{Part, label_start, part_of};
+use crate::part::label_start;
 use kn_base::{List, NoMemory, Octets};
 use kn_env::Constant;
 use kn_lex::{Sort, Token, Tokens, literal};
@@ -168,22 +169,23 @@ fn constants_between(
 
 /// The place of the first fault of the local constants, if there are any.
 #[tactic(auto, unfolding(crate::specs::Scanning::constant_place))]
-pub(crate) fn constant_place(tokens: &Tokens<'_>) -> Option<u32>
+pub(crate) fn constant_place(tokens: &Labelled<'_>) -> Option<u32>
     ensures { result ≡ constant_place tokens.now }
 {
-    let Some(part) = part_of(tokens, LOCAL_CONSTANTS) else {
+    let Some(part) = tokens.part(LOCAL_CONSTANTS) else {
         return None;
     };
-    departure(tokens, part.label + 1, part.end, label_start(tokens, part))
+    let list = tokens.tokens();
+    departure(list, part.label + 1, part.end, label_start(list, part))
 }
 
 /// The local constants of a text.
-pub(crate) fn constants(alloc: Global, tokens: &Tokens<'_>) -> Result<List<Constant>, NoMemory>
+pub(crate) fn constants(alloc: Global, tokens: &Labelled<'_>) -> Result<List<Constant>, NoMemory>
     requires { constant_place tokens.now ≡ None }
     ensures { IfOk result (λ list. list ≡ constants_in (field_with 6 tokens.now)) }
 {
-    match part_of(tokens, LOCAL_CONSTANTS) {
-        Some(part) => constants_between(alloc, tokens, part.label + 1, part.end),
+    match tokens.part(LOCAL_CONSTANTS) {
+        Some(part) => constants_between(alloc, tokens.tokens(), part.label + 1, part.end),
         None => Ok(List::new(alloc)),
     }
 }

@@ -1,7 +1,7 @@
 //! Which field a label names.
 ghost use Rattle.std.specs.Prelude.{◌≡◌};
 ghost use Rattle.kn_lex.specs.Seeing.{seen};
-ghost use Rattle.kn_fields.specs.Fields.{field_number, is_label, field_of, is_label_of};
+ghost use Rattle.kn_fields.specs.Fields.{field_number, is_label, field_of};
 
 use kn_lex::{Sort, Token};
 
@@ -43,7 +43,7 @@ fn field_number(label: &[u8]) -> Option<u8>
 }
 
 #[inline(always)]
-pub(crate) fn is_label(token: &Token<'_>) -> bool
+fn is_label(token: &Token<'_>) -> bool
     ensures { result ≡ is_label (seen token.now) }
 {
     matches!(token.sort, Sort::Label)
@@ -59,15 +59,5 @@ pub(crate) fn field_of(token: &Token<'_>) -> Option<u8>
         field_number(token.text)
     } else {
         None
-    }
-}
-
-#[inline(always)]
-pub(crate) fn is_label_of(token: &Token<'_>, number: u8) -> bool
-    ensures { result ≡ is_label_of number (seen token.now) }
-{
-    match field_of(token) {
-        Some(other) => other == number,
-        None => false,
     }
 }

@@ -9,10 +9,11 @@ ghost use Rattle.kn_fields.specs.Scanning.{StandsRight, fault_in};
 
 use crate::constants::{constant_place, constants};
 use crate::fault::ReadFault;
+use crate::heading::Labelled;
 use crate::label::{AUTHORIZER, SIGNATURE};
-use crate::labels::{Wrong, has_wrong, order_place, wrong_place};
+use crate::labels::{Wrong, bad_field_place, order_place, wrong_place};
 use crate::outline::Fields;
-use crate::part::{label_start, part_of};
+use crate::part::label_start;
 use crate::version::version_place;
 use kn_base::NoMemory;
 use kn_base::limits::ASSERTION_BYTES;
@@ -35,13 +36,10 @@ fn read_tokens<'a>(alloc: Global, text: &'a [u8]) -> Result<Tokens<'a>, ReadFaul
 
 /// The first fault by what stands where among the tokens.
 #[tactic(auto, unfolding(crate::specs::Scanning::fault_in, crate::specs::Scanning::fault_at))]
-fn wrong_fault(tokens: &Tokens<'_>) -> Option<ReadFault>
+fn wrong_fault(tokens: &Labelled<'_>) -> Option<ReadFault>
     ensures { MatchOption result (StandsRight tokens.now) (λ fault. fault_in tokens.now ≡ Some fault) }
 {
-    if !has_wrong(tokens) {
-        return None;
-    }
-    if let Some(at) = wrong_place(Wrong::NoField, tokens) {
+    if let Some(at) = bad_field_place(tokens) {
         return Some(ReadFault::BadField { at });
     }
     if let Some(at) = wrong_place(Wrong::Second, tokens) {
@@ -55,13 +53,13 @@ fn wrong_fault(tokens: &Tokens<'_>) -> Option<ReadFault>
 
 /// The first fault that tokens show, if there is one.
 #[tactic(auto, unfolding(crate::specs::Scanning::fault_in, crate::specs::Scanning::fault_at, crate::specs::Scanning::fault_without))]
-fn fault_in(alloc: Global, tokens: &Tokens<'_>) -> Result<Option<ReadFault>, NoMemory>
+fn fault_in(alloc: Global, tokens: &Labelled<'_>) -> Result<Option<ReadFault>, NoMemory>
     ensures { IfOk result (λ fault. fault ≡ fault_in tokens.now) }
 {
     if let Some(fault) = wrong_fault(tokens) {
         return Ok(Some(fault));
     }
-    let Some(_authorizer) = part_of(tokens, AUTHORIZER) else {
+    let Some(_authorizer) = tokens.part(AUTHORIZER) else {
         return Ok(Some(ReadFault::NoAuthorizer));
     };
     if let Some(at) = version_place(alloc, tokens)? {
@@ -74,11 +72,11 @@ fn fault_in(alloc: Global, tokens: &Tokens<'_>) -> Result<Option<ReadFault>, NoM
 }
 
 /// The place of the label of a signature, or the length of the text.
-fn signed_to(tokens: &Tokens<'_>, end: u32) -> u32
+fn signed_to(tokens: &Labelled<'_>, end: u32) -> u32
     ensures { (text : List ℕ) → length text ≡ end → result ≡ signed_to text tokens.now }
 {
-    match part_of(tokens, SIGNATURE) {
-        Some(part) => label_start(tokens, part).unwrap_or(end),
+    match tokens.part(SIGNATURE) {
+        Some(part) => label_start(tokens.tokens(), part).unwrap_or(end),
         None => end,
     }
 }
@@ -93,7 +91,8 @@ pub fn fields<'a>(alloc: Global, text: &'a [u8]) -> Result<Fields<'a>, ReadFault
     ensures fault { IfErr result (λ fault. HasCause text.now fault) }
 {
     laws::tokens_or_first_fault();
-    let tokens = read_tokens(alloc, text)?;
+    let list = read_tokens(alloc, text)?;
+    let tokens = Labelled::of(alloc, list)?;
     if let Some(fault) = fault_in(alloc, &tokens)? {
         return Err(fault);
     }

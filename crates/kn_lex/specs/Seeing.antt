@@ -1,5 +1,5 @@
 -- What a contract sees of a token and of an answer.
-use Rattle.std.specs.Prelude.{◌≡◌, ℕ, ◌+◌, Bool, true, false, not, ◌&&◌, nat_le, List, [], ◌∷◌, if◌then◌else◌, Result, Ok, Err}
+use Rattle.std.specs.Prelude.{◌≡◌, ℕ, ◌+◌, Bool, true, false, not, ◌&&◌, List, [], ◌∷◌, if◌then◌else◌, Result, Ok, Err}
 use Rattle.kn_lex.specs.Cutting.{Seen}
 use Rattle.kn_lex.specs.Faults.{IsFirstLexicalFault}
 use Rattle.kn_lex.specs.declared.fault.LexFault.{LexFault}
@@ -23,11 +23,6 @@ is_stray token = token.first && not (is_label_sort token.sort)
 unfoldable pub label_places : ℕ → List Seen → List ℕ
 label_places at [] = []
 label_places at (token ∷ tokens) = if is_label_sort token.sort then at ∷ label_places (at + 1) tokens else label_places (at + 1) tokens
-
--- the first of some places that isn't below one, or the end
-unfoldable pub place_from : ℕ → ℕ → List ℕ → ℕ
-place_from from end [] = end
-place_from from end (at ∷ places) = if nat_le from at then at else place_from from end places
 
 -- these tokens are given, unless there is no memory
 abbrev pub GivesTokens : List Seen → Result (List Seen) LexFault → Type 0

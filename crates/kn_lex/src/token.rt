@@ -1,7 +1,7 @@
 //! Tokens, and the list of those of a text.
 
-ghost use Rattle.std.specs.Prelude.{◌≡◌, ◌↔◌, ◌+◌, ◌≤◌, IsTrue, not, length, map, drop, slice_get};
-ghost use Rattle.std.specs.List.{list_any, prefix_len};
+ghost use Rattle.std.specs.Prelude.{◌≡◌, ◌↔◌, IsTrue, length, map, slice_get};
+ghost use Rattle.std.specs.List.{list_any};
 ghost use Rattle.std.specs.Option.{option_copied, option_map};
 
 use kn_base::{List, Span};
@@ -60,7 +60,7 @@ impl<'a> Model for Tokens<'a> {
 }
 
 impl<'a> Tokens<'a> {
-    ghost use Rattle.kn_lex.specs.Seeing.{seen, is_label_sort, is_stray, label_places};
+    ghost use Rattle.kn_lex.specs.Seeing.{seen, is_stray, label_places};
 
     pub(crate) fn of(list: List<Token<'a>>, labels: List<u32>, has_stray: bool) -> Tokens<'a>
         requires labels { labels ≡ label_places 0 (map seen list) }
@@ -100,16 +100,10 @@ impl<'a> Tokens<'a> {
         self.list.get(i)
     }
 
-    /// The place of the first label from place `from` on, or the number of tokens. No other tokens are looked at.
-    pub fn next_label(&self, from: u32) -> u32
-        requires { from ≤ length self.now }
-        ensures { result ≡ from + prefix_len (λ token. not (is_label_sort token.sort)) (drop from self.now) }
+    /// The places of the labels, in their order. No tokens are looked at.
+    pub fn labels(&self) -> &[u32]
+        ensures { result.now ≡ label_places 0 self.now }
     {
-        for at in self.labels.as_slice() {
-            if from <= *at {
-                return *at;
-            }
-        }
-        self.list.len()
+        self.labels.as_slice()
     }
 }

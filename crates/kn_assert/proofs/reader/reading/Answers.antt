@@ -1,4 +1,4 @@
-use Rattle.std.proofs.Common.{◌≡◌, inr, refl}
+use Rattle.std.proofs.Common.{inr, refl}
 use Rattle.std.proofs.lemmas.Result.{err_from_is_err_and}
 use Rattle.kn_assert.proofs.Answered.{reading_here, fields_fault}
 use Rattle.kn_assert.proofs.FieldLemmas.{fault_passed}

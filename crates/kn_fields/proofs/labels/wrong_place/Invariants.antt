@@ -1,10 +1,11 @@
-use Rattle.std.proofs.Common.{◌≡◌, [], length}
-use Rattle.kn_fields.specs.Fields.{between}
+use Rattle.std.proofs.Common.{◌≡◌, [], take, drop}
+use Rattle.kn_fields.specs.Fields.{fields_of}
 use Rattle.kn_fields.specs.Scanning.{is_wrong, first_place}
+use Rattle.kn_fields.proofs.Headings.{labels}
 use Rattle.kn_fields.proofs.labels.wrong_place.Given as goal
 
--- what is left decides
+-- the labels that are left decide
 abbrev pub invariant-loop-i : goal.invariant-loop-i
 invariant-loop-i l =
     first_place (is_wrong l.wrong) [] l.tokens
-    ≡ first_place (is_wrong l.wrong) (between 0 l.i l.tokens) (between l.i (length l.tokens) l.tokens)
+    ≡ first_place (is_wrong l.wrong) (take l.i (labels (fields_of l.tokens))) (drop l.i (labels (fields_of l.tokens)))

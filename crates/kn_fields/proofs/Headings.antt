@@ -1,0 +1,305 @@
+-- Only labels can be wrong by those before them, and each tells of its field.
+use Rattle.std.proofs.Common.{subst, ◌≡◌, ℕ, zero, suc, ◌+◌, ◌<◌, ◌≤◌, Bool, true, false, not, Option, Some, None, List, [], ◌∷◌, ◌++◌, length, map, take, drop, get_or, arith, refl, sym, inl, inr, ◌∙◌, ap, append-nil}
+use Rattle.std.specs.Prelude.{slice_get, find, is_none, unwrap_or, take_while, option_and_then, ◌==◌}
+use Rattle.std.specs.List.{list_any, list_all, prefix_len}
+use Rattle.std.proofs.lemmas.Bool.{cases_Bool}
+use Rattle.std.proofs.lemmas.Bool.Decides.{nat_tests}
+use Rattle.std.proofs.lemmas.Option.{gets, slice_get-map}
+use Rattle.std.proofs.lemmas.List.{length-append, length-map, drop_all, take_more, take-map, take-append-drop}
+use Rattle.std.proofs.lemmas.List.Folds.{list_all-append}
+use Rattle.std.proofs.lemmas.List.Sums.{prefix_len-le-length}
+use Rattle.kn_lex.specs.Cutting.{Seen}
+use Rattle.kn_lex.specs.Seeing.{is_stray, label_places}
+use Rattle.kn_fields.specs.Fields.{is_label, field_of, is_this, is_label_of, Field, fields_of, field_with, IsPart, PartIs, IsHeading, AreHeadings}
+use Rattle.kn_fields.specs.Faults.{is_bad_field}
+use Rattle.kn_fields.specs.Scanning.{is_wrong, first_place, AreNumbered}
+use Rattle.kn_fields.specs.declared.heading.Heading.{Heading}
+use Rattle.kn_fields.specs.declared.labels.Wrong.{Wrong}
+use Rattle.kn_fields.specs.declared.labels.Wrong.TheVariants.{Second, LateVersion, BehindSignature}
+use Rattle.kn_fields.proofs.Between.{drop_here}
+use Rattle.kn_fields.proofs.Parts.{goes_on, own_tokens}
+
+-- the labels of fields
+abbrev pub labels : List Field → List Seen
+labels fields = map (λ field. field.label) fields
+
+-- a label's number tells of its field
+
+pub any_numbered : (is_so : Option ℕ → Bool) (ls : List Seen) (hs : List Heading) → map field_of ls ≡ map (λ heading. heading.number) hs
+    → list_any (λ heading. is_so heading.number) hs ≡ list_any (λ label. is_so (field_of label)) ls
+any_numbered is_so [] [] e = refl
+any_numbered is_so [] (h ∷ hs) e = absurd (cc)
+any_numbered is_so (l ∷ ls) [] e = absurd (cc)
+any_numbered is_so (l ∷ ls) (h ∷ hs) e = grind (arith, any_numbered is_so ls hs)
+
+-- where there are labels one of them is a label
+pub some_label : (ls : List Seen) (hs : List Heading) → AreNumbered ls hs → list_any is_label ls ≡ not (length hs == 0)
+some_label [] [] e = refl
+some_label [] (h ∷ hs) e = absurd (cc)
+some_label (l ∷ ls) [] e = absurd (cc)
+some_label (l ∷ ls) (h ∷ hs) e = grind (arith, nat_tests)
+
+pub ruleset numbered = (any_numbered, some_label)
+
+-- the fields' labels are the labels among the tokens, and only they count
+
+label_of_field : (ts : List Seen) → list_all is_label (labels (fields_of ts)) ≡ true
+unfolding fields_of
+label_of_field [] = refl
+label_of_field (t ∷ ts) = grind (arith, label_of_field ts)
+
+any_label : (before : List Seen) → list_any is_label before ≡ list_any is_label (labels (fields_of before))
+unfolding fields_of
+any_label [] = refl
+any_label (t ∷ ts) = grind (arith, any_label ts)
+
+any_label_of : (n : ℕ) (before : List Seen) → list_any (is_label_of n) before ≡ list_any (is_label_of n) (labels (fields_of before))
+unfolding fields_of field_of
+any_label_of n [] = refl
+any_label_of n (t ∷ ts) = grind (arith, any_label_of n ts)
+
+labels_more : (before : List Seen) (t : Seen) → labels (fields_of (before ++ t ∷ [])) ≡ labels (fields_of before) ++ labels (fields_of (t ∷ []))
+unfolding fields_of
+labels_more [] t = refl
+labels_more (u ∷ before) t = grind (arith, labels_more before t)
+
+wrong_by_labels : (wrong : Wrong) (before : List Seen) (t : Seen) → is_wrong wrong before t ≡ is_wrong wrong (labels (fields_of before)) t
+wrong_by_labels Second before t = grind (arith, any_label_of)
+wrong_by_labels LateVersion before t = grind (arith, any_label)
+wrong_by_labels BehindSignature before t = grind (arith, any_label_of)
+
+other_right : (wrong : Wrong) (before : List Seen) (t : Seen) → is_label t ≡ false → is_wrong wrong before t ≡ false
+unfolding field_of
+other_right Second before t other = grind arith
+other_right LateVersion before t other = grind arith
+other_right BehindSignature before t other = grind arith
+
+pub by_labels : (wrong : Wrong) (before ts : List Seen)
+    → first_place (is_wrong wrong) before ts ≡ first_place (is_wrong wrong) (labels (fields_of before)) (labels (fields_of ts))
+unfolding first_place fields_of
+by_labels wrong before [] = refl
+by_labels wrong before (t ∷ ts) = elim (cases_Bool (is_label t)) [
+  | inl label ↦ grind (arith, wrong_by_labels wrong before t, labels_more before t, by_labels wrong (before ++ t ∷ []) ts)
+  | inr other ↦ grind (arith, append-nil, other_right wrong before t other, labels_more before t, by_labels wrong (before ++ t ∷ []) ts)
+]
+
+-- where the text begins with a label no token lacks a field
+
+none_lacks : (before ts : List Seen) → 0 < length before → list_any is_stray ts ≡ false → list_any (λ label. is_none (field_of label)) (labels (fields_of ts)) ≡ false
+    → first_place is_bad_field before ts ≡ None
+unfolding first_place fields_of
+none_lacks before [] some none all = refl
+none_lacks before (t ∷ ts) some none all = grind (arith, nat_tests, length-append, none_lacks (before ++ t ∷ []) ts)
+
+lacks_none_behind : (t : Seen) (ts : List Seen) → is_label t ≡ true → list_any is_stray (t ∷ ts) ≡ false
+    → list_any (λ label. is_none (field_of label)) (labels (fields_of (t ∷ ts))) ≡ false → first_place is_bad_field [] (t ∷ ts) ≡ None
+unfolding first_place fields_of
+lacks_none_behind t ts label none all = grind (arith, nat_tests, none_lacks (t ∷ []) ts)
+
+-- what the headings tell of the fields
+
+numbers_told : (tokens : List Seen) (fields : List Field) (hs : List Heading) → AreHeadings tokens fields hs
+    → map field_of (labels fields) ≡ map (λ heading. heading.number) hs
+numbers_told tokens [] [] all = refl
+numbers_told tokens [] (h ∷ hs) all = absurd all
+numbers_told tokens (f ∷ fs) [] all = absurd all
+numbers_told tokens (f ∷ fs) (h ∷ hs) all = grind (arith, numbers_told tokens fs hs all.1, all.0.number)
+
+-- the field of the heading at a place
+pub record Told (tokens : List Seen) (fields : List Field) (heading : Heading) (i : ℕ) : Type 0 where
+  pub field : Field
+  pub there : slice_get fields i ≡ Some field
+  pub told : IsHeading tokens field heading
+
+heading_told : (tokens : List Seen) (fields : List Field) (hs : List Heading) (h : Heading) (i : ℕ) → AreHeadings tokens fields hs → slice_get hs i ≡ Some h
+    → Told tokens fields h i
+heading_told tokens [] [] h i all e = absurd (cc)
+heading_told tokens [] (x ∷ hs) h i all e = absurd all
+heading_told tokens (f ∷ fs) [] h i all e = absurd all
+heading_told tokens (f ∷ fs) (x ∷ hs) h zero all e = record { field = f; there = refl; told = grind arith }
+heading_told tokens (f ∷ fs) (x ∷ hs) h (suc i) all e =
+    let rest = heading_told tokens fs hs h i all.1 (grind (arith)) in
+    record { field = rest.field; there = grind (arith, rest.there); told = rest.told }
+
+-- where a loop over the headings is
+pub told_at : (tokens : List Seen) (fields : List Field) (hs : List Heading) (i : ℕ) → AreHeadings tokens fields hs → i < length hs
+    → Told tokens fields (get_or hs i (record { part = record { label = 0; end = 0 }; number = None })) i
+told_at tokens fields hs i all below = heading_told tokens fields hs (get_or hs i (record { part = record { label = 0; end = 0 }; number = None })) i all (grind (arith, gets))
+
+pub headings_length : (tokens : List Seen) (fields : List Field) (hs : List Heading) → AreHeadings tokens fields hs → length fields ≡ length hs
+headings_length tokens fields hs all =
+    grind (arith, length-map, ap (λ (ns : List (Option ℕ)). length ns) (numbers_told tokens fields hs all))
+
+-- what a search among the labels has at a place
+pub record Here (tokens : List Seen) (hs : List Heading) (h : Heading) (i : ℕ) : Type 0 where
+  pub label : Seen
+  pub there : slice_get tokens h.part.label ≡ Some label
+  pub rest : drop i (labels (fields_of tokens)) ≡ label ∷ drop (i + 1) (labels (fields_of tokens))
+  pub front : take (i + 1) (labels (fields_of tokens)) ≡ take i (labels (fields_of tokens)) ++ label ∷ []
+  pub before : AreNumbered (take i (labels (fields_of tokens))) (take i hs)
+  pub own : AreNumbered (label ∷ []) (h ∷ [])
+
+front_with : (xs : List Seen) (i : ℕ) (t : Seen) → slice_get xs i ≡ Some t → take (i + 1) xs ≡ take i xs ++ t ∷ []
+front_with xs i t is = grind (arith, gets, take_more)
+
+all_front : (xs : List Seen) (i : ℕ) → list_all is_label xs ≡ true → list_all is_label (take i xs) ≡ true
+all_front xs i all = grind (arith, list_all-append, take-append-drop i xs)
+
+all_here : (xs : List Seen) (i : ℕ) (t : Seen) → list_all is_label xs ≡ true → slice_get xs i ≡ Some t → is_label t ≡ true
+all_here xs i t all is = grind (arith, list_all-append, take-append-drop i xs, drop_here xs i t)
+
+label_here : (tokens : List Seen) (hs : List Heading) (h : Heading) (i : ℕ) → AreHeadings tokens (fields_of tokens) hs → Told tokens (fields_of tokens) h i → Here tokens hs h i
+label_here tokens hs h i all f =
+    let there : slice_get (labels (fields_of tokens)) i ≡ Some f.field.label = grind (arith, slice_get-map, f.there) in
+    let every = label_of_field tokens in
+    let numbers = numbers_told tokens (fields_of tokens) hs all in
+    record {
+      label = f.field.label;
+      there = f.told.part.label;
+      rest = drop_here (labels (fields_of tokens)) i f.field.label there;
+      front = front_with (labels (fields_of tokens)) i f.field.label there;
+      before = (
+        all_front (labels (fields_of tokens)) i every,
+        sym (take-map field_of i (labels (fields_of tokens))) ∙ ap (take i) numbers ∙ take-map (λ (heading : Heading). heading.number) i hs,
+      );
+      own = (grind (arith, all_here (labels (fields_of tokens)) i f.field.label every there), grind (arith, f.told.number));
+    }
+
+-- as a loop over the headings has it
+pub label_at : (tokens : List Seen) (hs : List Heading) (i : ℕ) → AreHeadings tokens (fields_of tokens) hs → i < length hs
+    → Here tokens hs (get_or hs i (record { part = record { label = 0; end = 0 }; number = None })) i
+label_at tokens hs i all below = label_here tokens hs _ i all (told_at tokens (fields_of tokens) hs i all below)
+
+-- the search over the labels
+
+pub search_first : (wrong : Wrong) (tokens : List Seen) → first_place (is_wrong wrong) [] tokens ≡ first_place (is_wrong wrong) [] (labels (fields_of tokens))
+unfolding fields_of
+search_first wrong tokens = by_labels wrong [] tokens
+
+pub search_here : (wrong : Wrong) (tokens : List Seen) (hs : List Heading) (h : Heading) (i : ℕ) (o : Option ℕ) (here : Here tokens hs h i)
+    → o ≡ first_place (is_wrong wrong) (take i (labels (fields_of tokens))) (drop i (labels (fields_of tokens)))
+    → is_wrong wrong (take i (labels (fields_of tokens))) here.label ≡ true → o ≡ Some here.label.span.start
+unfolding first_place
+search_here wrong tokens hs h i o here is bad = grind (arith, here.rest)
+
+pub search_more : (wrong : Wrong) (tokens : List Seen) (hs : List Heading) (h : Heading) (i : ℕ) (o : Option ℕ) (here : Here tokens hs h i)
+    → o ≡ first_place (is_wrong wrong) (take i (labels (fields_of tokens))) (drop i (labels (fields_of tokens)))
+    → is_wrong wrong (take i (labels (fields_of tokens))) here.label ≡ false
+    → o ≡ first_place (is_wrong wrong) (take (i + 1) (labels (fields_of tokens))) (drop (i + 1) (labels (fields_of tokens)))
+unfolding first_place
+search_more wrong tokens hs h i o here is right = grind (arith, here.rest, here.front)
+
+pub search_over : (wrong : Wrong) (tokens : List Seen) (hs : List Heading) (i : ℕ) (o : Option ℕ) → AreHeadings tokens (fields_of tokens) hs
+    → o ≡ first_place (is_wrong wrong) (take i (labels (fields_of tokens))) (drop i (labels (fields_of tokens))) → length hs ≤ i → o ≡ None
+unfolding first_place
+search_over wrong tokens hs i o all is over =
+    grind (arith, length-map, headings_length tokens (fields_of tokens) hs all, drop_all i (labels (fields_of tokens)))
+
+-- where the text begins with a label, nothing else begins a line and each label has a number, no token lacks a field
+pub lacks_none : (tokens : List Seen) (hs : List Heading) → AreHeadings tokens (fields_of tokens) hs → list_any is_stray tokens ≡ false
+    → list_any (λ heading. heading.part.label == 0) (take 1 hs) ≡ true → list_any (λ heading. is_none heading.number) hs ≡ false
+    → first_place is_bad_field [] tokens ≡ None
+unfolding first_place
+lacks_none [] hs all none first numbered = refl
+lacks_none (t ∷ ts) [] all none first numbered = absurd (cc)
+lacks_none (t ∷ ts) (h ∷ hs) all none first numbered =
+    let here = label_at (t ∷ ts) (h ∷ hs) 0 all (omega arith) in
+    let at_first : h.part.label ≡ 0 = grind (arith, nat_tests) in
+    let same : t ≡ here.label = grind (arith, here.there) in
+    let label : is_label t ≡ true = rw same (grind (arith, here.own.0)) in
+    let every = any_numbered is_none (labels (fields_of (t ∷ ts))) (h ∷ hs) (numbers_told (t ∷ ts) (fields_of (t ∷ ts)) (h ∷ hs) all) in
+    lacks_none_behind t ts label none (sym every ∙ numbered)
+
+-- the part of a heading that was found, or none
+abbrev PartOf : ℕ → List Seen → List Field → Option Heading → Type 0
+PartOf n tokens fields None = find (λ field. is_label_of n field.label) fields ≡ None
+PartOf n tokens fields (Some heading) = (field : Field) × (find (λ field. is_label_of n field.label) fields ≡ Some field) × IsPart tokens heading.part field
+
+part_told : (n : ℕ) (tokens : List Seen) (fields : List Field) (hs : List Heading) → AreHeadings tokens fields hs
+    → PartOf n tokens fields (find (λ heading. is_this n heading.number) hs)
+part_told n tokens [] [] all = refl
+part_told n tokens [] (h ∷ hs) all = absurd all
+part_told n tokens (f ∷ fs) [] all = absurd all
+part_told n tokens (f ∷ fs) (h ∷ hs) all = elim (cases_Bool (is_this n h.number)) [
+  | inl here ↦ rw here (f, grind (arith, all.0.number), all.0.part)
+  | inr other ↦ rw other (by (sym (ap (is_this n) all.0.number) ∙ other) (find (λ heading. is_this n heading.number) hs) (part_told n tokens fs hs all.1))
+]
+  where
+    by : is_label_of n f.label ≡ false → (o : Option Heading) → PartOf n tokens fs o → PartOf n tokens (f ∷ fs) o
+    by passed None none = rw passed none
+    by passed (Some found) own = (own.0, rw passed own.1, own.2)
+
+pub part_none : (n : ℕ) (tokens : List Seen) (hs : List Heading) → AreHeadings tokens (fields_of tokens) hs → find (λ heading. is_this n heading.number) hs ≡ None → PartIs n tokens None
+unfolding field_with
+part_none n tokens hs all e = rw e at (part_told n tokens (fields_of tokens) hs all)
+
+pub part_some : (n : ℕ) (tokens : List Seen) (hs : List Heading) (h : Heading) → AreHeadings tokens (fields_of tokens) hs → find (λ heading. is_this n heading.number) hs ≡ Some h
+    → PartIs n tokens (Some h.part)
+unfolding field_with
+part_some n tokens hs h all e = rw e at (part_told n tokens (fields_of tokens) hs all)
+
+-- the headings of labels at these places
+
+abbrev first_of : List ℕ → ℕ → ℕ
+first_of places end = unwrap_or (slice_get places 0) end
+
+abbrev heading_at : List Seen → ℕ → ℕ → Heading
+heading_at tokens label end = record { part = record { label = label; end = end }; number = option_and_then field_of (slice_get tokens label) }
+
+unfoldable pub headings_by : List Seen → List ℕ → List Heading
+headings_by tokens [] = []
+headings_by tokens (label ∷ places) = heading_at tokens label (first_of places (length tokens)) ∷ headings_by tokens places
+
+first_behind : (ts : List Seen) (at end : ℕ) → end ≡ at + length ts → first_of (label_places at ts) end ≡ at + prefix_len goes_on ts
+unfolding label_places
+first_behind [] at end e = omega (arith, e)
+first_behind (t ∷ ts) at end e = grind (arith, first_behind ts (at + 1) end)
+
+dropped : (xs : List Seen) (at : ℕ) (t : Seen) (ts : List Seen) → drop at xs ≡ t ∷ ts → (slice_get xs at ≡ Some t) × (drop (at + 1) xs ≡ ts)
+dropped [] zero t ts e = absurd (cc)
+dropped [] (suc at) t ts e = absurd (cc)
+dropped (x ∷ xs) zero t ts e = grind arith
+dropped (x ∷ xs) (suc at) t ts e = grind (arith, dropped xs at t ts)
+
+-- what a label tells of its field, which goes up to the next one
+heading_is : (tokens : List Seen) (t : Seen) (ts : List Seen) (at : ℕ) → drop at tokens ≡ t ∷ ts → at + length (t ∷ ts) ≡ length tokens
+    → IsHeading tokens (record { label = t; tokens = take_while goes_on ts }) (heading_at tokens at (first_of (label_places (at + 1) ts) (length tokens)))
+heading_is tokens t ts at here size =
+    let there = dropped tokens at t ts here in
+    let end = first_behind ts (at + 1) (length tokens) (omega (arith, size)) in
+    record {
+      part = record {
+        label = there.0;
+        before = omega (arith, end);
+        within = grind (arith, prefix_len-le-length goes_on ts, end, size);
+        own = ap (take_while goes_on) (sym there.1) ∙ own_tokens tokens (at + 1) (first_of (label_places (at + 1) ts) (length tokens)) (rw there.1 end);
+      };
+      number = rw there.0 refl;
+    }
+
+-- the headings of the labels behind a place
+headings_told : (tokens ts : List Seen) (at : ℕ) → drop at tokens ≡ ts → at + length ts ≡ length tokens → AreHeadings tokens (fields_of ts) (headings_by tokens (label_places at ts))
+unfolding fields_of label_places headings_by
+headings_told tokens [] at here size = tt
+headings_told tokens (t ∷ ts) at here size = elim (cases_Bool (is_label t)) [
+  | inl label ↦
+      rw label (heading_is tokens t ts at here size, headings_told tokens ts (at + 1) (dropped tokens at t ts here).1 (omega (arith, size)))
+  | inr other ↦ rw other (headings_told tokens ts (at + 1) (dropped tokens at t ts here).1 (omega (arith, size)))
+]
+
+-- those of all labels
+pub headings_over : (tokens : List Seen) (hs : List Heading) (i : ℕ) → headings_by tokens (label_places 0 tokens) ≡ hs ++ headings_by tokens (drop i (label_places 0 tokens))
+    → length (label_places 0 tokens) ≤ i → AreHeadings tokens (fields_of tokens) hs
+unfolding headings_by
+headings_over tokens hs i is over =
+    let none : headings_by tokens (drop i (label_places 0 tokens)) ≡ [] = ap (headings_by tokens) (drop_all i (label_places 0 tokens) over) in
+    subst (AreHeadings tokens (fields_of tokens)) (is ∙ ap (λ more. hs ++ more) none ∙ append-nil hs) (headings_told tokens tokens 0 refl (omega arith))
+
+-- step by step
+pub headings_more : (tokens : List Seen) (places : List ℕ) (i : ℕ) → i < length places
+    → headings_by tokens (drop i places)
+    ≡ heading_at tokens (unwrap_or (slice_get places i) (length tokens)) (unwrap_or (slice_get places (i + 1)) (length tokens)) ∷ headings_by tokens (drop (i + 1) places)
+unfolding headings_by
+headings_more tokens (p ∷ places) zero below = refl
+headings_more tokens [] i below = absurd (omega (arith, below))
+headings_more tokens (p ∷ places) (suc i) below = grind (arith, headings_more tokens places i)

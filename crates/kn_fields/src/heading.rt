@@ -1,0 +1,128 @@
+//! The labels among the tokens of a text, each with its field.
+ghost use Rattle.std.specs.Prelude.{◌≡◌, length, find, unwrap_or, slice_get, option_and_then, IfOk};
+ghost use Rattle.std.specs.Option.{option_copied};
+ghost use Rattle.kn_lex.specs.Seeing.{label_places};
+ghost use Rattle.kn_fields.specs.Fields.{is_this, field_of, fields_of, AreHeadings, PartIs};
+
+use crate::label::field_of;
+use crate::part::Part;
+use kn_base::{List, NoMemory};
+use kn_lex::Tokens;
+use std::alloc::Global;
+use std::marker::Model;
+
+/// A label, as what it says of its field.
+#[derive(Debug, Clone, Copy)]
+pub struct Heading {
+    /// Where the field stands.
+    pub part: Part,
+    /// The number of the field, or None where the label is none of a field.
+    pub number: Option<u8>,
+}
+
+impl Heading {
+    pub(crate) fn is_of(&self, number: u8) -> bool
+        ensures { result ≡ is_this number self.now.number }
+    {
+        match self.number {
+            Some(other) => other == number,
+            None => false,
+        }
+    }
+}
+
+/// The tokens of a text with the fields of its labels, each of which was found once. Seen as the tokens.
+#[derive(Debug, Drop)]
+pub struct Labelled<'a> {
+    tokens: Tokens<'a>,
+    headings: List<Heading>,
+}
+
+impl<'a> Model for Labelled<'a> {
+    ghost use Rattle.std.specs.Prelude.{List};
+    ghost use Rattle.kn_lex.specs.Cutting.{Seen};
+    ghost use Rattle.kn_fields.specs.Fields.{fields_of, AreHeadings};
+
+    ghost Value = { List Seen };
+
+    ghost view = { λ l. l.tokens };
+
+    ghost invariant = { λ l. AreHeadings l.tokens (fields_of l.tokens) l.headings };
+}
+
+impl<'a> Labelled<'a> {
+    /// These tokens, with the fields of their labels.
+    pub(crate) fn of(alloc: Global, tokens: Tokens<'a>) -> Result<Labelled<'a>, NoMemory>
+        ensures { IfOk result (λ labelled. labelled ≡ tokens.entry) }
+    {
+        let headings = headings(alloc, &tokens)?;
+        Ok(Labelled { tokens, headings })
+    }
+
+    /// The tokens alone.
+    pub fn tokens(&self) -> &Tokens<'a>
+        ensures { result.now ≡ self.now }
+    {
+        &self.tokens
+    }
+
+    /// What each label says of its field, in their order.
+    pub fn headings(&self) -> &[Heading]
+        ensures { AreHeadings self.now (fields_of self.now) result.now }
+    {
+        self.headings.as_slice()
+    }
+
+    /// Where the first field of this number stands.
+    pub(crate) fn part(&self, number: u8) -> Option<Part>
+        ensures { PartIs number self.now result }
+    {
+        match heading_of(self.headings(), number) {
+            Some(heading) => Some(heading.part),
+            None => None,
+        }
+    }
+}
+
+fn heading_of(headings: &[Heading], number: u8) -> Option<&Heading>
+    ensures { option_copied result ≡ find (λ heading. is_this number heading.number) headings.now }
+{
+    headings.iter().find(|heading| heading.is_of(number))
+}
+
+/// The place of the label at `i`, counted from 0 among the labels, or the number of tokens past the last one.
+fn place_at(tokens: &Tokens<'_>, i: usize) -> u32
+    ensures { result ≡ unwrap_or (slice_get (label_places 0 tokens.now) i) (length tokens.now) }
+{
+    match tokens.labels().get(i) {
+        Some(place) => *place,
+        None => tokens.len(),
+    }
+}
+
+/// The number of the field whose label is the token at place `i`, or None where no such label stands there.
+fn number_at(tokens: &Tokens<'_>, i: u32) -> Option<u8>
+    ensures { result ≡ option_and_then field_of (slice_get tokens.now i) }
+{
+    match tokens.get(i) {
+        Some(token) => field_of(token),
+        None => None,
+    }
+}
+
+/// What the labels say of their fields.
+fn headings(alloc: Global, tokens: &Tokens<'_>) -> Result<List<Heading>, NoMemory>
+    ensures { IfOk result (λ headings. AreHeadings tokens.now (fields_of tokens.now) headings) }
+{
+    let mut headings = List::new(alloc);
+    for i in 0..tokens.labels().len() {
+        let label = place_at(tokens, i);
+        let end = place_at(tokens, i + 1);
+        let number = number_at(tokens, label);
+        headings.add(Heading {
+            part: Part { label, end },
+            number,
+        })?;
+    }
+    Ok(headings)
+}
