@@ -15,6 +15,9 @@ first_then (Some token) rest = token ∷ rest
 pub drop_here : {X : Type 0} (xs : List X) (i : ℕ) (t : X) → slice_get xs i ≡ Some t → drop i xs ≡ t ∷ drop (i + 1) xs
 drop_here xs i t is = grind (arith, gets, drop_more)
 
+pub drop_step : (xs : List Seen) (i : ℕ) → i < length xs → drop i xs ≡ first_then (slice_get xs i) (drop (i + 1) xs)
+drop_step xs i below = grind (arith, gets, drop_more)
+
 pub between_step : (xs : List Seen) (i to : ℕ) → i < to → between i to xs ≡ first_then (slice_get xs i) (between (i + 1) to xs)
 unfolding between
 between_step xs i to below = grind (arith, gets, drop_more, drop_all)
@@ -49,6 +52,8 @@ pub record HasThree (xs : List Seen) (i to : ℕ) : Type 0 where
 
 pub three_here : (xs : List Seen) (i to : ℕ) → i + 2 < to → to ≤ length xs → HasThree xs i to
 three_here xs i to below within = grind (arith, between_step, slice_get_cases xs i, slice_get_cases xs (i + 1), slice_get_cases xs (i + 2))
+
+pub ruleset drop_steps = (drop_step, gets)
 
 -- a step of a loop over them
 pub ruleset steps = (between_step, between_more, between_none, between_whole, gets)

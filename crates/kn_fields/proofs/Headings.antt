@@ -1,6 +1,6 @@
 -- Only labels can be wrong by those before them, and each tells of its field.
 use Rattle.std.proofs.Common.{subst, ◌≡◌, ℕ, zero, suc, ◌+◌, ◌<◌, ◌≤◌, Bool, true, false, not, Option, Some, None, List, [], ◌∷◌, ◌++◌, length, map, take, drop, get_or, arith, refl, sym, inl, inr, ◌∙◌, ap, append-nil}
-use Rattle.std.specs.Prelude.{slice_get, find, is_none, unwrap_or, take_while, option_and_then, ◌==◌}
+use Rattle.std.specs.Prelude.{slice_get, find, is_none, take_while, if◌then◌else◌, ◌==◌}
 use Rattle.std.specs.List.{list_any, list_all, prefix_len}
 use Rattle.std.proofs.lemmas.Bool.{cases_Bool}
 use Rattle.std.proofs.lemmas.Bool.Decides.{nat_tests}
@@ -9,9 +9,8 @@ use Rattle.std.proofs.lemmas.List.{length-append, length-map, drop_all, take_mor
 use Rattle.std.proofs.lemmas.List.Folds.{list_all-append}
 use Rattle.std.proofs.lemmas.List.Sums.{prefix_len-le-length}
 use Rattle.kn_lex.specs.Cutting.{Seen}
-use Rattle.kn_lex.specs.Seeing.{is_stray, label_places}
 use Rattle.kn_fields.specs.Fields.{is_label, field_of, is_this, is_label_of, Field, fields_of, field_with, IsPart, PartIs, IsHeading, AreHeadings}
-use Rattle.kn_fields.specs.Faults.{is_bad_field}
+use Rattle.kn_fields.specs.Faults.{is_bad_field, is_stray}
 use Rattle.kn_fields.specs.Scanning.{is_wrong, first_place, AreNumbered}
 use Rattle.kn_fields.specs.declared.heading.Heading.{Heading}
 use Rattle.kn_fields.specs.declared.labels.Wrong.{Wrong}
@@ -238,22 +237,13 @@ pub part_some : (n : ℕ) (tokens : List Seen) (hs : List Heading) (h : Heading)
 unfolding field_with
 part_some n tokens hs h all e = rw e at (part_told n tokens (fields_of tokens) hs all)
 
--- the headings of labels at these places
-
-abbrev first_of : List ℕ → ℕ → ℕ
-first_of places end = unwrap_or (slice_get places 0) end
-
-abbrev heading_at : List Seen → ℕ → ℕ → Heading
-heading_at tokens label end = record { part = record { label = label; end = end }; number = option_and_then field_of (slice_get tokens label) }
-
-unfoldable pub headings_by : List Seen → List ℕ → List Heading
-headings_by tokens [] = []
-headings_by tokens (label ∷ places) = heading_at tokens label (first_of places (length tokens)) ∷ headings_by tokens places
-
-first_behind : (ts : List Seen) (at end : ℕ) → end ≡ at + length ts → first_of (label_places at ts) end ≡ at + prefix_len goes_on ts
-unfolding label_places
-first_behind [] at end e = omega (arith, e)
-first_behind (t ∷ ts) at end e = grind (arith, first_behind ts (at + 1) end)
+-- the headings of the labels among these tokens, the first of which stands at this place
+unfoldable pub headings_from : ℕ → List Seen → List Heading
+headings_from at [] = []
+headings_from at (t ∷ ts) =
+    if is_label t
+    then record { part = record { label = at; end = at + 1 + prefix_len goes_on ts }; number = field_of t } ∷ headings_from (at + 1) ts
+    else headings_from (at + 1) ts
 
 dropped : (xs : List Seen) (at : ℕ) (t : Seen) (ts : List Seen) → drop at xs ≡ t ∷ ts → (slice_get xs at ≡ Some t) × (drop (at + 1) xs ≡ ts)
 dropped [] zero t ts e = absurd (cc)
@@ -261,45 +251,42 @@ dropped [] (suc at) t ts e = absurd (cc)
 dropped (x ∷ xs) zero t ts e = grind arith
 dropped (x ∷ xs) (suc at) t ts e = grind (arith, dropped xs at t ts)
 
--- what a label tells of its field, which goes up to the next one
-heading_is : (tokens : List Seen) (t : Seen) (ts : List Seen) (at : ℕ) → drop at tokens ≡ t ∷ ts → at + length (t ∷ ts) ≡ length tokens
-    → IsHeading tokens (record { label = t; tokens = take_while goes_on ts }) (heading_at tokens at (first_of (label_places (at + 1) ts) (length tokens)))
-heading_is tokens t ts at here size =
-    let there = dropped tokens at t ts here in
-    let end = first_behind ts (at + 1) (length tokens) (omega (arith, size)) in
-    record {
-      part = record {
-        label = there.0;
-        before = omega (arith, end);
-        within = grind (arith, prefix_len-le-length goes_on ts, end, size);
-        own = ap (take_while goes_on) (sym there.1) ∙ own_tokens tokens (at + 1) (first_of (label_places (at + 1) ts) (length tokens)) (rw there.1 end);
-      };
-      number = rw there.0 refl;
-    }
-
--- the headings of the labels behind a place
-headings_told : (tokens ts : List Seen) (at : ℕ) → drop at tokens ≡ ts → at + length ts ≡ length tokens → AreHeadings tokens (fields_of ts) (headings_by tokens (label_places at ts))
-unfolding fields_of label_places headings_by
+headings_told : (tokens ts : List Seen) (at : ℕ) → drop at tokens ≡ ts → at + length ts ≡ length tokens → AreHeadings tokens (fields_of ts) (headings_from at ts)
+unfolding fields_of headings_from
 headings_told tokens [] at here size = tt
 headings_told tokens (t ∷ ts) at here size = elim (cases_Bool (is_label t)) [
-  | inl label ↦
-      rw label (heading_is tokens t ts at here size, headings_told tokens ts (at + 1) (dropped tokens at t ts here).1 (omega (arith, size)))
-  | inr other ↦ rw other (headings_told tokens ts (at + 1) (dropped tokens at t ts here).1 (omega (arith, size)))
+  | inl label ↦ rw label (record { part = part; number = refl }, headings_told tokens ts (at + 1) there.1 (omega (arith, size)))
+  | inr other ↦ rw other (headings_told tokens ts (at + 1) there.1 (omega (arith, size)))
 ]
+  where
+    there : (slice_get tokens at ≡ Some t) × (drop (at + 1) tokens ≡ ts)
+    there = dropped tokens at t ts here
 
--- those of all labels
-pub headings_over : (tokens : List Seen) (hs : List Heading) (i : ℕ) → headings_by tokens (label_places 0 tokens) ≡ hs ++ headings_by tokens (drop i (label_places 0 tokens))
-    → length (label_places 0 tokens) ≤ i → AreHeadings tokens (fields_of tokens) hs
-unfolding headings_by
+    part : IsPart tokens (record { label = at; end = at + 1 + prefix_len goes_on ts }) (record { label = t; tokens = take_while goes_on ts })
+    part = record {
+      label = there.0;
+      before = omega arith;
+      within = grind (arith, prefix_len-le-length goes_on ts, size);
+      own = ap (take_while goes_on) (sym there.1) ∙ own_tokens tokens (at + 1) (at + 1 + prefix_len goes_on ts) (rw there.1 refl);
+    }
+
+-- those of all tokens, where the loop over them is done
+pub headings_over : (tokens : List Seen) (hs : List Heading) (i : ℕ) → headings_from 0 tokens ≡ hs ++ headings_from i (drop i tokens) → length tokens ≤ i
+    → AreHeadings tokens (fields_of tokens) hs
+unfolding headings_from
 headings_over tokens hs i is over =
-    let none : headings_by tokens (drop i (label_places 0 tokens)) ≡ [] = ap (headings_by tokens) (drop_all i (label_places 0 tokens) over) in
+    let none : headings_from i (drop i tokens) ≡ [] = ap (headings_from i) (drop_all i tokens over) in
     subst (AreHeadings tokens (fields_of tokens)) (is ∙ ap (λ more. hs ++ more) none ∙ append-nil hs) (headings_told tokens tokens 0 refl (omega arith))
 
--- step by step
-pub headings_more : (tokens : List Seen) (places : List ℕ) (i : ℕ) → i < length places
-    → headings_by tokens (drop i places)
-    ≡ heading_at tokens (unwrap_or (slice_get places i) (length tokens)) (unwrap_or (slice_get places (i + 1)) (length tokens)) ∷ headings_by tokens (drop (i + 1) places)
-unfolding headings_by
-headings_more tokens (p ∷ places) zero below = refl
-headings_more tokens [] i below = absurd (omega (arith, below))
-headings_more tokens (p ∷ places) (suc i) below = grind (arith, headings_more tokens places i)
+-- token by token
+
+pub from_label : (tokens : List Seen) (i : ℕ) (t : Seen) → Some t ≡ slice_get tokens i → true ≡ is_label t
+    → headings_from i (drop i tokens)
+    ≡ record { part = record { label = i; end = i + 1 + prefix_len goes_on (drop (i + 1) tokens) }; number = field_of t } ∷ headings_from (i + 1) (drop (i + 1) tokens)
+unfolding headings_from
+from_label tokens i t is label = rw (drop_here tokens i t (sym is), sym label) refl
+
+pub from_other : (tokens : List Seen) (i : ℕ) (t : Seen) → Some t ≡ slice_get tokens i → false ≡ is_label t
+    → headings_from i (drop i tokens) ≡ headings_from (i + 1) (drop (i + 1) tokens)
+unfolding headings_from
+from_other tokens i t is other = rw (drop_here tokens i t (sym is), sym other) refl

@@ -1,10 +1,10 @@
 //! The labels among the tokens of a text, each with its field.
-ghost use Rattle.std.specs.Prelude.{◌≡◌, length, find, unwrap_or, slice_get, option_and_then, IfOk};
+ghost use Rattle.std.specs.Prelude.{◌≡◌, ◌≤◌, ◌+◌, not, length, drop, find, IfOk};
+ghost use Rattle.std.specs.List.{list_any, prefix_len};
 ghost use Rattle.std.specs.Option.{option_copied};
-ghost use Rattle.kn_lex.specs.Seeing.{label_places};
-ghost use Rattle.kn_fields.specs.Fields.{is_this, field_of, fields_of, AreHeadings, PartIs};
+ghost use Rattle.kn_fields.specs.Fields.{is_this, is_label, fields_of, AreHeadings, PartIs};
 
-use crate::label::field_of;
+use crate::label::{field_of, is_label};
 use crate::part::Part;
 use kn_base::{List, NoMemory};
 use kn_lex::Tokens;
@@ -90,39 +90,38 @@ fn heading_of(headings: &[Heading], number: u8) -> Option<&Heading>
     headings.iter().find(|heading| heading.is_of(number))
 }
 
-/// The place of the label at `i`, counted from 0 among the labels, or the number of tokens past the last one.
-fn place_at(tokens: &Tokens<'_>, i: usize) -> u32
-    ensures { result ≡ unwrap_or (slice_get (label_places 0 tokens.now) i) (length tokens.now) }
+/// The place of the first label from a place on, or the number of tokens.
+#[tactic(auto, using(crate::proofs::Between::drop_steps))]
+fn next_label(tokens: &Tokens<'_>, from: u32) -> u32
+    requires { from ≤ length tokens.now }
+    ensures { result ≡ from + prefix_len (λ token. not (is_label token)) (drop from tokens.now) }
 {
-    match tokens.labels().get(i) {
-        Some(place) => *place,
-        None => tokens.len(),
+    for i in from..tokens.len() {
+        if let Some(token) = tokens.get(i) {
+            if is_label(token) {
+                return i;
+            }
+        }
     }
-}
-
-/// The number of the field whose label is the token at place `i`, or None where no such label stands there.
-fn number_at(tokens: &Tokens<'_>, i: u32) -> Option<u8>
-    ensures { result ≡ option_and_then field_of (slice_get tokens.now i) }
-{
-    match tokens.get(i) {
-        Some(token) => field_of(token),
-        None => None,
-    }
+    tokens.len()
 }
 
 /// What the labels say of their fields.
+#[tactic(auto, using(crate::proofs::Headings::headings_over))]
 fn headings(alloc: Global, tokens: &Tokens<'_>) -> Result<List<Heading>, NoMemory>
     ensures { IfOk result (λ headings. AreHeadings tokens.now (fields_of tokens.now) headings) }
 {
     let mut headings = List::new(alloc);
-    for i in 0..tokens.labels().len() {
-        let label = place_at(tokens, i);
-        let end = place_at(tokens, i + 1);
-        let number = number_at(tokens, label);
-        headings.add(Heading {
-            part: Part { label, end },
-            number,
-        })?;
+    for label in 0..tokens.len() {
+        if let Some(token) = tokens.get(label) {
+            if is_label(token) {
+                let end = next_label(tokens, label + 1);
+                headings.add(Heading {
+                    part: Part { label, end },
+                    number: field_of(token),
+                })?;
+            }
+        }
     }
     Ok(headings)
 }

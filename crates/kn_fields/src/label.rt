@@ -43,7 +43,7 @@ fn field_number(label: &[u8]) -> Option<u8>
 }
 
 #[inline(always)]
-fn is_label(token: &Token<'_>) -> bool
+pub(crate) fn is_label(token: &Token<'_>) -> bool
     ensures { result ≡ is_label (seen token.now) }
 {
     matches!(token.sort, Sort::Label)

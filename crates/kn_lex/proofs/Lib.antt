@@ -9,7 +9,6 @@ pub mod Pieces
 pub mod Settled
 pub mod Reaching
 pub mod Firsts
-pub mod Labels
 pub mod Scans
 pub mod Spelled
 pub mod Facts

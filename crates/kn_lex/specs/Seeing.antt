@@ -1,5 +1,5 @@
 -- What a contract sees of a token and of an answer.
-use Rattle.std.specs.Prelude.{◌≡◌, ℕ, ◌+◌, Bool, true, false, not, ◌&&◌, List, [], ◌∷◌, if◌then◌else◌, Result, Ok, Err}
+use Rattle.std.specs.Prelude.{◌≡◌, ℕ, Bool, true, false, List, Result, Ok, Err}
 use Rattle.kn_lex.specs.Cutting.{Seen}
 use Rattle.kn_lex.specs.Faults.{IsFirstLexicalFault}
 use Rattle.kn_lex.specs.declared.fault.LexFault.{LexFault}
@@ -14,15 +14,6 @@ seen token = record { sort = token.sort; span = token.span; text = token.text.no
 abbrev pub is_label_sort : Sort → Bool
 is_label_sort Label = true
 is_label_sort sort = false
-
--- a token that begins a line and is no label
-abbrev pub is_stray : Seen → Bool
-is_stray token = token.first && not (is_label_sort token.sort)
-
--- the places of the labels among tokens, the first of which stands at this place
-unfoldable pub label_places : ℕ → List Seen → List ℕ
-label_places at [] = []
-label_places at (token ∷ tokens) = if is_label_sort token.sort then at ∷ label_places (at + 1) tokens else label_places (at + 1) tokens
 
 -- these tokens are given, unless there is no memory
 abbrev pub GivesTokens : List Seen → Result (List Seen) LexFault → Type 0

@@ -1,7 +1,6 @@
 //! Tokens, and the list of those of a text.
 
 ghost use Rattle.std.specs.Prelude.{◌≡◌, ◌↔◌, IsTrue, length, map, slice_get};
-ghost use Rattle.std.specs.List.{list_any};
 ghost use Rattle.std.specs.Option.{option_copied, option_map};
 
 use kn_base::{List, Span};
@@ -40,45 +39,25 @@ pub struct Token<'a> {
 #[derive(Debug, Drop)]
 pub struct Tokens<'a> {
     list: List<Token<'a>>,
-    /// The places of the labels among them.
-    labels: List<u32>,
-    /// Whether one of them begins a line and is no label.
-    has_stray: bool,
 }
 
 impl<'a> Model for Tokens<'a> {
-    ghost use Rattle.std.specs.Prelude.{◌≡◌, List, map};
-    ghost use Rattle.std.specs.List.{list_any};
+    ghost use Rattle.std.specs.Prelude.{List, map};
     ghost use Rattle.kn_lex.specs.Cutting.{Seen};
-    ghost use Rattle.kn_lex.specs.Seeing.{seen, is_stray, label_places};
+    ghost use Rattle.kn_lex.specs.Seeing.{seen};
 
     ghost Value = { List Seen };
 
     ghost view = { λ tokens. map seen tokens.list };
-
-    ghost invariant = { λ tokens. (tokens.labels ≡ label_places 0 (map seen tokens.list)) × (tokens.has_stray ≡ list_any is_stray (map seen tokens.list)) };
 }
 
 impl<'a> Tokens<'a> {
-    ghost use Rattle.kn_lex.specs.Seeing.{seen, is_stray, label_places};
+    ghost use Rattle.kn_lex.specs.Seeing.{seen};
 
-    pub(crate) fn of(list: List<Token<'a>>, labels: List<u32>, has_stray: bool) -> Tokens<'a>
-        requires labels { labels ≡ label_places 0 (map seen list) }
-        requires stray { has_stray ≡ list_any is_stray (map seen list) }
+    pub(crate) fn of(list: List<Token<'a>>) -> Tokens<'a>
         ensures { result ≡ map seen list.entry }
     {
-        Tokens {
-            list,
-            labels,
-            has_stray,
-        }
-    }
-
-    /// Whether a token begins a line and is no label. No tokens are looked at.
-    pub fn has_stray(&self) -> bool
-        ensures { result ≡ list_any is_stray self.now }
-    {
-        self.has_stray
+        Tokens { list }
     }
 
     pub fn len(&self) -> u32
@@ -98,12 +77,5 @@ impl<'a> Tokens<'a> {
         ensures { option_map seen (option_copied result) ≡ slice_get self.now i }
     {
         self.list.get(i)
-    }
-
-    /// The places of the labels, in their order. No tokens are looked at.
-    pub fn labels(&self) -> &[u32]
-        ensures { result.now ≡ label_places 0 self.now }
-    {
-        self.labels.as_slice()
     }
 }

@@ -1,11 +1,13 @@
 use Rattle.std.proofs.Common.{arith, append_assoc}
-use Rattle.kn_lex.specs.Seeing.{label_places}
-use Rattle.kn_fields.proofs.Headings.{headings_more, headings_over}
+use Rattle.std.proofs.lemmas.Option.{gets}
+use Rattle.kn_lex.specs.Seeing.{seen}
+use Rattle.kn_fields.proofs.Headings.{from_label, from_other}
+use Rattle.kn_fields.proofs.heading.headings.Goals.{in-Some+then-is_label+in_ok-add, in-Some+else-is_label, in_default}
 use Rattle.kn_fields.proofs.heading.headings.Goals as goal
 
-pub loop-i-preserved : goal.loop-i-preserved
-loop-i-preserved c =
-    grind (arith, append_assoc, headings_more c.args.tokens.now (label_places 0 c.args.tokens.now) c.loop-i.i)
-
-pub returns : goal.returns
-returns c = headings_over c.args.tokens.now c.loop-i.headings c.loop-i.i c.loop-i.invariant (grind (arith, c.labels-i-end.ensures, c.loop-i-test.false))
+pub loop-label-preserved : goal.loop-label-preserved
+loop-label-preserved c = elim c.match-get.branch [
+  | in-Some+then-is_label+in_ok-add w ↦ grind (arith, append_assoc, from_label c.args.tokens.now c.loop-label.label (seen w.in-Some.token.now))
+  | in-Some+else-is_label w ↦ grind (arith, from_other c.args.tokens.now c.loop-label.label (seen w.in-Some.token.now))
+  | in_default w ↦ grind (arith, gets)
+]
