@@ -86,6 +86,9 @@ impl Book {
 
     /// Adds texts, each by an update of its own, or none of them where one is refused: then its place is told, counted
     /// from 0. It takes all memory that it needs before it changes anything.
+    ///
+    /// A refusal is that behind the texts in front of the refused one, so a limit's number counts them too. Beside want of
+    /// memory the place tells nothing.
     pub fn add_all(&mut self, caller: u32, readies: List<Ready>) -> Result<(), (u32, StoreFault)>
         ensures log { OnOk result (self.new ≡ self.old ++ additions_by caller (additions (all_changes self.old)) readies) }
         ensures follow { OnOk result (updates_may_follow (all_changes self.old) (additions_by caller (additions (all_changes self.old)) readies) ≡ true) }

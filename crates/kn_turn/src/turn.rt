@@ -159,7 +159,8 @@ impl<S: Logged> Turn<S> {
         self.append_all(pass, value)
     }
 
-    /// Makes the value's last entries, all of which name this pass, the last ones of the history, at one turn, and answers its length.
+    /// Makes the value's last entries, all of which name this pass, the last ones of the history, at one turn, and answers
+    /// its length.
     pub fn append_all(&self, pass: &mut Pass<S>, value: &S) -> u32
         requires turn { pass.old.turn ≡ self.now }
         requires taken { pass.old.is_idle ≡ false }
