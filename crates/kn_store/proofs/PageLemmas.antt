@@ -49,10 +49,6 @@ module _ {T : Type 0} where
   pub pages_of-drop : (n : ℕ) (xs : List (Arc (List (Arc T Global)) Global)) → pages_of (drop n xs) ≡ drop n (pages_of xs)
   pages_of-drop n xs = sym (drop-map (λ page. map arc_value (arc_value page)) n xs)
 
-  pub unless_empty-push : (page : List T) (item : T) → unless_empty (page ++ item ∷ []) ≡ (page ++ item ∷ []) ∷ []
-  unless_empty-push [] item = refl
-  unless_empty-push (x ∷ page) item = refl
-
   -- The item at a place of all.
 
   pub slice_get-left : (xs ys : List T) (i : ℕ) → i < length xs → slice_get (xs ++ ys) i ≡ slice_get xs i
