@@ -9,7 +9,7 @@ ghost use Rattle.kn_fields.specs.Turns.{is_name, next_turn, fits};
 ghost use Rattle.kn_fields.specs.Faults.{constants_in};
 ghost use Rattle.kn_fields.specs.Scanning.{end_place, departure, constant_place};
 
-use crate::heading::Labelled;
+use crate::heading::LabelledTokens;
 use crate::label::LOCAL_CONSTANTS;
 use crate::part::label_start;
 use kn_base::{List, NoMemory, Octets};
@@ -169,7 +169,7 @@ fn constants_between(
 
 /// The place of the first fault of the local constants, if there are any.
 #[tactic(auto, unfolding(crate::specs::Scanning::constant_place))]
-pub(crate) fn constant_place(tokens: &Labelled<'_>) -> Option<u32>
+pub(crate) fn constant_place(tokens: &LabelledTokens<'_>) -> Option<u32>
     ensures { result ≡ constant_place tokens.now }
 {
     let Some(part) = tokens.part(LOCAL_CONSTANTS) else {
@@ -180,7 +180,10 @@ pub(crate) fn constant_place(tokens: &Labelled<'_>) -> Option<u32>
 }
 
 /// The local constants of a text.
-pub(crate) fn constants(alloc: Global, tokens: &Labelled<'_>) -> Result<List<Constant>, NoMemory>
+pub(crate) fn constants(
+    alloc: Global,
+    tokens: &LabelledTokens<'_>,
+) -> Result<List<Constant>, NoMemory>
     requires { constant_place tokens.now ≡ None }
     ensures { IfOk result (λ list. list ≡ constants_in (field_with 6 tokens.now)) }
 {

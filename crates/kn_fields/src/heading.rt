@@ -33,12 +33,12 @@ impl Heading {
 
 /// The tokens of a text with the fields of its labels, each of which was found once. Seen as the tokens.
 #[derive(Debug, Drop)]
-pub struct Labelled<'a> {
+pub struct LabelledTokens<'a> {
     tokens: Tokens<'a>,
     headings: List<Heading>,
 }
 
-impl<'a> Model for Labelled<'a> {
+impl<'a> Model for LabelledTokens<'a> {
     ghost use Rattle.std.specs.Prelude.{List};
     ghost use Rattle.kn_lex.specs.Cutting.{Seen};
     ghost use Rattle.kn_fields.specs.Fields.{fields_of, AreHeadings};
@@ -50,13 +50,13 @@ impl<'a> Model for Labelled<'a> {
     ghost invariant = { λ l. AreHeadings l.tokens (fields_of l.tokens) l.headings };
 }
 
-impl<'a> Labelled<'a> {
+impl<'a> LabelledTokens<'a> {
     /// These tokens, with the fields of their labels.
-    pub(crate) fn of(alloc: Global, tokens: Tokens<'a>) -> Result<Labelled<'a>, NoMemory>
+    pub(crate) fn of(alloc: Global, tokens: Tokens<'a>) -> Result<LabelledTokens<'a>, NoMemory>
         ensures { IfOk result (λ labelled. labelled ≡ tokens.entry) }
     {
         let headings = headings(alloc, &tokens)?;
-        Ok(Labelled { tokens, headings })
+        Ok(LabelledTokens { tokens, headings })
     }
 
     /// The tokens alone.

@@ -7,7 +7,7 @@ ghost use Rattle.kn_fields.specs.Fields.{is_this, between};
 ghost use Rattle.kn_fields.specs.Faults.{is_bad_field, is_stray};
 ghost use Rattle.kn_fields.specs.Scanning.{is_wrong, first_place, order_place, AreNumbered};
 
-use crate::heading::{Heading, Labelled};
+use crate::heading::{Heading, LabelledTokens};
 use crate::label::{SIGNATURE, VERSION, field_of, is_label};
 use crate::part::label_start;
 use kn_lex::{Token, Tokens};
@@ -45,7 +45,7 @@ fn is_wrong(wrong: Wrong, before: &[Heading], heading: &Heading) -> bool
 }
 
 /// The place of the first label that is wrong.
-pub(crate) fn wrong_place(wrong: Wrong, tokens: &Labelled<'_>) -> Option<u32>
+pub(crate) fn wrong_place(wrong: Wrong, tokens: &LabelledTokens<'_>) -> Option<u32>
     ensures { result ≡ first_place (is_wrong wrong) [] tokens.now }
 {
     let headings = tokens.headings();
@@ -58,7 +58,7 @@ pub(crate) fn wrong_place(wrong: Wrong, tokens: &Labelled<'_>) -> Option<u32>
 }
 
 /// The place of the first label that stands out of order.
-pub(crate) fn order_place(tokens: &Labelled<'_>) -> Option<u32>
+pub(crate) fn order_place(tokens: &LabelledTokens<'_>) -> Option<u32>
     ensures { result ≡ order_place tokens.now }
 {
     match wrong_place(Wrong::LateVersion, tokens) {
@@ -93,7 +93,7 @@ fn has_stray(tokens: &Tokens<'_>) -> bool
 
 /// Whether a token may stand where a label of a field must. None does where the text begins with a label, no token
 /// but a label begins a line, and each label is one of a field.
-fn may_lack_field(tokens: &Labelled<'_>) -> bool
+fn may_lack_field(tokens: &LabelledTokens<'_>) -> bool
     ensures { result ≡ false → first_place is_bad_field [] tokens.now ≡ None }
 {
     let headings = tokens.headings();
@@ -117,7 +117,7 @@ fn is_bad_field(tokens: &Tokens<'_>, at: u32, token: &Token<'_>) -> bool
 
 /// The place of the first token that stands where a label of a field must.
 #[tactic(auto, using(crate::proofs::Between::steps), unfolding(crate::specs::Scanning::first_place))]
-pub(crate) fn bad_field_place(tokens: &Labelled<'_>) -> Option<u32>
+pub(crate) fn bad_field_place(tokens: &LabelledTokens<'_>) -> Option<u32>
     ensures { result ≡ first_place is_bad_field [] tokens.now }
 {
     if !may_lack_field(tokens) {

@@ -18,7 +18,7 @@ mod version;
 pub use cursor::Cursor;
 pub use depth::goes_deep;
 pub use fault::ReadFault;
-pub use heading::{Heading, Labelled};
+pub use heading::{Heading, LabelledTokens};
 pub use label::{AUTHORIZER, CONDITIONS, LICENSEES, SIGNATURE};
 pub use outline::Fields;
 pub use part::Part;

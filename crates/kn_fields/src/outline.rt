@@ -1,6 +1,6 @@
 //! The fields of a text.
 
-use crate::heading::Labelled;
+use crate::heading::LabelledTokens;
 use kn_base::List;
 use kn_env::Constant;
 
@@ -8,7 +8,7 @@ use kn_env::Constant;
 #[derive(Debug, Drop)]
 pub struct Fields<'a> {
     /// The tokens of the whole text, with the fields of its labels.
-    pub tokens: Labelled<'a>,
+    pub tokens: LabelledTokens<'a>,
     /// The local constants, which hold in all fields.
     pub constants: List<Constant>,
     /// How many bytes of the text a signature covers: up to its label, or all.

@@ -9,7 +9,7 @@ ghost use Rattle.kn_fields.specs.Scanning.{StandsRight, fault_in};
 
 use crate::constants::{constant_place, constants};
 use crate::fault::ReadFault;
-use crate::heading::Labelled;
+use crate::heading::LabelledTokens;
 use crate::label::{AUTHORIZER, SIGNATURE};
 use crate::labels::{Wrong, bad_field_place, order_place, wrong_place};
 use crate::outline::Fields;
@@ -36,7 +36,7 @@ fn read_tokens<'a>(alloc: Global, text: &'a [u8]) -> Result<Tokens<'a>, ReadFaul
 
 /// The first fault by what stands where among the tokens.
 #[tactic(auto, unfolding(crate::specs::Scanning::fault_in, crate::specs::Scanning::fault_at))]
-fn wrong_fault(tokens: &Labelled<'_>) -> Option<ReadFault>
+fn wrong_fault(tokens: &LabelledTokens<'_>) -> Option<ReadFault>
     ensures { MatchOption result (StandsRight tokens.now) (λ fault. fault_in tokens.now ≡ Some fault) }
 {
     if let Some(at) = bad_field_place(tokens) {
@@ -53,7 +53,7 @@ fn wrong_fault(tokens: &Labelled<'_>) -> Option<ReadFault>
 
 /// The first fault that tokens show, if there is one.
 #[tactic(auto, unfolding(crate::specs::Scanning::fault_in, crate::specs::Scanning::fault_at, crate::specs::Scanning::fault_without))]
-fn fault_in(alloc: Global, tokens: &Labelled<'_>) -> Result<Option<ReadFault>, NoMemory>
+fn fault_in(alloc: Global, tokens: &LabelledTokens<'_>) -> Result<Option<ReadFault>, NoMemory>
     ensures { IfOk result (λ fault. fault ≡ fault_in tokens.now) }
 {
     if let Some(fault) = wrong_fault(tokens) {
@@ -72,7 +72,7 @@ fn fault_in(alloc: Global, tokens: &Labelled<'_>) -> Result<Option<ReadFault>, N
 }
 
 /// The place of the label of a signature, or the length of the text.
-fn signed_to(tokens: &Labelled<'_>, end: u32) -> u32
+fn signed_to(tokens: &LabelledTokens<'_>, end: u32) -> u32
     ensures { (text : List ℕ) → length text ≡ end → result ≡ signed_to text tokens.now }
 {
     match tokens.part(SIGNATURE) {
@@ -92,7 +92,7 @@ pub fn fields<'a>(alloc: Global, text: &'a [u8]) -> Result<Fields<'a>, ReadFault
 {
     laws::tokens_or_first_fault();
     let list = read_tokens(alloc, text)?;
-    let tokens = Labelled::of(alloc, list)?;
+    let tokens = LabelledTokens::of(alloc, list)?;
     if let Some(fault) = fault_in(alloc, &tokens)? {
         return Err(fault);
     }

@@ -4,7 +4,7 @@ ghost use Rattle.kn_fields.specs.Fields.{between};
 ghost use Rattle.kn_fields.specs.Faults.{is_two, is_two_by, is_version};
 ghost use Rattle.kn_fields.specs.Scanning.{version_place};
 
-use crate::heading::Labelled;
+use crate::heading::LabelledTokens;
 use crate::label::VERSION;
 use crate::part::{Part, label_start};
 use kn_base::NoMemory;
@@ -49,7 +49,10 @@ fn is_version(alloc: Global, tokens: &Tokens<'_>, part: Part) -> Result<bool, No
 
 /// The place of the label of a version that isn't 2.
 #[tactic(auto, unfolding(crate::specs::Scanning::version_place))]
-pub(crate) fn version_place(alloc: Global, tokens: &Labelled<'_>) -> Result<Option<u32>, NoMemory>
+pub(crate) fn version_place(
+    alloc: Global,
+    tokens: &LabelledTokens<'_>,
+) -> Result<Option<u32>, NoMemory>
     ensures { IfOk result (λ place. place ≡ version_place tokens.now) }
 {
     let Some(part) = tokens.part(VERSION) else {

@@ -4,7 +4,7 @@ ghost use Rattle.std.specs.Prelude.{◌≡◌, ◌<◌, [], ◌∷◌, ◌++◌,
 ghost use Rattle.std.specs.Arc.{arc_value};
 ghost use Rattle.kn_store.specs.Pages.{with_item};
 
-use crate::pages::{Pages, shared};
+use crate::pages::{Pages, share_items};
 use crate::update::Update;
 use kn_base::{List, NoMemory};
 use std::alloc::Global;
@@ -112,7 +112,7 @@ impl Log {
         ensures { IfOk result (λ log. log ≡ self.now) }
     {
         Ok(Log {
-            full: shared(alloc, self.full.as_slice())?,
+            full: share_items(alloc, self.full.as_slice())?,
             last: self.last.share(alloc)?,
         })
     }

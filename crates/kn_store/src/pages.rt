@@ -105,8 +105,8 @@ impl<T: Drop> Pages<T> {
         ensures { IfOk result (λ pages. pages ≡ self.now) }
     {
         Ok(Pages {
-            closed: shared(alloc, self.closed.as_slice())?,
-            last: shared(alloc, self.last.as_slice())?,
+            closed: share_items(alloc, self.closed.as_slice())?,
+            last: share_items(alloc, self.last.as_slice())?,
         })
     }
 
@@ -132,7 +132,7 @@ impl<T: Drop> Pages<T> {
         closed.add(full)?;
         Ok(Pages {
             closed,
-            last: begun(alloc, most, item)?,
+            last: begin_page(alloc, most, item)?,
         })
     }
 
@@ -152,12 +152,12 @@ impl<T: Drop> Pages<T> {
         let left = joined_page(alloc, items.split_at(place).0, items.split_at(place + 1).1)?;
         let closed = self.closed.as_slice();
         if page >= closed.len() {
-            return reopened(alloc, closed, left);
+            return reopen_last(alloc, closed, left);
         }
         let (front, back) = (closed.split_at(page).0, closed.split_at(page + 1).1);
         Ok(Pages {
             closed: around(alloc, front, left, back)?,
-            last: shared(alloc, self.last.as_slice())?,
+            last: share_items(alloc, self.last.as_slice())?,
         })
     }
 }
@@ -178,7 +178,7 @@ fn item_at<'a, T>(closed: &'a [Arc<Page<T>>], last: &'a [Arc<T>], i: usize) -> &
 }
 
 /// A page with this item alone, and room for `most`.
-fn begun<T: Drop>(alloc: Global, most: u32, item: Arc<T>) -> Result<Page<T>, NoMemory>
+fn begin_page<T: Drop>(alloc: Global, most: u32, item: Arc<T>) -> Result<Page<T>, NoMemory>
     requires { 1 ≤ most }
     ensures { IfOk result (λ page. page ≡ item ∷ []) }
 {
@@ -189,7 +189,7 @@ fn begun<T: Drop>(alloc: Global, most: u32, item: Arc<T>) -> Result<Page<T>, NoM
 }
 
 /// These pages and one behind them, which gets the next item. Where it is empty the last of them gets it.
-fn reopened<'a, T: Drop>(
+fn reopen_last<'a, T: Drop>(
     alloc: Global,
     pages: &'a [Arc<Page<T>>],
     page: Page<T>,
@@ -199,7 +199,7 @@ fn reopened<'a, T: Drop>(
 {
     if !page.is_empty() {
         return Ok(Pages {
-            closed: shared(alloc, pages)?,
+            closed: share_items(alloc, pages)?,
             last: page,
         });
     }
@@ -207,13 +207,16 @@ fn reopened<'a, T: Drop>(
         return Ok(Pages::empty(alloc));
     };
     Ok(Pages {
-        closed: shared(alloc, front)?,
-        last: shared(alloc, last.as_slice())?,
+        closed: share_items(alloc, front)?,
+        last: share_items(alloc, last.as_slice())?,
     })
 }
 
 /// A page with the same items.
-pub(crate) fn shared<'a, T: Drop>(alloc: Global, items: &'a [Arc<T>]) -> Result<Page<T>, NoMemory>
+pub(crate) fn share_items<'a, T: Drop>(
+    alloc: Global,
+    items: &'a [Arc<T>],
+) -> Result<Page<T>, NoMemory>
     ensures { IfOk result (λ page. map arc_value page ≡ map arc_value items.now) }
 {
     joined_page(alloc, items, &[])

@@ -155,7 +155,7 @@ impl Version {
         ensures refused { IfErr result (λ refused. (refused.1 ≡ Lacking) ⊎ IsFirstRefused self caller readies refused.0 refused.1) }
     {
         let count = readies.len();
-        let Ok(mut left) = reversed(alloc, readies) else {
+        let Ok(mut left) = reverse_readies(alloc, readies) else {
             return Err((0, StoreFault::NoMemory));
         };
         let mut next = self;
@@ -192,7 +192,7 @@ impl Version {
 
 /// These texts, the last first: so they can be taken from the end in their order.
 #[tactic(auto, using(crate::proofs::Additions::turned_more))]
-fn reversed(alloc: Global, readies: List<Ready>) -> Result<List<Ready>, NoMemory>
+fn reverse_readies(alloc: Global, readies: List<Ready>) -> Result<List<Ready>, NoMemory>
     ensures { IfOk result (λ last_first. last_first ≡ reverse readies) }
 {
     let mut left = readies;

@@ -10,6 +10,6 @@ returns-then-len-most g c =
 
 pub returns : goal.returns
 returns g c =
-    shared-full c.args.most c.self.inside.closed c.closed-3.inside.items.items c.self.inside.last c.in-Ok-new.full c.in_ok-begun.field-0 c.in-Ok.item c.args.item
+    shared-full c.args.most c.self.inside.closed c.closed-3.inside.items.items c.self.inside.last c.in-Ok-new.full c.in_ok-begin_page.field-0 c.in-Ok.item c.args.item
     (search rules) (search rules) (search rules) (search rules) (search rules) (search rules)
     ∙ ap (λ pages. with_item c.args.most pages c.args.item) c.self.view_is

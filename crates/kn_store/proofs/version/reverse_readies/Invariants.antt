@@ -1,5 +1,5 @@
 use Rattle.std.proofs.Common.{◌≡◌, ◌≤◌, ◌++◌, length, reverse}
-use Rattle.kn_store.proofs.version.reversed.Given as goal
+use Rattle.kn_store.proofs.version.reverse_readies.Given as goal
 
 abbrev pub invariant-loop-ready : goal.invariant-loop-ready
 invariant-loop-ready l = record {
