@@ -11,7 +11,7 @@ use kn_lex::Tokens;
 use std::alloc::Global;
 use std::marker::Model;
 
-/// A label, as what it says of its field.
+/// What a label tells of its field.
 #[derive(Debug, Clone, Copy)]
 pub struct Heading {
     /// Where the field stands.
@@ -66,7 +66,7 @@ impl<'a> LabelledTokens<'a> {
         &self.tokens
     }
 
-    /// What each label says of its field, in their order.
+    /// What each label tells of its field, in their order.
     pub fn headings(&self) -> &[Heading]
         ensures { AreHeadings self.now (fields_of self.now) result.now }
     {
@@ -106,7 +106,7 @@ fn next_label(tokens: &Tokens<'_>, from: u32) -> u32
     tokens.len()
 }
 
-/// What the labels say of their fields.
+/// What the labels tell of their fields.
 #[tactic(auto, using(crate::proofs::Headings::headings_over))]
 fn headings(alloc: Global, tokens: &Tokens<'_>) -> Result<List<Heading>, NoMemory>
     ensures { IfOk result (λ headings. AreHeadings tokens.now (fields_of tokens.now) headings) }
