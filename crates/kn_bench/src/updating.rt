@@ -2,7 +2,7 @@
 //!
 //! Untimed, one update is made at each size and its version is printed; then books are filled up to each limit, and the
 //! fault of one update more is printed: by the count of live credentials and by their bytes, by the count of updates and by
-//! the bytes of all texts.
+//! the bytes of all texts; and of three texts at once, where there is room for one, the place of the first that is refused.
 
 use kn_assert::read;
 use kn_base::List;
@@ -63,7 +63,7 @@ fn remove(book: &mut Book, id: u32) -> Result<u32, StoreFault> {
 }
 
 /// A book with so many live credentials.
-fn filled(alloc: Global, live: u32) -> Result<Book, StoreFault> {
+fn fill_book(alloc: Global, live: u32) -> Result<Book, StoreFault> {
     let mut book = Book::empty(alloc)?;
     match add_at_once(alloc, &mut book, live) {
         Ok(()) => Ok(book),
@@ -179,7 +179,7 @@ fn longest_text(alloc: Global) -> Result<Vec<u8>, AllocError> {
 
 fn show(rt: &HostRuntime) -> io::Result<()> {
     for live in SIZES {
-        if let Ok(mut book) = filled(rt.alloc(), live)
+        if let Ok(mut book) = fill_book(rt.alloc(), live)
             && let Ok(version) = remove(&mut book, 1)
         {
             println!(rt;
@@ -193,7 +193,7 @@ fn show(rt: &HostRuntime) -> io::Result<()> {
 
 fn time(rt: &HostRuntime) -> io::Result<()> {
     for live in SIZES {
-        if let Ok(mut book) = filled(rt.alloc(), live) {
+        if let Ok(mut book) = fill_book(rt.alloc(), live) {
             let (removals, additions) = least(rt, rt.alloc(), &mut book)?;
             println!(rt;
                 "{live} live: {} ns a removal, {} ns an addition",
@@ -208,7 +208,7 @@ fn time(rt: &HostRuntime) -> io::Result<()> {
 /// Makes so many updates at so many live credentials and keeps each version, for whoever measures the memory of that.
 pub(crate) fn keep_versions(rt: &HostRuntime, live: u32, count: u32) -> io::Result<()> {
     let mut kept = Vec::new(rt.alloc());
-    if let Ok(mut book) = filled(rt.alloc(), live)
+    if let Ok(mut book) = fill_book(rt.alloc(), live)
         && let Ok(()) = keep(rt.alloc(), &mut book, count, &mut kept)
     {
         println!(rt; "{} versions kept", kept.len())?;
@@ -242,7 +242,7 @@ fn show_limit_of_log(rt: &HostRuntime, text: &[u8]) -> io::Result<()> {
 
 /// Three texts at once where there is room for one.
 fn show_refused_place(rt: &HostRuntime) -> io::Result<()> {
-    if let Ok(mut book) = filled(rt.alloc(), 2_047)
+    if let Ok(mut book) = fill_book(rt.alloc(), 2_047)
         && let Err((place, fault)) = add_at_once(rt.alloc(), &mut book, 3)
     {
         println!(rt;

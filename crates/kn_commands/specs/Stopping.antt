@@ -35,7 +35,7 @@ pub record IsLimitAt (texts : List (List ℕ)) (n : ℕ) (word : LimitWord) (cou
   pub full : IsFullAt texts n refusal
   pub told : refusal_of_store refusal ≡ Some (TheLimit word count)
 
--- what stops a command whose policy isn't loaded for this; no text is refused for an unknown id
+-- what stops a command whose policy isn't loaded for this; a refusal that loading tells is one of the four limits
 abbrev pub stop_of : LoadFault → Stop
 stop_of (L.Faulty n fault) = Policy n fault
 stop_of (L.Full n (F.LiveFull count)) = Limit n W.Live count

@@ -69,7 +69,7 @@ impl From<LoadFault> for Stop {
             StoreFault::BytesFull { bytes } => (LimitWord::LiveBytes, bytes),
             StoreFault::HistoryFull { updates } => (LimitWord::Updates, updates),
             StoreFault::LogFull { bytes } => (LimitWord::LogBytes, bytes),
-            // no text is refused for these
+            // what loading tells is one of the limits, so these don't come
             StoreFault::Unknown { .. } | StoreFault::NoMemory => return Stop::Memory,
         };
         Stop::Limit {

@@ -5,7 +5,7 @@ use Rattle.std.specs.List.{prefix_len}
 use Rattle.kn_lex.specs.Cutting.{Seen}
 use Rattle.kn_fields.specs.Fields.{is_label, between}
 use Rattle.kn_fields.specs.Faults.{is_version}
-use Rattle.kn_fields.proofs.Between.{steps, drop_here, between_length}
+use Rattle.kn_fields.proofs.Between.{steps, between_length}
 
 -- what isn't a label names no field
 abbrev pub goes_on : Seen → Bool

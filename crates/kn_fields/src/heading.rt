@@ -1,6 +1,6 @@
 //! The labels among the tokens of a text, each with its field.
 ghost use Rattle.std.specs.Prelude.{◌≡◌, ◌≤◌, ◌+◌, not, length, drop, find, IfOk};
-ghost use Rattle.std.specs.List.{list_any, prefix_len};
+ghost use Rattle.std.specs.List.{prefix_len};
 ghost use Rattle.std.specs.Option.{option_copied};
 ghost use Rattle.kn_fields.specs.Fields.{is_this, is_label, fields_of, AreHeadings, PartIs};
 
@@ -16,7 +16,8 @@ use std::marker::Model;
 pub struct Heading {
     /// Where the field stands.
     pub part: Part,
-    /// The number of the field, or None where the label is none of a field.
+    /// The number of the field: 1 is Authorizer, 2 Comment, 3 Conditions, 4 KeyNote-Version, 5 Licensees,
+    /// 6 Local-Constants and 7 Signature. None where the label is none of a field.
     pub number: Option<u8>,
 }
 
@@ -31,7 +32,7 @@ impl Heading {
     }
 }
 
-/// The tokens of a text with the fields of its labels, each of which was found once. Seen as the tokens.
+/// The tokens of a text, with what each label tells of its field. It is seen as the list of the tokens.
 #[derive(Debug, Drop)]
 pub struct LabelledTokens<'a> {
     tokens: Tokens<'a>,
@@ -73,7 +74,7 @@ impl<'a> LabelledTokens<'a> {
         self.headings.as_slice()
     }
 
-    /// Where the first field of this number stands.
+    /// Where the first field of this number stands, or None where there is none.
     pub(crate) fn part(&self, number: u8) -> Option<Part>
         ensures { PartIs number self.now result }
     {

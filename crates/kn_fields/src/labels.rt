@@ -1,5 +1,5 @@
 //! Labels and lines that are wrong by the tokens before them.
-ghost use Rattle.std.specs.Prelude.{◌≡◌, ◌≤◌, ◌||◌, ◌==◌, None, false, List, [], ◌∷◌, length, take, is_none};
+ghost use Rattle.std.specs.Prelude.{◌≡◌, ◌≤◌, ◌==◌, None, false, List, [], ◌∷◌, length, take, is_none};
 ghost use Rattle.std.specs.List.{list_any};
 ghost use Rattle.kn_lex.specs.Cutting.{Seen};
 ghost use Rattle.kn_lex.specs.Seeing.{seen};

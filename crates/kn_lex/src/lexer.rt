@@ -1,6 +1,6 @@
 //! The tokens of a text, piece by piece.
 
-ghost use Rattle.std.specs.Prelude.{◌≡◌, ◌+◌, ◌≤◌, ◌<◌, ◌^◌, ◌++◌, ◌∷◌, [], ℕ, List, length, map, OnOk, IfOk, IfErr};
+ghost use Rattle.std.specs.Prelude.{◌≡◌, ◌+◌, ◌≤◌, ◌<◌, ◌^◌, ◌++◌, [], List, length, map, OnOk, IfOk, IfErr};
 ghost use Rattle.kn_lex.specs.Cutting.{token_of, Seen, Cuts};
 ghost use Rattle.kn_lex.specs.Faults.{IsFaultless};
 ghost use Rattle.kn_lex.specs.Seeing.{seen, GivesTokens, HasCause};
@@ -8,7 +8,7 @@ ghost use Rattle.kn_lex.specs.Seeing.{seen, GivesTokens, HasCause};
 use crate::fault::LexFault;
 use crate::judge::{has_zero, read_piece};
 use crate::piece::{Context, Piece, is_line_start, place_after, start};
-use crate::token::{Sort, Token, Tokens};
+use crate::token::{Token, Tokens};
 use kn_base::limits::ASSERTION_BYTES;
 use kn_base::{List, Reserved, Span};
 use std::alloc::Global;

@@ -12,7 +12,7 @@ use crate::fault::LoadFault;
 use crate::readings::{Readings, read_texts, readings_of};
 use kn_assert::ReadFault;
 use kn_base::limits::{FILE_BYTES, LIVE_BYTES, LIVE_CREDENTIALS};
-use kn_base::{List, NoMemory, Octets, Span};
+use kn_base::{List, Octets, Span};
 use kn_files::split_file;
 use kn_registry::{Pass, Registry};
 use kn_store::StoreFault;
@@ -41,7 +41,7 @@ pub fn load_file<R: Threads + Wait + Sync>(
     }
 }
 
-/// A registry with these assertions, added by its root pass, caller 0, in their order. What stops loading is as of a file.
+/// A registry with these assertions, added by its root pass, caller 0, in their order. What stops loading is told as for a file.
 pub fn load_texts<R: Wait>(
     rt: &R,
     alloc: Global,
@@ -89,8 +89,8 @@ fn add_file<R: Threads + Wait + Sync>(
 
 /// Where the batch ends that begins at a place.
 ///
-/// The first has as many texts as may be live together, but one at least, so that a file that is refused takes no more
-/// memory than reading twice as much. Behind it no text is added, so there each batch has one text.
+/// The first has as many texts as may be live together, but one at least, so all that a store takes is read at once. Behind
+/// it no text is added, so there each batch has one text.
 fn batch_end(spans: &List<Span>, from: u32) -> u32
     requires { from < length spans.now }
     ensures some { from < result }

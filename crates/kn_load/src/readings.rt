@@ -1,5 +1,5 @@
 //! The readings of texts in their order, up to the first that has none.
-ghost use Rattle.std.specs.Prelude.{◌≡◌, ◌<◌, ◌^◌, ◌∷◌, ◌++◌, [], length, ℕ, List as Of, IfOk, OnOk};
+ghost use Rattle.std.specs.Prelude.{◌<◌, ◌^◌, ◌∷◌, ◌++◌, [], length, ℕ, List as Of, IfOk, OnOk};
 ghost use Rattle.std.specs.List.{AllZip};
 ghost use Rattle.kn_load.specs.Drafting.{IsDraftOf, AreReadings};
 

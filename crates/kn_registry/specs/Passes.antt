@@ -88,7 +88,7 @@ pub record IsOneRefused (old new : PassSeen) (texts : List (List ℕ)) (place : 
   pub first : IsFirstRefused new.seen old.number texts place fault
   pub looks : Looks old new
 
--- so it was; without memory none was added
+-- why none of the texts was added, and the place of the refused one; without memory the place tells nothing
 abbrev pub RefusesOne : PassSeen → PassSeen → List (List ℕ) → ℕ → StoreFault → Type 0
 RefusesOne old new texts place NoMemory = Stays old new
 RefusesOne old new texts place (Unknown id) = IsOneRefused old new texts place (Unknown id)

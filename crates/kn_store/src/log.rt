@@ -1,7 +1,6 @@
 //! The log of updates, in pages that are kept in blocks.
 
-ghost use Rattle.std.specs.Prelude.{◌≡◌, ◌<◌, [], ◌∷◌, ◌++◌, map, length, IfOk};
-ghost use Rattle.std.specs.Arc.{arc_value};
+ghost use Rattle.std.specs.Prelude.{◌≡◌, ◌<◌, [], ◌∷◌, ◌++◌, length, IfOk};
 ghost use Rattle.kn_store.specs.Pages.{with_item};
 
 use crate::pages::{Pages, share_items};

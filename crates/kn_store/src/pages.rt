@@ -23,7 +23,7 @@ pub(crate) type Page<T> = List<Arc<T>>;
 pub(crate) struct Pages<T> {
     /// The pages that get no more items.
     closed: List<Arc<Page<T>>>,
-    /// The page behind them. It is empty only where there are none.
+    /// The page behind them. It is empty only where there are no closed ones.
     last: Page<T>,
 }
 

@@ -5,7 +5,7 @@ ghost use Rattle.kn_base.specs.declared.limits.TheConstants.{LIVE_CREDENTIALS, L
 ghost use Rattle.kn_assert.specs.Reading.{assertion_of};
 ghost use Rattle.kn_store.specs.declared.fault.StoreFault.TheVariants.{NoMemory as Lacking};
 ghost use Rattle.kn_store.specs.History.{all_changes, additions, credentials_of, text_bytes, is_valid_history, update_may_follow, updates_may_follow, refusal_of_text, refusal_of_id, addition_by, additions_by, removal_by, IsFirstRefused};
-ghost use Rattle.kn_store.specs.LiveView.{live_view, IdsAscend};
+ghost use Rattle.kn_store.specs.LiveView.{IdsAscend};
 
 use crate::credential::{Credential, LiveCredential, Ready};
 use crate::fault::StoreFault;
@@ -110,7 +110,7 @@ impl Version {
         })
     }
 
-    /// The version after one more update, which adds this text.
+    /// The version after one more update, which adds this text, and the id of the text.
     pub(crate) fn with_addition(
         self,
         alloc: Global,
