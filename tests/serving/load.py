@@ -18,9 +18,10 @@ WORKERS, CONNECTIONS = 16, 2400
 # the seconds of a round in which clients add and drop
 SECONDS = 40
 # how often sessions are filled, how many sessions a client fills, and their private assertions with so many bytes of comment
-FILLS, SESSIONS, PRIVATE, COMMENT = 6, 16, 40, 2000
-# what memory may grow by once it was filled twice, in KiB: an arena of the C library more, for each worker that had none
-GROWTH = 4096
+FILLS, SESSIONS, PRIVATE, COMMENT = 12, 16, 40, 2000
+# the fillings behind which memory may grow no more but by GROWTH, in KiB. Each worker has an arena of the C library, which
+# grows when the worker is first among those whose sessions are filled, and a filling has eight of the workers.
+FIRST, GROWTH = 8, 4096
 
 
 def memory(daemon, what):
@@ -80,7 +81,7 @@ class Load(Long):
             if faults:
                 return self.tally.note(f"{name}: memory comes back", "; ".join(faults[:3]))
             kept.append(memory(daemon, "VmRSS"))
-        grown = max(kept[2:]) - max(kept[:2])
+        grown = max(kept[FIRST:]) - max(kept[:FIRST])
         self.tally.note(f"{name}: memory comes back", f"after each filling, in KiB: {kept}" if grown > GROWTH else "")
         self.most = max(self.most, memory(daemon, "VmHWM"))
 
