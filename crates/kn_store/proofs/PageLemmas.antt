@@ -21,7 +21,7 @@ module _ {T : Type 0} where
   joined-unless_empty [] = refl
   joined-unless_empty (x ∷ xs) = append-nil (x ∷ xs)
 
-  -- The pages are those that the spine shares.
+  -- Pages that are shared.
 
   pub pages_of-append : (xs ys : List (Arc (List (Arc T Global)) Global)) → pages_of (xs ++ ys) ≡ pages_of xs ++ pages_of ys
   pages_of-append [] ys = refl
@@ -61,30 +61,30 @@ module _ {T : Type 0} where
   slice_get-right (x ∷ xs) ys zero behind = absurd (omega arith)
   slice_get-right (x ∷ xs) ys (suc i) behind = slice_get-right xs ys i (omega arith) ∙ ap (slice_get ys) (omega arith)
 
-  pub rest_at : (spine : List (Arc (List (Arc T Global)) Global)) (k : ℕ) (page : Arc (List (Arc T Global)) Global) → k < length spine → page ≡ get_or spine k page
-      → pages_of (drop k spine) ≡ map arc_value (arc_value page) ∷ pages_of (drop (k + 1) spine)
-  rest_at spine k page within is =
-      ap pages_of (drop_more spine k page within) ∙ ap (λ p. map arc_value (arc_value p) ∷ pages_of (drop (k + 1) spine)) (sym is)
+  pub rest_at : (closed : List (Arc (List (Arc T Global)) Global)) (k : ℕ) (page : Arc (List (Arc T Global)) Global) → k < length closed → page ≡ get_or closed k page
+      → pages_of (drop k closed) ≡ map arc_value (arc_value page) ∷ pages_of (drop (k + 1) closed)
+  rest_at closed k page within is =
+      ap pages_of (drop_more closed k page within) ∙ ap (λ p. map arc_value (arc_value p) ∷ pages_of (drop (k + 1) closed)) (sym is)
 
-  module _ (spine : List (Arc (List (Arc T Global)) Global)) (k : ℕ) (page : Arc (List (Arc T Global)) Global) (last : List T) (within : k < length spine) (is : page ≡ get_or spine k page) where
-    rest_is : joined (pages_of (drop k spine)) ++ last ≡ map arc_value (arc_value page) ++ (joined (pages_of (drop (k + 1) spine)) ++ last)
+  module _ (closed : List (Arc (List (Arc T Global)) Global)) (k : ℕ) (page : Arc (List (Arc T Global)) Global) (last : List T) (within : k < length closed) (is : page ≡ get_or closed k page) where
+    rest_is : joined (pages_of (drop k closed)) ++ last ≡ map arc_value (arc_value page) ++ (joined (pages_of (drop (k + 1) closed)) ++ last)
     rest_is =
-        ap (λ pages. joined pages ++ last) (rest_at spine k page within is)
-        ∙ append_assoc (map arc_value (arc_value page)) (joined (pages_of (drop (k + 1) spine))) last
+        ap (λ pages. joined pages ++ last) (rest_at closed k page within is)
+        ∙ append_assoc (map arc_value (arc_value page)) (joined (pages_of (drop (k + 1) closed))) last
 
     pub item_here : (left : ℕ) → left < length (arc_value page)
-        → slice_get (joined (pages_of (drop k spine)) ++ last) left ≡ slice_get (map arc_value (arc_value page)) left
+        → slice_get (joined (pages_of (drop k closed)) ++ last) left ≡ slice_get (map arc_value (arc_value page)) left
     item_here left here =
         let same = length-map (arc_value page) (arc_value {X = T} {Z = Global}) in
         ap (λ items. slice_get items left) rest_is
-        ∙ slice_get-left (map arc_value (arc_value page)) (joined (pages_of (drop (k + 1) spine)) ++ last) left (omega arith)
+        ∙ slice_get-left (map arc_value (arc_value page)) (joined (pages_of (drop (k + 1) closed)) ++ last) left (omega arith)
 
-    pub item_behind : (left : ℕ) → length (arc_value page) ≤ left → left < length (joined (pages_of (drop k spine)) ++ last)
-        → (left - length (arc_value page) < length (joined (pages_of (drop (k + 1) spine)) ++ last))
-        × (slice_get (joined (pages_of (drop k spine)) ++ last) left ≡ slice_get (joined (pages_of (drop (k + 1) spine)) ++ last) (left - length (arc_value page)))
+    pub item_behind : (left : ℕ) → length (arc_value page) ≤ left → left < length (joined (pages_of (drop k closed)) ++ last)
+        → (left - length (arc_value page) < length (joined (pages_of (drop (k + 1) closed)) ++ last))
+        × (slice_get (joined (pages_of (drop k closed)) ++ last) left ≡ slice_get (joined (pages_of (drop (k + 1) closed)) ++ last) (left - length (arc_value page)))
     item_behind left behind inside =
         let same = length-map (arc_value page) (arc_value {X = T} {Z = Global}) in
-        let rest = joined (pages_of (drop (k + 1) spine)) ++ last in
+        let rest = joined (pages_of (drop (k + 1) closed)) ++ last in
         let whole = ap length rest_is in
         let both = length-append (map arc_value (arc_value page)) rest in (
           omega arith,
@@ -93,18 +93,18 @@ module _ {T : Type 0} where
               ∙ ap (λ n. slice_get rest (left - n)) same,
         )
 
-  pub item_last : (spine : List (Arc (List (Arc T Global)) Global)) (k : ℕ) (last : List (Arc T Global)) (left : ℕ) (here : Arc T Global) → length spine ≤ k
-      → left < length (joined (pages_of (drop k spine)) ++ map arc_value last) → here ≡ get_or last left here
-      → slice_get (joined (pages_of (drop k spine)) ++ map arc_value last) left ≡ Some (arc_value here)
-  item_last spine k last left here passed within is =
-      let none : joined (pages_of (drop k spine)) ++ map arc_value last ≡ map (arc_value {X = T} {Z = Global}) last = ap (λ rest. joined (pages_of rest) ++ map arc_value last) (drop_all k spine passed) in
+  pub item_last : (closed : List (Arc (List (Arc T Global)) Global)) (k : ℕ) (last : List (Arc T Global)) (left : ℕ) (here : Arc T Global) → length closed ≤ k
+      → left < length (joined (pages_of (drop k closed)) ++ map arc_value last) → here ≡ get_or last left here
+      → slice_get (joined (pages_of (drop k closed)) ++ map arc_value last) left ≡ Some (arc_value here)
+  item_last closed k last left here passed within is =
+      let none : joined (pages_of (drop k closed)) ++ map arc_value last ≡ map (arc_value {X = T} {Z = Global}) last = ap (λ rest. joined (pages_of rest) ++ map arc_value last) (drop_all k closed passed) in
       let sizes = length-map last (arc_value {X = T} {Z = Global}) in
       let inside = ap length none in
       ap (λ items. slice_get items left) none
       ∙ slice_get-map (arc_value {X = T} {Z = Global}) last left
       ∙ ap (option_map (arc_value {X = T} {Z = Global})) (slice_get_read last (length last) left here refl (omega arith) is)
 
-  -- the item at a place of a page of a spine
+  -- the item at a place of a page
   pub within_page : (pages : List (List T)) (page place : ℕ) (items : List (Arc T Global)) → slice_get pages page ≡ Some (map arc_value items)
       → place < length (slice_index_or pages page []) → place < length items
   within_page pages page place items there within =

@@ -5,9 +5,9 @@ use Rattle.std.specs.declared.sync.Arc.{Arc}
 use Rattle.std.specs.declared.alloc.Global.{Global}
 
 module _ {T : Type 0} where
-  -- the pages of a spine
+  -- pages that are shared, each of them as the list of its items
   abbrev pub pages_of : List (Arc (List (Arc T Global)) Global) → List (List T)
-  pages_of spine = map (λ page. map arc_value (arc_value page)) spine
+  pages_of pages = map (λ page. map arc_value (arc_value page)) pages
 
   -- all items in their order
   abbrev pub joined : List (List T) → List T

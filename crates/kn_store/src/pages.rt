@@ -254,25 +254,25 @@ fn around<'a, T: Drop>(
 
 /// Adds these pages at the end, for which there is room.
 fn share_pages<T: Drop>(
-    spine: &mut Reserved<Arc<Page<T>>>,
+    room: &mut Reserved<Arc<Page<T>>>,
     pages: &[Arc<Page<T>>],
 ) -> Result<(), NoMemory>
-    requires room { length pages.now ≤ spine.old.spare }
-    ensures pages { OnOk result (pages_of spine.new.items ≡ pages_of spine.old.items ++ pages_of pages.now) }
-    ensures spare { OnOk result (spine.old.spare ≤ spine.new.spare + length pages.now) }
+    requires room { length pages.now ≤ room.old.spare }
+    ensures pages { OnOk result (pages_of room.new.items ≡ pages_of room.old.items ++ pages_of pages.now) }
+    ensures spare { OnOk result (room.old.spare ≤ room.new.spare + length pages.now) }
 {
-    share(spine, pages)
+    share(room, pages)
 }
 
 /// Adds a page at the end, for which there is room, unless it is empty.
 fn put_page<T: Drop>(
     alloc: Global,
-    spine: &mut Reserved<Arc<Page<T>>>,
+    room: &mut Reserved<Arc<Page<T>>>,
     page: Page<T>,
 ) -> Result<(), NoMemory>
-    requires room { 0 < spine.old.spare }
-    ensures pages { OnOk result (pages_of spine.new.items ≡ pages_of spine.old.items ++ unless_empty (map arc_value page)) }
-    ensures spare { OnOk result (spine.old.spare ≤ spine.new.spare + 1) }
+    requires room { 0 < room.old.spare }
+    ensures pages { OnOk result (pages_of room.new.items ≡ pages_of room.old.items ++ unless_empty (map arc_value page)) }
+    ensures spare { OnOk result (room.old.spare ≤ room.new.spare + 1) }
 {
     if page.is_empty() {
         return Ok(());
@@ -280,7 +280,7 @@ fn put_page<T: Drop>(
     let Ok(page) = Arc::new(alloc, page) else {
         return Err(NoMemory);
     };
-    spine.put(page);
+    room.put(page);
     Ok(())
 }
 
