@@ -53,10 +53,10 @@ credential_sync : IsSync (credential.the_field).row
 credential_sync = search (sendable, octets_sync, assertion_sync) depth 20
 
 live_send : IsSend (live.the_field).row
-live_send = search (sendable, credential_send) depth 20
+live_send = search (sendable, crosses, credential_send, credential_sync) depth 20
 
 live_sync : IsSync (live.the_field).row
-live_sync = search (sendable, credential_sync) depth 20
+live_sync = search (sendable, crosses, credential_send, credential_sync) depth 20
 
 update_send : IsSend (update.the_field).row
 update_send = search (sendable, octets_send, list.the_send) depth 20

@@ -7,6 +7,7 @@ use kn_assert::Assertion;
 use kn_base::{NoMemory, Octets};
 use std::alloc::Global;
 use std::marker::Model;
+use std::sync::Arc;
 
 /// A text with its reading.
 #[derive(Debug, Drop)]
@@ -16,19 +17,22 @@ pub struct Credential {
 }
 
 /// A text that has a reading, ready to be added. It is seen as the text.
+///
+/// The credential is shared from here on, so that whoever adds it moves a pointer.
 #[derive(Drop)]
 pub struct Ready {
-    credential: Credential,
+    credential: Arc<Credential>,
     /// The same text, for the log.
     logged: Octets,
 }
 
 impl Model for Ready {
     ghost use Rattle.std.specs.Prelude.{ℕ, List};
+    ghost use Rattle.std.specs.Arc.{arc_value};
 
     ghost Value = { List ℕ };
 
-    ghost view = { λ r. r.credential.text };
+    ghost view = { λ r. (arc_value r.credential).text };
 
     ghost use Rattle.kn_store.specs.Readies.{IsReadyToAdd};
 
@@ -43,10 +47,10 @@ impl Ready {
     {
         let logged = Octets::from_slice(alloc, text)?;
         let text = Octets::from_slice(alloc, text)?;
-        Ok(Ready {
-            credential: Credential { text, assertion: a },
-            logged,
-        })
+        match Arc::new(alloc, Credential { text, assertion: a }) {
+            Ok(credential) => Ok(Ready { credential, logged }),
+            Err(_) => Err(NoMemory),
+        }
     }
 
     pub(crate) fn text(&self) -> &[u8]
@@ -57,7 +61,7 @@ impl Ready {
     }
 
     /// The credential under an id, and the text for the log.
-    pub(crate) fn numbered(self, id: u32) -> (LiveCredential, Octets)
+    pub(crate) fn with_id(self, id: u32) -> (LiveCredential, Octets)
         ensures id { result.0.id ≡ id }
         ensures text { result.0.text ≡ self }
         ensures logged { result.1 ≡ self }
@@ -71,19 +75,20 @@ impl Ready {
 #[derive(Drop)]
 pub struct LiveCredential {
     id: u32,
-    credential: Credential,
+    credential: Arc<Credential>,
 }
 
 impl Model for LiveCredential {
     ghost use Rattle.std.specs.Prelude.{◌≡◌, Some};
     ghost use Rattle.kn_assert.specs.Reading.{assertion_of};
+    ghost use Rattle.std.specs.Arc.{arc_value};
     ghost use Rattle.kn_store.specs.History.{NumberedText};
 
     ghost Value = { NumberedText };
 
-    ghost view = { λ l. record { id = l.id; text = l.credential.text } };
+    ghost view = { λ l. record { id = l.id; text = (arc_value l.credential).text } };
 
-    ghost invariant = { λ l. assertion_of l.credential.text ≡ Some l.credential.assertion };
+    ghost invariant = { λ l. assertion_of (arc_value l.credential).text ≡ Some (arc_value l.credential).assertion };
 }
 
 impl LiveCredential {

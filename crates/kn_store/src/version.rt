@@ -127,7 +127,7 @@ impl Version {
         }
         let id = self.live.next_id();
         let number = self.number() + 1;
-        let (credential, text) = ready.numbered(id);
+        let (credential, text) = ready.with_id(id);
         let update = addition(alloc, caller, text, id)?;
         let Version { live, updates, .. } = self;
         let live = live.with_addition(alloc, credential)?;
