@@ -1,4 +1,5 @@
 pub mod Values
+pub mod KindTable
 pub mod Table
 pub mod Order
 pub mod Between

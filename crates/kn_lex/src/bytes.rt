@@ -139,17 +139,32 @@ pub(crate) enum Kind {
     Other,
 }
 
+use Kind::{Hash as H, Lone as L, Numeral as N, Other as O, Quote as Q, Space as S, Word as W};
+
+/// What begins with each byte, by the first letter of its kind, 16 bytes in a row.
+static KINDS: [Kind; 256] = [
+    O, O, O, O, O, O, O, O, O, S, S, O, O, S, O, O, // 0x00
+    O, O, O, O, O, O, O, O, O, O, O, O, O, O, O, O, // 0x10
+    S, O, Q, H, L, L, O, O, L, L, L, L, L, O, L, L, // 0x20
+    N, N, N, N, N, N, N, N, N, N, O, L, O, O, O, O, // 0x30
+    L, W, W, W, W, W, W, W, W, W, W, W, W, W, W, W, // 0x40
+    W, W, W, W, W, W, W, W, W, W, W, O, O, O, L, W, // 0x50
+    O, W, W, W, W, W, W, W, W, W, W, W, W, W, W, W, // 0x60
+    W, W, W, W, W, W, W, W, W, W, W, L, O, L, O, O, // 0x70
+    O, O, O, O, O, O, O, O, O, O, O, O, O, O, O, O, // 0x80
+    O, O, O, O, O, O, O, O, O, O, O, O, O, O, O, O, // 0x90
+    O, O, O, O, O, O, O, O, O, O, O, O, O, O, O, O, // 0xA0
+    O, O, O, O, O, O, O, O, O, O, O, O, O, O, O, O, // 0xB0
+    O, O, O, O, O, O, O, O, O, O, O, O, O, O, O, O, // 0xC0
+    O, O, O, O, O, O, O, O, O, O, O, O, O, O, O, O, // 0xD0
+    O, O, O, O, O, O, O, O, O, O, O, O, O, O, O, O, // 0xE0
+    O, O, O, O, O, O, O, O, O, O, O, O, O, O, O, O, // 0xF0
+];
+
 #[inline(always)]
+#[tactic(auto, using(crate::proofs::KindTable::kind_at))]
 pub(crate) fn kind_of(byte: u8) -> Kind
     ensures { result ≡ kind_of byte }
 {
-    match byte {
-        b' ' | b'\t' | b'\r' | b'\n' => Kind::Space,
-        b'#' => Kind::Hash,
-        b'A'..=b'Z' | b'a'..=b'z' | b'_' => Kind::Word,
-        b'0'..=b'9' => Kind::Numeral,
-        b'"' => Kind::Quote,
-        b'$'..=b'%' | b'('..=b',' | b'.'..=b'/' | b';' | b'@' | b'^' | b'{' | b'}' => Kind::Lone,
-        _ => Kind::Other,
-    }
+    KINDS[byte as usize]
 }
