@@ -4,6 +4,7 @@ use Rattle.std.specs.Prelude.{slice_get}
 use Rattle.std.proofs.lemmas.Option.{gets, slice_get_cases, slice_get_past}
 use Rattle.std.proofs.lemmas.List.{take_all, length-drop, length-take-le, drop_all, drop_more}
 use Rattle.std.proofs.lemmas.List.Edits.{between_more as between_pushed}
+use Rattle.std.proofs.lemmas.List.Folds.{list_any-append}
 use Rattle.kn_lex.specs.Cutting.{Seen}
 use Rattle.kn_fields.specs.Fields.{between}
 
@@ -53,7 +54,8 @@ pub record HasThree (xs : List Seen) (i to : ℕ) : Type 0 where
 pub three_here : (xs : List Seen) (i to : ℕ) → i + 2 < to → to ≤ length xs → HasThree xs i to
 three_here xs i to below within = grind (arith, between_step, slice_get_cases xs i, slice_get_cases xs (i + 1), slice_get_cases xs (i + 2))
 
-pub ruleset drop_steps = (drop_step, gets)
+-- a step of a loop up to the next label
+pub ruleset stretch_steps = (drop_step, between_more, between_none, list_any-append, gets)
 
 -- a step of a loop over them
 pub ruleset steps = (between_step, between_more, between_none, between_whole, gets)

@@ -1,5 +1,5 @@
 -- The scan tells whether the tokens go too deep.
-use Rattle.std.proofs.Common.{◌≡◌, ℕ, ◌<◌, ◌⊎◌, inl, inr, true, false, Bool, ◌||◌, ◌+◌, ◌≤◌, Some, sym, List, [], ◌∷◌, ◌++◌, fold, get_or, length, arith, refl}
+use Rattle.std.proofs.Common.{◌≡◌, ℕ, ◌<◌, ◌⊎◌, inl, inr, true, false, Bool, ◌||◌, ◌+◌, ◌-◌, ◌≤◌, Some, sym, List, [], ◌∷◌, ◌++◌, fold, get_or, length, arith, refl}
 use Rattle.std.specs.Prelude.{◌&&◌, ◌==◌, slice_get}
 use Rattle.std.specs.Str.{bytes_eq}
 use Rattle.std.proofs.lemmas.Bool.{cases_Bool}
@@ -8,7 +8,7 @@ use Rattle.kn_lex.specs.Cutting.{Seen}
 use Rattle.kn_fields.specs.Depth.{is_sign, depth_behind, run_behind, IsTooDeep}
 use Rattle.kn_fields.specs.Fields.{between}
 use Rattle.kn_fields.specs.Scanning.{is_past, goes_deep}
-use Rattle.kn_fields.proofs.Between.{between_here}
+use Rattle.kn_fields.proofs.Between.{steps, between_here, between_length}
 
 -- texts of one byte
 pub one_byte : (text : List ℕ) (byte : ℕ) → bytes_eq text (byte ∷ []) ≡ (length text == 1 && get_or text 0 0 == byte)
@@ -46,6 +46,16 @@ deep_shown tokens h = let d = deep_from 0 0 tokens (cc) in record { front = d.fr
 pub not_deep_shown : (tokens : List Seen) → false ≡ goes_deep 0 0 tokens → IsTooDeep tokens → ⊥
 not_deep_shown tokens h d = not_from 0 0 tokens d.front d.rest (cc) d.split d.deep
 
+-- few tokens open few brackets, and few signs stand in a row among them
+
+few_from : (depth run : ℕ) (tokens : List Seen) → depth + length tokens ≤ 64 → run + length tokens ≤ 8 → goes_deep depth run tokens ≡ false
+unfolding goes_deep depth_behind run_behind
+few_from depth run [] brackets signs = refl
+few_from depth run (t ∷ ts) brackets signs = grind (arith, nat_tests, few_from (depth_behind depth t) (run_behind run t) ts)
+
+pub few_tokens : (xs : List Seen) (from to : ℕ) → from ≤ to → to ≤ length xs → to - from ≤ 8 → goes_deep 0 0 (between from to xs) ≡ false
+few_tokens xs from to le within few = grind (arith, between_length xs from to le within, few_from 0 0 (between from to xs))
+
 -- token by token
 
 pub deep_step : (xs : List Seen) (i to : ℕ) (t : Seen) (depth run more_depth more_run : ℕ) (all : Bool) → all ≡ goes_deep depth run (between i to xs) → Some t ≡ slice_get xs i → i < to
@@ -63,3 +73,5 @@ pub quiet_step : (xs : List Seen) (i to : ℕ) (t : Seen) (depth run : ℕ) (all
 quiet_step xs i to t depth run all e is below none few =
     let still = no_sign t depth run none in
     deep_step xs i to t depth run depth 0 all e is below (sym still.0) (sym still.1) (grind (arith, nat_tests))
+
+pub ruleset deep_steps = (steps, few_tokens)

@@ -1,17 +1,18 @@
 -- Only labels can be wrong by those before them, and each tells of its field.
-use Rattle.std.proofs.Common.{subst, ◌≡◌, ℕ, zero, suc, ◌+◌, ◌<◌, ◌≤◌, Bool, true, false, not, Option, Some, None, List, [], ◌∷◌, ◌++◌, length, map, take, drop, get_or, arith, refl, sym, inl, inr, ◌∙◌, ap, append-nil}
+use Rattle.std.proofs.Common.{subst, ◌≡◌, ℕ, zero, suc, ◌+◌, ◌-◌, ◌<◌, ◌≤◌, Bool, true, false, not, ◌||◌, Option, Some, None, List, [], ◌∷◌, ◌++◌, length, map, take, drop, get_or, arith, refl, sym, inl, inr, ◌∙◌, ap, append-nil, append_assoc, one-add}
 use Rattle.std.specs.Prelude.{slice_get, find, is_none, take_while, if◌then◌else◌, ◌==◌}
 use Rattle.std.specs.List.{list_any, list_all, prefix_len}
+use Rattle.std.specs.Option.{option_and_then}
 use Rattle.std.proofs.lemmas.Bool.{cases_Bool}
 use Rattle.std.proofs.lemmas.Bool.Decides.{nat_tests}
 use Rattle.std.proofs.lemmas.Option.{gets, slice_get-map}
-use Rattle.std.proofs.lemmas.List.{length-append, length-map, drop_all, take_more, take-map, take-append-drop}
-use Rattle.std.proofs.lemmas.List.Folds.{list_all-append}
+use Rattle.std.proofs.lemmas.List.{length-append, length-map, length-drop, drop_all, drop-drop, take_more, take-map, take-append-drop}
+use Rattle.std.proofs.lemmas.List.Folds.{list_all-append, list_any-append}
 use Rattle.std.proofs.lemmas.List.Sums.{prefix_len-le-length}
 use Rattle.kn_lex.specs.Cutting.{Seen}
-use Rattle.kn_fields.specs.Fields.{is_label, field_of, is_this, is_label_of, Field, fields_of, field_with, IsPart, PartIs, IsHeading, AreHeadings}
-use Rattle.kn_fields.specs.Faults.{is_bad_field, is_stray}
-use Rattle.kn_fields.specs.Scanning.{is_wrong, first_place, AreNumbered}
+use Rattle.kn_fields.specs.Fields.{is_label, field_of, is_this, is_label_of, Field, fields_of, field_with, between, IsPart, IsHeading, AreHeadings}
+use Rattle.kn_fields.specs.Faults.{is_bad_field}
+use Rattle.kn_fields.specs.Scanning.{is_stray, is_wrong, first_place, AreNumbered, PartIs}
 use Rattle.kn_fields.specs.declared.heading.Heading.{Heading}
 use Rattle.kn_fields.specs.declared.labels.Wrong.{Wrong}
 use Rattle.kn_fields.specs.declared.labels.Wrong.TheVariants.{Second, LateVersion, BehindSignature}
@@ -270,23 +271,96 @@ headings_told tokens (t ∷ ts) at here size = elim (cases_Bool (is_label t)) [
       own = ap (take_while goes_on) (sym there.1) ∙ own_tokens tokens (at + 1) (at + 1 + prefix_len goes_on ts) (rw there.1 refl);
     }
 
--- those of all tokens, where the loop over them is done
-pub headings_over : (tokens : List Seen) (hs : List Heading) (i : ℕ) → headings_from 0 tokens ≡ hs ++ headings_from i (drop i tokens) → length tokens ≤ i
-    → AreHeadings tokens (fields_of tokens) hs
-unfolding headings_from
-headings_over tokens hs i is over =
-    let none : headings_from i (drop i tokens) ≡ [] = ap (headings_from i) (drop_all i tokens over) in
-    subst (AreHeadings tokens (fields_of tokens)) (is ∙ ap (λ more. hs ++ more) none ∙ append-nil hs) (headings_told tokens tokens 0 refl (omega arith))
+-- up to the next label there are no headings
 
--- token by token
+stays : (ts : List Seen) (at : ℕ) → prefix_len goes_on ts ≡ 0
+    → headings_from at ts ≡ headings_from (at + prefix_len goes_on ts) (drop (prefix_len goes_on ts) ts)
+stays ts at none = grind (arith, none)
 
-pub from_label : (tokens : List Seen) (i : ℕ) (t : Seen) → Some t ≡ slice_get tokens i → true ≡ is_label t
-    → headings_from i (drop i tokens)
-    ≡ record { part = record { label = i; end = i + 1 + prefix_len goes_on (drop (i + 1) tokens) }; number = field_of t } ∷ headings_from (i + 1) (drop (i + 1) tokens)
+next_label : (ts : List Seen) (at : ℕ) → headings_from at ts ≡ headings_from (at + prefix_len goes_on ts) (drop (prefix_len goes_on ts) ts)
 unfolding headings_from
-from_label tokens i t is label = rw (drop_here tokens i t (sym is), sym label) refl
+next_label [] at = stays [] at refl
+next_label (t ∷ ts) at = elim (cases_Bool (is_label t)) [
+  | inl label ↦ stays (t ∷ ts) at (rw label refl)
+  | inr other ↦ rw (other, one-add (prefix_len goes_on ts)) (grind (arith, next_label ts (at + 1)))
+]
 
-pub from_other : (tokens : List Seen) (i : ℕ) (t : Seen) → Some t ≡ slice_get tokens i → false ≡ is_label t
-    → headings_from i (drop i tokens) ≡ headings_from (i + 1) (drop (i + 1) tokens)
+at_next_label : (ts : List Seen) → prefix_len goes_on (drop (prefix_len goes_on ts) ts) ≡ 0
+at_next_label [] = refl
+at_next_label (t ∷ ts) = elim (cases_Bool (is_label t)) [
+  | inl label ↦ rw label (rw label refl)
+  | inr other ↦ rw (other, one-add (prefix_len goes_on ts)) (at_next_label ts)
+]
+
+-- what is seen at a place where a label stands, or no token
+pub record IsSeen (tokens : List Seen) (label : ℕ) (hs : List Heading) (has_stray : Bool) : Type 0 where
+  pub within : label ≤ length tokens
+  pub at_label : prefix_len goes_on (drop label tokens) ≡ 0
+  pub headings : headings_from 0 tokens ≡ hs ++ headings_from label (drop label tokens)
+  pub strays : list_any is_stray tokens ≡ (has_stray || list_any is_stray (drop label tokens))
+
+-- a stretch tells of its tokens
+record IsStretch (tokens : List Seen) (from end : ℕ) (has_stray : Bool) : Type 0 where
+  within : end ≤ length tokens
+  at_label : prefix_len goes_on (drop end tokens) ≡ 0
+  headings : headings_from from (drop from tokens) ≡ headings_from end (drop end tokens)
+  strays : list_any is_stray (drop from tokens) ≡ (has_stray || list_any is_stray (drop end tokens))
+
+is_stretch : (tokens : List Seen) (from end : ℕ) (has_stray : Bool) → from ≤ length tokens → end ≡ from + prefix_len goes_on (drop from tokens)
+    → has_stray ≡ list_any is_stray (between from end tokens) → IsStretch tokens from end has_stray
+unfolding between
+is_stretch tokens from end has_stray le next strays =
+    let there : drop end tokens ≡ drop (prefix_len goes_on (drop from tokens)) (drop from tokens) = grind (arith, drop-drop) in
+    record {
+      within = grind (arith, length-drop, prefix_len-le-length goes_on (drop from tokens));
+      at_label = rw there (at_next_label (drop from tokens));
+      headings = grind (arith, there, next_label (drop from tokens) from);
+      strays = grind (arith, there, take-append-drop (end - from) (drop from tokens), list_any-append);
+    }
+
+-- the tokens up to the first label
+pub first_seen : (tokens : List Seen) (end : ℕ) (has_stray : Bool) → end ≡ 0 + prefix_len goes_on (drop 0 tokens)
+    → has_stray ≡ list_any is_stray (between 0 end tokens) → IsSeen tokens end [] has_stray
+first_seen tokens end has_stray next strays =
+    let s = is_stretch tokens 0 end has_stray (omega arith) next strays in
+    record { within = s.within; at_label = s.at_label; headings = s.headings; strays = s.strays }
+
+-- a label with the tokens up to the next one
+pub more_seen : (tokens : List Seen) (label end : ℕ) (number : Option ℕ) (hs : List Heading) (has_stray more : Bool)
+    → IsSeen tokens label hs has_stray → label < length tokens → number ≡ option_and_then field_of (slice_get tokens label)
+    → end ≡ label + 1 + prefix_len goes_on (drop (label + 1) tokens) → more ≡ list_any is_stray (between (label + 1) end tokens)
+    → IsSeen tokens end (hs ++ record { part = record { label = label; end = end }; number = number } ∷ []) (has_stray || more)
 unfolding headings_from
-from_other tokens i t is other = rw (drop_here tokens i t (sym is), sym other) refl
+more_seen tokens label end number hs has_stray more seen below told next strays = by (slice_get tokens label) refl
+  where
+    s : IsStretch tokens (label + 1) end more
+    s = is_stretch tokens (label + 1) end more (omega (arith, below)) next strays
+
+    by : (o : Option Seen) → slice_get tokens label ≡ o
+        → IsSeen tokens end (hs ++ record { part = record { label = label; end = end }; number = number } ∷ []) (has_stray || more)
+    by None none = absurd (grind (arith, gets))
+    by (Some t) is =
+        let here = drop_here tokens label t is in
+        let label_here : is_label t ≡ true = grind (arith, here, seen.at_label) in
+        record {
+          within = s.within;
+          at_label = s.at_label;
+          headings = grind (arith, seen.headings, here, label_here, next, s.headings, append_assoc);
+          strays = grind (arith, seen.strays, here, label_here, s.strays);
+        }
+
+-- all of them, where no label is left
+pub all_seen : (tokens : List Seen) (label : ℕ) (hs : List Heading) (has_stray : Bool) → IsSeen tokens label hs has_stray → length tokens ≤ label
+    → AreHeadings tokens (fields_of tokens) hs × (has_stray ≡ list_any is_stray tokens)
+unfolding headings_from
+all_seen tokens label hs has_stray seen past =
+    (subst (AreHeadings tokens (fields_of tokens)) headings (headings_told tokens tokens 0 refl (omega arith)), strays)
+  where
+    over : drop label tokens ≡ []
+    over = drop_all label tokens past
+
+    headings : headings_from 0 tokens ≡ hs
+    headings = grind (arith, seen.headings, over, append-nil)
+
+    strays : has_stray ≡ list_any is_stray tokens
+    strays = grind (arith, seen.strays, over)

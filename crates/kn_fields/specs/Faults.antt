@@ -1,6 +1,6 @@
 -- The faults of a text by its fields, each with its place, in the one order in which they are answered. The
 -- faults and their order are keynoted's own.
-use Rattle.std.specs.Prelude.{◌≡◌, ℕ, ◌<◌, ◌==◌, ◌⊎◌, Bool, true, false, not, ◌&&◌, ◌||◌, is_none, List, [], ◌∷◌, ◌++◌, length, codes, Option, Some, None, unwrap_or}
+use Rattle.std.specs.Prelude.{◌≡◌, ℕ, ◌<◌, ◌==◌, ◌⊎◌, Bool, true, false, ◌&&◌, ◌||◌, is_none, List, [], ◌∷◌, ◌++◌, length, codes, Option, Some, None, unwrap_or}
 use Rattle.std.specs.List.{list_any}
 use Rattle.std.specs.Str.{bytes_eq}
 use Rattle.kn_base.specs.declared.limits.TheConstants.{ASSERTION_BYTES}
@@ -36,10 +36,6 @@ pub record HasFirst (is_bad : List Seen → Seen → Bool) (tokens : List Seen) 
 -- a token that is the text's first, or stands at the beginning of a line, and is no label of a field
 abbrev pub is_bad_field : List Seen → Seen → Bool
 is_bad_field before token = (length before == 0 || token.first) && is_none (field_of token)
-
--- a token that begins a line and is no label
-abbrev pub is_stray : Seen → Bool
-is_stray token = token.first && not (is_label token)
 
 abbrev pub is_repeat : List Seen → Option ℕ → Bool
 is_repeat before None = false

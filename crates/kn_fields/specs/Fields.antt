@@ -71,11 +71,6 @@ pub record IsPart (tokens : List Seen) (part : Part) (field : Field) : Type 0 wh
   pub within : part.end ≤ length tokens
   pub own : field.tokens ≡ between (part.label + 1) part.end tokens
 
--- it tells where the first field of this number stands, or that there is none
-abbrev pub PartIs : ℕ → List Seen → Option Part → Type 0
-PartIs number tokens None = field_with number tokens ≡ None
-PartIs number tokens (Some part) = (field : Field) × (field_with number tokens ≡ Some field) × IsPart tokens part field
-
 -- it tells where a field stands, and its number
 pub record IsHeading (tokens : List Seen) (field : Field) (heading : Heading) : Type 0 where
   pub part : IsPart tokens heading.part field

@@ -1,20 +1,30 @@
 -- What the private readers give: the first fault, computed.
-use Rattle.std.specs.Prelude.{◌≡◌, ℕ, Bool, List, [], ◌∷◌, ◌++◌, Option, Some, None, if◌then◌else◌, ◌||◌, nat_lt, true, false, map}
+use Rattle.std.specs.Prelude.{◌≡◌, ℕ, Bool, List, [], ◌∷◌, ◌++◌, Option, Some, None, if◌then◌else◌, ◌&&◌, ◌||◌, not, nat_lt, true, false, map}
 use Rattle.std.specs.List.{list_all}
 use Rattle.std.specs.Option.{option_or}
 use Rattle.kn_base.specs.declared.limits.TheConstants.{OPEN_BRACKETS, PREFIX_SIGNS}
 use Rattle.kn_lex.specs.Cutting.{Seen}
-use Rattle.kn_fields.specs.Fields.{is_label, field_of, Field, field_with}
+use Rattle.kn_fields.specs.Fields.{is_label, field_of, Field, field_with, IsPart}
 use Rattle.kn_fields.specs.Turns.{turn_behind, departs}
 use Rattle.kn_fields.specs.Depth.{depth_behind, run_behind}
 use Rattle.kn_fields.specs.Faults.{is_bad_field, is_second, is_late_version, is_behind_signature, is_version}
 use Rattle.kn_fields.specs.declared.constants.Turn.{Turn}
 use Rattle.kn_fields.specs.declared.constants.Turn.TheVariants.{Setting}
 use Rattle.kn_fields.specs.declared.heading.Heading.{Heading}
+use Rattle.kn_fields.specs.declared.part.Part.{Part}
 use Rattle.kn_fields.specs.declared.labels.Wrong.{Wrong}
 use Rattle.kn_fields.specs.declared.labels.Wrong.TheVariants.{Second, LateVersion, BehindSignature}
 use Rattle.kn_fields.specs.declared.fault.ReadFault.{ReadFault}
 use Rattle.kn_fields.specs.declared.fault.ReadFault.TheVariants.{BadField, FieldTwice, FieldOrder, NoAuthorizer, Version, Constant}
+
+-- it tells where the first field of this number stands, or that there is none
+abbrev pub PartIs : ℕ → List Seen → Option Part → Type 0
+PartIs number tokens None = field_with number tokens ≡ None
+PartIs number tokens (Some part) = (field : Field) × (field_with number tokens ≡ Some field) × IsPart tokens part field
+
+-- a token that begins a line and is no label
+abbrev pub is_stray : Seen → Bool
+is_stray token = token.first && not (is_label token)
 
 -- the place of the first bad token among these, which stand behind others
 unfoldable pub first_place : (List Seen → Seen → Bool) → List Seen → List Seen → Option ℕ

@@ -57,12 +57,16 @@ fn is_past(depth: u32, run: u32) -> bool
 }
 
 /// Whether the tokens from one place up to another go too deep.
-#[tactic(auto, using(crate::proofs::Between::steps), unfolding(crate::specs::Scanning::goes_deep))]
+#[tactic(auto, using(crate::proofs::Deep::deep_steps), unfolding(crate::specs::Scanning::goes_deep))]
 pub fn goes_deep(tokens: &Tokens<'_>, from: u32, to: u32) -> bool
     requires ordered { from ≤ to }
     requires within { to ≤ length tokens.now }
     ensures { result ≡ goes_deep 0 0 (between from to tokens.now) }
 {
+    // So few tokens open too few brackets, and too few of them are signs in a row.
+    if to - from <= PREFIX_SIGNS {
+        return false;
+    }
     let mut depth: u32 = 0;
     let mut run: u32 = 0;
     for i in from..to {

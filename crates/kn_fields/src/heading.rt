@@ -1,8 +1,9 @@
 //! The labels among the tokens of a text, each with its field.
-ghost use Rattle.std.specs.Prelude.{◌≡◌, ◌≤◌, ◌+◌, not, length, drop, find, IfOk};
-ghost use Rattle.std.specs.List.{prefix_len};
-ghost use Rattle.std.specs.Option.{option_copied};
-ghost use Rattle.kn_fields.specs.Fields.{is_this, is_label, fields_of, AreHeadings, PartIs};
+ghost use Rattle.std.specs.Prelude.{◌≡◌, ◌≤◌, ◌+◌, not, length, drop, slice_get, find, IfOk};
+ghost use Rattle.std.specs.List.{prefix_len, list_any};
+ghost use Rattle.std.specs.Option.{option_copied, option_and_then};
+ghost use Rattle.kn_fields.specs.Fields.{is_this, is_label, field_of, fields_of, between, AreHeadings};
+ghost use Rattle.kn_fields.specs.Scanning.{is_stray, PartIs};
 
 use crate::label::{field_of, is_label};
 use crate::part::Part;
@@ -37,18 +38,22 @@ impl Heading {
 pub struct LabelledTokens<'a> {
     tokens: Tokens<'a>,
     headings: List<Heading>,
+    /// Whether a token begins a line and is no label.
+    has_stray: bool,
 }
 
 impl<'a> Model for LabelledTokens<'a> {
-    ghost use Rattle.std.specs.Prelude.{List};
+    ghost use Rattle.std.specs.Prelude.{◌≡◌, List};
+    ghost use Rattle.std.specs.List.{list_any};
     ghost use Rattle.kn_lex.specs.Cutting.{Seen};
     ghost use Rattle.kn_fields.specs.Fields.{fields_of, AreHeadings};
+    ghost use Rattle.kn_fields.specs.Scanning.{is_stray};
 
     ghost Value = { List Seen };
 
     ghost view = { λ l. l.tokens };
 
-    ghost invariant = { λ l. AreHeadings l.tokens (fields_of l.tokens) l.headings };
+    ghost invariant = { λ l. AreHeadings l.tokens (fields_of l.tokens) l.headings × (l.has_stray ≡ list_any is_stray l.tokens) };
 }
 
 impl<'a> LabelledTokens<'a> {
@@ -56,8 +61,26 @@ impl<'a> LabelledTokens<'a> {
     pub(crate) fn of(alloc: Global, tokens: Tokens<'a>) -> Result<LabelledTokens<'a>, NoMemory>
         ensures { IfOk result (λ labelled. labelled ≡ tokens.entry) }
     {
-        let headings = headings(alloc, &tokens)?;
-        Ok(LabelledTokens { tokens, headings })
+        let mut headings = List::new(alloc);
+        let Stretch {
+            end: mut label,
+            mut has_stray,
+        } = stretch_from(&tokens, 0);
+        while label < tokens.len() {
+            let behind = stretch_from(&tokens, label + 1);
+            let end = behind.end;
+            headings.add(Heading {
+                part: Part { label, end },
+                number: number_at(&tokens, label),
+            })?;
+            has_stray |= behind.has_stray;
+            label = end;
+        }
+        Ok(LabelledTokens {
+            tokens,
+            headings,
+            has_stray,
+        })
     }
 
     /// The tokens alone.
@@ -72,6 +95,13 @@ impl<'a> LabelledTokens<'a> {
         ensures { AreHeadings self.now (fields_of self.now) result.now }
     {
         self.headings.as_slice()
+    }
+
+    /// Whether a token begins a line and is no label.
+    pub(crate) fn has_stray(&self) -> bool
+        ensures { result ≡ list_any is_stray self.now }
+    {
+        self.has_stray
     }
 
     /// Where the first field of this number stands, or None where there is none.
@@ -91,38 +121,43 @@ fn heading_of(headings: &[Heading], number: u8) -> Option<&Heading>
     headings.iter().find(|heading| heading.is_of(number))
 }
 
-/// The place of the first label from a place on, or the number of tokens.
-#[tactic(auto, using(crate::proofs::Between::drop_steps))]
-fn next_label(tokens: &Tokens<'_>, from: u32) -> u32
-    requires { from ≤ length tokens.now }
-    ensures { result ≡ from + prefix_len (λ token. not (is_label token)) (drop from tokens.now) }
+/// The number of the field whose label stands at a place.
+fn number_at(tokens: &Tokens<'_>, at: u32) -> Option<u8>
+    ensures { result ≡ option_and_then field_of (slice_get tokens.now at) }
 {
+    match tokens.get(at) {
+        Some(token) => field_of(token),
+        None => None,
+    }
+}
+
+/// Tokens in a row that are no labels, up to the next label.
+#[derive(Debug, Clone, Copy)]
+struct Stretch {
+    /// The place of the next label, or the number of tokens.
+    end: u32,
+    /// Whether one of them begins a line.
+    has_stray: bool,
+}
+
+/// The tokens from a place up to the next label.
+#[tactic(auto, using(crate::proofs::Between::stretch_steps))]
+fn stretch_from(tokens: &Tokens<'_>, from: u32) -> Stretch
+    requires { from ≤ length tokens.now }
+    ensures end { result.end ≡ from + prefix_len (λ token. not (is_label token)) (drop from tokens.now) }
+    ensures has_stray { result.has_stray ≡ list_any is_stray (between from result.end tokens.now) }
+{
+    let mut has_stray = false;
     for i in from..tokens.len() {
         if let Some(token) = tokens.get(i) {
             if is_label(token) {
-                return i;
+                return Stretch { end: i, has_stray };
             }
+            has_stray |= token.first;
         }
     }
-    tokens.len()
-}
-
-/// What the labels tell of their fields.
-#[tactic(auto, using(crate::proofs::Headings::headings_over))]
-fn headings(alloc: Global, tokens: &Tokens<'_>) -> Result<List<Heading>, NoMemory>
-    ensures { IfOk result (λ headings. AreHeadings tokens.now (fields_of tokens.now) headings) }
-{
-    let mut headings = List::new(alloc);
-    for label in 0..tokens.len() {
-        if let Some(token) = tokens.get(label) {
-            if is_label(token) {
-                let end = next_label(tokens, label + 1);
-                headings.add(Heading {
-                    part: Part { label, end },
-                    number: field_of(token),
-                })?;
-            }
-        }
+    Stretch {
+        end: tokens.len(),
+        has_stray,
     }
-    Ok(headings)
 }

@@ -4,11 +4,11 @@ ghost use Rattle.std.specs.List.{list_any};
 ghost use Rattle.kn_lex.specs.Cutting.{Seen};
 ghost use Rattle.kn_lex.specs.Seeing.{seen};
 ghost use Rattle.kn_fields.specs.Fields.{is_this, between};
-ghost use Rattle.kn_fields.specs.Faults.{is_bad_field, is_stray};
+ghost use Rattle.kn_fields.specs.Faults.{is_bad_field};
 ghost use Rattle.kn_fields.specs.Scanning.{is_wrong, first_place, order_place, AreNumbered};
 
 use crate::heading::{Heading, LabelledTokens};
-use crate::label::{SIGNATURE, VERSION, field_of, is_label};
+use crate::label::{SIGNATURE, VERSION, field_of};
 use crate::part::label_start;
 use kn_lex::{Token, Tokens};
 
@@ -76,31 +76,16 @@ fn begins_with_label(headings: &[Heading]) -> bool
     }
 }
 
-/// Whether a token begins a line and is no label.
-#[tactic(auto, using(crate::proofs::Between::steps))]
-fn has_stray(tokens: &Tokens<'_>) -> bool
-    ensures { result ≡ list_any is_stray tokens.now }
-{
-    for i in 0..tokens.len() {
-        if let Some(token) = tokens.get(i) {
-            if token.first && !is_label(token) {
-                return true;
-            }
-        }
-    }
-    false
-}
-
 /// Whether a token may stand where a label of a field must. None does where the text begins with a label, no token
 /// but a label begins a line, and each label is one of a field.
-fn may_lack_field(tokens: &LabelledTokens<'_>) -> bool
+fn may_have_bad_field(tokens: &LabelledTokens<'_>) -> bool
     ensures { result ≡ false → first_place is_bad_field [] tokens.now ≡ None }
 {
     let headings = tokens.headings();
-    has_stray(tokens.tokens()) || !begins_with_label(headings) || lack_field(headings)
+    tokens.has_stray() || !begins_with_label(headings) || has_unknown_label(headings)
 }
 
-fn lack_field(headings: &[Heading]) -> bool
+fn has_unknown_label(headings: &[Heading]) -> bool
     ensures { result ≡ list_any (λ heading. is_none heading.number) headings.now }
 {
     headings.iter().any(|heading| heading.number.is_none())
@@ -120,7 +105,7 @@ fn is_bad_field(tokens: &Tokens<'_>, at: u32, token: &Token<'_>) -> bool
 pub(crate) fn bad_field_place(tokens: &LabelledTokens<'_>) -> Option<u32>
     ensures { result ≡ first_place is_bad_field [] tokens.now }
 {
-    if !may_lack_field(tokens) {
+    if !may_have_bad_field(tokens) {
         return None;
     }
     let tokens = tokens.tokens();

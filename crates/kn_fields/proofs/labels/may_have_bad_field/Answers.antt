@@ -1,6 +1,6 @@
 use Rattle.std.proofs.Common.{arith}
 use Rattle.kn_fields.proofs.Headings.{lacks_none}
-use Rattle.kn_fields.proofs.labels.may_lack_field.Goals as goal
+use Rattle.kn_fields.proofs.labels.may_have_bad_field.Goals as goal
 
 pub returns-else-not-begins_with_label : goal.returns-else-not-begins_with_label
 returns-else-not-begins_with_label c last =
