@@ -12,6 +12,6 @@ pub use kn_fields::ReadFault;
 pub use kn_files::split_file;
 pub use kn_principal::{PrincipalFault, normal, same};
 pub use kn_trees::{
-    Assertion, Clause, Comparison, Expr, Formula, Kind, Link2, Operation, Program, Then, kind,
+    Assertion, Clause, Comparison, Expr, Formula, Kind, Link2, Operation, Program, Then,
 };
 pub use reader::read;

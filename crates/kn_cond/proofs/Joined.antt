@@ -1,6 +1,5 @@
 -- Whether an expression or a program joins texts, by its parts.
-use Rattle.std.proofs.Common.{◌≡◌, ℕ, ◌+◌, ◌<◌, Bool, true, false, ◌||◌, List, [], ◌∷◌, map, length, drop, get_or, refl, ap, ◌∙◌}
-use Rattle.std.proofs.lemmas.List.{drop_more}
+use Rattle.std.proofs.Common.{◌≡◌, Bool, true, false, ◌||◌, List, [], ◌∷◌, map, refl, ap, ◌∙◌}
 use Rattle.std.specs.List.{list_any}
 use Rattle.kn_trees.specs.declared.program.Expr.{Expr}
 use Rattle.kn_trees.specs.declared.program.Link2.{Link2}
@@ -81,10 +80,4 @@ or_right false b e = e
 pub or_third : (a b c : Bool) → c ≡ true → ((a || b) || c) ≡ true
 or_third a b c e = or_right (a || b) c e
 
--- what a later link joins, the links from an earlier one on join
-pub behind_joins : (links : List Link2) (i : ℕ) (link : Link2) → i < length links → list_any link_joins (drop (i + 1) links) ≡ true
-    → list_any link_joins (drop i links) ≡ true
-behind_joins links i link within e =
-    ap (list_any link_joins) (drop_more links i link within) ∙ or_right (link_joins (get_or links i link)) (list_any link_joins (drop (i + 1) links)) e
-
-pub ruleset joined = (joins-Not, joins-Minus, joins-Number, joins-Deref, joins-And, joins-Or, joins-Compare, joins-Chain, then_joins-Value, then_joins-Block, clause_joins-parts, program_joins-clauses)
+pub ruleset joined = (joins-Not, joins-Minus, joins-Number, joins-Deref, joins-And, joins-Or, joins-Compare, joins-Chain, then_joins-Value, then_joins-Block, clause_joins-parts, program_joins-clauses, or_right, or_third)

@@ -3,3 +3,4 @@ pub mod Digits
 pub mod Meanings
 pub mod Valued
 pub mod Joined
+pub mod Descent

@@ -1,6 +1,5 @@
 -- The meaning of an expression, by the meanings of its parts.
-use Rattle.std.proofs.Common.{◌≡◌, ℕ, ℤ, ◌+◌, ◌<◌, Bool, List, [], ◌∷◌, map, length, drop, get_or, refl, sym, ap, ◌∙◌}
-use Rattle.std.proofs.lemmas.List.{drop_more}
+use Rattle.std.proofs.Common.{◌≡◌, ℕ, ℤ, Bool, List, [], ◌∷◌, map, refl, ap, ◌∙◌}
 use Rattle.kn_env.specs.Environment.{Environment, name_value}
 use Rattle.kn_trees.specs.declared.program.Expr.{Expr}
 use Rattle.kn_trees.specs.declared.program.Link2.{Link2}
@@ -9,7 +8,7 @@ use Rattle.kn_trees.specs.declared.program.Comparison.{Comparison}
 use Rattle.kn_trees.specs.declared.program.Expr.TheVariants.{Truth, Whole, Text, Name, Not, Minus, Number, Deref, And, Or, Compare, Chain}
 use Rattle.kn_trees.specs.declared.program.Expr.TheFolds.{fold-Link2}
 use Rattle.kn_trees.proofs.Folds.{fold-Truth, fold-Whole, fold-Text, fold-Name, fold-Not, fold-Minus, fold-Number, fold-Deref, fold-And, fold-Or, fold-Compare, fold-Link, fold-Chain}
-use Rattle.kn_cond.specs.Meaning.{Meaning, truth, whole, text, text_in_range, negated, minus, number_of, value_named, conjunction, disjunction, comparison, operation, chained, meaning_step, link_step, meaning_of, links_of}
+use Rattle.kn_cond.specs.Meaning.{Meaning, truth, whole, text, text_in_range, negated, minus, number_of, value_named, conjunction, disjunction, comparison, chained, meaning_step, link_step, meaning_of, links_of}
 
 abbrev Linked : Type 0
 Linked = Operation × Meaning
@@ -68,15 +67,5 @@ links_of-folds e (link ∷ links) =
 pub meaning_of-Chain : (e : Environment) (first : Expr) (links : List Link2) → meaning_of e (Chain first links) ≡ chained (meaning_of e first) (links_of e links)
 unfolding meaning_of
 meaning_of-Chain e first links = fold-Chain Meaning Linked (meaning_step e) link_step first links ∙ ap (chained (meaning_of e first)) (links_of-folds e links)
-
--- a link is done, and what a chain gives is what its further links make of that
-pub chained_on : (e : Environment) (links : List Link2) (i : ℕ) (link : Link2) (left right next all : Meaning) → i < length links → link ≡ get_or links i link
-    → right ≡ meaning_of e link.right → next ≡ operation link.sign left right → chained left (links_of e (drop i links)) ≡ all
-    → chained next (links_of e (drop (i + 1) links)) ≡ all
-chained_on e links i link left right next all within is right_is next_is left_is =
-    let here : drop i links ≡ link ∷ drop (i + 1) links = drop_more links i link within ∙ ap (λ (x : Link2). x ∷ drop (i + 1) links) (sym is) in
-    ap (λ m. chained m (links_of e (drop (i + 1) links))) (next_is ∙ ap (operation link.sign left) right_is)
-    ∙ sym (ap (λ ls. chained left (links_of e ls)) here)
-    ∙ left_is
 
 pub ruleset meanings = (meaning_of-Truth, meaning_of-Whole, meaning_of-Text, meaning_of-Name, meaning_of-Not, meaning_of-Minus, meaning_of-Number, meaning_of-Deref, meaning_of-And, meaning_of-Or, meaning_of-Compare, meaning_of-Chain)

@@ -8,41 +8,41 @@ ghost use Rattle.kn_cond.specs.Joining.{is_join, joins, link_joins};
 use crate::numbers;
 use crate::results::Outcome;
 use crate::texts::{Text, is_before};
+use kn_base::NoMemory;
 use kn_base::limits::TEXT_BYTES;
-use kn_base::{List, NoMemory};
 use kn_env::{Env, is_attribute_name};
-use kn_trees::{Comparison, Expr, Link2, Operation};
+use kn_trees::{Comparison, ExprRef, Form, Links, Operation, Parts};
 use std::alloc::Global;
 
 /// What an expression gives in an environment. `Err` says that there was no memory for a joined text.
 #[cycle(outcomes)]
-#[tactic(auto, using(crate::proofs::Meanings::meanings, crate::proofs::Joined::joined, crate::proofs::Joined::or_right, crate::proofs::Joined::or_third))]
+#[tactic(auto, using(crate::proofs::Meanings::meanings, crate::proofs::Joined::joined, crate::proofs::Descent::depths))]
 pub(crate) fn outcome<'e>(
     alloc: Global,
-    expr: &'e Expr,
+    expr: ExprRef<'e>,
     env: &'e Env<'e>,
 ) -> Result<Outcome<'e>, NoMemory>
-    ensures value { IfOk result (λ outcome. meant outcome ≡ meaning_of env.now expr.now) }
-    ensures memory { IfErr result (λ none. joins expr.now ≡ true) }
+    ensures value { IfOk result (λ outcome. meant outcome ≡ meaning_of env.now expr.entry) }
+    ensures memory { IfErr result (λ none. joins expr.entry ≡ true) }
 {
-    match expr {
-        Expr::Truth(value) => Ok(Outcome::Truth(*value)),
-        Expr::Whole(value) => Ok(Outcome::Whole(*value)),
-        Expr::Text(value) => Ok(Outcome::Text(Text::lent(value.as_slice()))),
-        Expr::Name(name) => Ok(in_range(env.value(name.as_slice()))),
-        Expr::Not(part) => Ok(negated(outcome(alloc, part.get(), env)?)),
-        Expr::Minus(part) => Ok(minus(outcome(alloc, part.get(), env)?)),
-        Expr::Number(part) => Ok(number_of(outcome(alloc, part.get(), env)?)),
-        Expr::Deref(part) => Ok(value_named(env, outcome(alloc, part.get(), env)?)),
-        Expr::And(parts) => conjunction(alloc, parts, env),
-        Expr::Or(parts) => disjunction(alloc, parts, env),
-        Expr::Compare { sign, left, right } => {
-            let first = outcome(alloc, left.get(), env)?;
-            let second = outcome(alloc, right.get(), env)?;
-            Ok(comparison(*sign, first, second))
+    match expr.form() {
+        Form::Truth(value) => Ok(Outcome::Truth(value)),
+        Form::Whole(value) => Ok(Outcome::Whole(value)),
+        Form::Text(value) => Ok(Outcome::Text(Text::lent(value))),
+        Form::Name(name) => Ok(in_range(env.value(name))),
+        Form::Not(part) => Ok(negated(outcome(alloc, part, env)?)),
+        Form::Minus(part) => Ok(minus(outcome(alloc, part, env)?)),
+        Form::Number(part) => Ok(number_of(outcome(alloc, part, env)?)),
+        Form::Deref(part) => Ok(value_named(env, outcome(alloc, part, env)?)),
+        Form::And(parts) => conjunction(alloc, parts, env),
+        Form::Or(parts) => disjunction(alloc, parts, env),
+        Form::Compare { sign, left, right } => {
+            let first = outcome(alloc, left, env)?;
+            let second = outcome(alloc, right, env)?;
+            Ok(comparison(sign, first, second))
         }
-        Expr::Chain { first, rest } => {
-            let left = outcome(alloc, first.get(), env)?;
+        Form::Chain { first, rest } => {
+            let left = outcome(alloc, first, env)?;
             chained(alloc, left, rest, env)
         }
     }
@@ -50,16 +50,17 @@ pub(crate) fn outcome<'e>(
 
 // `&&` stops at the first part that decides.
 #[cycle(outcomes)]
+#[tactic(auto, using(crate::proofs::Descent::part_depth, crate::proofs::Descent::drop_at, crate::proofs::Joined::or_right))]
 fn conjunction<'e>(
     alloc: Global,
-    parts: &'e List<Expr>,
+    parts: Parts<'e>,
     env: &'e Env<'e>,
 ) -> Result<Outcome<'e>, NoMemory>
-    ensures value { IfOk result (λ outcome. meant outcome ≡ conjunction (map (meaning_of env.now) parts.now)) }
-    ensures memory { IfErr result (λ none. list_any joins parts.now ≡ true) }
+    ensures value { IfOk result (λ outcome. meant outcome ≡ conjunction (map (meaning_of env.now) parts.entry)) }
+    ensures memory { IfErr result (λ none. list_any joins parts.entry ≡ true) }
 {
-    for part in parts.as_slice() {
-        match outcome(alloc, part, env)? {
+    for k in 0..parts.len() {
+        match outcome(alloc, parts.get(k), env)? {
             Outcome::Truth(true) => {}
             Outcome::Truth(false) => return Ok(Outcome::Truth(false)),
             _ => return Ok(Outcome::Fault),
@@ -70,16 +71,17 @@ fn conjunction<'e>(
 
 // `||` stops at the first part that decides.
 #[cycle(outcomes)]
+#[tactic(auto, using(crate::proofs::Descent::part_depth, crate::proofs::Descent::drop_at, crate::proofs::Joined::or_right))]
 fn disjunction<'e>(
     alloc: Global,
-    parts: &'e List<Expr>,
+    parts: Parts<'e>,
     env: &'e Env<'e>,
 ) -> Result<Outcome<'e>, NoMemory>
-    ensures value { IfOk result (λ outcome. meant outcome ≡ disjunction (map (meaning_of env.now) parts.now)) }
-    ensures memory { IfErr result (λ none. list_any joins parts.now ≡ true) }
+    ensures value { IfOk result (λ outcome. meant outcome ≡ disjunction (map (meaning_of env.now) parts.entry)) }
+    ensures memory { IfErr result (λ none. list_any joins parts.entry ≡ true) }
 {
-    for choice in parts.as_slice() {
-        match outcome(alloc, choice, env)? {
+    for k in 0..parts.len() {
+        match outcome(alloc, parts.get(k), env)? {
             Outcome::Truth(false) => {}
             Outcome::Truth(true) => return Ok(Outcome::Truth(true)),
             _ => return Ok(Outcome::Fault),
@@ -90,19 +92,21 @@ fn disjunction<'e>(
 
 // What a chain gives whose first part gives this.
 #[cycle(outcomes)]
+#[tactic(auto, using(crate::proofs::Descent::right_depth, crate::proofs::Descent::drop_at, crate::proofs::Joined::or_right))]
 fn chained<'e>(
     alloc: Global,
     first: Outcome<'e>,
-    links: &'e List<Link2>,
+    links: Links<'e>,
     env: &'e Env<'e>,
 ) -> Result<Outcome<'e>, NoMemory>
-    ensures value { IfOk result (λ outcome. meant outcome ≡ chained (meant first.entry) (links_of env.now links.now)) }
-    ensures memory { IfErr result (λ none. list_any link_joins links.now ≡ true) }
+    ensures value { IfOk result (λ outcome. meant outcome ≡ chained (meant first.entry) (links_of env.now links.entry)) }
+    ensures memory { IfErr result (λ none. list_any link_joins links.entry ≡ true) }
 {
     let mut left = first;
-    for link in links.as_slice() {
-        let right = outcome(alloc, &link.right, env)?;
-        left = operation(alloc, link.sign, left, right)?;
+    for k in 0..links.len() {
+        let (sign, expr) = links.get(k);
+        let right = outcome(alloc, expr, env)?;
+        left = operation(alloc, sign, left, right)?;
     }
     Ok(left)
 }

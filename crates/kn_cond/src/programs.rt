@@ -10,7 +10,7 @@ use crate::evaluation::outcome;
 use crate::results::Outcome;
 use kn_base::NoMemory;
 use kn_env::Env;
-use kn_trees::{Clause, Expr, Program, Then};
+use kn_trees::{Clause, FlatExpr, Program, Then};
 use std::alloc::Global;
 
 /// The value of a Conditions field, by its index among the compliance values of the query. A missing field has the
@@ -34,7 +34,7 @@ pub fn field_value<'e>(
 /// Conditions field). A fault of a test or a value is part of its meaning. `Err` says that there was no memory for a
 /// joined text.
 #[cycle(programs)]
-#[tactic(auto, using(crate::proofs::Valued::values, crate::proofs::Joined::joined, crate::proofs::Joined::or_right, crate::proofs::Joined::or_third))]
+#[tactic(auto, using(crate::proofs::Valued::values, crate::proofs::Joined::joined))]
 pub fn conditions_value<'e>(
     alloc: Global,
     program: &'e Program,
@@ -52,20 +52,20 @@ pub fn conditions_value<'e>(
 }
 
 #[cycle(programs)]
-#[tactic(auto, using(crate::proofs::Valued::values, crate::proofs::Joined::joined, crate::proofs::Joined::or_right, crate::proofs::Joined::or_third))]
+#[tactic(auto, using(crate::proofs::Valued::values, crate::proofs::Joined::joined))]
 fn clause_value<'e>(alloc: Global, clause: &'e Clause, env: &'e Env<'e>) -> Result<u8, NoMemory>
     ensures value { IfOk result (λ level. level ≡ clause_value env.now clause.now) }
     ensures within { IfOk result (λ level. 0 < length env.now.asked.values → level < length env.now.asked.values) }
     ensures memory { IfErr result (λ none. clause_joins clause.now ≡ true) }
 {
-    match outcome(alloc, &clause.test, env)? {
+    match outcome(alloc, clause.test.root(), env)? {
         Outcome::Truth(true) => then_value(alloc, &clause.then, env),
         _ => Ok(0),
     }
 }
 
 #[cycle(programs)]
-#[tactic(auto, using(crate::proofs::Valued::values, crate::proofs::Joined::joined, crate::proofs::Joined::or_right, crate::proofs::Joined::or_third))]
+#[tactic(auto, using(crate::proofs::Valued::values, crate::proofs::Joined::joined))]
 fn then_value<'e>(alloc: Global, then: &'e Then, env: &'e Env<'e>) -> Result<u8, NoMemory>
     ensures value { IfOk result (λ level. level ≡ then_value env.now then.now) }
     ensures within { IfOk result (λ level. 0 < length env.now.asked.values → level < length env.now.asked.values) }
@@ -79,12 +79,12 @@ fn then_value<'e>(alloc: Global, then: &'e Then, env: &'e Env<'e>) -> Result<u8,
 }
 
 // The value that a text names; the lowest where it names none.
-fn named_value<'e>(alloc: Global, name: &'e Expr, env: &'e Env<'e>) -> Result<u8, NoMemory>
+fn named_value<'e>(alloc: Global, name: &'e FlatExpr, env: &'e Env<'e>) -> Result<u8, NoMemory>
     ensures value { IfOk result (λ level. level ≡ value_of env.now (meaning_of env.now name.now)) }
     ensures within { IfOk result (λ level. 0 < length env.now.asked.values → level < length env.now.asked.values) }
     ensures memory { IfErr result (λ none. joins name.now ≡ true) }
 {
-    match outcome(alloc, name, env)? {
+    match outcome(alloc, name.root(), env)? {
         Outcome::Text(text) => Ok(value_or_lowest(env, text.as_slice())),
         _ => Ok(0),
     }

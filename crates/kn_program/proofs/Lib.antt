@@ -7,6 +7,7 @@ pub mod Programs
 pub mod Stated
 pub mod TreeLemmas
 pub mod Steps
+pub mod Stacks
 pub mod Nesting
 pub mod Depths
 pub mod Derivations

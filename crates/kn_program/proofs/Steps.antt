@@ -1,8 +1,8 @@
 -- Reading step by step.
-use Rattle.std.proofs.Common.{◌≡◌, ℕ, zero, suc, ◌-◌, ◌<◌, ◌≤◌, List, [], ◌∷◌, ◌++◌, codes, Some, None, refl, sym, ap, ◌∙◌, arith}
+use Rattle.std.proofs.Common.{◌≡◌, ℕ, zero, suc, ◌-◌, ◌<◌, ◌≤◌, List, [], codes, Some, None, refl, sym, ap, arith}
 use Rattle.kn_fields.specs.Words.{Word}
 use Rattle.kn_fields.specs.Reading.{Read, map_read, then_read, behind_sign, tail_at, list_at, one_part, taken, marked}
-use Rattle.kn_fields.proofs.Steps.{Going, going_list, going_on, tail_step}
+use Rattle.kn_fields.proofs.Steps.{Going, going_list, tail_step}
 use Rattle.kn_trees.specs.declared.program.Expr.{Expr}
 use Rattle.kn_trees.specs.declared.program.Expr.TheVariants as E
 use Rattle.kn_trees.specs.declared.program.Link2.{Link2}
@@ -32,10 +32,6 @@ tests_step (suc n) And words some = simp one_less (grind arith)
 -- tests of which so much is read
 abbrev pub Tests : Joint → ℕ → ℕ → List Expr → List Word → Read Expr → Type 0
 Tests joint budget left parts words all = Going (marked (joint_text joint)) one_part (test_at budget joint) (joined joint) left tt parts words all
-
-pub tests_start : (budget : ℕ) (joint : Joint) (first : Expr) (empty parts : List Expr) (words : List Word) → empty ≡ [] → parts ≡ empty ++ first ∷ [] → Tests joint budget budget parts words (more_tests_at budget joint first words)
-tests_start budget joint first empty parts words none is =
-    going_on (marked (joint_text joint)) one_part (test_at budget joint) (joined joint) budget tt (first ∷ []) parts words (is ∙ ap (λ (list : List Expr). list ++ first ∷ []) none)
 
 -- operands with operations of a level between them
 
@@ -78,10 +74,6 @@ some_levels Power = omega arith
 abbrev pub Links : Level → Expr → ℕ → ℕ → Operation → List Link2 → List Word → Read Expr → Type 0
 Links level first budget left sign links words all =
     Going (taken (operation_of level)) one_link (side_at budget level) (chained first) left sign links words all
-
-pub links_start : (budget : ℕ) (level : Level) (first : Expr) (sign : Operation) (links : List Link2) (words : List Word) → links ≡ []
-    → Links level first budget budget sign links words (more_links_at budget level first sign words)
-links_start budget level first sign links words none = going_on (taken (operation_of level)) one_link (side_at budget level) (chained first) budget sign [] links words none
 
 -- an operand with no operation behind it
 links_none : (budget : ℕ) (level : Level) (first : Expr) (words : List Word) → 0 < budget → None ≡ taken (operation_of level) words

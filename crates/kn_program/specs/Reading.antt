@@ -1,12 +1,10 @@
 -- Reading a program from the front of a field's words: the bridge between the grammar and the code. The number bounds
 -- the steps, of which twelve for each word and one more are enough.
-use Rattle.std.specs.Prelude.{◌≡◌, ℕ, zero, suc, pos, ◌+◌, ◌-◌, ◌*◌, Bool, true, false, ◌&&◌, List, [], ◌∷◌, ◌++◌, length, codes, Option, Some, None, Result, Ok, Err}
+use Rattle.std.specs.Prelude.{ℕ, zero, suc, pos, ◌+◌, ◌-◌, ◌*◌, Bool, true, false, ◌&&◌, List, [], ◌∷◌, ◌++◌, length, codes, Option, Some, None}
 use Rattle.std.specs.Option.{is_none}
 use Rattle.kn_fields.specs.Words.{Word, Mark}
 use Rattle.kn_fields.specs.Words.Word.{literal, name, number}
 use Rattle.kn_fields.specs.Reading.{Read, Reader, map_read, then_read, behind_sign, closed_by, more_at, tail_at, list_at, one_part, whole, taken, marked}
-use Rattle.kn_fields.specs.declared.unread.Unread.{Unread}
-use Rattle.kn_fields.specs.declared.unread.Unread.TheVariants.{Syntax, NoMemory}
 use Rattle.kn_trees.specs.declared.program.Expr.{Expr}
 use Rattle.kn_trees.specs.declared.program.Expr.TheVariants as E
 use Rattle.kn_trees.specs.declared.program.Link2.{Link2}
@@ -170,9 +168,3 @@ unfoldable mutual
 -- the program of all these words
 unfoldable pub read_program : List Word → Option Program
 read_program words = whole (map_read program_with (program_at (12 * length words + 1) words))
-
--- what the code gives of one word
-abbrev pub ReadsWord : Result (Option Expr) Unread → Word → Type 0
-ReadsWord (Ok found) word = constant_of word ≡ found
-ReadsWord (Err Syntax) word = ⊥
-ReadsWord (Err NoMemory) word = Unit {0}

@@ -9,7 +9,7 @@ use crate::expression::tests;
 use crate::signs::Joint;
 use kn_base::{List, NoMemory};
 use kn_fields::{Cursor, Unread};
-use kn_trees::{Clause, Program, Then};
+use kn_trees::{Clause, ExprStack, FlatExpr, Program, Then};
 use std::alloc::Global;
 
 /// Adds the clause of an entry, if it has one.
@@ -67,7 +67,7 @@ fn clause(alloc: Global, cursor: &mut Cursor<'_, '_>, budget: u64) -> Result<Cla
     if budget == 0 {
         return Err(Unread::Syntax);
     }
-    let test = tests(alloc, cursor, Joint::Or, budget - 1)?;
+    let test = expression(alloc, cursor, budget - 1)?;
     if !cursor.take_sign(b"->".as_slice()) {
         let then = Then::Top;
         return Ok(Clause { test, then });
@@ -76,13 +76,22 @@ fn clause(alloc: Global, cursor: &mut Cursor<'_, '_>, budget: u64) -> Result<Cla
     Ok(Clause { test, then })
 }
 
+/// An expression in one piece of memory.
+fn expression(alloc: Global, cursor: &mut Cursor<'_, '_>, budget: u64) -> Result<FlatExpr, Unread>
+    ensures { Reads result (tests_at budget Joint.Or cursor.old) cursor.new }
+{
+    let mut stack = ExprStack::with_room(alloc, cursor.len())?;
+    tests(alloc, &mut stack, cursor, Joint::Or, budget)?;
+    Ok(stack.into_expr())
+}
+
 /// What stands behind `->`.
 #[cycle(program)]
 fn value(alloc: Global, cursor: &mut Cursor<'_, '_>, budget: u64) -> Result<Then, Unread>
     ensures { Reads result (value_after cursor.old (tests_at budget Joint.Or) (program_at budget)) cursor.new }
 {
     if !cursor.take_sign(b"{".as_slice()) {
-        let value = tests(alloc, cursor, Joint::Or, budget)?;
+        let value = expression(alloc, cursor, budget)?;
         return Ok(Then::Value(value));
     }
     let clauses = clauses(alloc, cursor, budget)?;

@@ -1,22 +1,24 @@
 //! The grammar of expressions, with one token of look-ahead.
 //!
-//! The budget bounds the steps of a reading: each step down the grammar takes one, and a list of parts or of
-//! operations has fewer than it. Ten for each token are enough.
-ghost use Rattle.std.specs.Prelude.{◌≡◌, ◌+◌, ◌≤◌, ◌<◌};
+//! What is read is put on a stack. The budget bounds the steps of a reading: each step down the grammar takes one,
+//! and a list of parts or of operations has fewer than it. Ten for each token are enough.
+ghost use Rattle.std.specs.Prelude.{◌≡◌, ◌+◌, ◌^◌, ◌≤◌, ◌<◌, length};
 ghost use Rattle.kn_lex.specs.Seeing.{seen};
 ghost use Rattle.kn_fields.specs.Words.{word_of};
-ghost use Rattle.kn_fields.specs.Reading.{Reads, map_read};
+ghost use Rattle.kn_fields.specs.Reading.{map_read};
+ghost use Rattle.kn_trees.specs.declared.program.Expr.TheVariants as E;
 ghost use Rattle.kn_program.specs.Signs.{height};
 ghost use Rattle.kn_program.specs.Trees.{prefixed};
-ghost use Rattle.kn_program.specs.Reading.{ReadsWord, tests_at, more_tests_at, test_at, negation_at, comparison_at, chain_at, side_at, more_links_at, climb_at, first_at, operand_at, atom_at};
+ghost use Rattle.kn_program.specs.Stacking.{Puts, PutsBehind, PutsWord};
+ghost use Rattle.kn_program.specs.Reading.{tests_at, more_tests_at, test_at, negation_at, comparison_at, chain_at, side_at, more_links_at, climb_at, first_at, operand_at, atom_at};
 
 use crate::operators::{has_operation, take_comparison, take_operation, take_prefix};
 use crate::signs::{Joint, Level, Prefix, height, joint_text, number_of, truth_of};
-use crate::tree::{chained, compared, negated, prefixed, several};
-use kn_base::{List, Octets};
+use crate::tree::{prefixed, several};
+use kn_base::List;
 use kn_fields::{Cursor, Unread};
 use kn_lex::{Sort, Token, literal};
-use kn_trees::{Expr, Link2, Operation};
+use kn_trees::{ExprStack, Operation};
 use std::alloc::Global;
 
 /// The tests with `||` or `&&` between them.
@@ -24,20 +26,21 @@ use std::alloc::Global;
 #[tactic(auto, using(crate::proofs::Steps::tests_step), unfolding(crate::specs::Reading::tests_at))]
 pub(crate) fn tests(
     alloc: Global,
+    stack: &mut ExprStack,
     cursor: &mut Cursor<'_, '_>,
     joint: Joint,
     budget: u64,
-) -> Result<Expr, Unread>
-    ensures { Reads result (tests_at budget joint cursor.old) cursor.new }
+) -> Result<(), Unread>
+    ensures { Puts result (tests_at budget joint cursor.old) stack.old stack.new cursor.new }
 {
     if budget == 0 {
         return Err(Unread::Syntax);
     }
-    let first = test(alloc, cursor, joint, budget - 1)?;
+    test(alloc, stack, cursor, joint, budget - 1)?;
     if cursor.take_sign(joint_text(joint)) {
-        more_tests(alloc, cursor, joint, first, budget - 1)
+        more_tests(alloc, stack, cursor, joint, budget - 1)
     } else {
-        Ok(first)
+        Ok(())
     }
 }
 
@@ -46,21 +49,23 @@ pub(crate) fn tests(
 #[tactic(auto, using(kn_fields::proofs::Steps::going_none, kn_fields::proofs::Steps::going_over))]
 fn more_tests(
     alloc: Global,
+    stack: &mut ExprStack,
     cursor: &mut Cursor<'_, '_>,
     joint: Joint,
-    first: Expr,
     budget: u64,
-) -> Result<Expr, Unread>
-    ensures { Reads result (more_tests_at budget joint first cursor.old) cursor.new }
+) -> Result<(), Unread>
+    requires some { 0 < length stack.old }
+    requires countable { budget + 1 < 2 ^ 64 }
+    ensures { PutsBehind result (λ first. more_tests_at budget joint first cursor.old) stack.old stack.new cursor.new }
 {
-    let mut parts = List::new(alloc);
-    parts.add(first)?;
+    let mut count = 1;
     let mut left = budget;
     while left > 0 {
-        let part = test(alloc, cursor, joint, budget)?;
-        parts.add(part)?;
+        test(alloc, stack, cursor, joint, budget)?;
+        count += 1;
         if !cursor.take_sign(joint_text(joint)) {
-            return Ok(several(joint, parts));
+            several(stack, joint, count)?;
+            return Ok(());
         }
         left -= 1;
     }
@@ -72,15 +77,16 @@ fn more_tests(
 #[inline(always)]
 fn test(
     alloc: Global,
+    stack: &mut ExprStack,
     cursor: &mut Cursor<'_, '_>,
     joint: Joint,
     budget: u64,
-) -> Result<Expr, Unread>
-    ensures { Reads result (test_at budget joint cursor.old) cursor.new }
+) -> Result<(), Unread>
+    ensures { Puts result (test_at budget joint cursor.old) stack.old stack.new cursor.new }
 {
     match joint {
-        Joint::Or => tests(alloc, cursor, Joint::And, budget),
-        Joint::And => negation(alloc, cursor, budget),
+        Joint::Or => tests(alloc, stack, cursor, Joint::And, budget),
+        Joint::And => negation(alloc, stack, cursor, budget),
     }
 }
 
@@ -88,46 +94,61 @@ fn test(
 #[cycle(expression)]
 #[tactic(auto, using(crate::proofs::Steps::negation_step), unfolding(crate::specs::Reading::negation_at))]
 #[inline(always)]
-fn negation(alloc: Global, cursor: &mut Cursor<'_, '_>, budget: u64) -> Result<Expr, Unread>
-    ensures { Reads result (negation_at budget cursor.old) cursor.new }
+fn negation(
+    alloc: Global,
+    stack: &mut ExprStack,
+    cursor: &mut Cursor<'_, '_>,
+    budget: u64,
+) -> Result<(), Unread>
+    ensures { Puts result (negation_at budget cursor.old) stack.old stack.new cursor.new }
 {
     if budget == 0 {
         return Err(Unread::Syntax);
     }
     if cursor.take_sign(b"!".as_slice()) {
-        denial(alloc, cursor, budget - 1)
+        denial(alloc, stack, cursor, budget - 1)
     } else {
-        comparison(alloc, cursor, budget - 1)
+        comparison(alloc, stack, cursor, budget - 1)
     }
 }
 
 /// What a `!` makes of what stands behind it.
 #[cycle(expression)]
-fn denial(alloc: Global, cursor: &mut Cursor<'_, '_>, budget: u64) -> Result<Expr, Unread>
-    ensures { Reads result (map_read Expr.Not (negation_at budget cursor.old)) cursor.new }
+fn denial(
+    alloc: Global,
+    stack: &mut ExprStack,
+    cursor: &mut Cursor<'_, '_>,
+    budget: u64,
+) -> Result<(), Unread>
+    ensures { Puts result (map_read E.Not (negation_at budget cursor.old)) stack.old stack.new cursor.new }
 {
-    let part = negation(alloc, cursor, budget)?;
-    let whole = negated(alloc, part)?;
-    Ok(whole)
+    negation(alloc, stack, cursor, budget)?;
+    stack.apply_not()?;
+    Ok(())
 }
 
 /// A sum, or two with a comparison between them.
 #[cycle(expression)]
 #[tactic(auto, using(crate::proofs::Steps::comparison_step), unfolding(crate::specs::Reading::comparison_at))]
 #[inline(always)]
-fn comparison(alloc: Global, cursor: &mut Cursor<'_, '_>, budget: u64) -> Result<Expr, Unread>
-    ensures { Reads result (comparison_at budget cursor.old) cursor.new }
+fn comparison(
+    alloc: Global,
+    stack: &mut ExprStack,
+    cursor: &mut Cursor<'_, '_>,
+    budget: u64,
+) -> Result<(), Unread>
+    ensures { Puts result (comparison_at budget cursor.old) stack.old stack.new cursor.new }
 {
     if budget == 0 {
         return Err(Unread::Syntax);
     }
-    let left = chain(alloc, cursor, Level::Sum, budget - 1)?;
+    chain(alloc, stack, cursor, Level::Sum, budget - 1)?;
     let Some(sign) = take_comparison(cursor) else {
-        return Ok(left);
+        return Ok(());
     };
-    let right = chain(alloc, cursor, Level::Sum, budget - 1)?;
-    let whole = compared(alloc, sign, left, right)?;
-    Ok(whole)
+    chain(alloc, stack, cursor, Level::Sum, budget - 1)?;
+    stack.compare(sign)?;
+    Ok(())
 }
 
 /// The operands with operations of a level between them.
@@ -138,18 +159,19 @@ fn comparison(alloc: Global, cursor: &mut Cursor<'_, '_>, budget: u64) -> Result
 #[inline(always)]
 fn chain(
     alloc: Global,
+    stack: &mut ExprStack,
     cursor: &mut Cursor<'_, '_>,
     level: Level,
     budget: u64,
-) -> Result<Expr, Unread>
-    ensures { Reads result (chain_at budget level cursor.old) cursor.new }
+) -> Result<(), Unread>
+    ensures { Puts result (chain_at budget level cursor.old) stack.old stack.new cursor.new }
 {
     let levels = height(level);
     if budget < levels {
         return Err(Unread::Syntax);
     }
-    let first = operand(alloc, cursor, budget - levels)?;
-    climb(alloc, cursor, level, first, budget)
+    operand(alloc, stack, cursor, budget - levels)?;
+    climb(alloc, stack, cursor, level, budget)
 }
 
 /// The operations of a level and of the tighter ones behind a first operand, if there are any.
@@ -158,18 +180,19 @@ fn chain(
 #[inline(always)]
 fn climb(
     alloc: Global,
+    stack: &mut ExprStack,
     cursor: &mut Cursor<'_, '_>,
     level: Level,
-    operand: Expr,
     budget: u64,
-) -> Result<Expr, Unread>
+) -> Result<(), Unread>
+    requires some { 0 < length stack.old }
     requires enough { height level ≤ budget }
-    ensures { Reads result (climb_at budget level operand cursor.old) cursor.new }
+    ensures { PutsBehind result (λ operand. climb_at budget level operand cursor.old) stack.old stack.new cursor.new }
 {
     if has_operation(cursor, level) {
-        operations(alloc, cursor, level, operand, budget)
+        operations(alloc, stack, cursor, level, budget)
     } else {
-        Ok(operand)
+        Ok(())
     }
 }
 
@@ -178,18 +201,19 @@ fn climb(
 #[tactic(auto, using(crate::proofs::Steps::climb_step, crate::proofs::Steps::links_step, crate::proofs::Steps::some_levels))]
 fn operations(
     alloc: Global,
+    stack: &mut ExprStack,
     cursor: &mut Cursor<'_, '_>,
     level: Level,
-    operand: Expr,
     budget: u64,
-) -> Result<Expr, Unread>
+) -> Result<(), Unread>
+    requires some { 0 < length stack.old }
     requires enough { height level ≤ budget }
-    ensures { Reads result (climb_at budget level operand cursor.old) cursor.new }
+    ensures { PutsBehind result (λ operand. climb_at budget level operand cursor.old) stack.old stack.new cursor.new }
 {
-    let first = first_side(alloc, cursor, level, operand, budget - 1)?;
+    first_side(alloc, stack, cursor, level, budget - 1)?;
     match take_operation(cursor, level) {
-        Some(sign) => links(alloc, cursor, level, first, sign, budget - 1),
-        None => Ok(first),
+        Some(sign) => links(alloc, stack, cursor, level, sign, budget - 1),
+        None => Ok(()),
     }
 }
 
@@ -197,18 +221,19 @@ fn operations(
 #[cycle(expression)]
 fn first_side(
     alloc: Global,
+    stack: &mut ExprStack,
     cursor: &mut Cursor<'_, '_>,
     level: Level,
-    operand: Expr,
     budget: u64,
-) -> Result<Expr, Unread>
+) -> Result<(), Unread>
+    requires some { 0 < length stack.old }
     requires enough { height level ≤ budget + 1 }
-    ensures { Reads result (first_at budget level operand cursor.old) cursor.new }
+    ensures { PutsBehind result (λ operand. first_at budget level operand cursor.old) stack.old stack.new cursor.new }
 {
     match level {
-        Level::Sum => climb(alloc, cursor, Level::Product, operand, budget),
-        Level::Product => climb(alloc, cursor, Level::Power, operand, budget),
-        Level::Power => Ok(operand),
+        Level::Sum => climb(alloc, stack, cursor, Level::Product, budget),
+        Level::Product => climb(alloc, stack, cursor, Level::Power, budget),
+        Level::Power => Ok(()),
     }
 }
 
@@ -217,23 +242,24 @@ fn first_side(
 #[tactic(auto, using(kn_fields::proofs::Steps::going_none, kn_fields::proofs::Steps::going_over))]
 fn links(
     alloc: Global,
+    stack: &mut ExprStack,
     cursor: &mut Cursor<'_, '_>,
     level: Level,
-    first: Expr,
     sign: Operation,
     budget: u64,
-) -> Result<Expr, Unread>
-    ensures { Reads result (more_links_at budget level first sign cursor.old) cursor.new }
+) -> Result<(), Unread>
+    requires some { 0 < length stack.old }
+    ensures { PutsBehind result (λ first. more_links_at budget level first sign cursor.old) stack.old stack.new cursor.new }
 {
-    let mut links = List::new(alloc);
+    let mut signs = List::new(alloc);
     let mut sign = sign;
     let mut left = budget;
     while left > 0 {
-        let right = side(alloc, cursor, level, budget)?;
-        links.add(Link2 { sign, right })?;
+        side(alloc, stack, cursor, level, budget)?;
+        signs.add(sign)?;
         let Some(next) = take_operation(cursor, level) else {
-            let whole = chained(alloc, first, links)?;
-            return Ok(whole);
+            stack.chain(signs.as_slice())?;
+            return Ok(());
         };
         sign = next;
         left -= 1;
@@ -245,16 +271,17 @@ fn links(
 #[cycle(expression)]
 fn side(
     alloc: Global,
+    stack: &mut ExprStack,
     cursor: &mut Cursor<'_, '_>,
     level: Level,
     budget: u64,
-) -> Result<Expr, Unread>
-    ensures { Reads result (side_at budget level cursor.old) cursor.new }
+) -> Result<(), Unread>
+    ensures { Puts result (side_at budget level cursor.old) stack.old stack.new cursor.new }
 {
     match level {
-        Level::Sum => chain(alloc, cursor, Level::Product, budget),
-        Level::Product => chain(alloc, cursor, Level::Power, budget),
-        Level::Power => operand(alloc, cursor, budget),
+        Level::Sum => chain(alloc, stack, cursor, Level::Product, budget),
+        Level::Product => chain(alloc, stack, cursor, Level::Power, budget),
+        Level::Power => operand(alloc, stack, cursor, budget),
     }
 }
 
@@ -262,15 +289,20 @@ fn side(
 #[cycle(expression)]
 #[tactic(auto, using(crate::proofs::Steps::operand_step), unfolding(crate::specs::Reading::operand_at))]
 #[inline(always)]
-fn operand(alloc: Global, cursor: &mut Cursor<'_, '_>, budget: u64) -> Result<Expr, Unread>
-    ensures { Reads result (operand_at budget cursor.old) cursor.new }
+fn operand(
+    alloc: Global,
+    stack: &mut ExprStack,
+    cursor: &mut Cursor<'_, '_>,
+    budget: u64,
+) -> Result<(), Unread>
+    ensures { Puts result (operand_at budget cursor.old) stack.old stack.new cursor.new }
 {
     if budget == 0 {
         return Err(Unread::Syntax);
     }
     match take_prefix(cursor) {
-        Some(prefix) => signed(alloc, cursor, prefix, budget - 1),
-        None => atom(alloc, cursor, budget - 1),
+        Some(prefix) => signed(alloc, stack, cursor, prefix, budget - 1),
+        None => atom(alloc, stack, cursor, budget - 1),
     }
 }
 
@@ -278,39 +310,44 @@ fn operand(alloc: Global, cursor: &mut Cursor<'_, '_>, budget: u64) -> Result<Ex
 #[cycle(expression)]
 fn signed(
     alloc: Global,
+    stack: &mut ExprStack,
     cursor: &mut Cursor<'_, '_>,
     prefix: Prefix,
     budget: u64,
-) -> Result<Expr, Unread>
-    ensures { Reads result (map_read (prefixed prefix) (operand_at budget cursor.old)) cursor.new }
+) -> Result<(), Unread>
+    ensures { Puts result (map_read (prefixed prefix) (operand_at budget cursor.old)) stack.old stack.new cursor.new }
 {
-    let part = operand(alloc, cursor, budget)?;
-    let whole = prefixed(alloc, prefix, part)?;
-    Ok(whole)
+    operand(alloc, stack, cursor, budget)?;
+    prefixed(stack, prefix)?;
+    Ok(())
 }
 
-/// The expression of one token, or None where it is none of its own.
+/// Puts the expression of one token on the stack and says true, or false where it is none of its own.
 #[inline(always)]
-fn constant(alloc: Global, token: &Token<'_>) -> Result<Option<Expr>, Unread>
-    ensures { ReadsWord result (word_of (seen token.now)) }
+fn constant(alloc: Global, stack: &mut ExprStack, token: &Token<'_>) -> Result<bool, Unread>
+    ensures { PutsWord result (word_of (seen token.now)) stack.old stack.new }
 {
     match token.sort {
         Sort::Text => {
             let value = literal(alloc, token)?;
-            Ok(Some(Expr::Text(value)))
+            stack.push_text(value.as_slice())?;
+            Ok(true)
         }
-        Sort::Name => match truth_of(token.text) {
-            Some(value) => Ok(Some(Expr::Truth(value))),
-            None => {
-                let name = Octets::from_slice(alloc, token.text)?;
-                Ok(Some(Expr::Name(name)))
+        Sort::Name => {
+            match truth_of(token.text) {
+                Some(value) => stack.push_truth(value)?,
+                None => stack.push_name(token.text)?,
             }
-        },
+            Ok(true)
+        }
         Sort::Number => match number_of(token.text) {
-            Some(value) => Ok(Some(Expr::Whole(value as i32))),
-            None => Ok(None),
+            Some(value) => {
+                stack.push_whole(value as i32)?;
+                Ok(true)
+            }
+            None => Ok(false),
         },
-        _ => Ok(None),
+        _ => Ok(false),
     }
 }
 
@@ -318,8 +355,13 @@ fn constant(alloc: Global, token: &Token<'_>) -> Result<Option<Expr>, Unread>
 #[cycle(expression)]
 #[tactic(auto, using(crate::proofs::Steps::atom_step), unfolding(crate::specs::Reading::atom_at))]
 #[inline(always)]
-fn atom(alloc: Global, cursor: &mut Cursor<'_, '_>, budget: u64) -> Result<Expr, Unread>
-    ensures { Reads result (atom_at budget cursor.old) cursor.new }
+fn atom(
+    alloc: Global,
+    stack: &mut ExprStack,
+    cursor: &mut Cursor<'_, '_>,
+    budget: u64,
+) -> Result<(), Unread>
+    ensures { Puts result (atom_at budget cursor.old) stack.old stack.new cursor.new }
 {
     if budget == 0 {
         return Err(Unread::Syntax);
@@ -327,16 +369,12 @@ fn atom(alloc: Global, cursor: &mut Cursor<'_, '_>, budget: u64) -> Result<Expr,
     let Some(token) = cursor.peek() else {
         return Err(Unread::Syntax);
     };
-    match constant(alloc, token)? {
-        Some(whole) => {
-            cursor.step();
-            Ok(whole)
-        }
-        None => {
-            cursor.expect_sign(b"(".as_slice())?;
-            let whole = tests(alloc, cursor, Joint::Or, budget - 1)?;
-            cursor.expect_sign(b")".as_slice())?;
-            Ok(whole)
-        }
+    if constant(alloc, stack, token)? {
+        cursor.step();
+        return Ok(());
     }
+    cursor.expect_sign(b"(".as_slice())?;
+    tests(alloc, stack, cursor, Joint::Or, budget - 1)?;
+    cursor.expect_sign(b")".as_slice())?;
+    Ok(())
 }

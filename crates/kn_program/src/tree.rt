@@ -1,61 +1,33 @@
-//! Expressions by their parts.
-ghost use Rattle.std.specs.Prelude.{◌≡◌, IfOk};
-ghost use Rattle.kn_program.specs.Trees.{several, chained, prefixed};
+//! Expressions by their parts, on the stack.
+ghost use Rattle.std.specs.Prelude.{◌≡◌, ◌<◌, ◌≤◌, [], ◌∷◌, ◌++◌, length, OnOk, List};
+ghost use Rattle.kn_trees.specs.declared.program.Expr.{Expr};
+ghost use Rattle.kn_program.specs.Trees.{several, prefixed};
 
 use crate::signs::{Joint, Prefix};
-use kn_base::{Boxed, List, NoMemory};
-use kn_trees::{Comparison, Expr, Link2};
-use std::alloc::Global;
+use kn_base::NoMemory;
+use kn_trees::ExprStack;
 
-/// Two or more tests with this between them.
-pub(crate) fn several(joint: Joint, parts: List<Expr>) -> Expr
-    ensures { result ≡ several joint parts }
+/// Joins so many of the topmost tests, two or more.
+pub(crate) fn several(stack: &mut ExprStack, joint: Joint, count: usize) -> Result<(), NoMemory>
+    requires some { count ≤ length stack.old }
+    ensures { (front parts : List Expr) → stack.old ≡ front ++ parts → length parts ≡ count
+        → OnOk result (stack.new ≡ front ++ several joint parts ∷ []) }
 {
     match joint {
-        Joint::Or => Expr::Or(parts),
-        Joint::And => Expr::And(parts),
+        Joint::Or => stack.join_or(count),
+        Joint::And => stack.join_and(count),
     }
 }
 
-/// A first part with operations behind it; alone it is itself.
-#[tactic(auto, unfolding(crate::specs::Trees::chained))]
-pub(crate) fn chained(alloc: Global, first: Expr, links: List<Link2>) -> Result<Expr, NoMemory>
-    ensures { IfOk result (λ chain. chain ≡ chained first links) }
+/// Puts a sign before the topmost operand.
+pub(crate) fn prefixed(stack: &mut ExprStack, prefix: Prefix) -> Result<(), NoMemory>
+    requires some { 0 < length stack.old }
+    ensures { (front : List Expr) (part : Expr) → stack.old ≡ front ++ part ∷ []
+        → OnOk result (stack.new ≡ front ++ prefixed prefix part ∷ []) }
 {
-    if links.len() == 0 {
-        return Ok(first);
-    }
-    let first = Boxed::new(alloc, first)?;
-    Ok(Expr::Chain { first, rest: links })
-}
-
-pub(crate) fn compared(
-    alloc: Global,
-    sign: Comparison,
-    left: Expr,
-    right: Expr,
-) -> Result<Expr, NoMemory>
-    ensures { IfOk result (λ whole. whole ≡ Expr.Compare sign left right) }
-{
-    let left = Boxed::new(alloc, left)?;
-    let right = Boxed::new(alloc, right)?;
-    Ok(Expr::Compare { sign, left, right })
-}
-
-pub(crate) fn negated(alloc: Global, part: Expr) -> Result<Expr, NoMemory>
-    ensures { IfOk result (λ whole. whole ≡ Expr.Not part) }
-{
-    let part = Boxed::new(alloc, part)?;
-    Ok(Expr::Not(part))
-}
-
-pub(crate) fn prefixed(alloc: Global, prefix: Prefix, part: Expr) -> Result<Expr, NoMemory>
-    ensures { IfOk result (λ whole. whole ≡ prefixed prefix part) }
-{
-    let part = Boxed::new(alloc, part)?;
     match prefix {
-        Prefix::Minus => Ok(Expr::Minus(part)),
-        Prefix::Number => Ok(Expr::Number(part)),
-        Prefix::Deref => Ok(Expr::Deref(part)),
+        Prefix::Minus => stack.apply_minus(),
+        Prefix::Number => stack.apply_number(),
+        Prefix::Deref => stack.apply_deref(),
     }
 }

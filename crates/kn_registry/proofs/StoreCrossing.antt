@@ -4,13 +4,11 @@ use denote.Param.Send.{IsSend, IsSync, sendable}
 use Rattle.std.proofs.Crossing.{crosses}
 use Rattle.kn_base.proofs.Crossing.{octets_send, octets_sync}
 use Rattle.kn_base.proofs.list.List.TheSendSync as list
-use Rattle.kn_base.proofs.boxed.Boxed.TheSendSync as boxed
 use Rattle.kn_trees.specs.contracts.formula.Formula as formula
-use Rattle.kn_trees.specs.contracts.program.Expr as expr
 use Rattle.kn_trees.specs.contracts.program.Program as program
 use Rattle.kn_trees.specs.contracts.assertion.Assertion as assertion
+use Rattle.kn_trees.proofs.Crossing.{flat_send, flat_sync}
 use Rattle.kn_trees.proofs.formula.Formula.TheLaws.TheKnot.{send-Formula, sync-Formula}
-use Rattle.kn_trees.proofs.program.Expr.TheLaws.TheKnot.{send-Expr, sync-Expr}
 use Rattle.kn_trees.proofs.program.Then.TheLaws.TheKnot.{send-Program, sync-Program}
 use Rattle.kn_store.specs.contracts.credential.Credential as credential
 use Rattle.kn_store.specs.contracts.credential.LiveCredential as live
@@ -28,17 +26,11 @@ formula_send = send-Formula octets_send list.the_send (search sendable)
 formula_sync : IsSync (formula.the_field).row
 formula_sync = sync-Formula octets_sync list.the_sync (search sendable)
 
-expr_send : IsSend (expr.the_field).row
-expr_send = search (sendable, send-Expr, octets_send, list.the_send, boxed.the_send) depth 20
-
-expr_sync : IsSync (expr.the_field).row
-expr_sync = search (sendable, sync-Expr, octets_sync, list.the_sync, boxed.the_sync) depth 20
-
 program_send : IsSend (program.the_field).row
-program_send = search (sendable, send-Program, expr_send, list.the_send) depth 20
+program_send = search (sendable, send-Program, flat_send, list.the_send) depth 20
 
 program_sync : IsSync (program.the_field).row
-program_sync = search (sendable, sync-Program, expr_sync, list.the_sync) depth 20
+program_sync = search (sendable, sync-Program, flat_sync, list.the_sync) depth 20
 
 assertion_send : IsSend (assertion.the_field).row
 assertion_send = search (sendable, octets_send, list.the_send, formula_send, program_send) depth 20

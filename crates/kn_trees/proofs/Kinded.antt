@@ -12,7 +12,8 @@ use Rattle.kn_trees.specs.declared.program.Expr.TheFolds.{fold-Link2}
 use Rattle.kn_trees.specs.declared.program.Program.{Program, out-Program}
 use Rattle.kn_trees.specs.declared.program.Clause.{Clause}
 use Rattle.kn_trees.specs.declared.program.Then.TheVariants.{Top, Value, Block}
-use Rattle.kn_trees.specs.Kinds.{is_truth, is_whole, is_text, are_compared, gives, chain_kind, kind_step, link_step, kind_of, kinds_of, program_step, clause_step, then_step, is_well_kinded, is_clause_well_kinded, is_then_well_kinded}
+use Rattle.kn_trees.specs.ExprKinds.{is_truth, is_whole, is_text, are_compared, gives, chain_kind, kind_step, link_step, kind_of, kinds_of}
+use Rattle.kn_trees.specs.Kinds.{program_step, clause_step, then_step, is_well_kinded, is_clause_well_kinded, is_then_well_kinded}
 use Rattle.kn_trees.proofs.Folds.{fold-Truth, fold-Whole, fold-Text, fold-Name, fold-Not, fold-Minus, fold-Number, fold-Deref, fold-And, fold-Or, fold-Compare, fold-Link, fold-Chain, fold-Top, fold-Value, fold-Block, fold-one_clause, fold-whole_program}
 
 abbrev Found : Type 0

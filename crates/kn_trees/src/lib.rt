@@ -2,13 +2,21 @@
 #![tactic(auto)]
 
 mod assertion;
+mod flat;
+mod forest;
+mod form;
 mod formula;
 mod kinds;
 mod program;
+mod stack;
+mod top;
 mod typing;
 
 pub use assertion::Assertion;
+pub use flat::FlatExpr;
+pub use form::{ExprRef, Form, Links, Parts};
 pub use formula::Formula;
 pub use kinds::Kind;
 pub use program::{Clause, Comparison, Expr, Link2, Operation, Program, Then};
-pub use typing::{is_well_kinded, kind};
+pub use stack::ExprStack;
+pub use typing::is_well_kinded;

@@ -1,4 +1,5 @@
 //! Conditions programs as trees.
+use crate::flat::FlatExpr;
 use kn_base::{Boxed, List, Octets};
 
 /// A conditions program (RFC 2704, section 4, the Conditions field): its clauses but for the empty ones.
@@ -12,7 +13,7 @@ pub struct Program {
 #[derive(Debug, Drop)]
 #[cycle(program)]
 pub struct Clause {
-    pub test: Expr,
+    pub test: FlatExpr,
     pub then: Then,
 }
 
@@ -23,7 +24,7 @@ pub enum Then {
     /// The highest compliance value: nothing stands behind the test.
     Top,
     /// The compliance value of this name.
-    Value(Expr),
+    Value(FlatExpr),
     /// What this program is worth.
     Block(Program),
 }

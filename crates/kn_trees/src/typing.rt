@@ -1,13 +1,15 @@
 //! Which kind an expression has.
-ghost use Rattle.std.specs.Prelude.{Option, ◌≡◌, map};
+ghost use Rattle.std.specs.Prelude.{Option, ◌≡◌, length, map};
 ghost use Rattle.std.specs.List.{list_all};
-ghost use Rattle.kn_trees.specs.Kinds.{is_truth, is_whole, is_text, are_compared, gives, operation_kind, chain_kind, kind_of, kinds_of, is_well_kinded, is_clause_well_kinded, is_then_well_kinded};
+ghost use Rattle.kn_trees.specs.Kinds.{is_truth, is_whole, is_text, are_compared, gives, operation_kind, chain_kind, kind_of, is_well_kinded, is_clause_well_kinded, is_then_well_kinded};
+ghost use Rattle.kn_trees.specs.Tops.{signs_with_kinds};
 
 use crate::kinds::Kind;
-use crate::program::{Clause, Expr, Link2, Operation, Program, Then};
-use kn_base::List;
+use crate::program::{Clause, Operation, Program, Then};
+use crate::top::Top;
 
-fn is_truth(kind: Option<Kind>) -> bool
+#[inline(always)]
+pub(crate) fn is_truth(kind: Option<Kind>) -> bool
     ensures { result ≡ is_truth kind }
 {
     match kind {
@@ -16,7 +18,8 @@ fn is_truth(kind: Option<Kind>) -> bool
     }
 }
 
-fn is_whole(kind: Option<Kind>) -> bool
+#[inline(always)]
+pub(crate) fn is_whole(kind: Option<Kind>) -> bool
     ensures { result ≡ is_whole kind }
 {
     match kind {
@@ -25,7 +28,8 @@ fn is_whole(kind: Option<Kind>) -> bool
     }
 }
 
-fn is_text(kind: Option<Kind>) -> bool
+#[inline(always)]
+pub(crate) fn is_text(kind: Option<Kind>) -> bool
     ensures { result ≡ is_text kind }
 {
     match kind {
@@ -34,7 +38,8 @@ fn is_text(kind: Option<Kind>) -> bool
     }
 }
 
-fn are_compared(left: Option<Kind>, right: Option<Kind>) -> bool
+#[inline(always)]
+pub(crate) fn are_compared(left: Option<Kind>, right: Option<Kind>) -> bool
     ensures { result ≡ are_compared left right }
 {
     if is_whole(left) {
@@ -44,8 +49,9 @@ fn are_compared(left: Option<Kind>, right: Option<Kind>) -> bool
     }
 }
 
-// What an operator gives where its operands are right.
-fn gives(right: bool, kind: Kind) -> Option<Kind>
+/// What an operator gives where its operands are right.
+#[inline(always)]
+pub(crate) fn gives(right: bool, kind: Kind) -> Option<Kind>
     ensures { result ≡ gives right kind }
 {
     if right { Some(kind) } else { None }
@@ -65,55 +71,26 @@ fn operation_kind(sign: Operation, left: Option<Kind>, right: Option<Kind>) -> O
     }
 }
 
-/// The kind of an expression, or None where an operator's operands aren't of the kinds that it needs. Takes no memory.
-#[cycle(kinds)]
-#[tactic(auto, using(crate::proofs::Kinded::kinds))]
-pub fn kind(expr: &Expr) -> Option<Kind>
-    ensures { result ≡ kind_of expr.now }
+/// Whether all these trees are truths.
+pub(crate) fn are_truths(tops: &[Top]) -> bool
+    ensures { result ≡ list_all is_truth (map (λ top. top.kind) tops.now) }
 {
-    match expr {
-        Expr::Truth(_) => Some(Kind::Truth),
-        Expr::Whole(_) => Some(Kind::Whole),
-        Expr::Text(_) => Some(Kind::Text),
-        Expr::Name(_) => Some(Kind::Text),
-        Expr::Not(part) => gives(is_truth(kind(part.get())), Kind::Truth),
-        Expr::Minus(part) => gives(is_whole(kind(part.get())), Kind::Whole),
-        Expr::Number(part) => gives(is_text(kind(part.get())), Kind::Whole),
-        Expr::Deref(part) => gives(is_text(kind(part.get())), Kind::Text),
-        Expr::And(parts) => gives(are_truths(parts), Kind::Truth),
-        Expr::Or(parts) => gives(are_truths(parts), Kind::Truth),
-        Expr::Compare {
-            sign: _,
-            left,
-            right,
-        } => gives(
-            are_compared(kind(left.get()), kind(right.get())),
-            Kind::Truth,
-        ),
-        Expr::Chain { first, rest } => chain(kind(first.get()), rest),
-    }
-}
-
-#[cycle(kinds)]
-fn are_truths(parts: &List<Expr>) -> bool
-    ensures { result ≡ list_all is_truth (map kind_of parts.now) }
-{
-    for part in parts.as_slice() {
-        if !is_truth(kind(part)) {
+    for top in tops {
+        if !is_truth(top.kind) {
             return false;
         }
     }
     true
 }
 
-// The kind of a chain whose first part has this one.
-#[cycle(kinds)]
-fn chain(first: Option<Kind>, links: &List<Link2>) -> Option<Kind>
-    ensures { result ≡ chain_kind first (kinds_of links.now) }
+/// The kind of a chain whose first part has this one.
+pub(crate) fn chain_kind(first: Option<Kind>, signs: &[Operation], rights: &[Top]) -> Option<Kind>
+    requires { length rights.now ≡ length signs.now }
+    ensures { result ≡ chain_kind first (signs_with_kinds signs.now rights.now) }
 {
     let mut left = first;
-    for link in links.as_slice() {
-        left = operation_kind(link.sign, left, kind(&link.right));
+    for k in 0..signs.len() {
+        left = operation_kind(signs[k], left, rights[k].kind);
     }
     left
 }
@@ -137,7 +114,7 @@ pub fn is_well_kinded(program: &Program) -> bool
 fn is_clause_well_kinded(clause: &Clause) -> bool
     ensures { result ≡ is_clause_well_kinded clause.now }
 {
-    is_truth(kind(&clause.test)) && is_then_well_kinded(&clause.then)
+    is_truth(clause.test.kind()) && is_then_well_kinded(&clause.then)
 }
 
 #[cycle(programs)]
@@ -147,7 +124,7 @@ fn is_then_well_kinded(then: &Then) -> bool
 {
     match then {
         Then::Top => true,
-        Then::Value(value) => is_text(kind(value)),
+        Then::Value(value) => is_text(value.kind()),
         Then::Block(program) => is_well_kinded(program),
     }
 }

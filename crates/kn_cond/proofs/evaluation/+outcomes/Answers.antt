@@ -1,13 +1,30 @@
-use Rattle.kn_cond.specs.Results.{meant}
-use Rattle.kn_cond.proofs.Meanings.{chained_on}
-use Rattle.kn_cond.proofs.Joined.{behind_joins}
+use Rattle.std.proofs.Common.{arith}
+use Rattle.std.proofs.lemmas.Grind.{common_steps}
+use Rattle.kn_trees.specs.Forms.{link}
+use Rattle.kn_cond.proofs.Descent.{drop_at}
+use Rattle.kn_cond.proofs.Joined.{or_right}
 use Rattle.kn_cond.proofs.evaluation.+outcomes.Goals as goal
 
-pub chained-loop-link-preserved : goal.chained-loop-link-preserved
-chained-loop-link-preserved t c = record {
-  value =
-      chained_on c.args.env.now c.as_slice-link-items.result.now c.loop-link.link-index c.link-item.result (meant c.loop-link.left) (meant c.in_ok-right.right)
-      (meant c.in_ok-left.left) _ c.loop-link-test.true c.link-item.is c.in_ok-right.ensures.value c.in_ok-left.ensures.value c.loop-link.invariant.value;
-  memory =
-      λ e. c.loop-link.invariant.memory (behind_joins c.as_slice-link-items.result.now c.loop-link.link-index c.link-item.result c.loop-link-test.true e);
-}
+pub conjunction-loop-k-preserved : goal.conjunction-loop-k-preserved
+conjunction-loop-k-preserved t c =
+    let here = drop_at c.args.parts c.loop-k.k c.get.result c.get.ensures in
+    record {
+      value = grind (arith, common_steps);
+      memory = grind (arith, common_steps, or_right);
+    }
+
+pub disjunction-loop-k-preserved : goal.disjunction-loop-k-preserved
+disjunction-loop-k-preserved t c =
+    let here = drop_at c.args.parts c.loop-k.k c.get.result c.get.ensures in
+    record {
+      value = grind (arith, common_steps);
+      memory = grind (arith, common_steps, or_right);
+    }
+
+pub chained-loop-k-preserved : goal.chained-loop-k-preserved
+chained-loop-k-preserved t c =
+    let here = drop_at c.args.links c.loop-k.k (link c.get-sign.result.0 c.get-sign.result.1) c.get-sign.ensures in
+    record {
+      value = grind (arith, common_steps, c.in_ok-right.ensures.value, c.in_ok-left.ensures.value);
+      memory = grind (arith, common_steps, or_right);
+    }

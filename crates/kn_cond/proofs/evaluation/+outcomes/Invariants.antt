@@ -1,24 +1,40 @@
-use Rattle.std.proofs.Common.{◌≡◌, true, map, drop}
+use Rattle.std.proofs.Common.{◌≡◌, ◌+◌, ◌*◌, true, map, drop}
 use Rattle.std.specs.List.{list_any}
+use Rattle.kn_trees.specs.Formulas.{greatest_of}
+use Rattle.kn_trees.specs.Levels.{expr_depth}
+use Rattle.kn_trees.proofs.Leveled.{link_depths}
 use Rattle.kn_cond.specs.Joining.{joins, link_joins}
 use Rattle.kn_cond.specs.Meaning.{conjunction, disjunction, chained, links_of, meaning_of}
 use Rattle.kn_cond.specs.Results.{meant}
 use Rattle.kn_cond.proofs.evaluation.+outcomes.Given as goal
 
-abbrev pub invariant-conjunction-loop-part : goal.invariant-conjunction-loop-part
-invariant-conjunction-loop-part l = record {
-  value : conjunction (map (meaning_of l.env) (drop l.part-index l.part-items)) ≡ conjunction (map (meaning_of l.env) l.parts);
-  memory : list_any joins (drop l.part-index l.part-items) ≡ true → list_any joins l.parts ≡ true;
+-- twice the levels, so that the parts of an expression stand between it and each of them
+abbrev pub decreases-outcome : goal.decreases-outcome
+decreases-outcome l = 2 * expr_depth l.expr
+
+abbrev pub decreases-conjunction : goal.decreases-conjunction
+decreases-conjunction l = 1 + 2 * greatest_of (map expr_depth l.parts)
+
+abbrev pub decreases-disjunction : goal.decreases-disjunction
+decreases-disjunction l = 1 + 2 * greatest_of (map expr_depth l.parts)
+
+abbrev pub decreases-chained : goal.decreases-chained
+decreases-chained l = 1 + 2 * greatest_of (link_depths l.links)
+
+abbrev pub invariant-conjunction-loop-k : goal.invariant-conjunction-loop-k
+invariant-conjunction-loop-k l = record {
+  value : conjunction (map (meaning_of l.env) (drop l.k l.parts)) ≡ conjunction (map (meaning_of l.env) l.parts);
+  memory : list_any joins (drop l.k l.parts) ≡ true → list_any joins l.parts ≡ true;
 }
 
-abbrev pub invariant-disjunction-loop-choice : goal.invariant-disjunction-loop-choice
-invariant-disjunction-loop-choice l = record {
-  value : disjunction (map (meaning_of l.env) (drop l.choice-index l.choice-items)) ≡ disjunction (map (meaning_of l.env) l.parts);
-  memory : list_any joins (drop l.choice-index l.choice-items) ≡ true → list_any joins l.parts ≡ true;
+abbrev pub invariant-disjunction-loop-k : goal.invariant-disjunction-loop-k
+invariant-disjunction-loop-k l = record {
+  value : disjunction (map (meaning_of l.env) (drop l.k l.parts)) ≡ disjunction (map (meaning_of l.env) l.parts);
+  memory : list_any joins (drop l.k l.parts) ≡ true → list_any joins l.parts ≡ true;
 }
 
-abbrev pub invariant-chained-loop-link : goal.invariant-chained-loop-link
-invariant-chained-loop-link l = record {
-  value : chained (meant l.left) (links_of l.env (drop l.link-index l.link-items)) ≡ chained (meant l.initial.left) (links_of l.env l.links);
-  memory : list_any link_joins (drop l.link-index l.link-items) ≡ true → list_any link_joins l.links ≡ true;
+abbrev pub invariant-chained-loop-k : goal.invariant-chained-loop-k
+invariant-chained-loop-k l = record {
+  value : chained (meant l.left) (links_of l.env (drop l.k l.links)) ≡ chained (meant l.initial.left) (links_of l.env l.links);
+  memory : list_any link_joins (drop l.k l.links) ≡ true → list_any link_joins l.links ≡ true;
 }

@@ -1,6 +1,6 @@
-use Rattle.std.proofs.Common.{◌≡◌, ◌+◌, ◌*◌, []}
+use Rattle.std.proofs.Common.{◌≡◌, ◌+◌, ◌*◌, ◌≤◌, ◌<◌, length}
 use Rattle.kn_program.specs.Reading.{more_tests_at, more_links_at}
-use Rattle.kn_program.proofs.Steps.{Tests, Links}
+use Rattle.kn_program.proofs.Stacks.{PartsStand, RightsStand}
 use Rattle.kn_program.proofs.expression.+expression.Given as goal
 
 abbrev pub decreases-tests : goal.decreases-tests
@@ -48,16 +48,25 @@ decreases-signed l = 5 * l.budget + 1
 abbrev pub decreases-atom : goal.decreases-atom
 decreases-atom l = 5 * l.budget
 
--- the parts so far with those that are read from here on are all
+-- the parts so far, on top of what stood below the first, with those that are read from here on are all
 abbrev pub invariant-more_tests-loop-left : goal.invariant-more_tests-loop-left
-invariant-more_tests-loop-left l = record { some : l.parts ≡ [] → ⊥; going : Tests l.joint l.budget l.left l.parts l.cursor (more_tests_at l.budget l.joint l.fn.first l.fn.cursor) }
+invariant-more_tests-loop-left l = record {
+  counted : l.count + l.left ≡ l.budget + 1;
+  there : l.count ≤ length l.stack;
+  going : PartsStand l.joint l.budget l.left l.count l.fn.stack l.stack l.cursor
+      (λ first. more_tests_at l.budget l.joint first l.fn.cursor);
+}
 
 abbrev pub decreases-more_tests-loop-left : goal.decreases-more_tests-loop-left
 decreases-more_tests-loop-left l = l.left
 
--- so with the operations behind the first side
+-- so with the right sides of the operations
 abbrev pub invariant-links-loop-left : goal.invariant-links-loop-left
-invariant-links-loop-left l = Links l.level l.first l.budget l.left l.sign l.links l.cursor (more_links_at l.budget l.level l.fn.first l.fn.sign l.fn.cursor)
+invariant-links-loop-left l = record {
+  there : length l.signs < length l.stack;
+  going : RightsStand l.level l.budget l.left l.sign l.signs l.fn.stack l.stack l.cursor
+      (λ first. more_links_at l.budget l.level first l.fn.sign l.fn.cursor);
+}
 
 abbrev pub decreases-links-loop-left : goal.decreases-links-loop-left
 decreases-links-loop-left l = l.left

@@ -1,0 +1,179 @@
+-- What a forest is once texts, lists of parts and operations are added to it.
+use Rattle.std.proofs.Common.{◌≡◌, ℕ, zero, suc, ◌+◌, ◌<◌, ◌^◌, List, [], ◌∷◌, ◌++◌, length, map, Result, Ok, Err, OnErr, refl, sym, ap, subst, ◌∙◌, arith, length-append}
+use Rattle.std.specs.List.{All}
+use Rattle.std.proofs.lemmas.List.{append-nil, length-map}
+use Rattle.std.proofs.lemmas.List.Elements.{All-map}
+use Rattle.kn_base.specs.declared.span.Span.{Span}
+use Rattle.kn_trees.specs.Forms.{link, links_of}
+use Rattle.kn_trees.specs.Forests.{Pools, pools, run, tree_at, link_at, tree_of, trees_of, IsWithin, IsPlaced, AreShort, IsForest}
+use Rattle.kn_trees.specs.Tops.{IsTop, tops_of, links_to}
+use Rattle.kn_trees.specs.declared.program.Expr.{Expr}
+use Rattle.kn_trees.specs.declared.program.Expr.TheVariants as E
+use Rattle.kn_trees.specs.declared.program.Operation.{Operation}
+use Rattle.kn_trees.specs.declared.forest.Link.{Link}
+use Rattle.kn_trees.specs.declared.forest.Node.{Node}
+use Rattle.kn_trees.specs.declared.forest.Node.TheVariants as N
+use Rattle.kn_trees.specs.declared.top.Top.{Top}
+use Rattle.kn_trees.proofs.Forests.{AreGrown, run-added, length-trees_of, IsForest-grown, trees_of-grown, IsForest-push, trees_of-push}
+use Rattle.kn_trees.proofs.Tops.{length-links_to}
+
+-- a fact that holds at any rate
+pub on_err_always : {T E P : Type 0} (r : Result T E) → P → OnErr r P
+on_err_always (Ok value) holds = tt
+on_err_always (Err error) holds = holds
+
+-- pools that have grown, and a node
+module _ (old new : Pools) (nodes : List Node) (grown : AreGrown old new) (forest : IsForest old nodes) where
+  trees_of-kept : (after : List Node) → after ≡ nodes → trees_of new after ≡ trees_of old nodes
+  trees_of-kept after same = ap (trees_of new) same ∙ trees_of-grown old new nodes grown forest
+
+  module _ (node : Node) (after : List Node) (pushed : after ≡ nodes ++ node ∷ []) where
+    IsForest-grown_push : AreShort new → IsPlaced new (length nodes) node → IsForest new after
+    IsForest-grown_push short here =
+        let kept = IsForest-grown old new nodes grown short forest in
+        subst (IsForest new) (sym pushed) (IsForest-push new nodes node kept here)
+
+    trees_of-grown_push : (tree : Expr) → tree_of new (trees_of old nodes) node ≡ tree → trees_of new after ≡ trees_of old nodes ++ tree ∷ []
+    trees_of-grown_push tree same =
+        ap (trees_of new) pushed ∙ trees_of-push new nodes node
+        ∙ ap (λ trees. trees ++ tree_of new trees node ∷ []) (trees_of-grown old new nodes grown forest)
+        ∙ ap (λ t. trees_of old nodes ++ t ∷ []) same
+
+-- a span is behind a list, and has so many items
+abbrev IsNext : {X Y : Type 0} → List X → List Y → Span → Type 0
+IsNext pool more span = (span.start ≡ length pool) × (span.end ≡ length pool + length more)
+
+-- what a pool grew by is the run of its span
+module _ {X : Type 0} (old more new : List X) (span : Span) (grown : new ≡ old ++ more) (next : IsNext old more span) where
+  IsWithin-new : IsWithin (length new) span
+  IsWithin-new =
+      let longer : length new ≡ length old + length more = ap length grown ∙ length-append old more in
+      record { ordered = omega (arith, next.0, next.1); inside = omega (arith, next.1) }
+
+  run-new : run new span ≡ more
+  run-new = ap (λ pool. run pool span) grown ∙ run-added old more span.start span.end next.0 (omega (arith, next.0, next.1))
+
+map-map : {X Y Z : Type 0} (f : Y → Z) (g : X → Y) (xs : List X) → map f (map g xs) ≡ map (λ x. f (g x)) xs
+map-map f g [] = refl
+map-map f g (x ∷ xs) = ap (λ ys. f (g x) ∷ ys) (map-map f g xs)
+
+abbrev places_of : List Top → List ℕ
+places_of tops = map (λ top. top.place) tops
+
+-- operations whose right sides are trees that are there
+module _ (trees : List Expr) where
+  links-links_to : (signs : List Operation) (tops : List Top) → map (link_at trees) (links_to signs tops) ≡ links_of signs (tops_of trees tops)
+  links-links_to [] tops = refl
+  links-links_to (sign ∷ signs) [] = refl
+  links-links_to (sign ∷ signs) (top ∷ tops) = ap (λ ls. link sign (tree_at trees top.place) ∷ ls) (links-links_to signs tops)
+
+  module _ (count : ℕ) (all : length trees ≡ count) where
+    rights_below : (signs : List Operation) (tops : List Top) → All (IsTop trees) tops → All (λ l. l.right < count) (links_to signs tops)
+    rights_below [] tops here k d h = absurd (omega arith)
+    rights_below (sign ∷ signs) [] here k d h = absurd (omega arith)
+    rights_below (sign ∷ signs) (top ∷ tops) here zero d h = omega (arith, (here 0 top (omega arith)).inside)
+    rights_below (sign ∷ signs) (top ∷ tops) here (suc k) d h = rights_below signs tops (λ j e i. here (suc j) e (omega arith)) k d (omega arith)
+
+    places_below : (tops : List Top) → All (IsTop trees) tops → All (λ part. part < count) (places_of tops)
+    places_below tops here = All-map (λ part. part < count) (λ (top : Top). top.place) tops (λ k d h. omega (arith, (here k d h).inside))
+
+module _ (parts : List ℕ) (links : List Link) (bytes : List ℕ) (nodes : List Node) where
+  abbrev old : Pools
+  old = pools parts links bytes
+
+  abbrev trees : List Expr
+  trees = trees_of old nodes
+
+  -- bytes that are added
+  module _ (forest : IsForest old nodes) (more pool : List ℕ) (grown : pool ≡ bytes ++ more) (after : List Node) where
+    bytes_grown : AreGrown old (pools parts links pool)
+    bytes_grown = record { parts = ([], sym (append-nil parts)); links = ([], sym (append-nil links)); bytes = (more, grown) }
+
+    pub trees-bytes_kept : after ≡ nodes → trees_of (pools parts links pool) after ≡ trees
+    trees-bytes_kept same = trees_of-kept old (pools parts links pool) nodes bytes_grown forest after same
+
+    module _ (span : Span) (next : IsNext bytes more span) where
+      text_is : run pool span ≡ more
+      text_is = run-new bytes more pool span grown next
+
+      pub trees-text : after ≡ nodes ++ N.Text span ∷ [] → trees_of (pools parts links pool) after ≡ trees ++ E.Text more ∷ []
+      trees-text pushed =
+          trees_of-grown_push old (pools parts links pool) nodes bytes_grown forest (N.Text span) after pushed (E.Text more) (ap E.Text text_is)
+
+      pub trees-name : after ≡ nodes ++ N.Name span ∷ [] → trees_of (pools parts links pool) after ≡ trees ++ E.Name more ∷ []
+      trees-name pushed =
+          trees_of-grown_push old (pools parts links pool) nodes bytes_grown forest (N.Name span) after pushed (E.Name more) (ap E.Name text_is)
+
+  -- parts that are added
+  module _ (forest : IsForest old nodes) (tops : List Top) (pool : List ℕ) (grown : pool ≡ parts ++ places_of tops) (after : List Node) where
+    parts_grown : AreGrown old (pools pool links bytes)
+    parts_grown = record { parts = (places_of tops, grown); links = ([], sym (append-nil links)); bytes = ([], sym (append-nil bytes)) }
+
+    pub trees-parts_kept : after ≡ nodes → trees_of (pools pool links bytes) after ≡ trees
+    trees-parts_kept same = trees_of-kept old (pools pool links bytes) nodes parts_grown forest after same
+
+    module _ (span : Span) (next : IsNext parts tops span) where
+      next_places : IsNext parts (places_of tops) span
+      next_places = (next.0, next.1 ∙ ap (λ n. length parts + n) (sym (length-map tops (λ (top : Top). top.place))))
+
+      places_are : run pool span ≡ places_of tops
+      places_are = run-new parts (places_of tops) pool span grown next_places
+
+      parts_are : map (tree_at trees) (run pool span) ≡ tops_of trees tops
+      parts_are = ap (map (tree_at trees)) places_are ∙ map-map (tree_at trees) (λ (top : Top). top.place) tops
+
+      pub trees-and : after ≡ nodes ++ N.And span ∷ [] → trees_of (pools pool links bytes) after ≡ trees ++ E.And (tops_of trees tops) ∷ []
+      trees-and pushed =
+          trees_of-grown_push old (pools pool links bytes) nodes parts_grown forest (N.And span) after pushed (E.And (tops_of trees tops)) (ap E.And parts_are)
+
+      pub trees-or : after ≡ nodes ++ N.Or span ∷ [] → trees_of (pools pool links bytes) after ≡ trees ++ E.Or (tops_of trees tops) ∷ []
+      trees-or pushed =
+          trees_of-grown_push old (pools pool links bytes) nodes parts_grown forest (N.Or span) after pushed (E.Or (tops_of trees tops)) (ap E.Or parts_are)
+
+      module _ (short : length pool < 2 ^ 32) (here : All (IsTop trees) tops) where
+        parts_short : AreShort (pools pool links bytes)
+        parts_short = record { parts = short; links = forest.short.links; bytes = forest.short.bytes }
+
+        parts_placed : IsWithin (length pool) span × All (λ part. part < length nodes) (run pool span)
+        parts_placed =
+            let below = places_below trees (length nodes) (length-trees_of old nodes) tops here in
+            (IsWithin-new parts (places_of tops) pool span grown next_places, subst (All (λ part. part < length nodes)) (sym places_are) below)
+
+        pub forest-and : after ≡ nodes ++ N.And span ∷ [] → IsForest (pools pool links bytes) after
+        forest-and pushed = IsForest-grown_push old (pools pool links bytes) nodes parts_grown forest (N.And span) after pushed parts_short parts_placed
+
+        pub forest-or : after ≡ nodes ++ N.Or span ∷ [] → IsForest (pools pool links bytes) after
+        forest-or pushed = IsForest-grown_push old (pools pool links bytes) nodes parts_grown forest (N.Or span) after pushed parts_short parts_placed
+
+  -- operations that are added
+  module _ (forest : IsForest old nodes) (signs : List Operation) (tops : List Top) (pool : List Link) (grown : pool ≡ links ++ links_to signs tops) (after : List Node) where
+    links_grown : AreGrown old (pools parts pool bytes)
+    links_grown = record { parts = ([], sym (append-nil parts)); links = (links_to signs tops, grown); bytes = ([], sym (append-nil bytes)) }
+
+    pub trees-links_kept : after ≡ nodes → trees_of (pools parts pool bytes) after ≡ trees
+    trees-links_kept same = trees_of-kept old (pools parts pool bytes) nodes links_grown forest after same
+
+    module _ (span : Span) (next : IsNext links signs span) (pairs : length tops ≡ length signs) (first : ℕ) (pushed : after ≡ nodes ++ N.Chain first span ∷ []) where
+      next_links : IsNext links (links_to signs tops) span
+      next_links = (next.0, next.1 ∙ ap (λ n. length links + n) (sym (length-links_to signs tops (omega arith))))
+
+      links_are : run pool span ≡ links_to signs tops
+      links_are = run-new links (links_to signs tops) pool span grown next_links
+
+      abbrev chain : Expr
+      chain = E.Chain (tree_at trees first) (links_of signs (tops_of trees tops))
+
+      pub trees-chain : trees_of (pools parts pool bytes) after ≡ trees ++ chain ∷ []
+      trees-chain =
+          let rest = ap (map (link_at trees)) links_are ∙ links-links_to trees signs tops in
+          trees_of-grown_push old (pools parts pool bytes) nodes links_grown forest (N.Chain first span) after pushed chain (ap (E.Chain (tree_at trees first)) rest)
+
+      pub forest-chain : length pool < 2 ^ 32 → All (IsTop trees) tops → first < length trees → IsForest (pools parts pool bytes) after
+      forest-chain short here inside =
+          let all : length trees ≡ length nodes = length-trees_of old nodes in
+          let ordered : first < length nodes = omega arith in
+          let within = IsWithin-new links (links_to signs tops) pool span grown next_links in
+          let below = rights_below trees (length nodes) all signs tops here in
+          IsForest-grown_push old (pools parts pool bytes) nodes links_grown forest (N.Chain first span) after pushed
+          (record { parts = forest.short.parts; links = short; bytes = forest.short.bytes })
+          (ordered, within, subst (All (λ l. l.right < length nodes)) (sym links_are) below)

@@ -1,0 +1,12 @@
+use Rattle.std.proofs.Common.{sym}
+use Rattle.kn_trees.specs.declared.program.Expr.TheVariants as E
+use Rattle.kn_trees.proofs.Kinded.{kind_of-Name}
+use Rattle.kn_trees.proofs.stack.ExprStack.push_name.Goals as goal
+
+pub invariant_of-self-2 : goal.invariant_of-self-2
+invariant_of-self-2 c =
+    rw c.in_ok-place.ensures.ok (c.put_top.ensures.tops c.self.inside.forest (E.Name c.args.name.now) c.in_ok-place.ensures.place (sym (kind_of-Name c.args.name.now)) c.self.invariant)
+
+pub returns : goal.returns
+returns c =
+    rw (← c.self.view_is, c.in_ok-place.ensures.ok) (c.put_top.ensures.ok c.self.inside.forest (E.Name c.args.name.now) c.in_ok-place.ensures.place c.self.invariant)

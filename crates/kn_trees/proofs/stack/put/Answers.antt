@@ -1,0 +1,12 @@
+use Rattle.kn_trees.specs.Forests.{no_pools, tree_of}
+use Rattle.kn_trees.proofs.stack.put.Goals as goal
+
+pub returns-clause-tops : goal.returns-clause-tops
+returns-clause-tops c =
+    let tree = tree_of no_pools c.args.forest.now c.args.node in
+    rw c.in_ok-place.ensures.ok (c.put_top.ensures.tops c.args.forest.now tree c.in_ok-place.ensures.place c.requires.kind c.requires.tops)
+
+pub returns-clause-ok : goal.returns-clause-ok
+returns-clause-ok c =
+    let tree = tree_of no_pools c.args.forest.now c.args.node in
+    rw c.in_ok-place.ensures.ok (c.put_top.ensures.ok c.args.forest.now tree c.in_ok-place.ensures.place c.requires.tops)

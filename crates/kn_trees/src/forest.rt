@@ -1,0 +1,289 @@
+//! Trees in one list of nodes.
+ghost use Rattle.std.specs.Prelude.{◌≡◌, ◌+◌, ◌<◌, ◌≤◌, ◌^◌, [], ◌∷◌, ◌++◌, All, length, map, vec_len, vec_capacity, IfOk, OnOk, OnErr};
+ghost use Rattle.kn_trees.specs.declared.program.Expr.TheVariants as E;
+ghost use Rattle.kn_trees.specs.Forests.{no_pools, tree_at, tree_of, IsPlaced};
+ghost use Rattle.kn_trees.specs.Forms.{links_of};
+ghost use Rattle.kn_trees.specs.Tops.{links_to, tops_of, IsTop};
+
+use crate::program::{Comparison, Operation};
+use crate::top::Top;
+use kn_base::{NoMemory, Span};
+use std::alloc::Global;
+use std::marker::Model;
+
+/// The room for so many items that isn't given back.
+const FEW_ITEMS: usize = 64;
+
+/// An operation, and the place of its right side.
+#[derive(Debug, Clone, Copy)]
+pub(crate) struct Link {
+    pub sign: Operation,
+    pub right: u32,
+}
+
+/// A node of a tree, which names its parts by their places among the nodes, all before its own. Lists of parts and
+/// texts are runs of lists that the nodes share.
+#[derive(Debug, Clone, Copy)]
+pub(crate) enum Node {
+    Truth(bool),
+    Whole(i32),
+    Text(Span),
+    Name(Span),
+    Not(u32),
+    Minus(u32),
+    Number(u32),
+    Deref(u32),
+    And(Span),
+    Or(Span),
+    Compare {
+        sign: Comparison,
+        left: u32,
+        right: u32,
+    },
+    Chain {
+        first: u32,
+        rest: Span,
+    },
+}
+
+/// Trees that share their parts, seen as the list of the trees of all nodes.
+#[derive(Debug, Drop)]
+pub(crate) struct Forest {
+    pub(crate) nodes: Vec<Node>,
+    pub(crate) parts: Vec<u32>,
+    pub(crate) links: Vec<Link>,
+    pub(crate) bytes: Vec<u8>,
+}
+
+impl Model for Forest {
+    ghost use Rattle.std.specs.Prelude.{List};
+    ghost use Rattle.kn_trees.specs.declared.program.Expr.{Expr};
+    ghost use Rattle.kn_trees.specs.contracts.program.Expr as expr;
+    ghost use Rattle.std.specs.Coded.{codes};
+    ghost use Rattle.kn_trees.specs.Forests.{pools, trees_of, IsForest};
+
+    ghost Value = { List Expr };
+
+    ghost coded = { Prim.hlevel (codes, expr.the_row.coded) };
+
+    ghost view = { λ f. trees_of (pools f.parts.items f.links.items f.bytes.items) f.nodes.items };
+
+    ghost invariant = { λ f. IsForest (pools f.parts.items f.links.items f.bytes.items) f.nodes.items };
+}
+
+impl Forest {
+    /// No tree, with room for the nodes of so many tokens and for some of their texts.
+    #[tactic(auto, unfolding(crate::specs::Forests::trees_of))]
+    pub(crate) fn with_room(alloc: Global, tokens: u32) -> Result<Forest, NoMemory>
+        ensures { IfOk result (λ forest. forest ≡ []) }
+    {
+        let tokens = tokens as usize;
+        Ok(Forest {
+            nodes: vec_with_room(alloc, tokens)?,
+            parts: Vec::new(alloc),
+            links: Vec::new(alloc),
+            bytes: vec_with_room(alloc, 2 * tokens)?,
+        })
+    }
+
+    /// Gives back the memory that isn't used, where that is worth a copy.
+    pub(crate) fn shrink(&mut self)
+        ensures { self.new ≡ self.old }
+    {
+        shrink_pool(&mut self.nodes);
+        shrink_pool(&mut self.parts);
+        shrink_pool(&mut self.links);
+        shrink_pool(&mut self.bytes);
+    }
+
+    /// Adds a tree whose parts, if it has any, are trees that are there, and gives its place.
+    #[inline(always)]
+    #[tactic(auto, using(crate::proofs::Forests::plain))]
+    pub(crate) fn add(&mut self, node: Node) -> Result<u32, NoMemory>
+        requires { IsPlaced no_pools (length self.old) node }
+        ensures place { IfOk result (λ place. place ≡ length self.old) }
+        ensures ok { OnOk result (self.new ≡ self.old ++ tree_of no_pools self.old node ∷ []) }
+        ensures err { OnErr result (self.new ≡ self.old) }
+    {
+        let place = push_node(&mut self.nodes, node)?;
+        Ok(place)
+    }
+
+    /// Adds the value of a literal, and gives its place.
+    #[inline(always)]
+    #[tactic(auto, using(crate::proofs::Forests::plain))]
+    pub(crate) fn add_text(&mut self, value: &[u8]) -> Result<u32, NoMemory>
+        ensures place { IfOk result (λ place. place ≡ length self.old) }
+        ensures ok { OnOk result (self.new ≡ self.old ++ E.Text value.now ∷ []) }
+        ensures err { OnErr result (self.new ≡ self.old) }
+    {
+        let span = keep_bytes(&mut self.bytes, value)?;
+        let place = push_node(&mut self.nodes, Node::Text(span))?;
+        Ok(place)
+    }
+
+    /// Adds a name, and gives its place.
+    #[inline(always)]
+    #[tactic(auto, using(crate::proofs::Forests::plain))]
+    pub(crate) fn add_name(&mut self, name: &[u8]) -> Result<u32, NoMemory>
+        ensures place { IfOk result (λ place. place ≡ length self.old) }
+        ensures ok { OnOk result (self.new ≡ self.old ++ E.Name name.now ∷ []) }
+        ensures err { OnErr result (self.new ≡ self.old) }
+    {
+        let span = keep_bytes(&mut self.bytes, name)?;
+        let place = push_node(&mut self.nodes, Node::Name(span))?;
+        Ok(place)
+    }
+
+    /// Adds these trees with `&&` between them, and gives the place.
+    #[tactic(auto, using(crate::proofs::Forests::plain))]
+    pub(crate) fn add_and(&mut self, parts: &[Top]) -> Result<u32, NoMemory>
+        requires { All (IsTop self.old) parts.now }
+        ensures place { IfOk result (λ place. place ≡ length self.old) }
+        ensures ok { OnOk result (self.new ≡ self.old ++ E.And (tops_of self.old parts.now) ∷ []) }
+        ensures err { OnErr result (self.new ≡ self.old) }
+    {
+        let span = keep_parts(&mut self.parts, parts)?;
+        let place = push_node(&mut self.nodes, Node::And(span))?;
+        Ok(place)
+    }
+
+    /// Adds these trees with `||` between them, and gives the place.
+    #[tactic(auto, using(crate::proofs::Forests::plain))]
+    pub(crate) fn add_or(&mut self, parts: &[Top]) -> Result<u32, NoMemory>
+        requires { All (IsTop self.old) parts.now }
+        ensures place { IfOk result (λ place. place ≡ length self.old) }
+        ensures ok { OnOk result (self.new ≡ self.old ++ E.Or (tops_of self.old parts.now) ∷ []) }
+        ensures err { OnErr result (self.new ≡ self.old) }
+    {
+        let span = keep_parts(&mut self.parts, parts)?;
+        let place = push_node(&mut self.nodes, Node::Or(span))?;
+        Ok(place)
+    }
+
+    /// Adds a chain of a first tree and these operations, whose right sides are the other trees, and gives its place.
+    #[tactic(auto, using(crate::proofs::Forests::plain))]
+    pub(crate) fn add_chain(
+        &mut self,
+        first: u32,
+        signs: &[Operation],
+        rights: &[Top],
+    ) -> Result<u32, NoMemory>
+        requires first { first < length self.old }
+        requires rights { All (IsTop self.old) rights.now }
+        requires pairs { length rights.now ≡ length signs.now }
+        ensures place { IfOk result (λ place. place ≡ length self.old) }
+        ensures ok { OnOk result (self.new ≡ self.old ++ E.Chain (tree_at self.old first) (links_of signs.now (tops_of self.old rights.now)) ∷ []) }
+        ensures err { OnErr result (self.new ≡ self.old) }
+    {
+        let rest = keep_links(&mut self.links, signs, rights)?;
+        let place = push_node(&mut self.nodes, Node::Chain { first, rest })?;
+        Ok(place)
+    }
+}
+
+/// Gives back the room behind the items, unless it is for a few more.
+#[inline(always)]
+fn shrink_pool<T>(pool: &mut Vec<T>)
+    ensures { pool.new.items ≡ pool.old.items }
+{
+    if pool.capacity() - pool.len() > FEW_ITEMS {
+        pool.shrink_to_fit();
+    }
+}
+
+// An empty list with room for so many items.
+pub(crate) fn vec_with_room<T>(alloc: Global, count: usize) -> Result<Vec<T>, NoMemory>
+    ensures { IfOk result (λ items. items.items ≡ []) }
+{
+    match Vec::with_capacity(alloc, count) {
+        Ok(items) => Ok(items),
+        Err(_) => Err(NoMemory),
+    }
+}
+
+// The span of so many items behind those of a pool.
+#[inline(always)]
+fn next_span(size: usize, count: usize) -> Result<Span, NoMemory>
+    requires { size < 2 ^ 32 }
+    ensures { IfOk result (λ span. (span.start ≡ size) × (span.end ≡ size + count)) }
+{
+    if count > u32::MAX as usize - size {
+        return Err(NoMemory);
+    }
+    Ok(Span {
+        start: size as u32,
+        end: (size + count) as u32,
+    })
+}
+
+// Keeps bytes at the end of the pool, and gives their span.
+#[inline(always)]
+fn keep_bytes(pool: &mut Vec<u8>, bytes: &[u8]) -> Result<Span, NoMemory>
+    requires { length pool.old.items < 2 ^ 32 }
+    ensures span { IfOk result (λ span. (span.start ≡ length pool.old.items) × (span.end ≡ length pool.old.items + length bytes.now)) }
+    ensures short { length pool.new.items < 2 ^ 32 }
+    ensures ok { OnOk result (pool.new.items ≡ pool.old.items ++ bytes.now) }
+    ensures err { OnErr result (pool.new.items ≡ pool.old.items) }
+{
+    let span = next_span(pool.len(), bytes.len())?;
+    match pool.extend_from_slice(bytes) {
+        Ok(()) => Ok(span),
+        Err(_) => Err(NoMemory),
+    }
+}
+
+// Keeps the places of trees at the end of the pool, and gives their span.
+fn keep_parts(pool: &mut Vec<u32>, parts: &[Top]) -> Result<Span, NoMemory>
+    requires { length pool.old.items < 2 ^ 32 }
+    ensures span { IfOk result (λ span. (span.start ≡ length pool.old.items) × (span.end ≡ length pool.old.items + length parts.now)) }
+    ensures short { length pool.new.items < 2 ^ 32 }
+    ensures ok { OnOk result (pool.new.items ≡ pool.old.items ++ map (λ part. part.place) parts.now) }
+    ensures err { OnErr result (pool.new.items ≡ pool.old.items) }
+{
+    let span = next_span(pool.len(), parts.len())?;
+    if pool.reserve(parts.len()).is_err() {
+        return Err(NoMemory);
+    }
+    for part in parts {
+        pool.push_reserved(part.place);
+    }
+    Ok(span)
+}
+
+// Keeps operations with the places of their right sides at the end of the pool, and gives their span.
+#[tactic(auto, using(crate::proofs::Tops::links))]
+fn keep_links(pool: &mut Vec<Link>, signs: &[Operation], rights: &[Top]) -> Result<Span, NoMemory>
+    requires short { length pool.old.items < 2 ^ 32 }
+    requires pairs { length rights.now ≡ length signs.now }
+    ensures span { IfOk result (λ span. (span.start ≡ length pool.old.items) × (span.end ≡ length pool.old.items + length signs.now)) }
+    ensures short { length pool.new.items < 2 ^ 32 }
+    ensures ok { OnOk result (pool.new.items ≡ pool.old.items ++ links_to signs.now rights.now) }
+    ensures err { OnErr result (pool.new.items ≡ pool.old.items) }
+{
+    let span = next_span(pool.len(), signs.len())?;
+    if pool.reserve(signs.len()).is_err() {
+        return Err(NoMemory);
+    }
+    for k in 0..signs.len() {
+        pool.push_reserved(Link {
+            sign: signs[k],
+            right: rights[k].place,
+        });
+    }
+    Ok(span)
+}
+
+// Adds a node, and gives its place.
+#[inline(always)]
+fn push_node(nodes: &mut Vec<Node>, node: Node) -> Result<u32, NoMemory>
+    ensures place { IfOk result (λ place. place ≡ length nodes.old.items) }
+    ensures ok { OnOk result (nodes.new.items ≡ nodes.old.items ++ node ∷ []) }
+    ensures err { OnErr result (nodes.new.items ≡ nodes.old.items) }
+{
+    let place = nodes.len();
+    if place >= u32::MAX as usize || nodes.push(node).is_err() {
+        return Err(NoMemory);
+    }
+    Ok(place as u32)
+}

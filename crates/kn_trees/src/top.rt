@@ -1,0 +1,9 @@
+//! Trees of a forest with their kinds.
+use crate::kinds::Kind;
+
+/// A tree of a forest by its place, with its kind.
+#[derive(Debug, Clone, Copy)]
+pub(crate) struct Top {
+    pub place: u32,
+    pub kind: Option<Kind>,
+}
