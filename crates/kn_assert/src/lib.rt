@@ -12,6 +12,7 @@ pub use kn_fields::ReadFault;
 pub use kn_files::split_file;
 pub use kn_principal::{PrincipalFault, normal, same};
 pub use kn_trees::{
-    Assertion, Clause, Comparison, Expr, Formula, Kind, Link2, Operation, Program, Then,
+    Assertion, Clause, Comparison, ExprRef, FlatExpr, Form, Formula, Kind, Links, Operation, Parts,
+    Program, Then,
 };
 pub use reader::read;

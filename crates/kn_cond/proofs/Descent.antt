@@ -27,7 +27,7 @@ pub right_depth : (links : List Link2) (k : ℕ) (sign : Operation) (right : Exp
 right_depth links k sign right e = omega (arith, at_most_greatest (λ (l : Link2). 1 + expr_depth l.right) links k (link sign right) e)
 
 -- what is left of a list from a place on begins with what stands there
-pub drop_at : {X : Type 0} (xs : List X) (k : ℕ) (x : X) → slice_get xs k ≡ Some x → drop k xs ≡ x ∷ drop (k + 1) xs
-drop_at xs k x e = drop_more xs k x (slice_get_within xs k x e) ∙ ap (λ y. y ∷ drop (k + 1) xs) (get_or_from_slice_get xs k x x e)
+pub drop_here : {X : Type 0} (xs : List X) (k : ℕ) (x : X) → slice_get xs k ≡ Some x → drop k xs ≡ x ∷ drop (k + 1) xs
+drop_here xs k x e = drop_more xs k x (slice_get_within xs k x e) ∙ ap (λ y. y ∷ drop (k + 1) xs) (get_or_from_slice_get xs k x x e)
 
 pub ruleset depths = (depth-Not, depth-Minus, depth-Number, depth-Deref, depth-And, depth-Or, depth-Compare, depth-Chain)

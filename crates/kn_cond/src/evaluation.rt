@@ -50,7 +50,7 @@ pub(crate) fn outcome<'e>(
 
 // `&&` stops at the first part that decides.
 #[cycle(outcomes)]
-#[tactic(auto, using(crate::proofs::Descent::part_depth, crate::proofs::Descent::drop_at, crate::proofs::Joined::or_right))]
+#[tactic(auto, using(crate::proofs::Descent::part_depth, crate::proofs::Descent::drop_here, crate::proofs::Joined::or_right))]
 fn conjunction<'e>(
     alloc: Global,
     parts: Parts<'e>,
@@ -71,7 +71,7 @@ fn conjunction<'e>(
 
 // `||` stops at the first part that decides.
 #[cycle(outcomes)]
-#[tactic(auto, using(crate::proofs::Descent::part_depth, crate::proofs::Descent::drop_at, crate::proofs::Joined::or_right))]
+#[tactic(auto, using(crate::proofs::Descent::part_depth, crate::proofs::Descent::drop_here, crate::proofs::Joined::or_right))]
 fn disjunction<'e>(
     alloc: Global,
     parts: Parts<'e>,
@@ -92,7 +92,7 @@ fn disjunction<'e>(
 
 // What a chain gives whose first part gives this.
 #[cycle(outcomes)]
-#[tactic(auto, using(crate::proofs::Descent::right_depth, crate::proofs::Descent::drop_at, crate::proofs::Joined::or_right))]
+#[tactic(auto, using(crate::proofs::Descent::right_depth, crate::proofs::Descent::drop_here, crate::proofs::Joined::or_right))]
 fn chained<'e>(
     alloc: Global,
     first: Outcome<'e>,

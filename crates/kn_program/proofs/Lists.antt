@@ -5,13 +5,14 @@ use Rattle.kn_fields.specs.Words.Word.{sign as sign_word}
 use Rattle.kn_fields.specs.Reading.{one_part, taken}
 use Rattle.kn_fields.proofs.Words.{taken_before, taken_there}
 use Rattle.kn_fields.proofs.Levels.{Level, mark_level}
+use Rattle.kn_trees.specs.Forms.{link}
 use Rattle.kn_trees.specs.declared.program.Expr.{Expr}
 use Rattle.kn_trees.specs.declared.program.Link2.{Link2}
 use Rattle.kn_trees.specs.declared.program.Operation.{Operation}
 use Rattle.kn_trees.specs.declared.program.Clause.{Clause as ClauseTree}
 use Rattle.kn_program.specs.Signs.{operation_text, operation_of, is_at}
 use Rattle.kn_program.specs.Trees.{joined, chained}
-use Rattle.kn_program.specs.Grammar.{Or, And, Not, Sum, Product, Power, Unary, or_words, and_words, not_words, sum_words, product_words, power_words, unary_words, or_parts, and_parts, not_tree, link, sum_first, sum_links, product_first, product_links, power_first, power_links, unary_tree, Program, Entry, program_words, entry_words, program_clauses, entry_clauses, clause_tree}
+use Rattle.kn_program.specs.Grammar.{Or, And, Not, Sum, Product, Power, Unary, or_words, and_words, not_words, sum_words, product_words, power_words, unary_words, or_parts, and_parts, not_tree, sum_first, sum_links, product_first, product_links, power_first, power_links, unary_tree, Program, Entry, program_words, entry_words, program_clauses, entry_clauses, clause_tree}
 use Rattle.kn_program.proofs.Derivations.{ands, either, nots, each, product, added, power, multiplied, unary, raised, ends, goes_on, nothing, something}
 use Rattle.kn_program.specs.Reading.{one_link, one_entry, listed}
 use Rattle.kn_program.specs.declared.signs.Joint.TheVariants as joint

@@ -4,6 +4,7 @@ use Rattle.std.specs.Prelude.{◌≡◌, ℕ, pos, Bool, true, List, [], ◌∷�
 use Rattle.kn_lex.specs.Cutting.{Seen}
 use Rattle.kn_fields.specs.Words.{Word, words_of}
 use Rattle.kn_fields.specs.Words.Word.{literal as literal_word, name as name_word, number as number_word, sign as sign_word}
+use Rattle.kn_trees.specs.Forms.{link}
 use Rattle.kn_trees.specs.declared.program.Expr.{Expr}
 use Rattle.kn_trees.specs.declared.program.Expr.TheVariants as E
 use Rattle.kn_trees.specs.declared.program.Link2.{Link2}
@@ -108,9 +109,6 @@ unfoldable mutual
   atom_words (number digits value is) = number_word digits ∷ []
   atom_words (truth text value is) = name_word text ∷ []
   atom_words (name text is) = name_word text ∷ []
-
-abbrev pub link : Operation → Expr → Link2
-link sign right = record { sign = sign; right = right }
 
 -- its tree: a chain by its first part and what stands behind that
 unfoldable mutual

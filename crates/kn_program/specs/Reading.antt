@@ -5,6 +5,7 @@ use Rattle.std.specs.Option.{is_none}
 use Rattle.kn_fields.specs.Words.{Word, Mark}
 use Rattle.kn_fields.specs.Words.Word.{literal, name, number}
 use Rattle.kn_fields.specs.Reading.{Read, Reader, map_read, then_read, behind_sign, closed_by, more_at, tail_at, list_at, one_part, whole, taken, marked}
+use Rattle.kn_trees.specs.Forms.{link}
 use Rattle.kn_trees.specs.declared.program.Expr.{Expr}
 use Rattle.kn_trees.specs.declared.program.Expr.TheVariants as E
 use Rattle.kn_trees.specs.declared.program.Link2.{Link2}
@@ -15,7 +16,7 @@ use Rattle.kn_trees.specs.declared.program.Then.{Then}
 use Rattle.kn_trees.specs.declared.program.Then.TheVariants.{Top, Value, Block}
 use Rattle.kn_program.specs.Signs.{joint_text, operation_of, comparison_of, prefix_of, truth_of, number_of}
 use Rattle.kn_program.specs.Trees.{joined, chained, prefixed}
-use Rattle.kn_program.specs.Grammar.{link, program_with}
+use Rattle.kn_program.specs.Grammar.{program_with}
 use Rattle.kn_program.specs.declared.signs.Joint.{Joint}
 use Rattle.kn_program.specs.declared.signs.Joint.TheVariants.{Or, And}
 use Rattle.kn_program.specs.declared.signs.Level.{Level}

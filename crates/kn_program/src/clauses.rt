@@ -76,7 +76,10 @@ fn clause(alloc: Global, cursor: &mut Cursor<'_, '_>, budget: u64) -> Result<Cla
     Ok(Clause { test, then })
 }
 
-/// An expression in one piece of memory.
+/// An expression.
+///
+/// Room is taken for all tokens left of the field, since how many are its own isn't known yet; `into_expr` gives back
+/// the rest.
 fn expression(alloc: Global, cursor: &mut Cursor<'_, '_>, budget: u64) -> Result<FlatExpr, Unread>
     ensures { Reads result (tests_at budget Joint.Or cursor.old) cursor.new }
 {

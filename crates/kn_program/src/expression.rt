@@ -1,7 +1,8 @@
 //! The grammar of expressions, with one token of look-ahead.
 //!
-//! What is read is put on a stack. The budget bounds the steps of a reading: each step down the grammar takes one,
-//! and a list of parts or of operations has fewer than it. Ten for each token are enough.
+//! What is read is put on a stack. After an `Err` nothing is said of the stack. The budget bounds the steps of a
+//! reading: each step down the grammar takes one, and a list of parts or of operations has fewer than it. Ten for each
+//! token are enough.
 ghost use Rattle.std.specs.Prelude.{◌≡◌, ◌+◌, ◌^◌, ◌≤◌, ◌<◌, length};
 ghost use Rattle.kn_lex.specs.Seeing.{seen};
 ghost use Rattle.kn_fields.specs.Words.{word_of};
@@ -14,7 +15,7 @@ ghost use Rattle.kn_program.specs.Reading.{tests_at, more_tests_at, test_at, neg
 
 use crate::operators::{has_operation, take_comparison, take_operation, take_prefix};
 use crate::signs::{Joint, Level, Prefix, height, joint_text, number_of, truth_of};
-use crate::tree::{prefixed, several};
+use crate::tree::{apply_prefix, join_tests};
 use kn_base::List;
 use kn_fields::{Cursor, Unread};
 use kn_lex::{Sort, Token, literal};
@@ -64,7 +65,7 @@ fn more_tests(
         test(alloc, stack, cursor, joint, budget)?;
         count += 1;
         if !cursor.take_sign(joint_text(joint)) {
-            several(stack, joint, count)?;
+            join_tests(stack, joint, count)?;
             return Ok(());
         }
         left -= 1;
@@ -301,14 +302,14 @@ fn operand(
         return Err(Unread::Syntax);
     }
     match take_prefix(cursor) {
-        Some(prefix) => signed(alloc, stack, cursor, prefix, budget - 1),
+        Some(prefix) => signed_operand(alloc, stack, cursor, prefix, budget - 1),
         None => atom(alloc, stack, cursor, budget - 1),
     }
 }
 
 /// What a sign makes of the operand behind it.
 #[cycle(expression)]
-fn signed(
+fn signed_operand(
     alloc: Global,
     stack: &mut ExprStack,
     cursor: &mut Cursor<'_, '_>,
@@ -318,13 +319,13 @@ fn signed(
     ensures { Puts result (map_read (prefixed prefix) (operand_at budget cursor.old)) stack.old stack.new cursor.new }
 {
     operand(alloc, stack, cursor, budget)?;
-    prefixed(stack, prefix)?;
+    apply_prefix(stack, prefix)?;
     Ok(())
 }
 
-/// Puts the expression of one token on the stack and says true, or false where it is none of its own.
+/// Puts the expression of one token on the stack, and gives whether the token spells one.
 #[inline(always)]
-fn constant(alloc: Global, stack: &mut ExprStack, token: &Token<'_>) -> Result<bool, Unread>
+fn put_constant(alloc: Global, stack: &mut ExprStack, token: &Token<'_>) -> Result<bool, Unread>
     ensures { PutsWord result (word_of (seen token.now)) stack.old stack.new }
 {
     match token.sort {
@@ -369,7 +370,7 @@ fn atom(
     let Some(token) = cursor.peek() else {
         return Err(Unread::Syntax);
     };
-    if constant(alloc, stack, token)? {
+    if put_constant(alloc, stack, token)? {
         cursor.step();
         return Ok(());
     }

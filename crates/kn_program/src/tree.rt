@@ -7,9 +7,10 @@ use crate::signs::{Joint, Prefix};
 use kn_base::NoMemory;
 use kn_trees::ExprStack;
 
-/// Joins so many of the topmost tests, two or more.
-pub(crate) fn several(stack: &mut ExprStack, joint: Joint, count: usize) -> Result<(), NoMemory>
-    requires some { count ≤ length stack.old }
+/// Joins so many of the topmost tests into one.
+pub(crate) fn join_tests(stack: &mut ExprStack, joint: Joint, count: usize) -> Result<(), NoMemory>
+    requires two { 1 < count }
+    requires enough { count ≤ length stack.old }
     ensures { (front parts : List Expr) → stack.old ≡ front ++ parts → length parts ≡ count
         → OnOk result (stack.new ≡ front ++ several joint parts ∷ []) }
 {
@@ -20,7 +21,7 @@ pub(crate) fn several(stack: &mut ExprStack, joint: Joint, count: usize) -> Resu
 }
 
 /// Puts a sign before the topmost operand.
-pub(crate) fn prefixed(stack: &mut ExprStack, prefix: Prefix) -> Result<(), NoMemory>
+pub(crate) fn apply_prefix(stack: &mut ExprStack, prefix: Prefix) -> Result<(), NoMemory>
     requires some { 0 < length stack.old }
     ensures { (front : List Expr) (part : Expr) → stack.old ≡ front ++ part ∷ []
         → OnOk result (stack.new ≡ front ++ prefixed prefix part ∷ []) }

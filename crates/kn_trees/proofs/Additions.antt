@@ -6,16 +6,16 @@ use Rattle.std.proofs.lemmas.List.Elements.{All-map}
 use Rattle.kn_base.specs.declared.span.Span.{Span}
 use Rattle.kn_trees.specs.Forms.{link, links_of}
 use Rattle.kn_trees.specs.Forests.{Pools, pools, run, tree_at, link_at, tree_of, trees_of, IsWithin, IsPlaced, AreShort, IsForest}
-use Rattle.kn_trees.specs.Tops.{IsTop, tops_of, links_to}
+use Rattle.kn_trees.specs.Roots.{IsRoot, trees_at, links_to}
 use Rattle.kn_trees.specs.declared.program.Expr.{Expr}
 use Rattle.kn_trees.specs.declared.program.Expr.TheVariants as E
 use Rattle.kn_trees.specs.declared.program.Operation.{Operation}
-use Rattle.kn_trees.specs.declared.forest.Link.{Link}
+use Rattle.kn_trees.specs.declared.forest.LinkNode.{LinkNode}
 use Rattle.kn_trees.specs.declared.forest.Node.{Node}
 use Rattle.kn_trees.specs.declared.forest.Node.TheVariants as N
-use Rattle.kn_trees.specs.declared.top.Top.{Top}
+use Rattle.kn_trees.specs.declared.root.Root.{Root}
 use Rattle.kn_trees.proofs.Forests.{AreGrown, run-added, length-trees_of, IsForest-grown, trees_of-grown, IsForest-push, trees_of-push}
-use Rattle.kn_trees.proofs.Tops.{length-links_to}
+use Rattle.kn_trees.proofs.Roots.{length-links_to}
 
 -- a fact that holds at any rate
 pub on_err_always : {T E P : Type 0} (r : Result T E) → P → OnErr r P
@@ -57,27 +57,27 @@ map-map : {X Y Z : Type 0} (f : Y → Z) (g : X → Y) (xs : List X) → map f (
 map-map f g [] = refl
 map-map f g (x ∷ xs) = ap (λ ys. f (g x) ∷ ys) (map-map f g xs)
 
-abbrev places_of : List Top → List ℕ
-places_of tops = map (λ top. top.place) tops
+abbrev places_of : List Root → List ℕ
+places_of roots = map (λ root. root.place) roots
 
 -- operations whose right sides are trees that are there
 module _ (trees : List Expr) where
-  links-links_to : (signs : List Operation) (tops : List Top) → map (link_at trees) (links_to signs tops) ≡ links_of signs (tops_of trees tops)
-  links-links_to [] tops = refl
+  links-links_to : (signs : List Operation) (roots : List Root) → map (link_at trees) (links_to signs roots) ≡ links_of signs (trees_at trees roots)
+  links-links_to [] roots = refl
   links-links_to (sign ∷ signs) [] = refl
-  links-links_to (sign ∷ signs) (top ∷ tops) = ap (λ ls. link sign (tree_at trees top.place) ∷ ls) (links-links_to signs tops)
+  links-links_to (sign ∷ signs) (root ∷ roots) = ap (λ ls. link sign (tree_at trees root.place) ∷ ls) (links-links_to signs roots)
 
   module _ (count : ℕ) (all : length trees ≡ count) where
-    rights_below : (signs : List Operation) (tops : List Top) → All (IsTop trees) tops → All (λ l. l.right < count) (links_to signs tops)
-    rights_below [] tops here k d h = absurd (omega arith)
+    rights_below : (signs : List Operation) (roots : List Root) → All (IsRoot trees) roots → All (λ l. l.right < count) (links_to signs roots)
+    rights_below [] roots here k d h = absurd (omega arith)
     rights_below (sign ∷ signs) [] here k d h = absurd (omega arith)
-    rights_below (sign ∷ signs) (top ∷ tops) here zero d h = omega (arith, (here 0 top (omega arith)).inside)
-    rights_below (sign ∷ signs) (top ∷ tops) here (suc k) d h = rights_below signs tops (λ j e i. here (suc j) e (omega arith)) k d (omega arith)
+    rights_below (sign ∷ signs) (root ∷ roots) here zero d h = omega (arith, (here 0 root (omega arith)).inside)
+    rights_below (sign ∷ signs) (root ∷ roots) here (suc k) d h = rights_below signs roots (λ j e i. here (suc j) e (omega arith)) k d (omega arith)
 
-    places_below : (tops : List Top) → All (IsTop trees) tops → All (λ part. part < count) (places_of tops)
-    places_below tops here = All-map (λ part. part < count) (λ (top : Top). top.place) tops (λ k d h. omega (arith, (here k d h).inside))
+    places_below : (roots : List Root) → All (IsRoot trees) roots → All (λ part. part < count) (places_of roots)
+    places_below roots here = All-map (λ part. part < count) (λ (root : Root). root.place) roots (λ k d h. omega (arith, (here k d h).inside))
 
-module _ (parts : List ℕ) (links : List Link) (bytes : List ℕ) (nodes : List Node) where
+module _ (parts : List ℕ) (links : List LinkNode) (bytes : List ℕ) (nodes : List Node) where
   abbrev old : Pools
   old = pools parts links bytes
 
@@ -105,75 +105,81 @@ module _ (parts : List ℕ) (links : List Link) (bytes : List ℕ) (nodes : List
           trees_of-grown_push old (pools parts links pool) nodes bytes_grown forest (N.Name span) after pushed (E.Name more) (ap E.Name text_is)
 
   -- parts that are added
-  module _ (forest : IsForest old nodes) (tops : List Top) (pool : List ℕ) (grown : pool ≡ parts ++ places_of tops) (after : List Node) where
+  module _ (forest : IsForest old nodes) (roots : List Root) (pool : List ℕ) (grown : pool ≡ parts ++ places_of roots) (after : List Node) where
     parts_grown : AreGrown old (pools pool links bytes)
-    parts_grown = record { parts = (places_of tops, grown); links = ([], sym (append-nil links)); bytes = ([], sym (append-nil bytes)) }
+    parts_grown = record { parts = (places_of roots, grown); links = ([], sym (append-nil links)); bytes = ([], sym (append-nil bytes)) }
 
     pub trees-parts_kept : after ≡ nodes → trees_of (pools pool links bytes) after ≡ trees
     trees-parts_kept same = trees_of-kept old (pools pool links bytes) nodes parts_grown forest after same
 
-    module _ (span : Span) (next : IsNext parts tops span) where
-      next_places : IsNext parts (places_of tops) span
-      next_places = (next.0, next.1 ∙ ap (λ n. length parts + n) (sym (length-map tops (λ (top : Top). top.place))))
+    module _ (span : Span) (next : IsNext parts roots span) where
+      next_places : IsNext parts (places_of roots) span
+      next_places = (next.0, next.1 ∙ ap (λ n. length parts + n) (sym (length-map roots (λ (root : Root). root.place))))
 
-      places_are : run pool span ≡ places_of tops
-      places_are = run-new parts (places_of tops) pool span grown next_places
+      places_are : run pool span ≡ places_of roots
+      places_are = run-new parts (places_of roots) pool span grown next_places
 
-      parts_are : map (tree_at trees) (run pool span) ≡ tops_of trees tops
-      parts_are = ap (map (tree_at trees)) places_are ∙ map-map (tree_at trees) (λ (top : Top). top.place) tops
+      parts_are : map (tree_at trees) (run pool span) ≡ trees_at trees roots
+      parts_are = ap (map (tree_at trees)) places_are ∙ map-map (tree_at trees) (λ (root : Root). root.place) roots
 
-      pub trees-and : after ≡ nodes ++ N.And span ∷ [] → trees_of (pools pool links bytes) after ≡ trees ++ E.And (tops_of trees tops) ∷ []
+      pub trees-and : after ≡ nodes ++ N.And span ∷ [] → trees_of (pools pool links bytes) after ≡ trees ++ E.And (trees_at trees roots) ∷ []
       trees-and pushed =
-          trees_of-grown_push old (pools pool links bytes) nodes parts_grown forest (N.And span) after pushed (E.And (tops_of trees tops)) (ap E.And parts_are)
+          trees_of-grown_push old (pools pool links bytes) nodes parts_grown forest (N.And span) after pushed (E.And (trees_at trees roots))
+          (ap E.And parts_are)
 
-      pub trees-or : after ≡ nodes ++ N.Or span ∷ [] → trees_of (pools pool links bytes) after ≡ trees ++ E.Or (tops_of trees tops) ∷ []
+      pub trees-or : after ≡ nodes ++ N.Or span ∷ [] → trees_of (pools pool links bytes) after ≡ trees ++ E.Or (trees_at trees roots) ∷ []
       trees-or pushed =
-          trees_of-grown_push old (pools pool links bytes) nodes parts_grown forest (N.Or span) after pushed (E.Or (tops_of trees tops)) (ap E.Or parts_are)
+          trees_of-grown_push old (pools pool links bytes) nodes parts_grown forest (N.Or span) after pushed (E.Or (trees_at trees roots))
+          (ap E.Or parts_are)
 
-      module _ (short : length pool < 2 ^ 32) (here : All (IsTop trees) tops) where
+      module _ (short : length pool < 2 ^ 32) (here : All (IsRoot trees) roots) where
         parts_short : AreShort (pools pool links bytes)
         parts_short = record { parts = short; links = forest.short.links; bytes = forest.short.bytes }
 
         parts_placed : IsWithin (length pool) span × All (λ part. part < length nodes) (run pool span)
         parts_placed =
-            let below = places_below trees (length nodes) (length-trees_of old nodes) tops here in
-            (IsWithin-new parts (places_of tops) pool span grown next_places, subst (All (λ part. part < length nodes)) (sym places_are) below)
+            let below = places_below trees (length nodes) (length-trees_of old nodes) roots here in
+            (IsWithin-new parts (places_of roots) pool span grown next_places, subst (All (λ part. part < length nodes)) (sym places_are) below)
 
         pub forest-and : after ≡ nodes ++ N.And span ∷ [] → IsForest (pools pool links bytes) after
-        forest-and pushed = IsForest-grown_push old (pools pool links bytes) nodes parts_grown forest (N.And span) after pushed parts_short parts_placed
+        forest-and pushed =
+            IsForest-grown_push old (pools pool links bytes) nodes parts_grown forest (N.And span) after pushed parts_short parts_placed
 
         pub forest-or : after ≡ nodes ++ N.Or span ∷ [] → IsForest (pools pool links bytes) after
         forest-or pushed = IsForest-grown_push old (pools pool links bytes) nodes parts_grown forest (N.Or span) after pushed parts_short parts_placed
 
   -- operations that are added
-  module _ (forest : IsForest old nodes) (signs : List Operation) (tops : List Top) (pool : List Link) (grown : pool ≡ links ++ links_to signs tops) (after : List Node) where
+  module _ (forest : IsForest old nodes) (signs : List Operation) (roots : List Root) (pool : List LinkNode)
+      (grown : pool ≡ links ++ links_to signs roots) (after : List Node) where
     links_grown : AreGrown old (pools parts pool bytes)
-    links_grown = record { parts = ([], sym (append-nil parts)); links = (links_to signs tops, grown); bytes = ([], sym (append-nil bytes)) }
+    links_grown = record { parts = ([], sym (append-nil parts)); links = (links_to signs roots, grown); bytes = ([], sym (append-nil bytes)) }
 
     pub trees-links_kept : after ≡ nodes → trees_of (pools parts pool bytes) after ≡ trees
     trees-links_kept same = trees_of-kept old (pools parts pool bytes) nodes links_grown forest after same
 
-    module _ (span : Span) (next : IsNext links signs span) (pairs : length tops ≡ length signs) (first : ℕ) (pushed : after ≡ nodes ++ N.Chain first span ∷ []) where
-      next_links : IsNext links (links_to signs tops) span
-      next_links = (next.0, next.1 ∙ ap (λ n. length links + n) (sym (length-links_to signs tops (omega arith))))
+    module _ (span : Span) (next : IsNext links signs span) (pairs : length roots ≡ length signs) (first : ℕ)
+        (pushed : after ≡ nodes ++ N.Chain first span ∷ []) where
+      next_links : IsNext links (links_to signs roots) span
+      next_links = (next.0, next.1 ∙ ap (λ n. length links + n) (sym (length-links_to signs roots (omega arith))))
 
-      links_are : run pool span ≡ links_to signs tops
-      links_are = run-new links (links_to signs tops) pool span grown next_links
+      links_are : run pool span ≡ links_to signs roots
+      links_are = run-new links (links_to signs roots) pool span grown next_links
 
       abbrev chain : Expr
-      chain = E.Chain (tree_at trees first) (links_of signs (tops_of trees tops))
+      chain = E.Chain (tree_at trees first) (links_of signs (trees_at trees roots))
 
       pub trees-chain : trees_of (pools parts pool bytes) after ≡ trees ++ chain ∷ []
       trees-chain =
-          let rest = ap (map (link_at trees)) links_are ∙ links-links_to trees signs tops in
-          trees_of-grown_push old (pools parts pool bytes) nodes links_grown forest (N.Chain first span) after pushed chain (ap (E.Chain (tree_at trees first)) rest)
+          let rest = ap (map (link_at trees)) links_are ∙ links-links_to trees signs roots in
+          trees_of-grown_push old (pools parts pool bytes) nodes links_grown forest (N.Chain first span) after pushed chain
+          (ap (E.Chain (tree_at trees first)) rest)
 
-      pub forest-chain : length pool < 2 ^ 32 → All (IsTop trees) tops → first < length trees → IsForest (pools parts pool bytes) after
+      pub forest-chain : length pool < 2 ^ 32 → All (IsRoot trees) roots → first < length trees → IsForest (pools parts pool bytes) after
       forest-chain short here inside =
           let all : length trees ≡ length nodes = length-trees_of old nodes in
           let ordered : first < length nodes = omega arith in
-          let within = IsWithin-new links (links_to signs tops) pool span grown next_links in
-          let below = rights_below trees (length nodes) all signs tops here in
+          let within = IsWithin-new links (links_to signs roots) pool span grown next_links in
+          let below = rights_below trees (length nodes) all signs roots here in
           IsForest-grown_push old (pools parts pool bytes) nodes links_grown forest (N.Chain first span) after pushed
           (record { parts = forest.short.parts; links = short; bytes = forest.short.bytes })
           (ordered, within, subst (All (λ l. l.right < length nodes)) (sym links_are) below)

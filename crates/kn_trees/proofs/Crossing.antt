@@ -2,9 +2,9 @@
 use denote.Param.Send.{IsSend, IsSync, sendable}
 use Rattle.std.proofs.Crossing.{crosses}
 use Rattle.kn_trees.specs.contracts.forest.Node as node
-use Rattle.kn_trees.specs.contracts.forest.Link as link
+use Rattle.kn_trees.specs.contracts.forest.LinkNode as link
 use Rattle.kn_trees.specs.contracts.forest.Forest as forest
-use Rattle.kn_trees.specs.contracts.top.Top as top
+use Rattle.kn_trees.specs.contracts.root.Root as root
 use Rattle.kn_trees.specs.contracts.flat.FlatExpr as flat
 
 node_send : IsSend (node.the_field).row
@@ -25,14 +25,14 @@ forest_send = search (sendable, crosses, node_send, link_send) depth 20
 forest_sync : IsSync (forest.the_field).row
 forest_sync = search (sendable, crosses, node_sync, link_sync) depth 20
 
-top_send : IsSend (top.the_field).row
-top_send = search sendable depth 20
+root_send : IsSend (root.the_field).row
+root_send = search sendable depth 20
 
-top_sync : IsSync (top.the_field).row
-top_sync = search sendable depth 20
+root_sync : IsSync (root.the_field).row
+root_sync = search sendable depth 20
 
 pub flat_send : IsSend (flat.the_field).row
-flat_send = search (sendable, forest_send, top_send) depth 20
+flat_send = search (sendable, forest_send, root_send) depth 20
 
 pub flat_sync : IsSync (flat.the_field).row
-flat_sync = search (sendable, forest_sync, top_sync) depth 20
+flat_sync = search (sendable, forest_sync, root_sync) depth 20

@@ -9,7 +9,7 @@ use Rattle.kn_trees.specs.Forms.{link}
 use Rattle.kn_trees.specs.Forests.{Pools, no_pools, run, tree_at, link_at, tree_of, trees_of, IsWithin, IsPlaced, ArePlaced, AreShort, IsForest}
 use Rattle.kn_trees.specs.declared.program.Expr.{Expr}
 use Rattle.kn_trees.specs.declared.program.Expr.TheVariants as E
-use Rattle.kn_trees.specs.declared.forest.Link.{Link}
+use Rattle.kn_trees.specs.declared.forest.LinkNode.{LinkNode}
 use Rattle.kn_trees.specs.declared.forest.Node.{Node}
 use Rattle.kn_trees.specs.declared.forest.Node.TheVariants.{Truth, Whole, Text, Name, Not, Minus, Number, Deref, And, Or, Compare, Chain}
 
@@ -46,12 +46,14 @@ stays_within old new span extends within =
     record { ordered = within.ordered; inside = omega (arith, within.inside) }
 
 -- what a pool grows by is its last run
-pub run-added : {X : Type 0} (pool more : List X) (start end : ℕ) → start ≡ length pool → end ≡ start + length more → slice_range (pool ++ more) start end ≡ more
+pub run-added : {X : Type 0} (pool more : List X) (start end : ℕ) → start ≡ length pool → end ≡ start + length more
+    → slice_range (pool ++ more) start end ≡ more
 run-added pool more start end at until =
     ap (take (end - start)) (drop_at pool more start (sym at)) ∙ take_all (end - start) more (omega arith)
 
 -- the tree of a node stays where the pools grow
-tree_of-grown : (old new : Pools) → AreGrown old new → (trees : List Expr) (place : ℕ) (node : Node) → IsPlaced old place node → tree_of new trees node ≡ tree_of old trees node
+tree_of-grown : (old new : Pools) → AreGrown old new → (trees : List Expr) (place : ℕ) (node : Node) → IsPlaced old place node
+    → tree_of new trees node ≡ tree_of old trees node
 tree_of-grown old new grown trees place (Truth value) placed = refl
 tree_of-grown old new grown trees place (Whole value) placed = refl
 tree_of-grown old new grown trees place (Text span) placed = ap E.Text (run-stays old.bytes new.bytes span grown.bytes placed)
@@ -60,10 +62,13 @@ tree_of-grown old new grown trees place (Not part) placed = refl
 tree_of-grown old new grown trees place (Minus part) placed = refl
 tree_of-grown old new grown trees place (Number part) placed = refl
 tree_of-grown old new grown trees place (Deref part) placed = refl
-tree_of-grown old new grown trees place (And span) placed = ap (λ ps. E.And (map (tree_at trees) ps)) (run-stays old.parts new.parts span grown.parts placed.0)
-tree_of-grown old new grown trees place (Or span) placed = ap (λ ps. E.Or (map (tree_at trees) ps)) (run-stays old.parts new.parts span grown.parts placed.0)
+tree_of-grown old new grown trees place (And span) placed =
+    ap (λ ps. E.And (map (tree_at trees) ps)) (run-stays old.parts new.parts span grown.parts placed.0)
+tree_of-grown old new grown trees place (Or span) placed =
+    ap (λ ps. E.Or (map (tree_at trees) ps)) (run-stays old.parts new.parts span grown.parts placed.0)
 tree_of-grown old new grown trees place (Compare sign left right) placed = refl
-tree_of-grown old new grown trees place (Chain first span) placed = ap (λ ls. E.Chain (tree_at trees first) (map (link_at trees) ls)) (run-stays old.links new.links span grown.links placed.1)
+tree_of-grown old new grown trees place (Chain first span) placed =
+    ap (λ ls. E.Chain (tree_at trees first) (map (link_at trees) ls)) (run-stays old.links new.links span grown.links placed.1)
 
 -- and its node is placed as it was
 IsPlaced-grown : (old new : Pools) → AreGrown old new → (place : ℕ) (node : Node) → IsPlaced old place node → IsPlaced new place node
@@ -75,28 +80,38 @@ IsPlaced-grown old new grown place (Not part) placed = placed
 IsPlaced-grown old new grown place (Minus part) placed = placed
 IsPlaced-grown old new grown place (Number part) placed = placed
 IsPlaced-grown old new grown place (Deref part) placed = placed
-IsPlaced-grown old new grown place (And span) placed =
-    (stays_within old.parts new.parts span grown.parts placed.0, subst (All (λ part. part < place)) (sym (run-stays old.parts new.parts span grown.parts placed.0)) placed.1)
-IsPlaced-grown old new grown place (Or span) placed =
-    (stays_within old.parts new.parts span grown.parts placed.0, subst (All (λ part. part < place)) (sym (run-stays old.parts new.parts span grown.parts placed.0)) placed.1)
+IsPlaced-grown old new grown place (And span) placed = (
+  stays_within old.parts new.parts span grown.parts placed.0,
+  subst (All (λ part. part < place)) (sym (run-stays old.parts new.parts span grown.parts placed.0)) placed.1,
+)
+IsPlaced-grown old new grown place (Or span) placed = (
+  stays_within old.parts new.parts span grown.parts placed.0,
+  subst (All (λ part. part < place)) (sym (run-stays old.parts new.parts span grown.parts placed.0)) placed.1,
+)
 IsPlaced-grown old new grown place (Compare sign left right) placed = placed
-IsPlaced-grown old new grown place (Chain first span) placed =
-    (placed.0, stays_within old.links new.links span grown.links placed.1, subst (All (λ l. l.right < place)) (sym (run-stays old.links new.links span grown.links placed.1)) placed.2)
+IsPlaced-grown old new grown place (Chain first span) placed = (
+  placed.0,
+  stays_within old.links new.links span grown.links placed.1,
+  subst (All (λ l. l.right < place)) (sym (run-stays old.links new.links span grown.links placed.1)) placed.2,
+)
 
 tree_at-append : (trees more : List Expr) (place : ℕ) → place < length trees → tree_at (trees ++ more) place ≡ tree_at trees place
 tree_at-append trees more place inside = get_or_append_left trees more (E.Truth false) place inside
 
-trees_at-append : (trees more : List Expr) (place : ℕ) (parts : List ℕ) → place ≤ length trees → All (λ part. part < place) parts → map (tree_at (trees ++ more)) parts ≡ map (tree_at trees) parts
+trees_at-append : (trees more : List Expr) (place : ℕ) (parts : List ℕ) → place ≤ length trees → All (λ part. part < place) parts
+    → map (tree_at (trees ++ more)) parts ≡ map (tree_at trees) parts
 trees_at-append trees more place parts there before =
     map-same (tree_at (trees ++ more)) (tree_at trees) parts (λ k d h. tree_at-append trees more (get_or parts k d) (omega (arith, before k d h)))
 
-links_at-append : (trees more : List Expr) (place : ℕ) (links : List Link) → place ≤ length trees → All (λ l. l.right < place) links → map (link_at (trees ++ more)) links ≡ map (link_at trees) links
+links_at-append : (trees more : List Expr) (place : ℕ) (links : List LinkNode) → place ≤ length trees → All (λ l. l.right < place) links
+    → map (link_at (trees ++ more)) links ≡ map (link_at trees) links
 links_at-append trees more place links there before =
     map-same (link_at (trees ++ more)) (link_at trees) links
     (λ k d h. ap (link (get_or links k d).sign) (tree_at-append trees more (get_or links k d).right (omega (arith, before k d h))))
 
 -- the tree of a node stays where trees are added
-tree_of-append : (pools : Pools) (trees more : List Expr) (place : ℕ) (node : Node) → place ≤ length trees → IsPlaced pools place node → tree_of pools (trees ++ more) node ≡ tree_of pools trees node
+tree_of-append : (pools : Pools) (trees more : List Expr) (place : ℕ) (node : Node) → place ≤ length trees → IsPlaced pools place node
+    → tree_of pools (trees ++ more) node ≡ tree_of pools trees node
 tree_of-append pools trees more place (Truth value) there placed = refl
 tree_of-append pools trees more place (Whole value) there placed = refl
 tree_of-append pools trees more place (Text span) there placed = refl
@@ -150,9 +165,11 @@ tree_at-trees_from pools before (node ∷ nodes) zero i d at inside placed =
     let rest = Extends-trees_from pools (before ++ tree ∷ []) nodes in
     let longer : i < length (before ++ tree ∷ []) = omega (arith, length_push before tree) in
     let first : tree_at (trees_from pools before (node ∷ nodes)) i ≡ tree =
-    ap (λ trees. tree_at trees i) rest.1 ∙ tree_at-append (before ++ tree ∷ []) rest.0 i longer ∙ get_or_push before tree (E.Truth false) i (omega arith) in
+    ap (λ trees. tree_at trees i) rest.1 ∙ tree_at-append (before ++ tree ∷ []) rest.0 i longer
+    ∙ get_or_push before tree (E.Truth false) i (omega arith) in
     let same : tree_of pools (trees_from pools before (node ∷ nodes)) node ≡ tree =
-    ap (λ trees. tree_of pools trees node) all.1 ∙ tree_of-append pools before all.0 (length before + 0) node (omega arith) (placed 0 node (omega arith)) in
+    ap (λ trees. tree_of pools trees node) all.1
+    ∙ tree_of-append pools before all.0 (length before + 0) node (omega arith) (placed 0 node (omega arith)) in
     first ∙ sym same
 tree_at-trees_from pools before (node ∷ nodes) (suc k) i d at inside placed =
     let tree = tree_of pools before node in
@@ -183,7 +200,8 @@ pub trees_of-grown : (old new : Pools) (nodes : List Node) → AreGrown old new 
 unfolding trees_of
 trees_of-grown old new nodes grown forest = trees_from-grown old new grown [] nodes (λ k. k) forest.placed
 
-ArePlaced-push : (pools : Pools) (nodes : List Node) (node : Node) → ArePlaced pools nodes → IsPlaced pools (length nodes) node → ArePlaced pools (nodes ++ node ∷ [])
+ArePlaced-push : (pools : Pools) (nodes : List Node) (node : Node) → ArePlaced pools nodes → IsPlaced pools (length nodes) node
+    → ArePlaced pools (nodes ++ node ∷ [])
 ArePlaced-push pools nodes node placed here k d inside =
     let longer = length_push nodes node in
     elim (cases_lt k (length nodes)) [
@@ -194,10 +212,12 @@ ArePlaced-push pools nodes node placed here k d inside =
     ]
 
 -- a node may be added to a forest
-pub IsForest-push : (pools : Pools) (nodes : List Node) (node : Node) → IsForest pools nodes → IsPlaced pools (length nodes) node → IsForest pools (nodes ++ node ∷ [])
+pub IsForest-push : (pools : Pools) (nodes : List Node) (node : Node) → IsForest pools nodes → IsPlaced pools (length nodes) node
+    → IsForest pools (nodes ++ node ∷ [])
 IsForest-push pools nodes node forest here = record { short = forest.short; placed = ArePlaced-push pools nodes node forest.placed here }
 
-pub trees_of-push : (pools : Pools) (nodes : List Node) (node : Node) → trees_of pools (nodes ++ node ∷ []) ≡ trees_of pools nodes ++ tree_of pools (trees_of pools nodes) node ∷ []
+pub trees_of-push : (pools : Pools) (nodes : List Node) (node : Node)
+    → trees_of pools (nodes ++ node ∷ []) ≡ trees_of pools nodes ++ tree_of pools (trees_of pools nodes) node ∷ []
 unfolding trees_of
 trees_of-push pools nodes node = fold-append (λ trees n. trees ++ tree_of pools trees n ∷ []) [] nodes (node ∷ [])
 
@@ -209,12 +229,15 @@ from_no_pools pools = record { parts = (pools.parts, refl); links = (pools.links
 module _ (pools : Pools) (nodes : List Node) (node : Node) (forest : IsForest pools nodes) where
   pub IsForest-push_plain : IsPlaced no_pools (length (trees_of pools nodes)) node → IsForest pools (nodes ++ node ∷ [])
   IsForest-push_plain here =
-      let placed : IsPlaced pools (length (trees_of pools nodes)) node = IsPlaced-grown no_pools pools (from_no_pools pools) (length (trees_of pools nodes)) node here in
+      let placed : IsPlaced pools (length (trees_of pools nodes)) node =
+      IsPlaced-grown no_pools pools (from_no_pools pools) (length (trees_of pools nodes)) node here in
       IsForest-push pools nodes node forest (subst (λ n. IsPlaced pools n node) (length-trees_of pools nodes) placed)
 
-  pub trees_of-push_plain : IsPlaced no_pools (length (trees_of pools nodes)) node → trees_of pools (nodes ++ node ∷ []) ≡ trees_of pools nodes ++ tree_of no_pools (trees_of pools nodes) node ∷ []
+  pub trees_of-push_plain : IsPlaced no_pools (length (trees_of pools nodes)) node
+      → trees_of pools (nodes ++ node ∷ []) ≡ trees_of pools nodes ++ tree_of no_pools (trees_of pools nodes) node ∷ []
   trees_of-push_plain here =
       trees_of-push pools nodes node
-      ∙ ap (λ t. trees_of pools nodes ++ t ∷ []) (tree_of-grown no_pools pools (from_no_pools pools) (trees_of pools nodes) (length (trees_of pools nodes)) node here)
+      ∙ ap (λ t. trees_of pools nodes ++ t ∷ [])
+      (tree_of-grown no_pools pools (from_no_pools pools) (trees_of pools nodes) (length (trees_of pools nodes)) node here)
 
 pub ruleset plain = (length-trees_of, IsForest-push_plain, trees_of-push_plain)

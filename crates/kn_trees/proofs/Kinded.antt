@@ -12,7 +12,7 @@ use Rattle.kn_trees.specs.declared.program.Expr.TheFolds.{fold-Link2}
 use Rattle.kn_trees.specs.declared.program.Program.{Program, out-Program}
 use Rattle.kn_trees.specs.declared.program.Clause.{Clause}
 use Rattle.kn_trees.specs.declared.program.Then.TheVariants.{Top, Value, Block}
-use Rattle.kn_trees.specs.ExprKinds.{is_truth, is_whole, is_text, are_compared, gives, chain_kind, kind_step, link_step, kind_of, kinds_of}
+use Rattle.kn_trees.specs.ExprKinds.{is_truth, is_whole, is_text, are_compared, gives, chain_kind, kind_step, link_step, kind_of}
 use Rattle.kn_trees.specs.Kinds.{program_step, clause_step, then_step, is_well_kinded, is_clause_well_kinded, is_then_well_kinded}
 use Rattle.kn_trees.proofs.Folds.{fold-Truth, fold-Whole, fold-Text, fold-Name, fold-Not, fold-Minus, fold-Number, fold-Deref, fold-And, fold-Or, fold-Compare, fold-Link, fold-Chain, fold-Top, fold-Value, fold-Block, fold-one_clause, fold-whole_program}
 
@@ -65,6 +65,10 @@ kind_of-Or parts = fold-Or Found Linked kind_step link_step parts
 pub kind_of-Compare : (sign : Comparison) (left right : Expr) → kind_of (Compare sign left right) ≡ gives (are_compared (kind_of left) (kind_of right)) K.Truth
 unfolding kind_of
 kind_of-Compare sign left right = fold-Compare Found Linked kind_step link_step sign left right
+
+-- the signs of links, with the kinds of their right sides
+abbrev pub kinds_of : List Link2 → List Linked
+kinds_of links = map (λ link. (link.sign, kind_of link.right)) links
 
 kinds_of-links : (links : List Link2) → map (fold-Link2 Found Linked kind_step link_step) links ≡ kinds_of links
 unfolding kind_of

@@ -4,4 +4,4 @@ pub mod Folds
 pub mod Forests
 pub mod Kinded
 pub mod Leveled
-pub mod Tops
+pub mod Roots

@@ -1,12 +1,12 @@
--- The kinds of expressions (keynoted's own statement of the typing that RFC 2704, section 4, asks of conditions).
-use Rattle.std.specs.Prelude.{Option, Some, None, Bool, true, false, List, [], ◌∷◌, map, if◌then◌else◌, ◌&&◌}
+-- The kinds of expressions (keynoted's own statement of the typing that RFC 2704, section 4, asks of conditions),
+-- apart from programs, since `FlatExpr` cites them.
+use Rattle.std.specs.Prelude.{Option, Some, None, Bool, true, false, List, [], ◌∷◌, if◌then◌else◌, ◌&&◌}
 use Rattle.std.specs.List.{list_all}
 use Rattle.kn_trees.specs.declared.kinds.Kind.{Kind}
 use Rattle.kn_trees.specs.declared.kinds.Kind.TheVariants as K
 use Rattle.kn_trees.specs.declared.program.Operation.{Operation}
 use Rattle.kn_trees.specs.declared.program.Operation.TheVariants.{Join}
 use Rattle.kn_trees.specs.declared.program.Expr.{Expr}
-use Rattle.kn_trees.specs.declared.program.Link2.{Link2}
 use Rattle.kn_trees.specs.declared.program.Expr.TheOpen.{Expr-F, Link2-F}
 use Rattle.kn_trees.specs.declared.program.Expr.TheOpen.Expr-F.{Truth, Whole, Text, Name, Not, Minus, Number, Deref, And, Or, Compare, Chain}
 use Rattle.kn_trees.specs.declared.program.Expr.TheFolds.{fold-Expr}
@@ -62,7 +62,3 @@ link_step link = (link.sign, link.right)
 -- the kind of an expression, or none
 unfoldable pub kind_of : Expr → Option Kind
 kind_of = fold-Expr (Option Kind) (Operation × Option Kind) kind_step link_step
-
--- the signs of links, with the kinds of their right sides
-abbrev pub kinds_of : List Link2 → List (Operation × Option Kind)
-kinds_of links = map (λ link. (link.sign, kind_of link.right)) links

@@ -4,19 +4,21 @@ use Rattle.kn_base.specs.declared.span.Span.{Span}
 use Rattle.kn_trees.specs.declared.program.Expr.{Expr}
 use Rattle.kn_trees.specs.declared.program.Expr.TheVariants as E
 use Rattle.kn_trees.specs.declared.program.Link2.{Link2}
-use Rattle.kn_trees.specs.declared.forest.Link.{Link}
+use Rattle.kn_trees.specs.declared.forest.LinkNode.{LinkNode}
 use Rattle.kn_trees.specs.declared.forest.Node.{Node}
 use Rattle.kn_trees.specs.declared.forest.Node.TheVariants.{Truth, Whole, Text, Name, Not, Minus, Number, Deref, And, Or, Compare, Chain}
 
 -- the lists of which nodes name runs
 pub record Pools : Type 0 where
   pub parts : List ℕ
-  pub links : List Link
+  pub links : List LinkNode
   pub bytes : List ℕ
 
-abbrev pub pools : List ℕ → List Link → List ℕ → Pools
+-- the pools with these lists
+abbrev pub pools : List ℕ → List LinkNode → List ℕ → Pools
 pools parts links bytes = record { parts = parts; links = links; bytes = bytes }
 
+-- without pools, a node can name no run but an empty one
 abbrev pub no_pools : Pools
 no_pools = pools [] [] []
 
@@ -24,10 +26,12 @@ no_pools = pools [] [] []
 abbrev pub run : {X : Type 0} → List X → Span → List X
 run pool span = slice_range pool span.start span.end
 
+-- the tree at a place; only places within the list are asked for
 abbrev pub tree_at : List Expr → ℕ → Expr
 tree_at trees place = slice_index_or trees place (E.Truth false)
 
-abbrev pub link_at : List Expr → Link → Link2
+-- the operation of a link, with the tree at the place of its right side
+abbrev pub link_at : List Expr → LinkNode → Link2
 link_at trees l = record { sign = l.sign; right = tree_at trees l.right }
 
 -- the tree of a node, by the trees of the nodes before it

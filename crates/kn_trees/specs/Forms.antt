@@ -1,5 +1,5 @@
 -- What an expression is made of, and links by their signs and right sides.
-use Rattle.std.specs.Prelude.{List, [], ◌∷◌}
+use Rattle.std.specs.Prelude.{List, map, zip}
 use Rattle.kn_trees.specs.declared.program.Operation.{Operation}
 use Rattle.kn_trees.specs.declared.program.Link2.{Link2}
 use Rattle.kn_trees.specs.declared.program.Expr.{Expr}
@@ -27,6 +27,4 @@ link sign right = record { sign = sign; right = right }
 
 -- these signs with these right sides
 abbrev pub links_of : List Operation → List Expr → List Link2
-links_of [] rights = []
-links_of (sign ∷ signs) [] = []
-links_of (sign ∷ signs) (right ∷ rights) = link sign right ∷ links_of signs rights
+links_of signs rights = map (λ pair. link pair.0 pair.1) (zip signs rights)

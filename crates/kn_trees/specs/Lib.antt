@@ -4,4 +4,4 @@ pub mod Forms
 pub mod Formulas
 pub mod Kinds
 pub mod Levels
-pub mod Tops
+pub mod Roots

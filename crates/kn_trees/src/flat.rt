@@ -1,20 +1,20 @@
-//! Expressions in one piece of memory.
+//! Expressions as lists of nodes.
 ghost use Rattle.std.specs.Prelude.{◌≡◌};
 ghost use Rattle.kn_trees.specs.Forests.{tree_at};
 ghost use Rattle.kn_trees.specs.ExprKinds.{kind_of};
-ghost use Rattle.kn_trees.specs.Tops.{IsTop};
+ghost use Rattle.kn_trees.specs.Roots.{IsRoot};
 
 use crate::forest::Forest;
 use crate::form::ExprRef;
 use crate::kinds::Kind;
-use crate::top::Top;
+use crate::root::Root;
 use std::marker::Model;
 
-/// An expression in one piece of memory, seen as its tree.
+/// An expression as a list of nodes, seen as its tree.
 #[derive(Debug, Drop)]
 pub struct FlatExpr {
     forest: Forest,
-    top: Top,
+    root: Root,
 }
 
 impl Model for FlatExpr {
@@ -22,24 +22,25 @@ impl Model for FlatExpr {
     ghost use Rattle.kn_trees.specs.contracts.program.Expr as expr;
     ghost use Rattle.std.specs.Coded.{codes};
     ghost use Rattle.kn_trees.specs.Forests.{tree_at};
-    ghost use Rattle.kn_trees.specs.Tops.{IsTop};
+    ghost use Rattle.kn_trees.specs.Roots.{IsRoot};
 
     ghost Value = { Expr };
 
     ghost coded = { Prim.hlevel (codes, expr.the_row.coded) };
 
-    ghost view = { λ e. tree_at e.forest e.top.place };
+    ghost view = { λ e. tree_at e.forest e.root.place };
 
-    ghost invariant = { λ e. IsTop e.forest e.top };
+    ghost invariant = { λ e. IsRoot e.forest e.root };
 }
 
 impl FlatExpr {
+    /// The expression of a forest that has this root.
     #[inline(always)]
-    pub(crate) fn of(forest: Forest, top: Top) -> FlatExpr
-        requires { IsTop forest top }
-        ensures { result ≡ tree_at forest top.place }
+    pub(crate) fn of(forest: Forest, root: Root) -> FlatExpr
+        requires { IsRoot forest root }
+        ensures { result ≡ tree_at forest root.place }
     {
-        FlatExpr { forest, top }
+        FlatExpr { forest, root }
     }
 
     /// The whole expression, to be looked into.
@@ -47,14 +48,14 @@ impl FlatExpr {
     pub fn root(&self) -> ExprRef<'_>
         ensures { result ≡ self.now }
     {
-        ExprRef::at(&self.forest, self.top.place)
+        ExprRef::at(&self.forest, self.root.place)
     }
 
-    /// The kind of the expression, or None where an operator's operands aren't of the kinds that it needs. Takes no memory.
+    /// The kind of the expression, or None where an operator's operands aren't of the kinds that it needs.
     #[inline(always)]
     pub fn kind(&self) -> Option<Kind>
         ensures { result ≡ kind_of self.now }
     {
-        self.top.kind
+        self.root.kind
     }
 }

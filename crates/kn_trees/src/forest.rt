@@ -1,28 +1,31 @@
 //! Trees in one list of nodes.
-ghost use Rattle.std.specs.Prelude.{◌≡◌, ◌+◌, ◌<◌, ◌≤◌, ◌^◌, [], ◌∷◌, ◌++◌, All, length, map, vec_len, vec_capacity, IfOk, OnOk, OnErr};
+ghost use Rattle.std.specs.Prelude.{◌≡◌, ◌+◌, ◌<◌, ◌^◌, [], ◌∷◌, ◌++◌, All, length, map, IfOk, OnOk, OnErr};
 ghost use Rattle.kn_trees.specs.declared.program.Expr.TheVariants as E;
 ghost use Rattle.kn_trees.specs.Forests.{no_pools, tree_at, tree_of, IsPlaced};
 ghost use Rattle.kn_trees.specs.Forms.{links_of};
-ghost use Rattle.kn_trees.specs.Tops.{links_to, tops_of, IsTop};
+ghost use Rattle.kn_trees.specs.Roots.{links_to, trees_at, IsRoot};
 
 use crate::program::{Comparison, Operation};
-use crate::top::Top;
+use crate::root::Root;
 use kn_base::{NoMemory, Span};
 use std::alloc::Global;
 use std::marker::Model;
 
-/// The room for so many items that isn't given back.
+/// The spare room, in items, for which a list isn't copied.
 const FEW_ITEMS: usize = 64;
+
+/// How many bytes of texts there is room for at first, for each token.
+const BYTES_A_TOKEN: usize = 2;
 
 /// An operation, and the place of its right side.
 #[derive(Debug, Clone, Copy)]
-pub(crate) struct Link {
+pub(crate) struct LinkNode {
     pub sign: Operation,
     pub right: u32,
 }
 
-/// A node of a tree, which names its parts by their places among the nodes, all before its own. Lists of parts and
-/// texts are runs of lists that the nodes share.
+/// A node of a tree, which names its parts by their places among the nodes, all before its own. Lists of parts,
+/// lists of operations and texts are runs of lists that the nodes share.
 #[derive(Debug, Clone, Copy)]
 pub(crate) enum Node {
     Truth(bool),
@@ -46,12 +49,12 @@ pub(crate) enum Node {
     },
 }
 
-/// Trees that share their parts, seen as the list of the trees of all nodes.
+/// Nodes, and the lists of which they name runs, seen as the list of the trees of all nodes.
 #[derive(Debug, Drop)]
 pub(crate) struct Forest {
     pub(crate) nodes: Vec<Node>,
     pub(crate) parts: Vec<u32>,
-    pub(crate) links: Vec<Link>,
+    pub(crate) links: Vec<LinkNode>,
     pub(crate) bytes: Vec<u8>,
 }
 
@@ -82,7 +85,7 @@ impl Forest {
             nodes: vec_with_room(alloc, tokens)?,
             parts: Vec::new(alloc),
             links: Vec::new(alloc),
-            bytes: vec_with_room(alloc, 2 * tokens)?,
+            bytes: vec_with_room(alloc, BYTES_A_TOKEN * tokens)?,
         })
     }
 
@@ -137,10 +140,10 @@ impl Forest {
 
     /// Adds these trees with `&&` between them, and gives the place.
     #[tactic(auto, using(crate::proofs::Forests::plain))]
-    pub(crate) fn add_and(&mut self, parts: &[Top]) -> Result<u32, NoMemory>
-        requires { All (IsTop self.old) parts.now }
+    pub(crate) fn add_and(&mut self, parts: &[Root]) -> Result<u32, NoMemory>
+        requires { All (IsRoot self.old) parts.now }
         ensures place { IfOk result (λ place. place ≡ length self.old) }
-        ensures ok { OnOk result (self.new ≡ self.old ++ E.And (tops_of self.old parts.now) ∷ []) }
+        ensures ok { OnOk result (self.new ≡ self.old ++ E.And (trees_at self.old parts.now) ∷ []) }
         ensures err { OnErr result (self.new ≡ self.old) }
     {
         let span = keep_parts(&mut self.parts, parts)?;
@@ -150,10 +153,10 @@ impl Forest {
 
     /// Adds these trees with `||` between them, and gives the place.
     #[tactic(auto, using(crate::proofs::Forests::plain))]
-    pub(crate) fn add_or(&mut self, parts: &[Top]) -> Result<u32, NoMemory>
-        requires { All (IsTop self.old) parts.now }
+    pub(crate) fn add_or(&mut self, parts: &[Root]) -> Result<u32, NoMemory>
+        requires { All (IsRoot self.old) parts.now }
         ensures place { IfOk result (λ place. place ≡ length self.old) }
-        ensures ok { OnOk result (self.new ≡ self.old ++ E.Or (tops_of self.old parts.now) ∷ []) }
+        ensures ok { OnOk result (self.new ≡ self.old ++ E.Or (trees_at self.old parts.now) ∷ []) }
         ensures err { OnErr result (self.new ≡ self.old) }
     {
         let span = keep_parts(&mut self.parts, parts)?;
@@ -167,13 +170,13 @@ impl Forest {
         &mut self,
         first: u32,
         signs: &[Operation],
-        rights: &[Top],
+        rights: &[Root],
     ) -> Result<u32, NoMemory>
         requires first { first < length self.old }
-        requires rights { All (IsTop self.old) rights.now }
+        requires rights { All (IsRoot self.old) rights.now }
         requires pairs { length rights.now ≡ length signs.now }
         ensures place { IfOk result (λ place. place ≡ length self.old) }
-        ensures ok { OnOk result (self.new ≡ self.old ++ E.Chain (tree_at self.old first) (links_of signs.now (tops_of self.old rights.now)) ∷ []) }
+        ensures ok { OnOk result (self.new ≡ self.old ++ E.Chain (tree_at self.old first) (links_of signs.now (trees_at self.old rights.now)) ∷ []) }
         ensures err { OnErr result (self.new ≡ self.old) }
     {
         let rest = keep_links(&mut self.links, signs, rights)?;
@@ -182,7 +185,7 @@ impl Forest {
     }
 }
 
-/// Gives back the room behind the items, unless it is for a few more.
+// Gives back the room behind the items, unless it is for a few more.
 #[inline(always)]
 fn shrink_pool<T>(pool: &mut Vec<T>)
     ensures { pool.new.items ≡ pool.old.items }
@@ -192,7 +195,7 @@ fn shrink_pool<T>(pool: &mut Vec<T>)
     }
 }
 
-// An empty list with room for so many items.
+/// An empty list with room for so many items.
 pub(crate) fn vec_with_room<T>(alloc: Global, count: usize) -> Result<Vec<T>, NoMemory>
     ensures { IfOk result (λ items. items.items ≡ []) }
 {
@@ -208,6 +211,7 @@ fn next_span(size: usize, count: usize) -> Result<Span, NoMemory>
     requires { size < 2 ^ 32 }
     ensures { IfOk result (λ span. (span.start ≡ size) × (span.end ≡ size + count)) }
 {
+    // no text comes near this limit: what is kept takes a token of it, or a byte
     if count > u32::MAX as usize - size {
         return Err(NoMemory);
     }
@@ -234,7 +238,7 @@ fn keep_bytes(pool: &mut Vec<u8>, bytes: &[u8]) -> Result<Span, NoMemory>
 }
 
 // Keeps the places of trees at the end of the pool, and gives their span.
-fn keep_parts(pool: &mut Vec<u32>, parts: &[Top]) -> Result<Span, NoMemory>
+fn keep_parts(pool: &mut Vec<u32>, parts: &[Root]) -> Result<Span, NoMemory>
     requires { length pool.old.items < 2 ^ 32 }
     ensures span { IfOk result (λ span. (span.start ≡ length pool.old.items) × (span.end ≡ length pool.old.items + length parts.now)) }
     ensures short { length pool.new.items < 2 ^ 32 }
@@ -252,8 +256,11 @@ fn keep_parts(pool: &mut Vec<u32>, parts: &[Top]) -> Result<Span, NoMemory>
 }
 
 // Keeps operations with the places of their right sides at the end of the pool, and gives their span.
-#[tactic(auto, using(crate::proofs::Tops::links))]
-fn keep_links(pool: &mut Vec<Link>, signs: &[Operation], rights: &[Top]) -> Result<Span, NoMemory>
+fn keep_links(
+    pool: &mut Vec<LinkNode>,
+    signs: &[Operation],
+    rights: &[Root],
+) -> Result<Span, NoMemory>
     requires short { length pool.old.items < 2 ^ 32 }
     requires pairs { length rights.now ≡ length signs.now }
     ensures span { IfOk result (λ span. (span.start ≡ length pool.old.items) × (span.end ≡ length pool.old.items + length signs.now)) }
@@ -265,10 +272,10 @@ fn keep_links(pool: &mut Vec<Link>, signs: &[Operation], rights: &[Top]) -> Resu
     if pool.reserve(signs.len()).is_err() {
         return Err(NoMemory);
     }
-    for k in 0..signs.len() {
-        pool.push_reserved(Link {
-            sign: signs[k],
-            right: rights[k].place,
+    for (sign, right) in signs.iter().zip(rights) {
+        pool.push_reserved(LinkNode {
+            sign: *sign,
+            right: right.place,
         });
     }
     Ok(span)
@@ -282,6 +289,7 @@ fn push_node(nodes: &mut Vec<Node>, node: Node) -> Result<u32, NoMemory>
     ensures err { OnErr result (nodes.new.items ≡ nodes.old.items) }
 {
     let place = nodes.len();
+    // no text comes near this limit: a node takes a token of it
     if place >= u32::MAX as usize || nodes.push(node).is_err() {
         return Err(NoMemory);
     }

@@ -1,9 +1,9 @@
 //! What expressions are made of.
-ghost use Rattle.std.specs.Prelude.{◌≡◌, ◌<◌, ◌≤◌, Some, length, slice_get, slice_range};
-ghost use Rattle.kn_trees.specs.Forests.{tree_at};
+ghost use Rattle.std.specs.Prelude.{◌≡◌, ◌<◌, Some, length, slice_get};
+ghost use Rattle.kn_trees.specs.Forests.{run, tree_at, IsWithin};
 ghost use Rattle.kn_trees.specs.Forms.{expr_of, link};
 
-use crate::forest::{Forest, Link, Node};
+use crate::forest::{Forest, LinkNode, Node};
 use crate::program::{Comparison, Operation};
 use kn_base::Span;
 use std::marker::Model;
@@ -58,7 +58,7 @@ impl<'e> Model for Parts<'e> {
 #[derive(Drop)]
 pub struct Links<'e> {
     forest: &'e Forest,
-    links: &'e [Link],
+    links: &'e [LinkNode],
 }
 
 impl<'e> Model for Links<'e> {
@@ -102,7 +102,7 @@ pub enum Form<'e> {
 }
 
 impl<'e> ExprRef<'e> {
-    // The tree at a place.
+    /// The tree at a place.
     #[inline(always)]
     pub(crate) fn at(forest: &'e Forest, place: u32) -> ExprRef<'e>
         requires { place < length forest.now }
@@ -121,6 +121,7 @@ impl<'e> ExprRef<'e> {
 }
 
 impl<'e> Parts<'e> {
+    /// How many parts there are.
     #[inline(always)]
     pub fn len(&self) -> usize
         ensures { result ≡ length self.now }
@@ -142,6 +143,7 @@ impl<'e> Parts<'e> {
 }
 
 impl<'e> Links<'e> {
+    /// How many operations there are.
     #[inline(always)]
     pub fn len(&self) -> usize
         ensures { result ≡ length self.now }
@@ -165,9 +167,8 @@ impl<'e> Links<'e> {
 // What a pool has from a span's start up to its end.
 #[inline(always)]
 fn run<T>(pool: &[T], span: Span) -> &[T]
-    requires ordered { span.start ≤ span.end }
-    requires inside { span.end ≤ length pool.now }
-    ensures { result.now ≡ slice_range pool.now span.start span.end }
+    requires { IsWithin (length pool.now) span }
+    ensures { result.now ≡ run pool.now span }
 {
     &pool[span.start as usize..span.end as usize]
 }

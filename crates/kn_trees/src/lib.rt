@@ -8,8 +8,8 @@ mod form;
 mod formula;
 mod kinds;
 mod program;
+mod root;
 mod stack;
-mod top;
 mod typing;
 
 pub use assertion::Assertion;

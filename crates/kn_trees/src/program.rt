@@ -29,7 +29,7 @@ pub enum Then {
     Block(Program),
 }
 
-/// An expression.
+/// The tree that contracts see of an expression (`FlatExpr`); no value of it is made.
 #[derive(Debug, Drop)]
 #[cycle(expr)]
 pub enum Expr {
@@ -66,7 +66,7 @@ pub enum Expr {
     },
 }
 
-/// An operation and its right side.
+/// An operation and its right side, as contracts see them (`Links`); no value of it is made.
 #[derive(Debug, Drop)]
 #[cycle(expr)]
 pub struct Link2 {

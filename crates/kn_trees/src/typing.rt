@@ -1,12 +1,12 @@
-//! Which kind an expression has.
-ghost use Rattle.std.specs.Prelude.{Option, ◌≡◌, length, map};
+//! The kinds that operators ask and give, and whether a program keeps to them.
+ghost use Rattle.std.specs.Prelude.{Option, ◌≡◌, length, map, zip};
 ghost use Rattle.std.specs.List.{list_all};
-ghost use Rattle.kn_trees.specs.Kinds.{is_truth, is_whole, is_text, are_compared, gives, operation_kind, chain_kind, kind_of, is_well_kinded, is_clause_well_kinded, is_then_well_kinded};
-ghost use Rattle.kn_trees.specs.Tops.{signs_with_kinds};
+ghost use Rattle.kn_trees.specs.ExprKinds.{is_truth, is_whole, is_text, are_compared, gives, operation_kind, chain_kind};
+ghost use Rattle.kn_trees.specs.Kinds.{is_well_kinded, is_clause_well_kinded, is_then_well_kinded};
 
 use crate::kinds::Kind;
 use crate::program::{Clause, Operation, Program, Then};
-use crate::top::Top;
+use crate::root::Root;
 
 #[inline(always)]
 pub(crate) fn is_truth(kind: Option<Kind>) -> bool
@@ -72,11 +72,11 @@ fn operation_kind(sign: Operation, left: Option<Kind>, right: Option<Kind>) -> O
 }
 
 /// Whether all these trees are truths.
-pub(crate) fn are_truths(tops: &[Top]) -> bool
-    ensures { result ≡ list_all is_truth (map (λ top. top.kind) tops.now) }
+pub(crate) fn are_truths(roots: &[Root]) -> bool
+    ensures { result ≡ list_all is_truth (map (λ root. root.kind) roots.now) }
 {
-    for top in tops {
-        if !is_truth(top.kind) {
+    for root in roots {
+        if !is_truth(root.kind) {
             return false;
         }
     }
@@ -84,13 +84,13 @@ pub(crate) fn are_truths(tops: &[Top]) -> bool
 }
 
 /// The kind of a chain whose first part has this one.
-pub(crate) fn chain_kind(first: Option<Kind>, signs: &[Operation], rights: &[Top]) -> Option<Kind>
+pub(crate) fn chain_kind(first: Option<Kind>, signs: &[Operation], rights: &[Root]) -> Option<Kind>
     requires { length rights.now ≡ length signs.now }
-    ensures { result ≡ chain_kind first (signs_with_kinds signs.now rights.now) }
+    ensures { result ≡ chain_kind first (zip signs.now (map (λ root. root.kind) rights.now)) }
 {
     let mut left = first;
-    for k in 0..signs.len() {
-        left = operation_kind(signs[k], left, rights[k].kind);
+    for (sign, right) in signs.iter().zip(rights) {
+        left = operation_kind(*sign, left, right.kind);
     }
     left
 }

@@ -1,13 +1,13 @@
 use Rattle.std.proofs.Common.{arith}
 use Rattle.std.proofs.lemmas.Grind.{common_steps}
 use Rattle.kn_trees.specs.Forms.{link}
-use Rattle.kn_cond.proofs.Descent.{drop_at}
+use Rattle.kn_cond.proofs.Descent.{drop_here}
 use Rattle.kn_cond.proofs.Joined.{or_right}
 use Rattle.kn_cond.proofs.evaluation.+outcomes.Goals as goal
 
 pub conjunction-loop-k-preserved : goal.conjunction-loop-k-preserved
 conjunction-loop-k-preserved t c =
-    let here = drop_at c.args.parts c.loop-k.k c.get.result c.get.ensures in
+    let here = drop_here c.args.parts c.loop-k.k c.get.result c.get.ensures in
     record {
       value = grind (arith, common_steps);
       memory = grind (arith, common_steps, or_right);
@@ -15,7 +15,7 @@ conjunction-loop-k-preserved t c =
 
 pub disjunction-loop-k-preserved : goal.disjunction-loop-k-preserved
 disjunction-loop-k-preserved t c =
-    let here = drop_at c.args.parts c.loop-k.k c.get.result c.get.ensures in
+    let here = drop_here c.args.parts c.loop-k.k c.get.result c.get.ensures in
     record {
       value = grind (arith, common_steps);
       memory = grind (arith, common_steps, or_right);
@@ -23,7 +23,7 @@ disjunction-loop-k-preserved t c =
 
 pub chained-loop-k-preserved : goal.chained-loop-k-preserved
 chained-loop-k-preserved t c =
-    let here = drop_at c.args.links c.loop-k.k (link c.get-sign.result.0 c.get-sign.result.1) c.get-sign.ensures in
+    let here = drop_here c.args.links c.loop-k.k (link c.get-sign.result.0 c.get-sign.result.1) c.get-sign.ensures in
     record {
       value = grind (arith, common_steps, c.in_ok-right.ensures.value, c.in_ok-left.ensures.value);
       memory = grind (arith, common_steps, or_right);

@@ -7,11 +7,12 @@ pub more_tests-returns-then-not-take_sign : goal.more_tests-returns-then-not-tak
 more_tests-returns-then-not-take_sign t c below first stood =
     parts_last (c.loop-left.invariant.going below first stood) c.loop-left-test.true c.in_ok-test.ensures
     (passed _ _ _ _ _ c.if-not-take_sign.true c.take_sign.ensures.taken c.joint_text.ensures) (c.take_sign.ensures.kept c.if-not-take_sign.true)
-    c.in_ok-several.ensures
+    c.in_ok-join_tests.ensures
 
 pub more_tests-loop-left-preserved : goal.more_tests-loop-left-preserved
 more_tests-loop-left-preserved t c = record {
   counted = omega (arith, c.loop-left.invariant.counted);
+  some = omega (arith, c.loop-left.invariant.some);
   there = grind (arith, length-append);
   going = λ below first stood.
       parts_more (c.loop-left.invariant.going below first stood) c.loop-left-test.true c.in_ok-test.ensures

@@ -42,8 +42,8 @@ decreases-side l = 5 * l.budget + 3
 abbrev pub decreases-operand : goal.decreases-operand
 decreases-operand l = 5 * l.budget
 
-abbrev pub decreases-signed : goal.decreases-signed
-decreases-signed l = 5 * l.budget + 1
+abbrev pub decreases-signed_operand : goal.decreases-signed_operand
+decreases-signed_operand l = 5 * l.budget + 1
 
 abbrev pub decreases-atom : goal.decreases-atom
 decreases-atom l = 5 * l.budget
@@ -52,6 +52,7 @@ decreases-atom l = 5 * l.budget
 abbrev pub invariant-more_tests-loop-left : goal.invariant-more_tests-loop-left
 invariant-more_tests-loop-left l = record {
   counted : l.count + l.left ≡ l.budget + 1;
+  some : 1 ≤ l.count;
   there : l.count ≤ length l.stack;
   going : PartsStand l.joint l.budget l.left l.count l.fn.stack l.stack l.cursor
       (λ first. more_tests_at l.budget l.joint first l.fn.cursor);

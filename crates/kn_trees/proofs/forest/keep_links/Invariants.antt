@@ -1,10 +1,13 @@
-use Rattle.std.proofs.Common.{◌≡◌, ◌+◌, ◌≤◌, ◌++◌, length, take, vec_capacity, vec_len}
-use Rattle.kn_trees.specs.Tops.{links_to}
+use Rattle.std.proofs.Common.{◌≡◌, ◌+◌, ◌≤◌, ◌++◌, length, drop, vec_capacity, vec_len}
+use Rattle.kn_trees.specs.Roots.{links_to}
 use Rattle.kn_trees.proofs.forest.keep_links.Given as goal
 
-abbrev pub invariant-loop-k : goal.invariant-loop-k
-invariant-loop-k l = record {
-  items : l.pool.items ≡ l.fn.pool.items ++ links_to (take l.k l.signs) l.rights;
-  count : vec_len l.pool ≡ vec_len l.fn.pool + l.k;
+-- what is left is still to be kept
+abbrev pub invariant-loop-sign : goal.invariant-loop-sign
+invariant-loop-sign l = record {
+  items :
+      l.pool.items ++ links_to (drop (length l.yielded) l.signs) (drop (length l.yielded) l.rights)
+      ≡ l.fn.pool.items ++ links_to l.signs l.rights;
+  count : vec_len l.pool ≡ vec_len l.fn.pool + length l.yielded;
   room : vec_len l.fn.pool + length l.signs ≤ vec_capacity l.pool;
 }

@@ -7,12 +7,15 @@ use Rattle.kn_trees.proofs.Forests.{length-trees_of, tree_at-trees_of}
 use Rattle.kn_trees.proofs.form.form_at.Goals.{In-Some}
 use Rattle.kn_trees.proofs.form.form_at.Goals as goal
 
-node_is : (c : In-Some) → tree_at c.args.forest.now c.args.place ≡ tree_of (pools c.forest.inside.parts.items c.forest.inside.links.items c.forest.inside.bytes.items) c.args.forest.now c.in-Some.node.now
+node_is : (c : In-Some)
+    → tree_at c.args.forest.now c.args.place
+    ≡ tree_of (pools c.forest.inside.parts.items c.forest.inside.links.items c.forest.inside.bytes.items) c.args.forest.now c.in-Some.node.now
 node_is c =
     let f = c.forest.inside in
     let ps = pools f.parts.items f.links.items f.bytes.items in
     let node = c.in-Some.node.now in
-    let read : node ≡ get_or f.nodes.items c.args.place node = c.in-Some.ensures.lookup.1 ∙ ap (λ nodes. get_or nodes c.args.place node) c.deref.ensures.value in
+    let read : node ≡ get_or f.nodes.items c.args.place node =
+    c.in-Some.ensures.lookup.1 ∙ ap (λ nodes. get_or nodes c.args.place node) c.deref.ensures.value in
     let inside : c.args.place < length f.nodes.items = omega (arith, length-trees_of ps f.nodes.items, ap length c.forest.view_is) in
     let found = tree_at-trees_of ps f.nodes.items c.args.place node inside c.forest.invariant in
     rw (← read) at (rw c.forest.view_is at found)

@@ -1,12 +1,12 @@
 use Rattle.kn_trees.specs.Forests.{no_pools, tree_of}
 use Rattle.kn_trees.proofs.stack.put.Goals as goal
 
-pub returns-clause-tops : goal.returns-clause-tops
-returns-clause-tops c =
+pub returns-clause-roots : goal.returns-clause-roots
+returns-clause-roots c =
     let tree = tree_of no_pools c.args.forest.now c.args.node in
-    rw c.in_ok-place.ensures.ok (c.put_top.ensures.tops c.args.forest.now tree c.in_ok-place.ensures.place c.requires.kind c.requires.tops)
+    rw c.in_ok-place.ensures.ok (c.put_root.ensures.roots c.args.forest.now tree c.in_ok-place.ensures.place c.requires.kind c.requires.roots)
 
 pub returns-clause-ok : goal.returns-clause-ok
 returns-clause-ok c =
     let tree = tree_of no_pools c.args.forest.now c.args.node in
-    rw c.in_ok-place.ensures.ok (c.put_top.ensures.ok c.args.forest.now tree c.in_ok-place.ensures.place c.requires.tops)
+    rw c.in_ok-place.ensures.ok (c.put_root.ensures.ok c.args.forest.now tree c.in_ok-place.ensures.place c.requires.roots)

@@ -13,7 +13,8 @@ returns-in_err-place-clause-err c =
 pub invariant_of-self-2 : goal.invariant_of-self-2
 invariant_of-self-2 c =
     let f = c.self.inside in
-    forest-chain f.parts.items f.links.items f.bytes.items f.nodes.items c.self.invariant c.args.signs.now c.args.rights.now _ c.in_ok-rest.ensures.ok _
+    forest-chain f.parts.items f.links.items f.bytes.items f.nodes.items c.self.invariant
+    c.args.signs.now c.args.rights.now _ c.in_ok-rest.ensures.ok _
     c.in_ok-rest.rest c.in_ok-rest.ensures.span c.requires.pairs c.args.first c.in_ok-place.ensures.ok c.keep_links.ensures.short
     (rw c.self.view_is c.requires.rights) (rw c.self.view_is c.requires.first)
 
@@ -21,5 +22,6 @@ pub returns-clause-ok : goal.returns-clause-ok
 returns-clause-ok c =
     let f = c.self.inside in
     rw (← c.self.view_is)
-    (trees-chain f.parts.items f.links.items f.bytes.items f.nodes.items c.self.invariant c.args.signs.now c.args.rights.now _ c.in_ok-rest.ensures.ok _
+    (trees-chain f.parts.items f.links.items f.bytes.items f.nodes.items c.self.invariant
+    c.args.signs.now c.args.rights.now _ c.in_ok-rest.ensures.ok _
     c.in_ok-rest.rest c.in_ok-rest.ensures.span c.requires.pairs c.args.first c.in_ok-place.ensures.ok)

@@ -5,7 +5,9 @@ use Rattle.kn_trees.proofs.forest.Forest.add_text.Goals as goal
 pub returns-in_err-place-clause-err : goal.returns-in_err-place-clause-err
 returns-in_err-place-clause-err c =
     let f = c.self.inside in
-    let same = trees-bytes_kept f.parts.items f.links.items f.bytes.items f.nodes.items c.self.invariant c.args.value.now _ c.in_ok-span.ensures.ok _ c.in_err-place.ensures.err in
+    let same =
+    trees-bytes_kept f.parts.items f.links.items f.bytes.items f.nodes.items c.self.invariant
+    c.args.value.now _ c.in_ok-span.ensures.ok _ c.in_err-place.ensures.err in
     on_err_always c.from_residual-in_err-place.result (same ∙ c.self.view_is)
 
 pub returns-clause-ok : goal.returns-clause-ok

@@ -1,22 +1,24 @@
 use Rattle.std.proofs.Common.{◌∙◌}
 use Rattle.kn_trees.specs.Forests.{tree_at}
 use Rattle.kn_trees.proofs.Kinded.{kind_of-Minus}
-use Rattle.kn_trees.proofs.Tops.{tops-last, tops-rest, trees-split}
+use Rattle.kn_trees.proofs.Roots.{roots-last, roots-rest, trees-split}
 use Rattle.kn_trees.proofs.stack.ExprStack.apply_minus.Goals as goal
 
 pub put-requires-clause-kind : goal.put-requires-clause-kind
 put-requires-clause-kind c =
     let s = c.self.inside in
-    let top = tops-last s.forest s.tops.items c.take_top-part.new.tops.items c.take_top-part.result c.take_top-part.ensures c.self.invariant in
-    rw (c.gives-kind.ensures, c.is_whole.ensures, top.kind, kind_of-Minus (tree_at s.forest c.take_top-part.result.place))
+    let root = roots-last s.forest s.roots.items c.take_root-part.new.roots.items c.take_root-part.result c.take_root-part.ensures c.self.invariant in
+    rw (c.gives-kind.ensures, c.is_whole.ensures, root.kind, kind_of-Minus (tree_at s.forest c.take_root-part.result.place))
 
-pub put-requires-clause-tops : goal.put-requires-clause-tops
-put-requires-clause-tops c =
+pub put-requires-clause-roots : goal.put-requires-clause-roots
+put-requires-clause-roots c =
     let s = c.self.inside in
-    tops-rest s.forest s.tops.items c.take_top-part.new.tops.items c.take_top-part.result c.take_top-part.ensures c.self.invariant
+    roots-rest s.forest s.roots.items c.take_root-part.new.roots.items c.take_root-part.result c.take_root-part.ensures c.self.invariant
 
 pub returns : goal.returns
 returns c = λ front part same.
     let s = c.self.inside in
-    let split = trees-split s.forest s.tops.items c.take_top-part.new.tops.items c.take_top-part.result c.take_top-part.ensures front part (c.self.view_is ∙ same) in
+    let split =
+    trees-split s.forest s.roots.items c.take_root-part.new.roots.items c.take_root-part.result c.take_root-part.ensures front part
+    (c.self.view_is ∙ same) in
     rw (split.0, split.1) at c.put.ensures.ok

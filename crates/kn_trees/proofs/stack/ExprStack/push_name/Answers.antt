@@ -5,8 +5,11 @@ use Rattle.kn_trees.proofs.stack.ExprStack.push_name.Goals as goal
 
 pub invariant_of-self-2 : goal.invariant_of-self-2
 invariant_of-self-2 c =
-    rw c.in_ok-place.ensures.ok (c.put_top.ensures.tops c.self.inside.forest (E.Name c.args.name.now) c.in_ok-place.ensures.place (sym (kind_of-Name c.args.name.now)) c.self.invariant)
+    rw c.in_ok-place.ensures.ok
+    (c.put_root.ensures.roots c.self.inside.forest (E.Name c.args.name.now) c.in_ok-place.ensures.place
+    (sym (kind_of-Name c.args.name.now)) c.self.invariant)
 
 pub returns : goal.returns
 returns c =
-    rw (← c.self.view_is, c.in_ok-place.ensures.ok) (c.put_top.ensures.ok c.self.inside.forest (E.Name c.args.name.now) c.in_ok-place.ensures.place c.self.invariant)
+    rw (← c.self.view_is, c.in_ok-place.ensures.ok)
+    (c.put_root.ensures.ok c.self.inside.forest (E.Name c.args.name.now) c.in_ok-place.ensures.place c.self.invariant)

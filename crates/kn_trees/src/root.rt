@@ -3,7 +3,7 @@ use crate::kinds::Kind;
 
 /// A tree of a forest by its place, with its kind.
 #[derive(Debug, Clone, Copy)]
-pub(crate) struct Top {
+pub(crate) struct Root {
     pub place: u32,
     pub kind: Option<Kind>,
 }
