@@ -11,8 +11,9 @@ use std::alloc::Global;
 use std::thread;
 use std::thread::Threads;
 
-/// The threads that read the texts of a file.
-const READERS: usize = 4;
+/// The threads that read the texts of a file: more than most machines have processors, so that less is left to wait for
+/// where one of them starts late or is held up.
+const READERS: usize = 8;
 
 /// Fewer texts are read by one thread, since starting others takes longer than reading these.
 const FEWEST_FOR_READERS: usize = 64;
