@@ -7,13 +7,14 @@
 #   dense      one condition of short tests, 2 KiB each
 #   licensees  a hundred principals joined by ||, 2 KiB each
 #
-# Each time is the least of several runs, with the start of the program in it.
+# Each time is the least of several runs, with the start of the program in it. The three programs run in turn, since the
+# machine's own speed may change meanwhile.
 #
 # Usage: load.sh [RUNS]
 set -u
 
 top=$(cd "$(dirname "${BASH_SOURCE[0]}")/.." && pwd -P) || exit 1
-runs=${1:-9}
+runs=${1:-15}
 room=$(mktemp -d) || exit 1
 trap 'rm -rf "$room"' EXIT
 
@@ -82,17 +83,20 @@ def licensees(i):
     return filled(f'Authorizer: "p{i}"\nLicensees: {names}\nComment: ')
 
 
-def seconds(*command):
-    """The least time of some runs of a command that writes little."""
-    least = None
-    for _ in range(runs):
-        start = time.perf_counter()
-        ran = subprocess.run(command, stdin=subprocess.DEVNULL, capture_output=True)
-        spent = time.perf_counter() - start
-        if ran.returncode != 0:
-            sys.exit(f"{command[0]} ended with {ran.returncode}: {ran.stdout!r}")
-        least = spent if least is None else min(least, spent)
-    return least
+def seconds(command):
+    """The time of one run of a command that writes little."""
+    start = time.perf_counter()
+    ran = subprocess.run(command, stdin=subprocess.DEVNULL, capture_output=True)
+    spent = time.perf_counter() - start
+    if ran.returncode != 0:
+        sys.exit(f"{command[0]} ended with {ran.returncode}: {ran.stdout!r}")
+    return spent
+
+
+def least_seconds(*commands):
+    """The least time of each command over some runs of all in turn."""
+    rounds = [[seconds(command) for command in commands] for _ in range(runs)]
+    return [min(times) for times in zip(*rounds)]
 
 
 print(f"loading {COUNT} assertions, the least of {runs} runs; how many times as long as `wc -l` and `sha256sum` that takes")
@@ -102,7 +106,6 @@ for policy in (short, comments, dense, licensees):
     with open(name, "w") as file:
         file.write("\n".join(map(policy, range(COUNT))))
     size = os.path.getsize(name)
-    asked = seconds(program, "ask", name)
-    lines, hashed = seconds("wc", "-l", name), seconds("sha256sum", name)
+    asked, lines, hashed = least_seconds([program, "ask", name], ["wc", "-l", name], ["sha256sum", name])
     print(f"{policy.__name__:10} {size:8} {asked:8.4f} {size / 1e6 / asked:6.1f} {asked / lines:6.1f} {asked / hashed:9.1f}")
 PYTHON
