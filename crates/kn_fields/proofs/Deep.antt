@@ -58,7 +58,7 @@ few_tokens xs from to le within few = grind (arith, between_length xs from to le
 
 -- token by token
 
-pub deep_step : (xs : List Seen) (i to : ℕ) (t : Seen) (depth run more_depth more_run : ℕ) (all : Bool) → all ≡ goes_deep depth run (between i to xs) → Some t ≡ slice_get xs i → i < to
+deep_step : (xs : List Seen) (i to : ℕ) (t : Seen) (depth run more_depth more_run : ℕ) (all : Bool) → all ≡ goes_deep depth run (between i to xs) → Some t ≡ slice_get xs i → i < to
     → more_depth ≡ depth_behind depth t → more_run ≡ run_behind run t → is_past more_depth more_run ≡ false → all ≡ goes_deep more_depth more_run (between (i + 1) to xs)
 unfolding goes_deep
 deep_step xs i to t depth run more_depth more_run all e is below d r past = grind (arith, between_here xs i to t (sym is) below)

@@ -1,4 +1,4 @@
--- What the private readers give: the first fault, computed.
+-- What a walk over tokens gives: where a field stands, the first fault, and whether they go too deep.
 use Rattle.std.specs.Prelude.{◌≡◌, ℕ, Bool, List, [], ◌∷◌, ◌++◌, Option, Some, None, if◌then◌else◌, ◌&&◌, ◌||◌, not, nat_lt, true, false, map}
 use Rattle.std.specs.List.{list_all}
 use Rattle.std.specs.Option.{option_or}

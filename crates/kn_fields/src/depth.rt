@@ -70,17 +70,17 @@ pub fn goes_deep(tokens: &Tokens<'_>, from: u32, to: u32) -> bool
     let mut depth: u32 = 0;
     let mut run: u32 = 0;
     for i in from..to {
-        if let Some(token) = tokens.get(i) {
-            match sign_byte(token) {
-                Some(byte) => {
-                    depth = depth_behind(depth, byte);
-                    run = run_behind(run, byte);
-                    if is_past(depth, run) {
-                        return true;
-                    }
-                }
-                None => run = 0,
-            }
+        let Some(token) = tokens.get(i) else {
+            continue;
+        };
+        let Some(byte) = sign_byte(token) else {
+            run = 0;
+            continue;
+        };
+        depth = depth_behind(depth, byte);
+        run = run_behind(run, byte);
+        if is_past(depth, run) {
+            return true;
         }
     }
     false

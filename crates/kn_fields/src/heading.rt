@@ -1,5 +1,5 @@
 //! The labels among the tokens of a text, each with its field.
-ghost use Rattle.std.specs.Prelude.{◌≡◌, ◌≤◌, ◌+◌, not, length, drop, slice_get, find, IfOk};
+ghost use Rattle.std.specs.Prelude.{◌≡◌, ◌≤◌, ◌+◌, not, [], ◌∷◌, ◌++◌, length, drop, slice_get, find, IfOk, OnOk};
 ghost use Rattle.std.specs.List.{prefix_len, list_any};
 ghost use Rattle.std.specs.Option.{option_copied, option_and_then};
 ghost use Rattle.kn_fields.specs.Fields.{is_this, is_label, field_of, fields_of, between, AreHeadings};
@@ -7,13 +7,14 @@ ghost use Rattle.kn_fields.specs.Scanning.{is_stray, PartIs};
 
 use crate::label::{field_of, is_label};
 use crate::part::Part;
-use kn_base::{List, NoMemory};
+use kn_base::NoMemory;
 use kn_lex::Tokens;
+use smallvec::SmallVec;
 use std::alloc::Global;
 use std::marker::Model;
 
 /// What a label tells of its field.
-#[derive(Debug, Clone, Copy)]
+#[derive(Debug, Clone, Copy, Default)]
 pub struct Heading {
     /// Where the field stands.
     pub part: Part,
@@ -33,11 +34,15 @@ impl Heading {
     }
 }
 
+// The headings of a text. Up to eight, more than there are fields, take no memory beyond the value itself.
+type Headings = SmallVec<Heading, 8>;
+
 /// The tokens of a text, with what each label tells of its field. It is seen as the list of the tokens.
 #[derive(Debug, Drop)]
 pub struct LabelledTokens<'a> {
     tokens: Tokens<'a>,
-    headings: List<Heading>,
+    /// A place that isn't used holds the default.
+    headings: Headings,
     /// Whether a token begins a line and is no label.
     has_stray: bool,
 }
@@ -53,7 +58,7 @@ impl<'a> Model for LabelledTokens<'a> {
 
     ghost view = { λ l. l.tokens };
 
-    ghost invariant = { λ l. AreHeadings l.tokens (fields_of l.tokens) l.headings × (l.has_stray ≡ list_any is_stray l.tokens) };
+    ghost invariant = { λ l. AreHeadings l.tokens (fields_of l.tokens) l.headings.items × (l.has_stray ≡ list_any is_stray l.tokens) };
 }
 
 impl<'a> LabelledTokens<'a> {
@@ -61,7 +66,7 @@ impl<'a> LabelledTokens<'a> {
     pub(crate) fn of(alloc: Global, tokens: Tokens<'a>) -> Result<LabelledTokens<'a>, NoMemory>
         ensures { IfOk result (λ labelled. labelled ≡ tokens.entry) }
     {
-        let mut headings = List::new(alloc);
+        let mut headings = SmallVec::new(alloc);
         let Stretch {
             end: mut label,
             mut has_stray,
@@ -69,10 +74,9 @@ impl<'a> LabelledTokens<'a> {
         while label < tokens.len() {
             let behind = stretch_from(&tokens, label + 1);
             let end = behind.end;
-            headings.add(Heading {
-                part: Part { label, end },
-                number: number_at(&tokens, label),
-            })?;
+            let part = Part { label, end };
+            let number = number_at(&tokens, label);
+            add_heading(&mut headings, Heading { part, number })?;
             has_stray |= behind.has_stray;
             label = end;
         }
@@ -112,6 +116,15 @@ impl<'a> LabelledTokens<'a> {
             Some(heading) => Some(heading.part),
             None => None,
         }
+    }
+}
+
+fn add_heading(headings: &mut Headings, heading: Heading) -> Result<(), NoMemory>
+    ensures { OnOk result (headings.new.items ≡ headings.old.items ++ heading ∷ []) }
+{
+    match headings.push(heading) {
+        Ok(()) => Ok(()),
+        Err(_) => Err(NoMemory),
     }
 }
 
