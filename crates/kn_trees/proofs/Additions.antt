@@ -1,12 +1,15 @@
 -- What a forest is once texts, lists of parts and operations are added to it.
-use Rattle.std.proofs.Common.{◌≡◌, ℕ, zero, suc, ◌+◌, ◌<◌, ◌^◌, List, [], ◌∷◌, ◌++◌, length, map, Result, Ok, Err, OnErr, refl, sym, ap, subst, ◌∙◌, arith, length-append}
+use Rattle.std.proofs.Common.{◌≡◌, ℕ, ◌+◌, ◌<◌, ◌^◌, List, [], ◌∷◌, ◌++◌, length, map, Result, Ok, Err, refl, sym, ap, subst, ◌∙◌, arith, length-append}
+use mathlib.Core.List.{map-map}
+use Rattle.std.specs.Prelude.{IsErrAnd}
 use Rattle.std.specs.List.{All}
-use Rattle.std.proofs.lemmas.List.{append-nil, length-map}
-use Rattle.std.proofs.lemmas.List.Elements.{All-map}
+use Rattle.std.proofs.lemmas.List.{append-nil}
+use Rattle.std.proofs.lemmas.List.Elements.{All-cons, All-head, All-map, All-nil, All-tail}
 use Rattle.kn_base.specs.declared.span.Span.{Span}
 use Rattle.kn_trees.specs.Forms.{link, links_of}
-use Rattle.kn_trees.specs.Forests.{Pools, pools, run, tree_at, link_at, tree_of, trees_of, IsWithin, IsPlaced, AreShort, IsForest}
+use Rattle.kn_trees.specs.Forests.{Pools, pools, run, tree_at, link_at, tree_of, trees_of, IsWithin, IsPlaced, AreShort, IsForest, IsAdded}
 use Rattle.kn_trees.specs.Roots.{IsRoot, trees_at, links_to}
+use Rattle.kn_trees.specs.Signs.{joined, leaf_of}
 use Rattle.kn_trees.specs.declared.program.Expr.{Expr}
 use Rattle.kn_trees.specs.declared.program.Expr.TheVariants as E
 use Rattle.kn_trees.specs.declared.program.Operation.{Operation}
@@ -14,13 +17,15 @@ use Rattle.kn_trees.specs.declared.forest.LinkNode.{LinkNode}
 use Rattle.kn_trees.specs.declared.forest.Node.{Node}
 use Rattle.kn_trees.specs.declared.forest.Node.TheVariants as N
 use Rattle.kn_trees.specs.declared.root.Root.{Root}
+use Rattle.kn_trees.specs.declared.signs.Joint.{Joint}
+use Rattle.kn_trees.specs.declared.signs.Leaf.{Leaf}
 use Rattle.kn_trees.proofs.Forests.{AreGrown, run-added, length-trees_of, IsForest-grown, trees_of-grown, IsForest-push, trees_of-push}
-use Rattle.kn_trees.proofs.Roots.{length-links_to}
 
--- a fact that holds at any rate
-pub on_err_always : {T E P : Type 0} (r : Result T E) → P → OnErr r P
-on_err_always (Ok value) holds = tt
-on_err_always (Err error) holds = holds
+-- what is told where trees stay
+pub not_added : {E : Type 0} (P : E → Type 0) (old : List Expr) (tree : Expr) (new : List Expr) (r : Result ℕ E)
+    → IsErrAnd r P → new ≡ old → IsAdded old tree new r
+not_added P old tree new (Ok place) failed same = absurd failed
+not_added P old tree new (Err error) failed same = record { place = tt; ok = tt; err = same }
 
 -- pools that have grown, and a node
 module _ (old new : Pools) (nodes : List Node) (grown : AreGrown old new) (forest : IsForest old nodes) where
@@ -53,10 +58,6 @@ module _ {X : Type 0} (old more new : List X) (span : Span) (grown : new ≡ old
   run-new : run new span ≡ more
   run-new = ap (λ pool. run pool span) grown ∙ run-added old more span.start span.end next.0 (omega (arith, next.0, next.1))
 
-map-map : {X Y Z : Type 0} (f : Y → Z) (g : X → Y) (xs : List X) → map f (map g xs) ≡ map (λ x. f (g x)) xs
-map-map f g [] = refl
-map-map f g (x ∷ xs) = ap (λ ys. f (g x) ∷ ys) (map-map f g xs)
-
 abbrev places_of : List Root → List ℕ
 places_of roots = map (λ root. root.place) roots
 
@@ -69,10 +70,12 @@ module _ (trees : List Expr) where
 
   module _ (count : ℕ) (all : length trees ≡ count) where
     rights_below : (signs : List Operation) (roots : List Root) → All (IsRoot trees) roots → All (λ l. l.right < count) (links_to signs roots)
-    rights_below [] roots here k d h = absurd (omega arith)
-    rights_below (sign ∷ signs) [] here k d h = absurd (omega arith)
-    rights_below (sign ∷ signs) (root ∷ roots) here zero d h = omega (arith, (here 0 root (omega arith)).inside)
-    rights_below (sign ∷ signs) (root ∷ roots) here (suc k) d h = rights_below signs roots (λ j e i. here (suc j) e (omega arith)) k d (omega arith)
+    rights_below [] roots here = All-nil (λ l. l.right < count)
+    rights_below (sign ∷ signs) [] here = All-nil (λ l. l.right < count)
+    rights_below (sign ∷ signs) (root ∷ roots) here =
+        let first : root.place < count = omega (arith, (All-head (IsRoot trees) root roots here).inside) in
+        All-cons (λ l. l.right < count) (record { sign = sign; right = root.place }) (links_to signs roots) first
+        (rights_below signs roots (All-tail (IsRoot trees) root roots here))
 
     places_below : (roots : List Root) → All (IsRoot trees) roots → All (λ part. part < count) (places_of roots)
     places_below roots here = All-map (λ part. part < count) (λ (root : Root). root.place) roots (λ k d h. omega (arith, (here k d h).inside))
@@ -96,13 +99,21 @@ module _ (parts : List ℕ) (links : List LinkNode) (bytes : List ℕ) (nodes : 
       text_is : run pool span ≡ more
       text_is = run-new bytes more pool span grown next
 
-      pub trees-text : after ≡ nodes ++ N.Text span ∷ [] → trees_of (pools parts links pool) after ≡ trees ++ E.Text more ∷ []
-      trees-text pushed =
-          trees_of-grown_push old (pools parts links pool) nodes bytes_grown forest (N.Text span) after pushed (E.Text more) (ap E.Text text_is)
+      -- the node of a text or a name
+      module _ (leaf : Leaf) (node : Node) (pushed : after ≡ nodes ++ node ∷ []) where
+        pub trees-leaf : tree_of (pools parts links pool) trees node ≡ leaf_of leaf (run pool span)
+            → trees_of (pools parts links pool) after ≡ trees ++ leaf_of leaf more ∷ []
+        trees-leaf is =
+            trees_of-grown_push old (pools parts links pool) nodes bytes_grown forest node after pushed (leaf_of leaf more)
+            (is ∙ ap (leaf_of leaf) text_is)
 
-      pub trees-name : after ≡ nodes ++ N.Name span ∷ [] → trees_of (pools parts links pool) after ≡ trees ++ E.Name more ∷ []
-      trees-name pushed =
-          trees_of-grown_push old (pools parts links pool) nodes bytes_grown forest (N.Name span) after pushed (E.Name more) (ap E.Name text_is)
+        pub forest-leaf : length pool < 2 ^ 32
+            → ((ps : Pools) (place : ℕ) → IsWithin (length ps.bytes) span → IsPlaced ps place node)
+            → IsForest (pools parts links pool) after
+        forest-leaf short here =
+            IsForest-grown_push old (pools parts links pool) nodes bytes_grown forest node after pushed
+            (record { parts = forest.short.parts; links = forest.short.links; bytes = short })
+            (here (pools parts links pool) (length nodes) (IsWithin-new bytes more pool span grown next))
 
   -- parts that are added
   module _ (forest : IsForest old nodes) (roots : List Root) (pool : List ℕ) (grown : pool ≡ parts ++ places_of roots) (after : List Node) where
@@ -112,25 +123,19 @@ module _ (parts : List ℕ) (links : List LinkNode) (bytes : List ℕ) (nodes : 
     pub trees-parts_kept : after ≡ nodes → trees_of (pools pool links bytes) after ≡ trees
     trees-parts_kept same = trees_of-kept old (pools pool links bytes) nodes parts_grown forest after same
 
-    module _ (span : Span) (next : IsNext parts roots span) where
-      next_places : IsNext parts (places_of roots) span
-      next_places = (next.0, next.1 ∙ ap (λ n. length parts + n) (sym (length-map roots (λ (root : Root). root.place))))
-
+    module _ (span : Span) (next : IsNext parts (places_of roots) span) where
       places_are : run pool span ≡ places_of roots
-      places_are = run-new parts (places_of roots) pool span grown next_places
+      places_are = run-new parts (places_of roots) pool span grown next
 
       parts_are : map (tree_at trees) (run pool span) ≡ trees_at trees roots
       parts_are = ap (map (tree_at trees)) places_are ∙ map-map (tree_at trees) (λ (root : Root). root.place) roots
 
-      pub trees-and : after ≡ nodes ++ N.And span ∷ [] → trees_of (pools pool links bytes) after ≡ trees ++ E.And (trees_at trees roots) ∷ []
-      trees-and pushed =
-          trees_of-grown_push old (pools pool links bytes) nodes parts_grown forest (N.And span) after pushed (E.And (trees_at trees roots))
-          (ap E.And parts_are)
-
-      pub trees-or : after ≡ nodes ++ N.Or span ∷ [] → trees_of (pools pool links bytes) after ≡ trees ++ E.Or (trees_at trees roots) ∷ []
-      trees-or pushed =
-          trees_of-grown_push old (pools pool links bytes) nodes parts_grown forest (N.Or span) after pushed (E.Or (trees_at trees roots))
-          (ap E.Or parts_are)
+      pub trees-joined : (joint : Joint) (node : Node) → after ≡ nodes ++ node ∷ []
+          → tree_of (pools pool links bytes) trees node ≡ joined joint (map (tree_at trees) (run pool span))
+          → trees_of (pools pool links bytes) after ≡ trees ++ joined joint (trees_at trees roots) ∷ []
+      trees-joined joint node pushed is =
+          trees_of-grown_push old (pools pool links bytes) nodes parts_grown forest node after pushed (joined joint (trees_at trees roots))
+          (is ∙ ap (joined joint) parts_are)
 
       module _ (short : length pool < 2 ^ 32) (here : All (IsRoot trees) roots) where
         parts_short : AreShort (pools pool links bytes)
@@ -139,14 +144,14 @@ module _ (parts : List ℕ) (links : List LinkNode) (bytes : List ℕ) (nodes : 
         parts_placed : IsWithin (length pool) span × All (λ part. part < length nodes) (run pool span)
         parts_placed =
             let below = places_below trees (length nodes) (length-trees_of old nodes) roots here in
-            (IsWithin-new parts (places_of roots) pool span grown next_places, subst (All (λ part. part < length nodes)) (sym places_are) below)
+            (IsWithin-new parts (places_of roots) pool span grown next, subst (All (λ part. part < length nodes)) (sym places_are) below)
 
-        pub forest-and : after ≡ nodes ++ N.And span ∷ [] → IsForest (pools pool links bytes) after
-        forest-and pushed =
-            IsForest-grown_push old (pools pool links bytes) nodes parts_grown forest (N.And span) after pushed parts_short parts_placed
-
-        pub forest-or : after ≡ nodes ++ N.Or span ∷ [] → IsForest (pools pool links bytes) after
-        forest-or pushed = IsForest-grown_push old (pools pool links bytes) nodes parts_grown forest (N.Or span) after pushed parts_short parts_placed
+        pub forest-joined : (node : Node) → after ≡ nodes ++ node ∷ []
+            → ((ps : Pools) (place : ℕ) → IsWithin (length ps.parts) span → All (λ part. part < place) (run ps.parts span) → IsPlaced ps place node)
+            → IsForest (pools pool links bytes) after
+        forest-joined node pushed placed =
+            IsForest-grown_push old (pools pool links bytes) nodes parts_grown forest node after pushed parts_short
+            (placed (pools pool links bytes) (length nodes) parts_placed.0 parts_placed.1)
 
   -- operations that are added
   module _ (forest : IsForest old nodes) (signs : List Operation) (roots : List Root) (pool : List LinkNode)
@@ -157,13 +162,9 @@ module _ (parts : List ℕ) (links : List LinkNode) (bytes : List ℕ) (nodes : 
     pub trees-links_kept : after ≡ nodes → trees_of (pools parts pool bytes) after ≡ trees
     trees-links_kept same = trees_of-kept old (pools parts pool bytes) nodes links_grown forest after same
 
-    module _ (span : Span) (next : IsNext links signs span) (pairs : length roots ≡ length signs) (first : ℕ)
-        (pushed : after ≡ nodes ++ N.Chain first span ∷ []) where
-      next_links : IsNext links (links_to signs roots) span
-      next_links = (next.0, next.1 ∙ ap (λ n. length links + n) (sym (length-links_to signs roots (omega arith))))
-
+    module _ (span : Span) (next : IsNext links (links_to signs roots) span) (first : ℕ) (pushed : after ≡ nodes ++ N.Chain first span ∷ []) where
       links_are : run pool span ≡ links_to signs roots
-      links_are = run-new links (links_to signs roots) pool span grown next_links
+      links_are = run-new links (links_to signs roots) pool span grown next
 
       abbrev chain : Expr
       chain = E.Chain (tree_at trees first) (links_of signs (trees_at trees roots))
@@ -178,7 +179,7 @@ module _ (parts : List ℕ) (links : List LinkNode) (bytes : List ℕ) (nodes : 
       forest-chain short here inside =
           let all : length trees ≡ length nodes = length-trees_of old nodes in
           let ordered : first < length nodes = omega arith in
-          let within = IsWithin-new links (links_to signs roots) pool span grown next_links in
+          let within = IsWithin-new links (links_to signs roots) pool span grown next in
           let below = rights_below trees (length nodes) all signs roots here in
           IsForest-grown_push old (pools parts pool bytes) nodes links_grown forest (N.Chain first span) after pushed
           (record { parts = forest.short.parts; links = short; bytes = forest.short.bytes })

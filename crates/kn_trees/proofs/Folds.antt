@@ -45,14 +45,21 @@ module _ (X : Type 0) (Y : Type 0) (step : Expr-F X Y → X) (link_step : Link2-
   pub fold-Or : (parts : List Expr) → fold-Expr X Y step link_step (Or parts) ≡ step (open_Or (map (fold-Expr X Y step link_step) parts))
   fold-Or parts = ap (fold-Expr X Y step link_step) (sym (rolls-Or parts)) ∙ fold-roll-Expr X Y step link_step (open_Or parts)
 
-  pub fold-Compare : (sign : Comparison) (left right : Expr) → fold-Expr X Y step link_step (Compare sign left right) ≡ step (open_Compare sign (fold-Expr X Y step link_step left) (fold-Expr X Y step link_step right))
-  fold-Compare sign left right = ap (fold-Expr X Y step link_step) (sym (rolls-Compare sign left right)) ∙ fold-roll-Expr X Y step link_step (open_Compare sign left right)
+  pub fold-Compare : (sign : Comparison) (left right : Expr)
+      → fold-Expr X Y step link_step (Compare sign left right)
+      ≡ step (open_Compare sign (fold-Expr X Y step link_step left) (fold-Expr X Y step link_step right))
+  fold-Compare sign left right =
+      ap (fold-Expr X Y step link_step) (sym (rolls-Compare sign left right)) ∙ fold-roll-Expr X Y step link_step (open_Compare sign left right)
 
-  pub fold-Link : (link : Link2) → fold-Link2 X Y step link_step link ≡ link_step (record { sign = link.sign; right = fold-Expr X Y step link_step link.right })
+  pub fold-Link : (link : Link2)
+      → fold-Link2 X Y step link_step link ≡ link_step (record { sign = link.sign; right = fold-Expr X Y step link_step link.right })
   fold-Link link = fold-roll-Link2 X Y step link_step (record { sign = link.sign; right = link.right })
 
-  pub fold-Chain : (first : Expr) (links : List Link2) → fold-Expr X Y step link_step (Chain first links) ≡ step (open_Chain (fold-Expr X Y step link_step first) (map (fold-Link2 X Y step link_step) links))
-  fold-Chain first links = ap (fold-Expr X Y step link_step) (sym (rolls-Chain first links)) ∙ fold-roll-Expr X Y step link_step (open_Chain first links)
+  pub fold-Chain : (first : Expr) (links : List Link2)
+      → fold-Expr X Y step link_step (Chain first links)
+      ≡ step (open_Chain (fold-Expr X Y step link_step first) (map (fold-Link2 X Y step link_step) links))
+  fold-Chain first links =
+      ap (fold-Expr X Y step link_step) (sym (rolls-Chain first links)) ∙ fold-roll-Expr X Y step link_step (open_Chain first links)
 
 module _ (X : Type 0) (Y : Type 0) (Z : Type 0) (then : Then-F X Y Z → X) (clause : Clause-F X Y Z → Y) (program : Program-F X Y Z → Z) where
   pub fold-Top : fold-Then X Y Z then clause program Top ≡ then open_Top
@@ -61,11 +68,15 @@ module _ (X : Type 0) (Y : Type 0) (Z : Type 0) (then : Then-F X Y Z → X) (cla
   pub fold-Value : (value : Expr) → fold-Then X Y Z then clause program (Value value) ≡ then (open_Value value)
   fold-Value value = ap (fold-Then X Y Z then clause program) (sym (rolls-Value value)) ∙ fold-roll-Then X Y Z then clause program (open_Value value)
 
-  pub fold-Block : (block : Program) → fold-Then X Y Z then clause program (Block block) ≡ then (open_Block (fold-Program X Y Z then clause program block))
+  pub fold-Block : (block : Program)
+      → fold-Then X Y Z then clause program (Block block) ≡ then (open_Block (fold-Program X Y Z then clause program block))
   fold-Block block = ap (fold-Then X Y Z then clause program) (sym (rolls-Block block)) ∙ fold-roll-Then X Y Z then clause program (open_Block block)
 
-  pub fold-one_clause : (one : Clause) → fold-Clause X Y Z then clause program one ≡ clause (record { test = one.test; then = fold-Then X Y Z then clause program one.then })
+  pub fold-one_clause : (one : Clause)
+      → fold-Clause X Y Z then clause program one ≡ clause (record { test = one.test; then = fold-Then X Y Z then clause program one.then })
   fold-one_clause one = fold-roll-Clause X Y Z then clause program (record { test = one.test; then = one.then })
 
-  pub fold-whole_program : (whole : Program) → fold-Program X Y Z then clause program whole ≡ program (record { clauses = map (fold-Clause X Y Z then clause program) (out-Program whole).clauses })
+  pub fold-whole_program : (whole : Program)
+      → fold-Program X Y Z then clause program whole
+      ≡ program (record { clauses = map (fold-Clause X Y Z then clause program) (out-Program whole).clauses })
   fold-whole_program whole = fold_out-Program X Y Z then clause program whole

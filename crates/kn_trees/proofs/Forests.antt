@@ -2,6 +2,7 @@
 use Rattle.std.proofs.Common.{◌≡◌, false, ℕ, zero, suc, ◌+◌, ◌-◌, ◌<◌, ◌≤◌, List, [], ◌∷◌, ◌++◌, fold, length, map, take, drop, get_or, refl, sym, ap, subst, inl, inr, ◌∙◌, arith, length-append}
 use Rattle.std.specs.List.{All, slice_range}
 use Rattle.std.proofs.lemmas.List.{take-append-le, drop-append-le, drop_at, take_all, length-drop, length_push, get_or_append_left, get_or_push, append_assoc, append-nil}
+use Rattle.std.proofs.lemmas.List.Elements.{All-head, All-tail}
 use Rattle.std.proofs.lemmas.Bool.{cases_lt}
 use Rattle.std.proofs.lemmas.List.Sums.{fold-append}
 use Rattle.kn_base.specs.declared.span.Span.{Span}
@@ -23,12 +24,12 @@ pub record AreGrown (old new : Pools) : Type 0 where
   pub links : Extends old.links new.links
   pub bytes : Extends old.bytes new.bytes
 
-map-same : {X Y : Type 0} (f g : X → Y) (xs : List X) → All (λ x. f x ≡ g x) xs → map f xs ≡ map g xs
+-- functions that are the same of each item
+pub map-same : {X Y : Type 0} (f g : X → Y) (xs : List X) → All (λ x. f x ≡ g x) xs → map f xs ≡ map g xs
 map-same f g [] same = refl
 map-same f g (x ∷ xs) same =
-    let rest : All (λ y. f y ≡ g y) xs = λ k d h. same (suc k) d (omega arith) in
-    let first : f x ≡ g x = same 0 x (omega arith) in
-    ap (λ y. y ∷ map f xs) first ∙ ap (λ ys. g x ∷ ys) (map-same f g xs rest)
+    let rest = map-same f g xs (All-tail (λ y. f y ≡ g y) x xs same) in
+    ap (λ y. y ∷ map f xs) (All-head (λ y. f y ≡ g y) x xs same) ∙ ap (λ ys. g x ∷ ys) rest
 
 -- a run stays where its pool grows
 run-append : {X : Type 0} (pool more : List X) (span : Span) → IsWithin (length pool) span → run (pool ++ more) span ≡ run pool span
@@ -95,7 +96,7 @@ IsPlaced-grown old new grown place (Chain first span) placed = (
   subst (All (λ l. l.right < place)) (sym (run-stays old.links new.links span grown.links placed.1)) placed.2,
 )
 
-tree_at-append : (trees more : List Expr) (place : ℕ) → place < length trees → tree_at (trees ++ more) place ≡ tree_at trees place
+pub tree_at-append : (trees more : List Expr) (place : ℕ) → place < length trees → tree_at (trees ++ more) place ≡ tree_at trees place
 tree_at-append trees more place inside = get_or_append_left trees more (E.Truth false) place inside
 
 trees_at-append : (trees more : List Expr) (place : ℕ) (parts : List ℕ) → place ≤ length trees → All (λ part. part < place) parts

@@ -12,6 +12,11 @@ use Rattle.kn_trees.specs.declared.program.Expr.TheFolds.{fold-Link2}
 use Rattle.kn_trees.specs.declared.program.Program.{Program, out-Program}
 use Rattle.kn_trees.specs.declared.program.Clause.{Clause}
 use Rattle.kn_trees.specs.declared.program.Then.TheVariants.{Top, Value, Block}
+use Rattle.kn_trees.specs.declared.signs.Joint.{Joint}
+use Rattle.kn_trees.specs.declared.signs.Joint.TheVariants as J
+use Rattle.kn_trees.specs.declared.signs.Leaf.{Leaf}
+use Rattle.kn_trees.specs.declared.signs.Leaf.TheVariants as L
+use Rattle.kn_trees.specs.Signs.{joined, leaf_of}
 use Rattle.kn_trees.specs.ExprKinds.{is_truth, is_whole, is_text, are_compared, gives, chain_kind, kind_step, link_step, kind_of}
 use Rattle.kn_trees.specs.Kinds.{program_step, clause_step, then_step, is_well_kinded, is_clause_well_kinded, is_then_well_kinded}
 use Rattle.kn_trees.proofs.Folds.{fold-Truth, fold-Whole, fold-Text, fold-Name, fold-Not, fold-Minus, fold-Number, fold-Deref, fold-And, fold-Or, fold-Compare, fold-Link, fold-Chain, fold-Top, fold-Value, fold-Block, fold-one_clause, fold-whole_program}
@@ -62,7 +67,16 @@ pub kind_of-Or : (parts : List Expr) → kind_of (Or parts) ≡ gives (list_all 
 unfolding kind_of
 kind_of-Or parts = fold-Or Found Linked kind_step link_step parts
 
-pub kind_of-Compare : (sign : Comparison) (left right : Expr) → kind_of (Compare sign left right) ≡ gives (are_compared (kind_of left) (kind_of right)) K.Truth
+pub kind_of-joined : (joint : Joint) (parts : List Expr) → kind_of (joined joint parts) ≡ gives (list_all is_truth (map kind_of parts)) K.Truth
+kind_of-joined J.And parts = kind_of-And parts
+kind_of-joined J.Or parts = kind_of-Or parts
+
+pub kind_of-leaf : (leaf : Leaf) (bytes : List ℕ) → kind_of (leaf_of leaf bytes) ≡ Some K.Text
+kind_of-leaf L.Text bytes = kind_of-Text bytes
+kind_of-leaf L.Name bytes = kind_of-Name bytes
+
+pub kind_of-Compare : (sign : Comparison) (left right : Expr)
+    → kind_of (Compare sign left right) ≡ gives (are_compared (kind_of left) (kind_of right)) K.Truth
 unfolding kind_of
 kind_of-Compare sign left right = fold-Compare Found Linked kind_step link_step sign left right
 
@@ -93,7 +107,8 @@ pub is_then_well_kinded-Block : (block : Program) → is_then_well_kinded (Block
 unfolding is_then_well_kinded is_well_kinded
 is_then_well_kinded-Block block = fold-Block Bool Bool Bool then_step clause_step program_step block
 
-pub is_clause_well_kinded-parts : (clause : Clause) → is_clause_well_kinded clause ≡ (is_truth (kind_of clause.test) && is_then_well_kinded clause.then)
+pub is_clause_well_kinded-parts : (clause : Clause)
+    → is_clause_well_kinded clause ≡ (is_truth (kind_of clause.test) && is_then_well_kinded clause.then)
 unfolding is_then_well_kinded is_clause_well_kinded
 is_clause_well_kinded-parts clause = fold-one_clause Bool Bool Bool then_step clause_step program_step clause
 
@@ -105,6 +120,25 @@ pub is_well_kinded-clauses : (program : Program) → is_well_kinded program ≡ 
 unfolding is_well_kinded is_clause_well_kinded
 is_well_kinded-clauses program = fold-whole_program Bool Bool Bool then_step clause_step program_step program ∙ all_are (out-Program program).clauses
 
-pub ruleset kinds = (kind_of-Truth, kind_of-Whole, kind_of-Text, kind_of-Name, kind_of-Not, kind_of-Minus, kind_of-Number, kind_of-Deref, kind_of-And, kind_of-Or, kind_of-Compare, kind_of-Chain)
+pub ruleset kinds = (
+  kind_of-Truth,
+  kind_of-Whole,
+  kind_of-Text,
+  kind_of-Name,
+  kind_of-Not,
+  kind_of-Minus,
+  kind_of-Number,
+  kind_of-Deref,
+  kind_of-And,
+  kind_of-Or,
+  kind_of-Compare,
+  kind_of-Chain,
+)
 
-pub ruleset well_kinded = (is_then_well_kinded-Top, is_then_well_kinded-Value, is_then_well_kinded-Block, is_clause_well_kinded-parts, is_well_kinded-clauses)
+pub ruleset well_kinded = (
+  is_then_well_kinded-Top,
+  is_then_well_kinded-Value,
+  is_then_well_kinded-Block,
+  is_clause_well_kinded-parts,
+  is_well_kinded-clauses,
+)

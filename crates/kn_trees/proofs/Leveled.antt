@@ -70,7 +70,8 @@ links_are (link ∷ links) =
 
 pub depth-Chain : (first : Expr) (links : List Link2) → expr_depth (Chain first links) ≡ 1 + max (expr_depth first) (greatest_of (link_depths links))
 unfolding expr_depth
-depth-Chain first links = fold-Chain ℕ ℕ expr_levels link_levels first links ∙ ap (λ ns. 1 + max (expr_depth first) (greatest_of ns)) (links_are links)
+depth-Chain first links =
+    fold-Chain ℕ ℕ expr_levels link_levels first links ∙ ap (λ ns. 1 + max (expr_depth first) (greatest_of ns)) (links_are links)
 
 pub depth-Top : then_depth Top ≡ 1
 unfolding then_depth

@@ -1,5 +1,5 @@
 -- Expressions as one list of nodes, each of which names its parts by their places.
-use Rattle.std.specs.Prelude.{ℕ, ◌<◌, ◌≤◌, ◌^◌, false, List, [], ◌∷◌, ◌++◌, All, fold, length, map, slice_index_or, slice_range}
+use Rattle.std.specs.Prelude.{◌≡◌, ℕ, ◌+◌, ◌<◌, ◌≤◌, ◌^◌, false, List, [], ◌∷◌, ◌++◌, All, fold, length, map, slice_index_or, slice_range, Result, IfOk, OnOk, OnErr}
 use Rattle.kn_base.specs.declared.span.Span.{Span}
 use Rattle.kn_trees.specs.declared.program.Expr.{Expr}
 use Rattle.kn_trees.specs.declared.program.Expr.TheVariants as E
@@ -87,3 +87,15 @@ pub record AreShort (ps : Pools) : Type 0 where
 pub record IsForest (ps : Pools) (nodes : List Node) : Type 0 where
   pub short : AreShort ps
   pub placed : ArePlaced ps nodes
+
+-- old trees grow by this one, whose place is given, or stay
+pub record IsAdded {E : Type 0} (old : List Expr) (tree : Expr) (new : List Expr) (result : Result ℕ E) : Type 0 where
+  pub place : IfOk result (λ place. place ≡ length old)
+  pub ok : OnOk result (new ≡ old ++ tree ∷ [])
+  pub err : OnErr result (new ≡ old)
+
+-- an old pool grows by this list, whose span is given, or stays
+pub record IsKept {X E : Type 0} (old more new : List X) (result : Result Span E) : Type 0 where
+  pub span : IfOk result (λ span. (span.start ≡ length old) × (span.end ≡ length old + length more))
+  pub ok : OnOk result (new ≡ old ++ more)
+  pub err : OnErr result (new ≡ old)

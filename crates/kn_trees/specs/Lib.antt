@@ -5,3 +5,4 @@ pub mod Formulas
 pub mod Kinds
 pub mod Levels
 pub mod Roots
+pub mod Signs

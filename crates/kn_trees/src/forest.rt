@@ -1,12 +1,14 @@
 //! Trees in one list of nodes.
 ghost use Rattle.std.specs.Prelude.{◌≡◌, ◌+◌, ◌<◌, ◌^◌, [], ◌∷◌, ◌++◌, All, length, map, IfOk, OnOk, OnErr};
 ghost use Rattle.kn_trees.specs.declared.program.Expr.TheVariants as E;
-ghost use Rattle.kn_trees.specs.Forests.{no_pools, tree_at, tree_of, IsPlaced};
+ghost use Rattle.kn_trees.specs.Forests.{no_pools, tree_at, tree_of, IsAdded, IsKept, IsPlaced};
 ghost use Rattle.kn_trees.specs.Forms.{links_of};
 ghost use Rattle.kn_trees.specs.Roots.{links_to, trees_at, IsRoot};
+ghost use Rattle.kn_trees.specs.Signs.{joined, leaf_of};
 
 use crate::program::{Comparison, Operation};
 use crate::root::Root;
+use crate::signs::{Joint, Leaf};
 use kn_base::{NoMemory, Span};
 use std::alloc::Global;
 use std::marker::Model;
@@ -104,63 +106,31 @@ impl Forest {
     #[tactic(auto, using(crate::proofs::Forests::plain))]
     pub(crate) fn add(&mut self, node: Node) -> Result<u32, NoMemory>
         requires { IsPlaced no_pools (length self.old) node }
-        ensures place { IfOk result (λ place. place ≡ length self.old) }
-        ensures ok { OnOk result (self.new ≡ self.old ++ tree_of no_pools self.old node ∷ []) }
-        ensures err { OnErr result (self.new ≡ self.old) }
+        ensures { IsAdded self.old (tree_of no_pools self.old node) self.new result }
     {
         let place = push_node(&mut self.nodes, node)?;
         Ok(place)
     }
 
-    /// Adds the value of a literal, and gives its place.
+    /// Adds a literal or a name of these bytes, and gives its place.
     #[inline(always)]
     #[tactic(auto, using(crate::proofs::Forests::plain))]
-    pub(crate) fn add_text(&mut self, value: &[u8]) -> Result<u32, NoMemory>
-        ensures place { IfOk result (λ place. place ≡ length self.old) }
-        ensures ok { OnOk result (self.new ≡ self.old ++ E.Text value.now ∷ []) }
-        ensures err { OnErr result (self.new ≡ self.old) }
+    pub(crate) fn add_leaf(&mut self, leaf: Leaf, bytes: &[u8]) -> Result<u32, NoMemory>
+        ensures { IsAdded self.old (leaf_of leaf bytes.now) self.new result }
     {
-        let span = keep_bytes(&mut self.bytes, value)?;
-        let place = push_node(&mut self.nodes, Node::Text(span))?;
+        let span = keep_bytes(&mut self.bytes, bytes)?;
+        let place = push_node(&mut self.nodes, leaf.node(span))?;
         Ok(place)
     }
 
-    /// Adds a name, and gives its place.
-    #[inline(always)]
+    /// Adds these trees with a sign between them, and gives the place.
     #[tactic(auto, using(crate::proofs::Forests::plain))]
-    pub(crate) fn add_name(&mut self, name: &[u8]) -> Result<u32, NoMemory>
-        ensures place { IfOk result (λ place. place ≡ length self.old) }
-        ensures ok { OnOk result (self.new ≡ self.old ++ E.Name name.now ∷ []) }
-        ensures err { OnErr result (self.new ≡ self.old) }
-    {
-        let span = keep_bytes(&mut self.bytes, name)?;
-        let place = push_node(&mut self.nodes, Node::Name(span))?;
-        Ok(place)
-    }
-
-    /// Adds these trees with `&&` between them, and gives the place.
-    #[tactic(auto, using(crate::proofs::Forests::plain))]
-    pub(crate) fn add_and(&mut self, parts: &[Root]) -> Result<u32, NoMemory>
+    pub(crate) fn add_joined(&mut self, joint: Joint, parts: &[Root]) -> Result<u32, NoMemory>
         requires { All (IsRoot self.old) parts.now }
-        ensures place { IfOk result (λ place. place ≡ length self.old) }
-        ensures ok { OnOk result (self.new ≡ self.old ++ E.And (trees_at self.old parts.now) ∷ []) }
-        ensures err { OnErr result (self.new ≡ self.old) }
+        ensures { IsAdded self.old (joined joint (trees_at self.old parts.now)) self.new result }
     {
         let span = keep_parts(&mut self.parts, parts)?;
-        let place = push_node(&mut self.nodes, Node::And(span))?;
-        Ok(place)
-    }
-
-    /// Adds these trees with `||` between them, and gives the place.
-    #[tactic(auto, using(crate::proofs::Forests::plain))]
-    pub(crate) fn add_or(&mut self, parts: &[Root]) -> Result<u32, NoMemory>
-        requires { All (IsRoot self.old) parts.now }
-        ensures place { IfOk result (λ place. place ≡ length self.old) }
-        ensures ok { OnOk result (self.new ≡ self.old ++ E.Or (trees_at self.old parts.now) ∷ []) }
-        ensures err { OnErr result (self.new ≡ self.old) }
-    {
-        let span = keep_parts(&mut self.parts, parts)?;
-        let place = push_node(&mut self.nodes, Node::Or(span))?;
+        let place = push_node(&mut self.nodes, joint.node(span))?;
         Ok(place)
     }
 
@@ -175,9 +145,7 @@ impl Forest {
         requires first { first < length self.old }
         requires rights { All (IsRoot self.old) rights.now }
         requires pairs { length rights.now ≡ length signs.now }
-        ensures place { IfOk result (λ place. place ≡ length self.old) }
-        ensures ok { OnOk result (self.new ≡ self.old ++ E.Chain (tree_at self.old first) (links_of signs.now (trees_at self.old rights.now)) ∷ []) }
-        ensures err { OnErr result (self.new ≡ self.old) }
+        ensures { IsAdded self.old (E.Chain (tree_at self.old first) (links_of signs.now (trees_at self.old rights.now))) self.new result }
     {
         let rest = keep_links(&mut self.links, signs, rights)?;
         let place = push_node(&mut self.nodes, Node::Chain { first, rest })?;
@@ -195,8 +163,8 @@ fn shrink_pool<T>(pool: &mut Vec<T>)
     }
 }
 
-/// An empty list with room for so many items.
-pub(crate) fn vec_with_room<T>(alloc: Global, count: usize) -> Result<Vec<T>, NoMemory>
+// An empty list with room for so many items.
+fn vec_with_room<T>(alloc: Global, count: usize) -> Result<Vec<T>, NoMemory>
     ensures { IfOk result (λ items. items.items ≡ []) }
 {
     match Vec::with_capacity(alloc, count) {
@@ -225,10 +193,8 @@ fn next_span(size: usize, count: usize) -> Result<Span, NoMemory>
 #[inline(always)]
 fn keep_bytes(pool: &mut Vec<u8>, bytes: &[u8]) -> Result<Span, NoMemory>
     requires { length pool.old.items < 2 ^ 32 }
-    ensures span { IfOk result (λ span. (span.start ≡ length pool.old.items) × (span.end ≡ length pool.old.items + length bytes.now)) }
+    ensures kept { IsKept pool.old.items bytes.now pool.new.items result }
     ensures short { length pool.new.items < 2 ^ 32 }
-    ensures ok { OnOk result (pool.new.items ≡ pool.old.items ++ bytes.now) }
-    ensures err { OnErr result (pool.new.items ≡ pool.old.items) }
 {
     let span = next_span(pool.len(), bytes.len())?;
     match pool.extend_from_slice(bytes) {
@@ -240,10 +206,8 @@ fn keep_bytes(pool: &mut Vec<u8>, bytes: &[u8]) -> Result<Span, NoMemory>
 // Keeps the places of trees at the end of the pool, and gives their span.
 fn keep_parts(pool: &mut Vec<u32>, parts: &[Root]) -> Result<Span, NoMemory>
     requires { length pool.old.items < 2 ^ 32 }
-    ensures span { IfOk result (λ span. (span.start ≡ length pool.old.items) × (span.end ≡ length pool.old.items + length parts.now)) }
+    ensures kept { IsKept pool.old.items (map (λ part. part.place) parts.now) pool.new.items result }
     ensures short { length pool.new.items < 2 ^ 32 }
-    ensures ok { OnOk result (pool.new.items ≡ pool.old.items ++ map (λ part. part.place) parts.now) }
-    ensures err { OnErr result (pool.new.items ≡ pool.old.items) }
 {
     let span = next_span(pool.len(), parts.len())?;
     if pool.reserve(parts.len()).is_err() {
@@ -263,10 +227,8 @@ fn keep_links(
 ) -> Result<Span, NoMemory>
     requires short { length pool.old.items < 2 ^ 32 }
     requires pairs { length rights.now ≡ length signs.now }
-    ensures span { IfOk result (λ span. (span.start ≡ length pool.old.items) × (span.end ≡ length pool.old.items + length signs.now)) }
+    ensures kept { IsKept pool.old.items (links_to signs.now rights.now) pool.new.items result }
     ensures short { length pool.new.items < 2 ^ 32 }
-    ensures ok { OnOk result (pool.new.items ≡ pool.old.items ++ links_to signs.now rights.now) }
-    ensures err { OnErr result (pool.new.items ≡ pool.old.items) }
 {
     let span = next_span(pool.len(), signs.len())?;
     if pool.reserve(signs.len()).is_err() {

@@ -9,6 +9,7 @@ mod formula;
 mod kinds;
 mod program;
 mod root;
+mod signs;
 mod stack;
 mod typing;
 

@@ -22,7 +22,7 @@ more_tests-loop-left-preserved t c = record {
 pub links-returns-in_default : goal.links-returns-in_default
 links-returns-in_default t c below first stood =
     rights_last (c.loop-left.invariant.going below first stood) c.loop-left-test.true c.in_ok-side.ensures c.in_ok-add.ensures.ok
-    (sym c.in_default.ensures.taken) (c.in_default.ensures.kept refl) (rw c.as_slice.ensures at c.in_ok-chain.ensures)
+    (sym c.in_default.ensures.taken) (c.in_default.ensures.kept refl) (rw c.as_slice.ensures at c.in_ok-chain.ensures.ok)
 
 pub links-loop-left-preserved : goal.links-loop-left-preserved
 links-loop-left-preserved t c = record {

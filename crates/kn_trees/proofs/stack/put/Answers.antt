@@ -5,8 +5,3 @@ pub returns-clause-roots : goal.returns-clause-roots
 returns-clause-roots c =
     let tree = tree_of no_pools c.args.forest.now c.args.node in
     rw c.in_ok-place.ensures.ok (c.put_root.ensures.roots c.args.forest.now tree c.in_ok-place.ensures.place c.requires.kind c.requires.roots)
-
-pub returns-clause-ok : goal.returns-clause-ok
-returns-clause-ok c =
-    let tree = tree_of no_pools c.args.forest.now c.args.node in
-    rw c.in_ok-place.ensures.ok (c.put_root.ensures.ok c.args.forest.now tree c.in_ok-place.ensures.place c.requires.roots)

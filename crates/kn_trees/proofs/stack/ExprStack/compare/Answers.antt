@@ -1,40 +1,38 @@
-use Rattle.std.proofs.Common.{[], ◌∷◌, ◌++◌, sym, ◌∙◌}
+use Rattle.std.proofs.Common.{◌≡◌, ◌+◌, ◌-◌, [], ◌∷◌, ◌++◌, length, sym, ap, ◌∙◌, arith}
 use Rattle.std.proofs.lemmas.List.{append_assoc}
+use Rattle.kn_trees.specs.ExprKinds.{kind_of}
 use Rattle.kn_trees.specs.Forests.{tree_at}
+use Rattle.kn_trees.specs.declared.program.Expr.TheVariants as E
 use Rattle.kn_trees.proofs.Kinded.{kind_of-Compare}
-use Rattle.kn_trees.proofs.Roots.{roots-last, roots-rest, trees-split}
+use Rattle.kn_trees.proofs.Roots.{length-trees_at, root-found, tree-found, roots-put, trees-put}
 use Rattle.kn_trees.proofs.stack.ExprStack.compare.Goals as goal
 
-pub put-requires-clause-kind : goal.put-requires-clause-kind
-put-requires-clause-kind c =
+pub invariant_of-self-2 : goal.invariant_of-self-2
+invariant_of-self-2 c =
     let s = c.self.inside in
-    let rest =
-    roots-rest s.forest s.roots.items c.take_root-right.new.roots.items c.take_root-right.result c.take_root-right.ensures c.self.invariant in
-    let right =
-    roots-last s.forest s.roots.items c.take_root-right.new.roots.items c.take_root-right.result c.take_root-right.ensures c.self.invariant in
-    let left =
-    roots-last s.forest c.take_root-right.new.roots.items c.take_root-left.new.roots.items c.take_root-left.result c.take_root-left.ensures rest in
-    rw (
-      c.gives-kind.ensures,
-      c.are_compared.ensures,
-      left.kind,
-      right.kind,
-      kind_of-Compare c.args.sign (tree_at s.forest c.take_root-left.result.place) (tree_at s.forest c.take_root-right.result.place),
-    )
+    let below = root-found s.forest s.roots.items (c.len-at.result - 2) c.root_at-left.result c.root_at-left.ensures c.self.invariant in
+    let above = root-found s.forest s.roots.items (c.len-at.result - 2 + 1) c.root_at-right.result c.root_at-right.ensures c.self.invariant in
+    let left = tree_at s.forest c.root_at-left.result.place in
+    let right = tree_at s.forest c.root_at-right.result.place in
+    let kind : c.gives-kind.result ≡ kind_of (E.Compare c.args.sign left right) =
+    rw (c.gives-kind.ensures, c.are_compared.ensures, below.kind, above.kind, kind_of-Compare c.args.sign left right) in
+    rw c.in_ok-place.ensures.ok
+    (roots-put s.forest (E.Compare c.args.sign left right) s.roots.items _ (c.len-at.result - 2) _ c.in_ok-place.ensures.place c.self.invariant
+    c.replace_from.ensures kind)
 
-pub put-requires-clause-roots : goal.put-requires-clause-roots
-put-requires-clause-roots c =
+pub returns-clause-ok : goal.returns-clause-ok
+returns-clause-ok c = λ front left right same.
     let s = c.self.inside in
-    let rest =
-    roots-rest s.forest s.roots.items c.take_root-right.new.roots.items c.take_root-right.result c.take_root-right.ensures c.self.invariant in
-    roots-rest s.forest c.take_root-right.new.roots.items c.take_root-left.new.roots.items c.take_root-left.result c.take_root-left.ensures rest
-
-pub returns : goal.returns
-returns c = λ front left right same.
-    let s = c.self.inside in
-    let upper = trees-split s.forest s.roots.items c.take_root-right.new.roots.items c.take_root-right.result c.take_root-right.ensures
-    (front ++ left ∷ []) right (c.self.view_is ∙ same ∙ sym (append_assoc front (left ∷ []) (right ∷ []))) in
+    let here = c.self.view_is ∙ same in
+    let at : c.len-at.result - 2 ≡ length s.roots.items - 2 = omega (arith, c.len-at.ensures.value) in
+    let all = length-trees_at s.forest s.roots.items ∙ ap length c.self.view_is in
+    let above : c.len-at.result - 2 + 1 ≡ length s.roots.items - 1 = omega (arith, all, c.requires, c.len-at.ensures.value) in
     let lower =
-    trees-split s.forest c.take_root-right.new.roots.items c.take_root-left.new.roots.items c.take_root-left.result c.take_root-left.ensures front
-    left upper.0 in
-    rw (lower.0, lower.1, upper.1) at c.put.ensures.ok
+    tree-found s.forest s.roots.items (c.len-at.result - 2) c.root_at-left.result c.root_at-left.ensures front (right ∷ []) left here at in
+    let upper =
+    tree-found s.forest s.roots.items (c.len-at.result - 2 + 1) c.root_at-right.result c.root_at-right.ensures (front ++ left ∷ []) [] right
+    (here ∙ sym (append_assoc front (left ∷ []) (right ∷ []))) above in
+    let put =
+    trees-put s.forest _ s.roots.items _ (c.len-at.result - 2) _ c.in_ok-place.ensures.place c.self.invariant c.replace_from.ensures
+    front (left ∷ right ∷ []) here at in
+    rw (c.in_ok-place.ensures.ok, ← lower, ← upper) put

@@ -1,0 +1,28 @@
+use Rattle.std.proofs.Common.{sym, ◌∙◌}
+use Rattle.kn_trees.proofs.Additions.{not_added, trees-bytes_kept, forest-leaf, trees-leaf}
+use Rattle.kn_trees.proofs.Forests.{length-trees_of}
+use Rattle.kn_trees.proofs.forest.Forest.add_leaf.Goals as goal
+
+pub returns-in_err-place : goal.returns-in_err-place
+returns-in_err-place c =
+    let f = c.self.inside in
+    let same =
+    trees-bytes_kept f.parts.items f.links.items f.bytes.items f.nodes.items c.self.invariant
+    c.args.bytes.now _ c.in_ok-span.ensures.kept.ok _ c.in_err-place.ensures.err in
+    not_added _ _ _ _ c.from_residual-in_err-place.result c.from_residual-in_err-place.ensures.1 (same ∙ c.self.view_is)
+
+pub invariant_of-self-2 : goal.invariant_of-self-2
+invariant_of-self-2 c =
+    let f = c.self.inside in
+    forest-leaf f.parts.items f.links.items f.bytes.items f.nodes.items c.self.invariant c.args.bytes.now _ c.in_ok-span.ensures.kept.ok _
+    c.in_ok-span.span c.in_ok-span.ensures.kept.span c.args.leaf c.node.result c.in_ok-place.ensures.ok
+    c.keep_bytes.ensures.short c.node.ensures.placed
+
+pub returns : goal.returns
+returns c =
+    let f = c.self.inside in
+    let ok =
+    trees-leaf f.parts.items f.links.items f.bytes.items f.nodes.items c.self.invariant c.args.bytes.now _ c.in_ok-span.ensures.kept.ok _
+    c.in_ok-span.span c.in_ok-span.ensures.kept.span c.args.leaf c.node.result c.in_ok-place.ensures.ok
+    (c.node.ensures.tree _ _) in
+    rw (← c.self.view_is) (record { place = c.in_ok-place.ensures.place ∙ sym (length-trees_of _ f.nodes.items); ok = ok; err = tt })

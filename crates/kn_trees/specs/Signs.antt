@@ -1,0 +1,27 @@
+-- Expressions that differ in their sign alone, or in whether their bytes are a text or a name.
+use Rattle.std.specs.Prelude.{ℕ, List}
+use Rattle.kn_trees.specs.declared.program.Expr.{Expr}
+use Rattle.kn_trees.specs.declared.program.Expr.TheVariants as E
+use Rattle.kn_trees.specs.declared.signs.Prefix.{Prefix}
+use Rattle.kn_trees.specs.declared.signs.Prefix.TheVariants.{Not, Minus, Number, Deref}
+use Rattle.kn_trees.specs.declared.signs.Joint.{Joint}
+use Rattle.kn_trees.specs.declared.signs.Joint.TheVariants.{And, Or}
+use Rattle.kn_trees.specs.declared.signs.Leaf.{Leaf}
+use Rattle.kn_trees.specs.declared.signs.Leaf.TheVariants.{Text, Name}
+
+-- an expression behind this sign
+abbrev pub prefixed : Prefix → Expr → Expr
+prefixed Not part = E.Not part
+prefixed Minus part = E.Minus part
+prefixed Number part = E.Number part
+prefixed Deref part = E.Deref part
+
+-- expressions with this sign between them
+abbrev pub joined : Joint → List Expr → Expr
+joined And parts = E.And parts
+joined Or parts = E.Or parts
+
+-- a literal or a name of these bytes
+abbrev pub leaf_of : Leaf → List ℕ → Expr
+leaf_of Text bytes = E.Text bytes
+leaf_of Name bytes = E.Name bytes
