@@ -1,6 +1,6 @@
 -- The value of a conditions program (RFC 2704, section 4, the Conditions field, and section 5), by its index among the
 -- compliance values of the query.
-use Rattle.std.specs.Prelude.{ℕ, ◌-◌, max, List, [], ◌∷◌, length, true, false, Option, Some, None}
+use Rattle.std.specs.Prelude.{ℕ, ◌-◌, max, List, [], ◌∷◌, length, true, Option, Some, None}
 use Rattle.std.specs.Option.{option_map_or}
 use Rattle.kn_env.specs.Environment.{Environment}
 use Rattle.kn_env.specs.Values.{index_of}
@@ -10,7 +10,7 @@ use Rattle.kn_trees.specs.declared.program.Then.{Then}
 use Rattle.kn_trees.specs.declared.program.Then.TheOpen.{Program-F, Clause-F, Then-F}
 use Rattle.kn_trees.specs.declared.program.Then.TheOpen.Then-F.{Top, Value, Block}
 use Rattle.kn_trees.specs.declared.program.Then.TheFolds.{fold-Program, fold-Clause, fold-Then}
-use Rattle.kn_cond.specs.Meaning.{Meaning, truth, whole, text, fault, meaning_of}
+use Rattle.kn_cond.specs.Meaning.{Meaning, truth, text, meaning_of}
 
 -- the highest compliance value
 abbrev pub top_of : Environment → ℕ

@@ -1,5 +1,5 @@
 //! The value of an expression.
-ghost use Rattle.std.specs.Prelude.{◌≡◌, true, map, ◌++◌, IfOk, IfErr};
+ghost use Rattle.std.specs.Prelude.{◌≡◌, true, if◌then◌else◌, map, ◌++◌, IfOk, IfErr};
 ghost use Rattle.std.specs.List.{list_any};
 ghost use Rattle.kn_cond.specs.Meaning.{Meaning, whole, text, text_in_range, negated, minus, number_of, value_named, conjunction, disjunction, comparison, holds_of_texts, operation, operation_of_texts, chained, links_of, meaning_of};
 ghost use Rattle.kn_cond.specs.Results.{meant, or_fault};
@@ -34,8 +34,8 @@ pub(crate) fn outcome<'e>(
         Form::Minus(part) => Ok(minus(outcome(alloc, part, env)?)),
         Form::Number(part) => Ok(number_of(outcome(alloc, part, env)?)),
         Form::Deref(part) => Ok(value_named(env, outcome(alloc, part, env)?)),
-        Form::And(parts) => conjunction(alloc, parts, env),
-        Form::Or(parts) => disjunction(alloc, parts, env),
+        Form::And(parts) => value_of_parts(alloc, false, parts, env),
+        Form::Or(parts) => value_of_parts(alloc, true, parts, env),
         Form::Compare { sign, left, right } => {
             let first = outcome(alloc, left, env)?;
             let second = outcome(alloc, right, env)?;
@@ -48,46 +48,26 @@ pub(crate) fn outcome<'e>(
     }
 }
 
-// `&&` stops at the first part that decides.
+// What `&&` gives, where false is decisive, or `||`, where true is. It stops at the first part that is that, or a fault.
 #[cycle(outcomes)]
 #[tactic(auto, using(crate::proofs::Descent::part_depth, crate::proofs::Descent::drop_here, crate::proofs::Joined::or_right))]
-fn conjunction<'e>(
+fn value_of_parts<'e>(
     alloc: Global,
+    decisive: bool,
     parts: Parts<'e>,
     env: &'e Env<'e>,
 ) -> Result<Outcome<'e>, NoMemory>
-    ensures value { IfOk result (λ outcome. meant outcome ≡ conjunction (map (meaning_of env.now) parts.entry)) }
+    ensures value { IfOk result (λ outcome. meant outcome ≡ (if decisive then disjunction (map (meaning_of env.now) parts.entry) else conjunction (map (meaning_of env.now) parts.entry))) }
     ensures memory { IfErr result (λ none. list_any joins parts.entry ≡ true) }
 {
     for k in 0..parts.len() {
         match outcome(alloc, parts.get(k), env)? {
-            Outcome::Truth(true) => {}
-            Outcome::Truth(false) => return Ok(Outcome::Truth(false)),
+            Outcome::Truth(value) if value != decisive => {}
+            Outcome::Truth(_) => return Ok(Outcome::Truth(decisive)),
             _ => return Ok(Outcome::Fault),
         }
     }
-    Ok(Outcome::Truth(true))
-}
-
-// `||` stops at the first part that decides.
-#[cycle(outcomes)]
-#[tactic(auto, using(crate::proofs::Descent::part_depth, crate::proofs::Descent::drop_here, crate::proofs::Joined::or_right))]
-fn disjunction<'e>(
-    alloc: Global,
-    parts: Parts<'e>,
-    env: &'e Env<'e>,
-) -> Result<Outcome<'e>, NoMemory>
-    ensures value { IfOk result (λ outcome. meant outcome ≡ disjunction (map (meaning_of env.now) parts.entry)) }
-    ensures memory { IfErr result (λ none. list_any joins parts.entry ≡ true) }
-{
-    for k in 0..parts.len() {
-        match outcome(alloc, parts.get(k), env)? {
-            Outcome::Truth(false) => {}
-            Outcome::Truth(true) => return Ok(Outcome::Truth(true)),
-            _ => return Ok(Outcome::Fault),
-        }
-    }
-    Ok(Outcome::Truth(false))
+    Ok(Outcome::Truth(!decisive))
 }
 
 // What a chain gives whose first part gives this.

@@ -5,16 +5,8 @@ use Rattle.kn_cond.proofs.Descent.{drop_here}
 use Rattle.kn_cond.proofs.Joined.{or_right}
 use Rattle.kn_cond.proofs.evaluation.+outcomes.Goals as goal
 
-pub conjunction-loop-k-preserved : goal.conjunction-loop-k-preserved
-conjunction-loop-k-preserved t c =
-    let here = drop_here c.args.parts c.loop-k.k c.get.result c.get.ensures in
-    record {
-      value = grind (arith, common_steps);
-      memory = grind (arith, common_steps, or_right);
-    }
-
-pub disjunction-loop-k-preserved : goal.disjunction-loop-k-preserved
-disjunction-loop-k-preserved t c =
+pub value_of_parts-loop-k-preserved : goal.value_of_parts-loop-k-preserved
+value_of_parts-loop-k-preserved t c =
     let here = drop_here c.args.parts c.loop-k.k c.get.result c.get.ensures in
     record {
       value = grind (arith, common_steps);

@@ -1,10 +1,10 @@
-use Rattle.std.proofs.Common.{◌≡◌, ◌+◌, ◌*◌, true, map, drop}
+use Rattle.std.proofs.Common.{◌≡◌, ◌+◌, ◌*◌, Bool, true, if◌then◌else◌, List, map, drop}
 use Rattle.std.specs.List.{list_any}
 use Rattle.kn_trees.specs.Formulas.{greatest_of}
 use Rattle.kn_trees.specs.Levels.{expr_depth}
 use Rattle.kn_trees.proofs.Leveled.{link_depths}
 use Rattle.kn_cond.specs.Joining.{joins, link_joins}
-use Rattle.kn_cond.specs.Meaning.{conjunction, disjunction, chained, links_of, meaning_of}
+use Rattle.kn_cond.specs.Meaning.{Meaning, conjunction, disjunction, chained, links_of, meaning_of}
 use Rattle.kn_cond.specs.Results.{meant}
 use Rattle.kn_cond.proofs.evaluation.+outcomes.Given as goal
 
@@ -12,24 +12,19 @@ use Rattle.kn_cond.proofs.evaluation.+outcomes.Given as goal
 abbrev pub decreases-outcome : goal.decreases-outcome
 decreases-outcome l = 2 * expr_depth l.expr
 
-abbrev pub decreases-conjunction : goal.decreases-conjunction
-decreases-conjunction l = 1 + 2 * greatest_of (map expr_depth l.parts)
-
-abbrev pub decreases-disjunction : goal.decreases-disjunction
-decreases-disjunction l = 1 + 2 * greatest_of (map expr_depth l.parts)
+abbrev pub decreases-value_of_parts : goal.decreases-value_of_parts
+decreases-value_of_parts l = 1 + 2 * greatest_of (map expr_depth l.parts)
 
 abbrev pub decreases-chained : goal.decreases-chained
 decreases-chained l = 1 + 2 * greatest_of (link_depths l.links)
 
-abbrev pub invariant-conjunction-loop-k : goal.invariant-conjunction-loop-k
-invariant-conjunction-loop-k l = record {
-  value : conjunction (map (meaning_of l.env) (drop l.k l.parts)) ≡ conjunction (map (meaning_of l.env) l.parts);
-  memory : list_any joins (drop l.k l.parts) ≡ true → list_any joins l.parts ≡ true;
-}
+abbrev value_by : Bool → List Meaning → Meaning
+value_by decisive parts = if decisive then disjunction parts else conjunction parts
 
-abbrev pub invariant-disjunction-loop-k : goal.invariant-disjunction-loop-k
-invariant-disjunction-loop-k l = record {
-  value : disjunction (map (meaning_of l.env) (drop l.k l.parts)) ≡ disjunction (map (meaning_of l.env) l.parts);
+-- what is left decides
+abbrev pub invariant-value_of_parts-loop-k : goal.invariant-value_of_parts-loop-k
+invariant-value_of_parts-loop-k l = record {
+  value : value_by l.decisive (map (meaning_of l.env) (drop l.k l.parts)) ≡ value_by l.decisive (map (meaning_of l.env) l.parts);
   memory : list_any joins (drop l.k l.parts) ≡ true → list_any joins l.parts ≡ true;
 }
 
