@@ -5,7 +5,6 @@
 //! the bytes of all texts; and of three texts at once, where there is room for one, the place of the first that is refused.
 
 use kn_assert::read;
-use kn_base::List;
 use kn_store::{Book, Ready, Snapshot, StoreFault};
 use std::alloc::{AllocError, Global};
 use std::io;
@@ -44,12 +43,12 @@ fn add(alloc: Global, book: &mut Book, text: &[u8]) -> Result<u32, StoreFault> {
 
 /// Adds the text so many times at once, unless one of them is refused: then its place is told, counted from 0.
 fn add_at_once(alloc: Global, book: &mut Book, count: u32) -> Result<(), (u32, StoreFault)> {
-    let mut readies = List::new(alloc);
+    let mut readies = Vec::new(alloc);
     for place in 0..count {
         let Ok(ready) = make_ready(alloc, TEXT) else {
             return Err((place, StoreFault::NoMemory));
         };
-        if readies.add(ready).is_err() {
+        if readies.push(ready).is_err() {
             return Err((place, StoreFault::NoMemory));
         }
     }

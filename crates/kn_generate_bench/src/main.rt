@@ -66,12 +66,12 @@ fn read_all(
     clock: &impl Clock,
     alloc: Global,
     texts: &List<Octets>,
-) -> io::Result<(u128, List<Ready>)> {
+) -> io::Result<(u128, Vec<Ready>)> {
     let start = Instant::now(clock)?;
-    let mut readies = List::new(alloc);
+    let mut readies = Vec::new(alloc);
     for text in texts.as_slice() {
         let ready = make_ready(alloc, text.as_slice())?;
-        readies.add(ready).or(Err(lacks_memory()))?;
+        readies.push(ready).or(Err(lacks_memory()))?;
     }
     Ok((since(clock, start)?, readies))
 }

@@ -1,5 +1,5 @@
 //! The registry, and its calls.
-ghost use Rattle.std.specs.Prelude.{◌≡◌, ◌≢◌, ◌<◌, ◌++◌, ◌∷◌, [], true, false, All, IfOk, IfErr, OnOk, OnErr};
+ghost use Rattle.std.specs.Prelude.{◌≡◌, ◌≢◌, ◌<◌, ◌++◌, ◌∷◌, [], List, true, false, All, IfOk, IfErr, OnOk, OnErr};
 ghost use mathlib.Core.List.{IsPrefix};
 ghost use Rattle.std.specs.Arc.{arc_value};
 ghost use Rattle.kn_store.specs.declared.update.Update.{Update};
@@ -7,7 +7,7 @@ ghost use Rattle.kn_store.specs.History.{is_valid_history};
 ghost use Rattle.kn_turn.specs.Passes.{root_of, split_of, after_give, after_look, after_append, after_append_all, after_split, after_join, after_meet};
 ghost use Rattle.kn_registry.specs.Passes.{IsReady, IsSoundPass, Looks, Stays, Adds, AddsAll, Removes, RefusesText, RefusesOne, RefusesId};
 
-use kn_base::{List, NoMemory};
+use kn_base::NoMemory;
 use kn_store::{Book, Ready, Snapshot, StoreFault, Update};
 use kn_turn::{Logged, Turn};
 use std::alloc::{AllocError, Global};
@@ -127,13 +127,13 @@ impl Registry {
         &self,
         rt: &R,
         pass: &mut Pass,
-        readies: List<Ready>,
+        readies: Vec<Ready>,
     ) -> Result<(), (u32, StoreFault)>
         requires ready { IsReady self.now pass.old }
         ensures ready { IsReady self.now pass.new }
         ensures sound { IsSoundPass pass.new }
-        ensures added { OnOk result (AddsAll pass.old pass.new readies) }
-        ensures refused { IfErr result (λ refused. RefusesOne pass.old pass.new readies refused.0 refused.1) }
+        ensures added { OnOk result (AddsAll pass.old pass.new readies.items) }
+        ensures refused { IfErr result (λ refused. RefusesOne pass.old pass.new readies.items refused.0 refused.1) }
     {
         let mut shared = self.turn.take(rt, pass);
         match shared.book.add_all(pass.number(), readies) {

@@ -1,6 +1,5 @@
 -- Updates that add texts one after the other.
-use Rattle.std.proofs.Common.{◌≡◌, ℕ, ◌+◌, ◌-◌, true, List, [], ◌∷◌, ◌++◌, length, reverse, refl, sym, ap, ◌∙◌, subst, arith, append_assoc, append-nil, length-append, Some}
-use Rattle.std.proofs.lemmas.List.{reverse-append, reverse-reverse, length-reverse}
+use Rattle.std.proofs.Common.{◌≡◌, ℕ, ◌+◌, ◌-◌, true, List, [], ◌∷◌, ◌++◌, length, refl, sym, ap, ◌∙◌, subst, arith, append_assoc, append-nil, length-append, Some}
 use Rattle.std.proofs.lemmas.List.Concat.{flat_map-append}
 use Rattle.std.proofs.lemmas.List.Sums.{sum_by-append, sum_by-cons}
 use Rattle.kn_store.specs.declared.update.Change.TheVariants.{Add}
@@ -25,28 +24,33 @@ additions-texts caller n (text ∷ texts) =
     sum_by-cons (λ (c : Numbered). added_count c.change) (record { change = Add text; id = n + 1 }) (all_changes (additions_by caller (n + 1) texts))
     ∙ ap (λ (k : ℕ). 1 + k) more ∙ omega arith
 
--- Some of the texts were added behind a history, and the others are left, the last first.
+pub additions_by-length : (caller n : ℕ) (texts : List (List ℕ)) → length (additions_by caller n texts) ≡ length texts
+additions_by-length caller n [] = refl
+additions_by-length caller n (text ∷ texts) =
+    let more = additions_by-length caller (n + 1) texts in
+    omega arith
+
+-- Some of the texts were added behind a history, and the others are left.
 pub record AreAddedUpTo (past : List Update) (caller : ℕ) (texts : List (List ℕ)) (made : List Update) (left : List (List ℕ)) : Type 0 where
   pub front : List (List ℕ)
-  pub cut : texts ≡ front ++ reverse left
+  pub cut : texts ≡ front ++ left
   pub made_is : made ≡ past ++ additions_by caller (additions (all_changes past)) front
   pub follow : updates_may_follow (all_changes past) (additions_by caller (additions (all_changes past)) front) ≡ true
 
-pub none_added : (past : List Update) (caller : ℕ) (texts left : List (List ℕ)) → left ≡ reverse texts → AreAddedUpTo past caller texts past left
-none_added past caller texts left is =
-    record { front = []; cut = sym (ap reverse is ∙ reverse-reverse texts); made_is = sym (append-nil past); follow = refl }
+pub none_added : (past : List Update) (caller : ℕ) (texts : List (List ℕ)) → AreAddedUpTo past caller texts past texts
+none_added past caller texts = record { front = []; cut = refl; made_is = sym (append-nil past); follow = refl }
+
+-- each of them by an update
+pub made_count : (past : List Update) (caller : ℕ) (texts : List (List ℕ)) (made : List Update) (left : List (List ℕ)) → (so_far : AreAddedUpTo past caller texts made left)
+    → length made ≡ length past + length so_far.front
+made_count past caller texts made left so_far =
+    let n = additions (all_changes past) in
+    ap length so_far.made_is ∙ length-append past (additions_by caller n so_far.front) ∙ ap (λ (k : ℕ). length past + k) (additions_by-length caller n so_far.front)
 
 module _ (past : List Update) (caller : ℕ) (texts : List (List ℕ)) (made : List Update) (left rest : List (List ℕ)) (text : List ℕ)
-    (so_far : AreAddedUpTo past caller texts made left) (popped : left ≡ rest ++ text ∷ []) where
-  cut_here : texts ≡ so_far.front ++ text ∷ reverse rest
-  cut_here = so_far.cut ∙ ap (λ (l : List (List ℕ)). so_far.front ++ l) (ap reverse popped ∙ reverse-append rest (text ∷ []))
-
-  place_here : (count : ℕ) → count ≡ length texts → count - length rest - 1 ≡ length so_far.front
-  place_here count all =
-      let whole = ap length cut_here in
-      let both = length-append so_far.front (text ∷ reverse rest) in
-      let others = length-reverse rest in
-      omega arith
+    (so_far : AreAddedUpTo past caller texts made left) (taken : left ≡ text ∷ rest) where
+  cut_here : texts ≡ so_far.front ++ text ∷ rest
+  cut_here = so_far.cut ∙ ap (λ (l : List (List ℕ)). so_far.front ++ l) taken
 
   changes_are : all_changes made ≡ all_changes past ++ all_changes (additions_by caller (additions (all_changes past)) so_far.front)
   changes_are = ap all_changes so_far.made_is ∙ flat_map-append (λ (u : Update). u.changes) past (additions_by caller (additions (all_changes past)) so_far.front)
@@ -66,7 +70,7 @@ module _ (past : List Update) (caller : ℕ) (texts : List (List ℕ)) (made : L
       ap (λ (k : ℕ). additions_by caller n so_far.front ++ addition_by caller text k ∷ []) number ∙ sym (additions_by-push caller n so_far.front text) in
       record {
         front = so_far.front ++ text ∷ [];
-        cut = cut_here ∙ sym (append_assoc so_far.front (text ∷ []) (reverse rest));
+        cut = cut_here ∙ sym (append_assoc so_far.front (text ∷ []) rest);
         made_is =
             is ∙ ap (λ (l : List Update). l ++ addition_by caller text id ∷ []) so_far.made_is
             ∙ append_assoc past (additions_by caller n so_far.front) (addition_by caller text id ∷ [])
@@ -76,15 +80,15 @@ module _ (past : List Update) (caller : ℕ) (texts : List (List ℕ)) (made : L
             (subst (λ (l : List Numbered). update_may_follow l (addition_by caller text id) ≡ true) changes_are follows));
       }
 
-  pub refused_here : (count : ℕ) (fault : StoreFault) → count ≡ length texts → refusal_of_text (all_changes made) text ≡ Some fault
-      → IsFirstRefused past caller texts (count - length rest - 1) fault
-  refused_here count fault all refused =
+  pub refused_here : (place : ℕ) (fault : StoreFault) → place ≡ length made - length past → refusal_of_text (all_changes made) text ≡ Some fault
+      → IsFirstRefused past caller texts place fault
+  refused_here place fault at refused =
       record {
         front = so_far.front;
         text = text;
-        rest = reverse rest;
+        rest = rest;
         cut = cut_here;
-        place_is = place_here count all;
+        place_is = let count = made_count past caller texts made left so_far in omega (arith, count, at);
         follow = so_far.follow;
         refused = subst (λ (l : List Update). refusal_of_text (all_changes l) text ≡ Some fault) so_far.made_is refused;
       }
@@ -93,15 +97,10 @@ module _ (past : List Update) (caller : ℕ) (texts : List (List ℕ)) (made : L
 module _ (past : List Update) (caller : ℕ) (texts : List (List ℕ)) (made : List Update) (left : List (List ℕ))
     (so_far : AreAddedUpTo past caller texts made left) (none : left ≡ []) where
   all_front : so_far.front ≡ texts
-  all_front = sym (so_far.cut ∙ ap (λ (l : List (List ℕ)). so_far.front ++ reverse l) none ∙ append-nil so_far.front)
+  all_front = sym (so_far.cut ∙ ap (λ (l : List (List ℕ)). so_far.front ++ l) none ∙ append-nil so_far.front)
 
   pub all_made : made ≡ past ++ additions_by caller (additions (all_changes past)) texts
   all_made = subst (λ (l : List (List ℕ)). made ≡ past ++ additions_by caller (additions (all_changes past)) l) all_front so_far.made_is
 
   pub all_follow : updates_may_follow (all_changes past) (additions_by caller (additions (all_changes past)) texts) ≡ true
   all_follow = subst (λ (l : List (List ℕ)). updates_may_follow (all_changes past) (additions_by caller (additions (all_changes past)) l) ≡ true) all_front so_far.follow
-
--- a list turned round from its end
-pub turned_more : {A : Type 0} (turned left rest : List A) (x : A) → left ≡ rest ++ x ∷ [] → (turned ++ x ∷ []) ++ reverse rest ≡ turned ++ reverse left
-turned_more turned left rest x popped =
-    append_assoc turned (x ∷ []) (reverse rest) ∙ sym (ap (λ l. turned ++ l) (ap reverse popped ∙ reverse-append rest (x ∷ [])))

@@ -9,7 +9,7 @@ ghost use Rattle.kn_store.specs.History.{all_changes, additions, is_valid_histor
 use crate::credential::Ready;
 use crate::fault::StoreFault;
 use crate::version::{Snapshot, Version};
-use kn_base::{List, NoMemory};
+use kn_base::NoMemory;
 use std::alloc::Global;
 use std::marker::Model;
 use std::sync::Arc;
@@ -79,6 +79,10 @@ impl Book {
         ensures refused { IfErr result (λ fault. (fault ≡ Lacking) ⊎ (refusal_of_text (all_changes self.old) ready ≡ Some fault)) }
         ensures kept { self.new ≡ self.old }
     {
+        // sharing a version copies its pointers, so a refusal is looked for first
+        if let Some(fault) = self.newest.refusal_of_size(ready.text().len()) {
+            return Err(fault);
+        }
         let newest = self.newest.share(self.alloc)?;
         let (version, id) = newest.with_addition(self.alloc, caller, ready)?;
         make_prepared(self.alloc, version, id)
@@ -89,10 +93,10 @@ impl Book {
     ///
     /// A refusal is that behind the texts in front of the refused one, so a limit's number counts them too. Beside want of
     /// memory the place tells nothing.
-    pub fn add_all(&mut self, caller: u32, readies: List<Ready>) -> Result<(), (u32, StoreFault)>
-        ensures log { OnOk result (self.new ≡ self.old ++ additions_by caller (additions (all_changes self.old)) readies) }
-        ensures follow { OnOk result (updates_may_follow (all_changes self.old) (additions_by caller (additions (all_changes self.old)) readies) ≡ true) }
-        ensures refused { IfErr result (λ refused. (refused.1 ≡ Lacking) ⊎ IsFirstRefused self.old caller readies refused.0 refused.1) }
+    pub fn add_all(&mut self, caller: u32, readies: Vec<Ready>) -> Result<(), (u32, StoreFault)>
+        ensures log { OnOk result (self.new ≡ self.old ++ additions_by caller (additions (all_changes self.old)) readies.items) }
+        ensures follow { OnOk result (updates_may_follow (all_changes self.old) (additions_by caller (additions (all_changes self.old)) readies.items) ≡ true) }
+        ensures refused { IfErr result (λ refused. (refused.1 ≡ Lacking) ⊎ IsFirstRefused self.old caller readies.items refused.0 refused.1) }
         ensures kept { OnErr result (self.new ≡ self.old) }
     {
         let Ok(newest) = self.newest.share(self.alloc) else {

@@ -57,10 +57,12 @@ impl Ready {
         ensures text { result.now ≡ self.now }
         ensures reading { IsSome (assertion_of self.now) }
     {
-        self.credential.text.as_slice()
+        // the length of this copy lies here, and the credential's in memory that another thread may have written
+        self.logged.as_slice()
     }
 
     /// The credential under an id, and the text for the log.
+    #[inline(always)]
     pub(crate) fn with_id(self, id: u32) -> (LiveCredential, Octets)
         ensures id { result.0.id ≡ id }
         ensures text { result.0.text ≡ self }

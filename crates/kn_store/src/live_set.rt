@@ -135,17 +135,19 @@ impl LiveSet {
         })
     }
 
-    /// These and one more, which has the next id.
+    /// These and one more, which has the next id and a text of this size.
+    #[inline(always)]
     pub(crate) fn with_addition(
         self,
         alloc: Global,
         credential: LiveCredential,
+        size: u32,
     ) -> Result<LiveSet, NoMemory>
+        requires size { size ≡ length credential.text }
         requires accepted { refusal_of_size self (length credential.text) ≡ None }
         requires next { credential.id ≡ self.added + 1 }
         ensures ok { IfOk result (λ set. set ≡ with_addition self credential.text) }
     {
-        let size = credential.credential().text.len() as u32;
         let added = self.added + 1;
         let LiveSet {
             pages,

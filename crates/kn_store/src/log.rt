@@ -63,6 +63,7 @@ impl LogPage {
     }
 
     /// The page with one more update.
+    #[inline(always)]
     fn with_update(self, alloc: Global, update: Update) -> Result<LogPage, NoMemory>
         requires { length self < UPDATES_PAGE }
         ensures { IfOk result (λ page. page ≡ self ++ update ∷ []) }
@@ -117,6 +118,7 @@ impl Log {
     }
 
     /// The log with one more update: on the last page, or where that is full on a new one.
+    #[inline(always)]
     pub(crate) fn with_update(self, alloc: Global, update: Update) -> Result<Log, NoMemory>
         ensures { IfOk result (λ log. log ≡ with_item UPDATES_PAGE self update) }
     {

@@ -111,6 +111,7 @@ impl<T: Drop> Pages<T> {
     }
 
     /// The list with an item at the end: on the last page, or where that has `most` items on a new one.
+    #[inline(always)]
     pub(crate) fn with_item(self, alloc: Global, most: u32, item: T) -> Result<Pages<T>, NoMemory>
         requires { 1 ≤ most }
         ensures { IfOk result (λ pages. pages ≡ with_item most self item) }

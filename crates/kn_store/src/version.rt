@@ -1,6 +1,6 @@
 //! Versions of the shared credentials.
 
-ghost use Rattle.std.specs.Prelude.{◌≡◌, ◌⊎◌, ◌<◌, ◌≤◌, ◌+◌, true, [], ◌∷◌, ◌++◌, map, length, reverse, Some, IfOk, IfErr, OnOk, slice_get};
+ghost use Rattle.std.specs.Prelude.{◌≡◌, ◌⊎◌, ◌<◌, ◌≤◌, ◌+◌, true, [], ◌∷◌, ◌++◌, map, length, ℕ, List as Of, None, Some, IfOk, IfErr, OnOk, slice_get};
 ghost use Rattle.kn_base.specs.declared.limits.TheConstants.{LIVE_CREDENTIALS, LIVE_BYTES, UPDATES};
 ghost use Rattle.kn_assert.specs.Reading.{assertion_of};
 ghost use Rattle.kn_store.specs.declared.fault.StoreFault.TheVariants.{NoMemory as Lacking};
@@ -13,7 +13,7 @@ use crate::items::Items;
 use crate::live_set::LiveSet;
 use crate::log::Log;
 use crate::update::{Change, Numbered, Update};
-use kn_base::{List, NoMemory, Octets, Reserved};
+use kn_base::{List, NoMemory, Octets};
 use std::alloc::Global;
 use std::marker::Model;
 use std::sync::Arc;
@@ -110,27 +110,33 @@ impl Version {
         })
     }
 
+    /// The first fault of an addition of a text of so many bytes.
+    pub(crate) fn refusal_of_size(&self, size: usize) -> Option<StoreFault>
+        ensures { (text : Of ℕ) → size ≡ length text → result ≡ refusal_of_text (all_changes self.now) text }
+    {
+        self.live.refusal_of_size(size)
+    }
+
     /// The version after one more update, which adds this text, and the id of the text.
+    #[inline(always)]
     pub(crate) fn with_addition(
         self,
         alloc: Global,
         caller: u32,
         ready: Ready,
-    ) -> Result<(Version, u32), StoreFault>
+    ) -> Result<(Version, u32), NoMemory>
+        requires accepted { refusal_of_text (all_changes self) ready ≡ None }
         ensures id { IfOk result (λ next. next.1 ≡ additions (all_changes self) + 1) }
         ensures version { IfOk result (λ next. next.0 ≡ self ++ addition_by caller ready next.1 ∷ []) }
         ensures follows { IfOk result (λ next. update_may_follow (all_changes self) (addition_by caller ready next.1) ≡ true) }
-        ensures refused { IfErr result (λ fault. (fault ≡ Lacking) ⊎ (refusal_of_text (all_changes self) ready ≡ Some fault)) }
     {
-        if let Some(fault) = self.live.refusal_of_size(ready.text().len()) {
-            return Err(fault);
-        }
+        let size = ready.text().len();
         let id = self.live.next_id();
         let number = self.number() + 1;
         let (credential, text) = ready.with_id(id);
         let update = addition(alloc, caller, text, id)?;
         let Version { live, updates, .. } = self;
-        let live = live.with_addition(alloc, credential)?;
+        let live = live.with_addition(alloc, credential, size as u32)?;
         let updates = updates.with_update(alloc, update)?;
         Ok((
             Version {
@@ -148,21 +154,22 @@ impl Version {
         self,
         alloc: Global,
         caller: u32,
-        readies: List<Ready>,
+        readies: Vec<Ready>,
     ) -> Result<Version, (u32, StoreFault)>
-        ensures version { IfOk result (λ next. next ≡ self ++ additions_by caller (additions (all_changes self)) readies) }
-        ensures follow { OnOk result (updates_may_follow (all_changes self) (additions_by caller (additions (all_changes self)) readies) ≡ true) }
-        ensures refused { IfErr result (λ refused. (refused.1 ≡ Lacking) ⊎ IsFirstRefused self caller readies refused.0 refused.1) }
+        ensures version { IfOk result (λ next. next ≡ self ++ additions_by caller (additions (all_changes self)) readies.items) }
+        ensures follow { OnOk result (updates_may_follow (all_changes self) (additions_by caller (additions (all_changes self)) readies.items) ≡ true) }
+        ensures refused { IfErr result (λ refused. (refused.1 ≡ Lacking) ⊎ IsFirstRefused self caller readies.items refused.0 refused.1) }
     {
-        let count = readies.len();
-        let Ok(mut left) = reverse_readies(alloc, readies) else {
-            return Err((0, StoreFault::NoMemory));
-        };
+        let before = self.number();
         let mut next = self;
-        while let Some(ready) = left.pop() {
+        for ready in readies {
+            let place = next.number() - before;
+            if let Some(fault) = next.refusal_of_size(ready.text().len()) {
+                return Err((place, fault));
+            }
             match next.with_addition(alloc, caller, ready) {
                 Ok((longer, _)) => next = longer,
-                Err(fault) => return Err((count - left.len() - 1, fault)),
+                Err(_) => return Err((place, StoreFault::NoMemory)),
             }
         }
         Ok(next)
@@ -190,21 +197,8 @@ impl Version {
     }
 }
 
-/// These texts, the last first: so they can be taken from the end in their order.
-#[tactic(auto, using(crate::proofs::Additions::turned_more))]
-fn reverse_readies(alloc: Global, readies: List<Ready>) -> Result<List<Ready>, NoMemory>
-    ensures { IfOk result (λ last_first. last_first ≡ reverse readies) }
-{
-    let mut left = readies;
-    let mut room = Reserved::new(alloc);
-    room.reserve(left.len())?;
-    while let Some(ready) = left.pop() {
-        room.put(ready);
-    }
-    Ok(room.finish())
-}
-
 /// The update that adds a text.
+#[inline(always)]
 fn addition(alloc: Global, caller: u32, text: Octets, id: u32) -> Result<Update, NoMemory>
     ensures { IfOk result (λ update. update ≡ addition_by caller text id) }
 {
@@ -218,6 +212,7 @@ fn removal(alloc: Global, caller: u32, id: u32) -> Result<Update, NoMemory>
     one_change(alloc, caller, Change::Remove, id)
 }
 
+#[inline(always)]
 fn one_change(alloc: Global, caller: u32, change: Change, id: u32) -> Result<Update, NoMemory>
     ensures caller { IfOk result (λ update. update.caller ≡ caller) }
     ensures changes { IfOk result (λ update. update.changes ≡ record { change = change; id = id } ∷ []) }

@@ -1,4 +1,4 @@
-use Rattle.std.proofs.Common.{◌≡◌, ◌+◌, refl, sym, ap, length, ◌∙◌}
+use Rattle.std.proofs.Common.{◌≡◌, ◌+◌, refl, sym, ap, ◌∙◌}
 use Rattle.std.specs.Prelude.{None}
 use Rattle.kn_store.specs.LiveView.{refusal_of_size, with_addition}
 use Rattle.kn_store.specs.LiveSets.{view_of_set}
@@ -7,17 +7,14 @@ use Rattle.kn_store.proofs.live_set.LiveSet.with_addition.Goals as goal
 
 pub invariant_of-result : goal.invariant_of-result
 invariant_of-result c =
-    let long : c.len-size.result ≡ length c.args.credential.text = c.len-size.ensures ∙ ap length c.credential.ensures.text in
-    let accepted : refusal_of_size (view_of_set c.self.inside) c.len-size.result ≡ None =
-    ap (λ v. refusal_of_size v c.len-size.result) c.self.view_is ∙ ap (λ n. refusal_of_size c.args.self n) long ∙ c.requires.accepted in
-    added_set c.self.inside c.in_ok-with_item.field-0 c.args.credential c.len-size.result c.in_ok-with_item.ensures long
+    let accepted : refusal_of_size (view_of_set c.self.inside) c.args.size ≡ None =
+    ap (λ v. refusal_of_size v c.args.size) c.self.view_is ∙ ap (λ n. refusal_of_size c.args.self n) c.requires.size ∙ c.requires.accepted in
+    added_set c.self.inside c.in_ok-with_item.field-0 c.args.credential c.args.size c.in_ok-with_item.ensures c.requires.size
     (c.requires.next ∙ ap (λ v. v.added + 1) (sym c.self.view_is)) c.self.invariant accepted
 
 pub returns : goal.returns
-returns c =
-    let long : c.len-size.result ≡ length c.args.credential.text = c.len-size.ensures ∙ ap length c.credential.ensures.text in
-    record {
-      ok = added_view c.self.inside c.in_ok-with_item.field-0 c.args.credential c.len-size.result c.in_ok-with_item.ensures long
-          (c.requires.next ∙ ap (λ v. v.added + 1) (sym c.self.view_is)) c.args.credential.text refl
-          ∙ ap (λ v. with_addition v c.args.credential.text) c.self.view_is;
-    }
+returns c = record {
+  ok = added_view c.self.inside c.in_ok-with_item.field-0 c.args.credential c.args.size c.in_ok-with_item.ensures c.requires.size
+      (c.requires.next ∙ ap (λ v. v.added + 1) (sym c.self.view_is)) c.args.credential.text refl
+      ∙ ap (λ v. with_addition v c.args.credential.text) c.self.view_is;
+}

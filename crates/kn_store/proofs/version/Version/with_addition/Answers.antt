@@ -1,7 +1,6 @@
-use Rattle.std.proofs.Common.{rules, ◌≡◌, ◌+◌, [], ◌∷◌, ◌++◌, true, length, sym, ap, subst, ◌∙◌}
-use Rattle.std.specs.Prelude.{None}
+use Rattle.std.proofs.Common.{◌≡◌, ◌+◌, [], ◌∷◌, ◌++◌, true, sym, ap, subst, ◌∙◌}
 use Rattle.kn_store.specs.History.{all_changes, addition_by, update_may_follow}
-use Rattle.kn_store.specs.LiveView.{live_view, refusal_of_size, with_addition}
+use Rattle.kn_store.specs.LiveView.{live_view, with_addition}
 use Rattle.kn_store.specs.Pages.{joined}
 use Rattle.kn_store.specs.Versions.{IsVersion}
 use Rattle.kn_store.proofs.ViewLemmas.{view-addition, addition-follows}
@@ -17,14 +16,11 @@ after c =
     let past = all_changes c.args.self in
     let before : c.self.inside.live ≡ live_view past = c.self.invariant.live ∙ ap (λ l. live_view (all_changes l)) c.self.view_is in
     let update = update_is c ∙ ap (λ id. addition_by c.args.caller c.args.ready id) (c.next_id-id.ensures ∙ ap (λ v. v.added + 1) before) in
-    let accepted : refusal_of_size c.self.inside.live (length c.text.result.now) ≡ None = search rules in
-    let fits : refusal_of_size (live_view past) (length c.args.ready) ≡ None =
-    ap (λ v. refusal_of_size v (length c.args.ready)) (sym before) ∙ ap (λ text. refusal_of_size c.self.inside.live (length text)) (sym c.text.ensures.text) ∙ accepted in
     version_after c.self.inside c.in_ok-updates.updates c.in_ok-update.update c.in_ok-live.live c.args.self c.number-number.result
     c.in_ok-updates.ensures c.self.view_is c.number-number.ensures.number c.self.invariant
     (c.in_ok-live.ensures.ok ∙ ap (λ text. with_addition c.self.inside.live text) c.with_id-credential.ensures.text ∙ ap (λ v. with_addition v c.args.ready) before
     ∙ view-addition past c.args.ready ∙ ap (λ u. live_view (past ++ u.changes)) (sym update))
-    (subst (λ u. update_may_follow past u ≡ true) (sym update) (addition-follows past c.args.caller c.args.ready fits c.text.ensures.reading))
+    (subst (λ u. update_may_follow past u ≡ true) (sym update) (addition-follows past c.args.caller c.args.ready c.requires.accepted c.text-size.ensures.reading))
 
 pub invariant_of-result : goal.invariant_of-result
 invariant_of-result c = (after c).0
