@@ -18,7 +18,7 @@ use Rattle.kn_store.proofs.Loading.{loadable_nothing}
 use Rattle.kn_store.proofs.Valid.{loadable_is_valid}
 use Rattle.kn_registry.specs.Passes.{PassSeen, IsReady, IsSoundPass, AddsAll, IsOneRefused, RefusesOne}
 use Rattle.kn_turn.specs.Passes.{root_of}
-use Rattle.kn_load.specs.Drafting.{IsUnreadFor}
+use Rattle.kn_load.specs.Drafting.{IsFaultyFor}
 use Rattle.kn_load.specs.Loaded.{IsLoaded, StopsLoading, refused_at}
 use Rattle.kn_load.specs.declared.fault.LoadFault.{LoadFault}
 use Rattle.kn_load.specs.declared.fault.LoadFault.TheVariants as L
@@ -137,7 +137,7 @@ module _ (front texts : List (List ℕ)) (registry : TableId) (v w : PassSeen) (
     refusal_stops NoMemory refused = tt
 
 -- a fault of the next text stops loading, and so does want of memory
-pub fault_stops : (front rest : List (List ℕ)) (text : List ℕ) (number : ℕ) (fault : ReadFault) (stop : LoadFault) → IsLoadable front → number ≡ length front + 1 → IsUnreadFor text fault →
+pub fault_stops : (front rest : List (List ℕ)) (text : List ℕ) (number : ℕ) (fault : ReadFault) (stop : LoadFault) → IsLoadable front → number ≡ length front + 1 → IsFaultyFor text fault →
     MatchOption (fault_number fault) (stop ≡ L.NoMemory) (λ _. stop ≡ L.Faulty number fault) → StopsLoading (front ++ text ∷ rest) stop
 fault_stops front rest text number fault stop loadable place (inl none) is =
     subst (StopsLoading (front ++ text ∷ rest)) (sym (subst (λ f. MatchOption (fault_number f) (stop ≡ L.NoMemory) (λ _. stop ≡ L.Faulty number f)) none is)) tt

@@ -12,7 +12,7 @@ use Rattle.kn_load.specs.declared.drafts.Draft.{Draft}
 use Rattle.kn_load.specs.declared.readings.Readings.{Readings}
 use Rattle.kn_load.specs.declared.fault.LoadFault.{LoadFault}
 use Rattle.kn_load.specs.declared.fault.LoadFault.TheVariants as L
-use Rattle.kn_load.specs.Drafting.{IsDraftOf, IsFirstUnread, AreReadings}
+use Rattle.kn_load.specs.Drafting.{IsDraftOf, IsFirstFaulty, AreReadings}
 use Rattle.kn_load.specs.Loaded.{IsLoaded, StopsLoading, refused_at}
 use Rattle.kn_load.proofs.Loaded.{refusal_stops, fault_stops}
 
@@ -55,53 +55,49 @@ next_left texts readings draft drafts so_far = by so_far.left so_far.cut so_far.
       more = λ longer are. record { front = so_far.front ++ text ∷ []; left = left; cut = cut ∙ sym (append_assoc so_far.front (text ∷ []) left); are = are; drafts_are = all.1 };
     }
 
-pub nothing_left : {X : Type 0} (xs : List X) → length xs ≡ 0 → xs ≡ []
-nothing_left [] h = refl
-nothing_left (x ∷ xs) h = absurd (omega (arith, h))
-
 module _ (texts : List (List ℕ)) (readings : Readings) (are : AreReadings texts readings) where
   -- where none has a fault, all are read
-  pub all_read : readings.fault ≡ None → readings.readies ≡ texts
+  pub all_read : readings.fault ≡ None → readings.readies.items ≡ texts
   all_read none =
-      let ends : are.rest ≡ [] = subst (λ (o : Option ReadFault). MatchOption o (are.rest ≡ []) (λ fault. IsFirstUnread are.rest fault)) none are.ends in
-      sym (are.cut ∙ ap (λ (l : List (List ℕ)). readings.readies ++ l) ends ∙ append-nil readings.readies)
+      let ends : are.rest ≡ [] = subst (λ (o : Option ReadFault). MatchOption o (are.rest ≡ []) (λ fault. IsFirstFaulty are.rest fault)) none are.ends in
+      sym (are.cut ∙ ap (λ (l : List (List ℕ)). readings.readies.items ++ l) ends ∙ append-nil readings.readies.items)
 
-  pub read_within : length readings.readies + length are.rest ≡ length texts
-  read_within = sym (ap length are.cut ∙ length-append readings.readies are.rest)
+  pub read_within : length readings.readies.items + length are.rest ≡ length texts
+  read_within = sym (ap length are.cut ∙ length-append readings.readies.items are.rest)
 
   -- where one has, it is behind them
-  pub fault_within : (fault : ReadFault) → readings.fault ≡ Some fault → length readings.readies < length texts
+  pub fault_within : (fault : ReadFault) → readings.fault ≡ Some fault → length readings.readies.items < length texts
   fault_within fault some = by are.rest refl
     where
-      by : (rest : List (List ℕ)) → are.rest ≡ rest → length readings.readies < length texts
-      by [] is = absurd (subst (λ (l : List (List ℕ)). IsFirstUnread l fault) is (subst (λ (o : Option ReadFault). MatchOption o (are.rest ≡ []) (λ why. IsFirstUnread are.rest why)) some are.ends))
+      by : (rest : List (List ℕ)) → are.rest ≡ rest → length readings.readies.items < length texts
+      by [] is = absurd (subst (λ (l : List (List ℕ)). IsFirstFaulty l fault) is (subst (λ (o : Option ReadFault). MatchOption o (are.rest ≡ []) (λ why. IsFirstFaulty are.rest why)) some are.ends))
       by (text ∷ rest) is = let all = read_within in let many = ap length is in omega (arith, all, many)
 
   module _ (front rest : List (List ℕ)) where
-    cut_there : front ++ texts ++ rest ≡ front ++ readings.readies ++ (are.rest ++ rest)
-    cut_there = ap (λ (l : List (List ℕ)). front ++ l ++ rest) are.cut ∙ regrouped front readings.readies are.rest rest
+    cut_there : front ++ texts ++ rest ≡ front ++ readings.readies.items ++ (are.rest ++ rest)
+    cut_there = ap (λ (l : List (List ℕ)). front ++ l ++ rest) are.cut ∙ regrouped front readings.readies.items are.rest rest
       where
         regrouped : (a b c d : List (List ℕ)) → a ++ (b ++ c) ++ d ≡ a ++ b ++ (c ++ d)
         regrouped a b c d = simp append_assoc
 
     -- what a text among them is refused for stops loading
     pub refused_there : (registry : TableId) (v w : PassSeen) → IsLoaded front registry v → IsSoundPass w → (before place : ℕ) (refusal : StoreFault) → before ≡ length front →
-        RefusesOne v w readings.readies place refusal → StopsLoading (front ++ texts ++ rest) (refused_at (before + place + 1) refusal)
+        RefusesOne v w readings.readies.items place refusal → StopsLoading (front ++ texts ++ rest) (refused_at (before + place + 1) refusal)
     refused_there registry v w l sound before place refusal at refused =
         subst (λ (k : ℕ). StopsLoading (front ++ texts ++ rest) (refused_at (k + place + 1) refusal)) (sym at)
         (subst (λ (all : List (List ℕ)). StopsLoading all (refused_at (length front + place + 1) refusal)) (sym cut_there)
-        (refusal_stops front readings.readies registry v w l sound (are.rest ++ rest) place are.reads refusal refused))
+        (refusal_stops front readings.readies.items registry v w l sound (are.rest ++ rest) place are.reads refusal refused))
 
     -- and so does the fault of the text behind them, once they are loaded
-    pub faulty_there : IsLoadable (front ++ readings.readies) → (before : ℕ) (fault : ReadFault) (stop : LoadFault) → before ≡ length front → readings.fault ≡ Some fault →
-        MatchOption (fault_number fault) (stop ≡ L.NoMemory) (λ _. stop ≡ L.Faulty (before + length readings.readies + 1) fault) → StopsLoading (front ++ texts ++ rest) stop
+    pub faulty_there : IsLoadable (front ++ readings.readies.items) → (before : ℕ) (fault : ReadFault) (stop : LoadFault) → before ≡ length front → readings.fault ≡ Some fault →
+        MatchOption (fault_number fault) (stop ≡ L.NoMemory) (λ _. stop ≡ L.Faulty (before + length readings.readies.items + 1) fault) → StopsLoading (front ++ texts ++ rest) stop
     faulty_there loadable before fault stop at some is =
         subst (λ (all : List (List ℕ)). StopsLoading all stop) (sym cut_there)
-        (by are.rest (subst (λ (o : Option ReadFault). MatchOption o (are.rest ≡ []) (λ why. IsFirstUnread are.rest why)) some are.ends))
+        (by are.rest (subst (λ (o : Option ReadFault). MatchOption o (are.rest ≡ []) (λ why. IsFirstFaulty are.rest why)) some are.ends))
       where
-        by : (behind : List (List ℕ)) → IsFirstUnread behind fault → StopsLoading (front ++ readings.readies ++ (behind ++ rest)) stop
+        by : (behind : List (List ℕ)) → IsFirstFaulty behind fault → StopsLoading (front ++ readings.readies.items ++ (behind ++ rest)) stop
         by [] none = absurd none
-        by (text ∷ behind) unread =
-            let both = length-append front readings.readies in
-            let place : before + length readings.readies + 1 ≡ length (front ++ readings.readies) + 1 = omega (arith, both, at) in
-            fault_stops (front ++ readings.readies) (behind ++ rest) text (before + length readings.readies + 1) fault stop loadable place unread is
+        by (text ∷ behind) faulty =
+            let both = length-append front readings.readies.items in
+            let place : before + length readings.readies.items + 1 ≡ length (front ++ readings.readies.items) + 1 = omega (arith, both, at) in
+            fault_stops (front ++ readings.readies.items) (behind ++ rest) text (before + length readings.readies.items + 1) fault stop loadable place faulty is

@@ -8,24 +8,24 @@ use Rattle.kn_load.specs.declared.drafts.Draft.TheVariants.{Unread, Read, Faulty
 use Rattle.kn_load.specs.declared.readings.Readings.{Readings}
 
 -- the text has this fault, or there was no memory to read it
-abbrev pub IsUnreadFor : List ℕ → ReadFault → Type 0
-IsUnreadFor text fault = (fault ≡ NoMemory) ⊎ (fault_of text ≡ Some fault)
+abbrev pub IsFaultyFor : List ℕ → ReadFault → Type 0
+IsFaultyFor text fault = (fault ≡ NoMemory) ⊎ (fault_of text ≡ Some fault)
 
 -- the draft has the text with its reading, or the text's first fault, or there was no memory
 abbrev pub IsDraftOf : List ℕ → Draft → Type 0
 IsDraftOf text Unread = ⊥
 IsDraftOf text (Read ready) = (ready ≡ text) × IsSome (assertion_of text)
-IsDraftOf text (Faulty fault) = IsUnreadFor text fault
+IsDraftOf text (Faulty fault) = IsFaultyFor text fault
 
--- the first of these texts isn't read for this
-abbrev pub IsFirstUnread : List (List ℕ) → ReadFault → Type 0
-IsFirstUnread [] fault = ⊥
-IsFirstUnread (text ∷ rest) fault = IsUnreadFor text fault
+-- the first of these texts has this fault, or there was no memory to read it
+abbrev pub IsFirstFaulty : List (List ℕ) → ReadFault → Type 0
+IsFirstFaulty [] fault = ⊥
+IsFirstFaulty (text ∷ rest) fault = IsFaultyFor text fault
 
 -- These are the readings of the texts up to the first that has none, and why that one has none; where all have one, there are no
 -- texts behind.
 pub record AreReadings (texts : List (List ℕ)) (readings : Readings) : Type 0 where
-  pub reads : All (λ text. IsSome (assertion_of text)) readings.readies
+  pub reads : All (λ text. IsSome (assertion_of text)) readings.readies.items
   pub rest : List (List ℕ)
-  pub cut : texts ≡ readings.readies ++ rest
-  pub ends : MatchOption readings.fault (rest ≡ []) (λ fault. IsFirstUnread rest fault)
+  pub cut : texts ≡ readings.readies.items ++ rest
+  pub ends : MatchOption readings.fault (rest ≡ []) (λ fault. IsFirstFaulty rest fault)

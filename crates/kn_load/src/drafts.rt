@@ -11,12 +11,15 @@ use std::alloc::Global;
 use std::thread;
 use std::thread::Threads;
 
-/// The threads that read the texts of a file: more than most machines have processors, so that less is left to wait for
-/// where one of them starts late or is held up.
+/// The most threads that read the texts of a file: more than most machines have processors, so that less is left to wait
+/// for where one of them starts late or is held up.
 const READERS: usize = 8;
 
-/// Fewer texts are read by one thread, since starting others takes longer than reading these.
-const FEWEST_FOR_READERS: usize = 64;
+/// The bytes of texts for each thread: for fewer, starting it takes longer than it saves.
+const BYTES_A_READER: usize = 30_000;
+
+/// About how many bytes of memory a byte of text takes with its reading.
+const MEMORY_A_BYTE: usize = 12;
 
 /// What was read of a text.
 #[derive(Drop)]
@@ -70,17 +73,42 @@ fn read_all<R: Threads + Sync>(
     requires within { All (IsWithin file.now) spans.now }
     ensures { AllZip IsDraftOf (map (bytes_at file.now) spans.now) drafts.new }
 {
-    let threads = if spans.len() < FEWEST_FOR_READERS {
-        1
-    } else {
-        READERS
-    };
+    let bytes = extent_of(spans);
+    let threads = (bytes / BYTES_A_READER).clamp(1, READERS);
+    // `for_each_mut` gives each thread so many texts in a row
+    let share = spans.len().div_ceil(threads).max(1);
+    let memory = (bytes / threads).saturating_mul(MEMORY_A_BYTE);
+    fetch_memory(alloc, memory);
     thread::for_each_mut(
         rt,
         drafts,
         threads,
-        &|place, draft: &mut Draft| *draft = read_draft(alloc, text_at(file, spans[place])),
+        &|place, draft: &mut Draft| {
+            let begins_share = place % share == 0;
+            if begins_share {
+                fetch_memory(alloc, memory);
+            }
+            *draft = read_draft(alloc, text_at(file, spans[place]));
+        },
     );
+}
+
+/// The bytes from the first of these spans, which follow one another, to the last.
+fn extent_of(spans: &[Span]) -> usize {
+    match (spans.first(), spans.last()) {
+        (Some(first), Some(last)) => last.end.saturating_sub(first.start) as usize,
+        _ => 0,
+    }
+}
+
+/// Takes so much memory and gives it back, so that the allocator has it at hand for what follows.
+///
+/// The C library's allocator gets the memory of each thread but the first from the system page by page, and threads that
+/// do so wait for one another. What is given back it keeps at hand, but a piece of 128 KiB or more only if one as large was
+/// given back before. So this is done once before the threads start, and then by each of them.
+fn fetch_memory(alloc: Global, bytes: usize) {
+    // Where there isn't so much, nothing is lost.
+    let _memory: Result<Vec<u8>, _> = Vec::with_capacity(alloc, bytes);
 }
 
 /// So many drafts of which nothing is read.

@@ -128,19 +128,19 @@ fn add_readings<R: Wait>(
         → before ≡ length front → IfErr result (λ fault. StopsLoading (front ++ texts ++ rest) fault) }
 {
     let Readings { readies, fault } = readings;
-    let read = before + readies.len();
+    let read = before + readies.len() as u32;
     match registry.add_all(rt, root, readies) {
         Ok(()) => {}
-        Err((place, refusal)) => return Err(refusal_stop(before, place, refusal)),
+        Err((place, refusal)) => return Err(stop_by_refusal(before, place, refusal)),
     }
     match fault {
-        Some(fault) => Err(fault_stop(read + 1, fault)),
+        Some(fault) => Err(stop_by_fault(read + 1, fault)),
         None => Ok(()),
     }
 }
 
 /// What stops loading at an assertion that has this fault. Want of memory has no number.
-fn fault_stop(assertion: u32, fault: ReadFault) -> LoadFault
+fn stop_by_fault(assertion: u32, fault: ReadFault) -> LoadFault
     ensures { MatchOption (fault_number fault) (result ≡ L.NoMemory) (λ _. result ≡ L.Faulty assertion fault) }
 {
     match fault.number() {
@@ -151,7 +151,7 @@ fn fault_stop(assertion: u32, fault: ReadFault) -> LoadFault
 
 /// What stops loading where this many texts were loaded before, and the one at this place behind them is refused for this.
 /// Where memory lacks, the place tells nothing.
-fn refusal_stop(before: u32, place: u32, refusal: StoreFault) -> LoadFault
+fn stop_by_refusal(before: u32, place: u32, refusal: StoreFault) -> LoadFault
     requires room { refusal ≢ S.NoMemory → before + place + 1 < 2 ^ 32 }
     ensures { result ≡ refused_at (before + place + 1) refusal }
 {

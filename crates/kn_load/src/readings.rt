@@ -13,14 +13,14 @@ use std::alloc::Global;
 #[derive(Drop)]
 pub(crate) struct Readings {
     /// The texts before it, with their readings.
-    pub readies: List<Ready>,
+    pub readies: Vec<Ready>,
     /// The fault of that text, or want of memory; none where all have a reading.
     pub fault: Option<ReadFault>,
 }
 
 impl Readings {
-    /// Takes the draft of the next text in.
-    fn take(&mut self, draft: Draft) -> Result<(), NoMemory>
+    /// Adds what was read of the next text. Behind a text that has a fault nothing is added.
+    fn add_draft(&mut self, draft: Draft) -> Result<(), NoMemory>
         requires draft { (text : Of ℕ) × IsDraftOf text draft }
         ensures { (texts : Of (Of ℕ)) (text : Of ℕ) → AreReadings texts self.old → IsDraftOf text draft
             → OnOk result (AreReadings (texts ++ text ∷ []) self.new) }
@@ -30,7 +30,10 @@ impl Readings {
         }
         match draft {
             Draft::Unread => unreachable!(),
-            Draft::Read(ready) => self.readies.add(ready),
+            Draft::Read(ready) => match self.readies.push(ready) {
+                Ok(()) => Ok(()),
+                Err(_) => Err(NoMemory),
+            },
             Draft::Faulty(fault) => {
                 self.fault = Some(fault);
                 Ok(())
@@ -39,13 +42,16 @@ impl Readings {
     }
 }
 
-/// The readings of no text.
-fn no_readings(alloc: Global) -> Readings
-    ensures { AreReadings [] result }
+/// The readings of no text, with room for so many.
+fn no_readings(alloc: Global, room: usize) -> Result<Readings, NoMemory>
+    ensures { IfOk result (λ readings. AreReadings [] readings) }
 {
-    Readings {
-        readies: List::new(alloc),
-        fault: None,
+    match Vec::with_capacity(alloc, room) {
+        Ok(readies) => Ok(Readings {
+            readies,
+            fault: None,
+        }),
+        Err(_) => Err(NoMemory),
     }
 }
 
@@ -54,9 +60,9 @@ pub(crate) fn readings_of(alloc: Global, drafts: Vec<Draft>) -> Result<Readings,
     requires drafts { (texts : Of (Of ℕ)) × AllZip IsDraftOf texts drafts.items }
     ensures { (texts : Of (Of ℕ)) → AllZip IsDraftOf texts drafts.items → IfOk result (λ readings. AreReadings texts readings) }
 {
-    let mut readings = no_readings(alloc);
+    let mut readings = no_readings(alloc, drafts.len())?;
     for draft in drafts {
-        readings.take(draft)?;
+        readings.add_draft(draft)?;
     }
     Ok(readings)
 }
@@ -66,11 +72,10 @@ pub(crate) fn read_texts(alloc: Global, texts: &List<Octets>) -> Result<Readings
     ensures few { length texts.now < 2 ^ 32 }
     ensures read { IfOk result (λ readings. AreReadings texts.now readings) }
 {
-    let mut readings = no_readings(alloc);
+    let mut readings = no_readings(alloc, texts.len() as usize)?;
     let items = texts.as_slice();
-    for place in 0..texts.len() {
-        let text = items[place as usize].as_slice();
-        readings.take(read_draft(alloc, text))?;
+    for text in items {
+        readings.add_draft(read_draft(alloc, text.as_slice()))?;
     }
     Ok(readings)
 }
