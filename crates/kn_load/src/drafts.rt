@@ -76,7 +76,7 @@ fn read_all<R: Threads + Sync>(
     let bytes = extent_of(spans);
     let threads = (bytes / BYTES_A_READER).clamp(1, READERS);
     // `for_each_mut` gives each thread so many texts in a row
-    let share = spans.len().div_ceil(threads).max(1);
+    let share = spans.len().div_ceil(threads);
     let memory = (bytes / threads).saturating_mul(MEMORY_A_BYTE);
     fetch_memory(alloc, memory);
     thread::for_each_mut(
