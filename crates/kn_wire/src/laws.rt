@@ -1,6 +1,9 @@
 //! Laws of requests, each of them the contract of a function that does nothing.
 
+ghost use Rattle.std.specs.Prelude.{◌≡◌};
 ghost use Rattle.kn_wire.specs.Laws.{LineIsFirst, SomeReading, OneReading, RequestsGrow, PiecesAreRequests};
+
+use crate::feed::PIECE_BYTES;
 
 /// The first request of a text that begins with a line of at most 8,192 bytes and its newline is that of the line.
 pub fn line_is_first()
@@ -21,4 +24,9 @@ pub fn requests_grow()
 /// The requests of a stream don't depend on how it is cut.
 pub fn pieces_are_requests()
     ensures { PiecesAreRequests }
+{}
+
+/// The bytes of a piece that a feed takes at once.
+pub fn piece_limit()
+    ensures { PIECE_BYTES ≡ 4096 }
 {}
