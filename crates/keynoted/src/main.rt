@@ -2,6 +2,7 @@
 #![tactic(auto)]
 
 mod generating;
+mod idle;
 #[cfg(test)]
 mod meeting;
 mod run;
@@ -14,15 +15,28 @@ mod service_words;
 mod start;
 mod words;
 
+use crate::idle::{IdleFault, idle_timeout};
+use kn_base::NoMemory;
 use kn_outside::Passing;
 use kn_real::{RealFiles, StdLink, StdOut};
 use kn_tcp::TcpNet;
 use std::process::ExitCode;
 
 fn main(rt: HostRuntime) -> ExitCode {
-    let words = words::words(&rt);
+    let mut words = words::words(&rt);
+    let timeout = match idle_timeout(&rt) {
+        Ok(timeout) => timeout,
+        Err(IdleFault::NoMemory) => {
+            words = Err(NoMemory);
+            None
+        }
+        Err(IdleFault::NoNumber) => {
+            let _ = eprintln!(rt; "keynoted: KEYNOTED_IDLE_SECONDS isn't a number from 1 to 86400");
+            return ExitCode::from(1);
+        }
+    };
     let mut files = RealFiles::new(rt);
-    let mut net = TcpNet::new(rt);
+    let mut net = TcpNet::new(rt, timeout);
     let mut own = StdLink::new(rt.stdin(), rt.stdout());
     let mut out = StdOut::new(rt.stdout());
     let status = start::start(

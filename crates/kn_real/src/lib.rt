@@ -4,6 +4,7 @@
 //! Where a reader or a writer tells what it has, as one in memory does, a clause says what a call takes or writes of it.
 #![tactic(auto)]
 
+mod gathered;
 mod real_files;
 mod retry;
 mod std_link;

@@ -3,7 +3,7 @@ ghost use Rattle.std.specs.Prelude.{◌≡◌, ◌≤◌, ◌<◌, drop, length,
 ghost use Rattle.std.specs.Io.KnownBytes.{ReadConsumes, WriteAppends};
 ghost use Rattle.kn_outside.specs.Faults.{raised};
 
-use crate::retry::read_into;
+use crate::retry::{PIECE, read_into};
 use crate::std_out::StdOut;
 use kn_outside::{Failed, Link, Sink};
 use std::io::{Read, Write};
@@ -12,6 +12,7 @@ use std::io::{Read, Write};
 #[derive(Drop)]
 pub struct StdLink<I: Read, O: Write> {
     input: I,
+    piece: [u8; PIECE],
     out: StdOut<O>,
 }
 
@@ -24,6 +25,7 @@ impl<I: Read, O: Write> StdLink<I, O> {
     {
         StdLink {
             input,
+            piece: [0; PIECE],
             out: StdOut::new(output),
         }
     }
@@ -58,7 +60,7 @@ impl<I: Read, O: Write> Link for StdLink<I, O> {
         ensures output { self.new.out.output ≡ self.old.out.output }
         ensures later { self.old.out.faults ≤ self.new.out.faults }
     {
-        match read_into(&mut self.input, buf) {
+        match read_into(&mut self.input, &mut self.piece, buf) {
             Ok(bytes) => Ok(bytes),
             Err(_) => {
                 self.out.faults = self.out.faults.saturating_add(1);

@@ -2,16 +2,35 @@
 ghost use Rattle.std.specs.Prelude.{◌≡◌, ◌≤◌, ◌<◌, drop, length, IfOk, OnOk, OnErr};
 ghost use Rattle.kn_outside.specs.Faults.{raised};
 
-use crate::retry::{read_into, write_some};
+use crate::gathered::Gathered;
+use crate::retry::{PIECE, read_into};
 use kn_outside::{Failed, Link, Sink};
+use std::alloc::Global;
 use std::marker::Model;
 use std::net::TcpStream;
+use std::time::Duration;
 
-/// A TCP connection as a link. Each piece is handed to the system at once, and goes out without delay.
-#[derive(Drop)]
+/// A TCP connection as a link. What is written is gathered, up to 16 KiB of it, and handed to the system in one piece: before
+/// each read, where there is no more room, and when the link is dropped. Then it goes out without delay.
+///
+/// A call in which that fails has failed. Where it fails when the link is dropped, only the peer can miss something.
 pub struct TcpLink {
     stream: TcpStream,
+    piece: [u8; PIECE],
+    gathered: Gathered,
     faults: u64,
+}
+
+impl Drop for TcpLink {
+    fn drop(self) {
+        let TcpLink {
+            mut stream,
+            piece: _,
+            mut gathered,
+            faults: _,
+        } = self;
+        let _ = gathered.send(&mut stream);
+    }
 }
 
 impl Model for TcpLink {
@@ -23,13 +42,23 @@ impl Model for TcpLink {
 }
 
 impl TcpLink {
-    /// A link over a connection of which nothing was read, to which nothing was written, and of which no call failed.
-    pub fn new(stream: TcpStream) -> TcpLink
+    /// A link over a connection of which nothing was read, to which nothing was written, and of which no call failed. A read
+    /// that waits longer than the time that is given fails, and so does a write of which nothing goes out for so long.
+    pub fn new(alloc: Global, stream: TcpStream, timeout: Option<Duration>) -> TcpLink
         ensures { result.faults ≡ 0 }
     {
-        // Where the system can't do without the delay, replies come all the same.
+        // Where the system can't do without the delay, or can't look at the time, replies come all the same.
         let _ = stream.set_nodelay(true);
-        TcpLink { stream, faults: 0 }
+        if timeout.is_some() {
+            let _ = stream.set_read_timeout(timeout);
+            let _ = stream.set_write_timeout(timeout);
+        }
+        TcpLink {
+            stream,
+            piece: [0; PIECE],
+            gathered: Gathered::new(alloc),
+            faults: 0,
+        }
     }
 }
 
@@ -44,7 +73,7 @@ impl Sink for TcpLink {
         ensures err { OnErr result (self.new.faults ≡ raised self.old.faults) }
         ensures later { self.old.faults ≤ self.new.faults }
     {
-        match write_some(&mut self.stream, piece) {
+        match self.gathered.write(&mut self.stream, piece) {
             Ok(bytes) if bytes > 0 => Ok(bytes),
             _ => {
                 self.faults = self.faults.saturating_add(1);
@@ -64,12 +93,12 @@ impl Link for TcpLink {
         ensures buffer { OnErr result (buf.new ≡ buf.old) }
         ensures later { self.old.faults ≤ self.new.faults }
     {
-        match read_into(&mut self.stream, buf) {
-            Ok(bytes) => Ok(bytes),
-            Err(_) => {
-                self.faults = self.faults.saturating_add(1);
-                Err(Failed)
+        if self.gathered.send(&mut self.stream).is_ok() {
+            if let Ok(bytes) = read_into(&mut self.stream, &mut self.piece, buf) {
+                return Ok(bytes);
             }
         }
+        self.faults = self.faults.saturating_add(1);
+        Err(Failed)
     }
 }

@@ -1,6 +1,7 @@
 //! The net of the system: the doors of a TCP listener.
 #![tactic(auto)]
 
+mod accepting;
 mod tcp_door;
 mod tcp_net;
 

@@ -5,20 +5,21 @@ ghost use Rattle.kn_real.specs.Counted.{counted_link_seen};
 ghost use Rattle.kn_workers.specs.Doors.{Accepts};
 ghost use Rattle.kn_workers.specs.declared.accepted.Accepted.TheVariants as A;
 
+use crate::accepting::accept_next;
 use kn_real::TcpLink;
 use kn_workers::{Accepted, Door, Served};
-use std::io::{self, ErrorKind};
 use std::marker::Model;
-use std::net::{TcpListener, TcpStream};
+use std::net::TcpListener;
 use std::sync::{Arc, Wait};
+use std::time::Duration;
 
-/// How often a listener is asked until a call isn't interrupted and no peer has gone before it was accepted.
-const TRIES: u32 = 64;
-
-/// A door of the listener that all doors of an address share, with a quota.
+/// A door of the listener that all doors of an address share, with a quota. It fails only where the listener can't accept any
+/// more; where descriptors or memory lack, it waits.
 #[derive(Drop)]
 pub struct TcpDoor {
+    rt: HostRuntime,
     listener: Arc<TcpListener>,
+    timeout: Option<Duration>,
     quota: u32,
     given: u32,
     finished: u32,
@@ -36,12 +37,19 @@ impl Model for TcpDoor {
 }
 
 impl TcpDoor {
-    /// A door that has given nothing.
-    pub(crate) fn new(listener: Arc<TcpListener>, quota: u32) -> TcpDoor
+    /// A door that has given nothing. Its connections have this timeout.
+    pub(crate) fn new(
+        rt: HostRuntime,
+        listener: Arc<TcpListener>,
+        timeout: Option<Duration>,
+        quota: u32,
+    ) -> TcpDoor
         ensures { result ≡ record { quota = quota; given = 0; finished = 0; faults = 0 } }
     {
         TcpDoor {
+            rt,
             listener,
+            timeout,
             quota,
             given: 0,
             finished: 0,
@@ -64,7 +72,7 @@ impl Door for TcpDoor {
 
     ghost seen = { counted_seen };
 
-    fn accept<R: Wait>(&mut self, _rt: &R) -> Accepted<TcpLink>
+    fn accept<R: Wait>(&mut self, rt: &R) -> Accepted<TcpLink>
         ensures answer { Accepts counted_link_seen result (counted_seen self.old) (counted_seen self.new) }
         ensures finished { self.old.finished ≤ self.old.given }
         ensures later { self.old.faults ≤ self.new.faults }
@@ -73,10 +81,10 @@ impl Door for TcpDoor {
         if self.given >= self.quota {
             return Accepted::Closed;
         }
-        match accept_some(&self.listener) {
+        match accept_next(rt, &self.rt, &self.listener) {
             Ok(stream) => {
                 self.given += 1;
-                Accepted::Conn(TcpLink::new(stream))
+                Accepted::Conn(TcpLink::new(self.rt.alloc(), stream, self.timeout))
             }
             Err(_) => {
                 self.faults = self.faults.saturating_add(1);
@@ -89,25 +97,8 @@ impl Door for TcpDoor {
         requires { self.old.finished < self.old.given }
         ensures { self.new ≡ record self.old { finished = self.old.finished + 1 } }
     {
-        // A connection is closed when it is dropped.
+        // When a connection is dropped its last replies go out, and it is closed.
         drop(served);
         self.finished += 1;
     }
-}
-
-/// Accepts once, and again where that was interrupted or the peer has gone.
-fn accept_some(listener: &TcpListener) -> io::Result<TcpStream> {
-    for _ in 1..TRIES {
-        match listener.accept() {
-            Ok((stream, _)) => return Ok(stream),
-            Err(error) => {
-                let kind = error.kind();
-                if kind != ErrorKind::Interrupted && kind != ErrorKind::ConnectionAborted {
-                    return Err(error);
-                }
-            }
-        }
-    }
-    let (stream, _) = listener.accept()?;
-    Ok(stream)
 }

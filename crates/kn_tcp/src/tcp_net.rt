@@ -18,11 +18,13 @@ use std::marker::Model;
 use std::net::TcpListener;
 use std::str;
 use std::sync::{Arc, Wait};
+use std::time::Duration;
 
 /// The net of the system. An address is a text as std has it: an IP address or a host's name, and a port.
 #[derive(Drop)]
 pub struct TcpNet {
     rt: HostRuntime,
+    timeout: Option<Duration>,
     bound: Option<Binding>,
     rooms: List<TcpDoor>,
     faults: u64,
@@ -37,13 +39,15 @@ impl Model for TcpNet {
 }
 
 impl TcpNet {
-    /// A net that has bound nothing and of which no call failed.
-    pub fn new(rt: HostRuntime) -> TcpNet
+    /// A net that has bound nothing and of which no call failed. A connection of it ends that sends nothing, or takes nothing of
+    /// its replies, for longer than the time that is given.
+    pub fn new(rt: HostRuntime, timeout: Option<Duration>) -> TcpNet
         ensures { result ≡ record { bound = None; rooms = []; faults = 0 } }
     {
         let rooms = List::new(rt.alloc());
         TcpNet {
             rt,
+            timeout,
             bound: None,
             rooms,
             faults: 0,
@@ -79,7 +83,7 @@ impl Net for TcpNet {
             Err(NoMemory) => return Err(BindFault::NoMemory),
         };
         let made = match listen(&self.rt, alloc, address) {
-            Ok(listener) => make_doors(alloc, &listener, doors, quota),
+            Ok(listener) => make_doors(self.rt, alloc, &listener, self.timeout, doors, quota),
             Err(fault) => Err(fault),
         };
         match made {
@@ -137,8 +141,10 @@ fn fault_of(error: &io::Error) -> BindFault
 
 /// So many doors of a listener, which share the quota.
 fn make_doors(
+    rt: HostRuntime,
     alloc: Global,
     listener: &Arc<TcpListener>,
+    timeout: Option<Duration>,
     doors: u32,
     quota: u32,
 ) -> Result<List<TcpDoor>, BindFault>
@@ -153,7 +159,7 @@ fn make_doors(
     }
     for i in 0..doors {
         match listener.clone() {
-            Ok(shared) => made.put(TcpDoor::new(shared, share_of(quota, doors, i))),
+            Ok(shared) => made.put(TcpDoor::new(rt, shared, timeout, share_of(quota, doors, i))),
             Err(_) => return Err(BindFault::NoMemory),
         }
     }
