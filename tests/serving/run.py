@@ -13,6 +13,7 @@ from serving.clients import Clients
 from serving.daemon import Fault
 from serving.doors import Doors
 from serving.talk import Daemon
+from serving.waiting import Waiting
 
 TOP = os.path.dirname(os.path.dirname(os.path.dirname(os.path.abspath(__file__))))
 # what the last client asks about: so many of the credentials that were made last
@@ -112,13 +113,18 @@ def built_program():
 def read_words():
     parser = argparse.ArgumentParser(prog="tests/serve", description="Tries keynoted serve over TCP on the loopback.")
     parser.add_argument("--seconds", type=float, default=20, help="of the long run; the shorter ones take a tenth (20)")
-    parser.add_argument("--only", choices=["checker", "doors", "clients"], help="the self-test of the checker, which wants no program; what is at fault and how connections end; the long run")
+    parser.add_argument("--only", choices=["checker", "doors", "waiting", "clients"], help="the self-test of the checker, which wants no program; what is at fault and how connections end; slow and idle clients, and want of descriptors; the long run")
     return parser.parse_args()
 
 
 def try_doors(tally, program, room):
     doors = Doors(program, room)
     for name, work in [*doors.faults(), *doors.ends()]:
+        tally.attempt(name, work)
+
+
+def try_waiting(tally, program, room):
+    for name, work in Waiting(program, room).cases():
         tally.attempt(name, work)
 
 
@@ -135,11 +141,11 @@ def main():
             tally.note(f"checker: {name}", why)
     if words.only != "checker":
         program = built_program()
-        with tempfile.TemporaryDirectory() as doors, tempfile.TemporaryDirectory() as room:
-            if words.only != "clients":
-                try_doors(tally, program, doors)
-            if words.only != "doors":
-                try_clients(tally, program, room, words.seconds)
+        parts = {"doors": try_doors, "waiting": try_waiting, "clients": lambda *to: try_clients(*to, words.seconds)}
+        for name, part in parts.items():
+            if words.only in (None, name):
+                with tempfile.TemporaryDirectory() as room:
+                    part(tally, program, room)
     print(f"in {time.monotonic() - start:.0f} seconds")
     print(f"{tally.passed} passed, {tally.failed} failed")
     return 0 if tally.passed and not tally.failed else 1

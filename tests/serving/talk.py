@@ -151,8 +151,8 @@ class Talk:
 class Daemon:
     """A run of `serve`, which ends by itself once it has served as many connections as it is told."""
 
-    def __init__(self, program, policy, keys, workers, connections, host=HOST, output=subprocess.PIPE, limit=None):
-        """A call of `limit` in the process of the run comes before the program starts."""
+    def __init__(self, program, policy, keys, workers, connections, host=HOST, output=subprocess.PIPE, limit=None, environment=None):
+        """A call of `limit` in the process of the run comes before the program starts, which has these variables besides."""
         self.left, self.total, self.lock, self.talks = connections, connections, threading.Lock(), []
         words = ["--policy", policy, *(["--keys", keys] if keys else []), *(["--workers", str(workers)] if workers else [])]
         for _ in range(STARTS):
@@ -161,6 +161,7 @@ class Daemon:
             self.run = subprocess.Popen(
                 [program, "serve", spelled, *words, "--connections", str(connections)],
                 stdin=subprocess.DEVNULL, stdout=output, stderr=subprocess.PIPE, preexec_fn=limit,
+                env={**os.environ, **(environment or {})},
             )
             if self.is_ready():
                 return
