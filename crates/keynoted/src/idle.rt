@@ -17,8 +17,8 @@ pub(crate) enum IdleFault {
     NoNumber,
 }
 
-/// The time after which an idle connection ends: as many seconds as the variable `KEYNOTED_IDLE_SECONDS` says (keynoted's
-/// own). None where there is no such variable.
+/// The time after which an idle connection ends: as many seconds as the variable `KEYNOTED_IDLE_SECONDS` says
+/// (keynoted's own). None where there is no such variable.
 pub(crate) fn idle_timeout(rt: &HostRuntime) -> Result<Option<Duration>, IdleFault> {
     match env::var(rt, "KEYNOTED_IDLE_SECONDS") {
         Ok(text) => match seconds_of(text.as_bytes()) {

@@ -1,8 +1,7 @@
 -- Bytes that are written one piece after the other.
-use Rattle.std.proofs.Common.{◌≡◌, ℕ, ◌+◌, List, [], ◌++◌, take, drop, refl, sym, ap, ◌∙◌, append_assoc, append-nil, Option, Some, None}
+use Rattle.std.proofs.Common.{ℕ, ◌+◌, List, [], ◌++◌, take, drop, sym, ap, ◌∙◌, append_assoc, append-nil, Option, Some, None}
 use Rattle.std.proofs.Math.Seq.{take-add}
-use Rattle.std.specs.Io.KnownBytes.{Appends, Keeps, append_known}
-use Rattle.kn_real.specs.Gathering.{AppendsFront, AddsBehind}
+use Rattle.std.specs.Io.KnownBytes.{Appends, Keeps}
 
 -- nothing was written yet
 pub write_nothing : (a : Option (List ℕ)) → Appends a a []

@@ -30,8 +30,8 @@ impl Gathered {
         }
     }
 
-    /// Takes the first bytes of a piece and tells how many: none only of an empty piece, or where the writer takes none.
-    /// Where the room is full, what was gathered is written first.
+    /// Takes the first bytes of a piece and tells how many: none only of an empty piece, or where the writer takes
+    /// none. Where the room is full, what was gathered is written first.
     pub(crate) fn write<W: Write>(&mut self, writer: &mut W, piece: &[u8]) -> Result<usize, Failed>
         ensures count { IfOk result (λ n. n ≤ length piece.now) }
         ensures bytes { IfOk result (λ n. AddsBehind (W.contents writer.old) self.old.bytes.items (W.contents writer.new) self.new.bytes.items (take n piece.now)) }

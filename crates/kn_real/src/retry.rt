@@ -31,8 +31,8 @@ pub(crate) fn read_some<R: Read>(reader: &mut R, buf: &mut [u8]) -> io::Result<u
 /// The bytes that are read at once at most.
 pub(crate) const PIECE: usize = 4_096;
 
-/// Reads once into a buffer by way of a piece, and again where a signal interrupts that. A failed read leaves the buffer as it
-/// was.
+/// Reads once into a buffer by way of a piece, and again where a signal interrupts that. A failed read leaves the
+/// buffer as it was.
 pub(crate) fn read_into<R: Read>(
     reader: &mut R,
     piece: &mut [u8; PIECE],
@@ -72,7 +72,7 @@ pub(crate) fn write_some<W: Write>(writer: &mut W, piece: &[u8]) -> io::Result<u
 }
 
 /// Writes a whole piece, which may be empty.
-#[tactic(auto, using(crate::proofs::Written::write_nothing, crate::proofs::Written::write_part, crate::proofs::Written::write_kept))]
+#[tactic(auto, using(crate::proofs::Written::write_nothing, crate::proofs::Written::write_kept))]
 pub(crate) fn write_whole<W: Write>(writer: &mut W, piece: &[u8]) -> Result<(), Failed>
     ensures whole { OnOk result (Appends (W.contents writer.old) (W.contents writer.new) piece.now) }
     ensures front { OnErr result (AppendsFront (W.contents writer.old) (W.contents writer.new) piece.now) }

@@ -10,8 +10,8 @@ use std::marker::Model;
 use std::net::TcpStream;
 use std::time::Duration;
 
-/// A TCP connection as a link. What is written is gathered, up to 16 KiB of it, and handed to the system in one piece: before
-/// each read, where there is no more room, and when the link is dropped. Then it goes out without delay.
+/// A TCP connection as a link. What is written is gathered, up to 16 KiB of it, and handed to the system in one piece:
+/// before each read, where there is no more room, and when the link is dropped. Then it goes out without delay.
 ///
 /// A call in which that fails has failed. Where it fails when the link is dropped, only the peer can miss something.
 pub struct TcpLink {
@@ -42,8 +42,9 @@ impl Model for TcpLink {
 }
 
 impl TcpLink {
-    /// A link over a connection of which nothing was read, to which nothing was written, and of which no call failed. A read
-    /// that waits longer than the time that is given fails, and so does a write of which nothing goes out for so long.
+    /// A link over a connection of which nothing was read, to which nothing was written, and of which no call failed.
+    /// A read that waits longer than the time that is given fails, and so does a write of which nothing goes out for
+    /// so long.
     pub fn new(alloc: Global, stream: TcpStream, timeout: Option<Duration>) -> TcpLink
         ensures { result.faults ≡ 0 }
     {

@@ -13,8 +13,8 @@ use std::net::TcpListener;
 use std::sync::{Arc, Wait};
 use std::time::Duration;
 
-/// A door of the listener that all doors of an address share, with a quota. It fails only where the listener can't accept any
-/// more; where descriptors or memory lack, it waits.
+/// A door of the listener that all doors of an address share, with a quota. It fails only where the listener can't
+/// accept any more; where descriptors or memory lack, it waits.
 #[derive(Drop)]
 pub struct TcpDoor {
     rt: HostRuntime,

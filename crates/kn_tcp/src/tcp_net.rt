@@ -39,8 +39,8 @@ impl Model for TcpNet {
 }
 
 impl TcpNet {
-    /// A net that has bound nothing and of which no call failed. A connection of it ends that sends nothing, or takes nothing of
-    /// its replies, for longer than the time that is given.
+    /// A net that has bound nothing and of which no call failed. A connection of it ends that sends nothing, or takes
+    /// nothing of its replies, for longer than the time that is given.
     pub fn new(rt: HostRuntime, timeout: Option<Duration>) -> TcpNet
         ensures { result ≡ record { bound = None; rooms = []; faults = 0 } }
     {

@@ -1,6 +1,5 @@
-use Rattle.std.proofs.Common.{arith, take}
+use Rattle.std.proofs.Common.{arith}
 use Rattle.std.proofs.lemmas.List.{take_all}
-use Rattle.std.specs.Io.KnownBytes.{Appends}
 use Rattle.kn_real.proofs.Written.{write_part}
 use Rattle.kn_real.proofs.retry.write_whole.Goals as goal
 
