@@ -3,11 +3,10 @@ ghost use Rattle.std.specs.Prelude.{◌≡◌, true, IfErr};
 ghost use Rattle.std.specs.IoError.{raw_os_error};
 ghost use Rattle.kn_tcp.specs.Accepting.{is_incurable, is_never};
 
-use std::io;
 use std::net::{TcpListener, TcpStream};
 use std::sync::Wait;
-use std::thread;
 use std::time::Duration;
+use std::{io, thread};
 
 /// The milliseconds after which a call is made again for which something lacked.
 const PAUSE_MILLIS: u64 = 100;
