@@ -208,6 +208,8 @@ class Waiting:
                 while True:
                     one.send(FLOOD)
             late = run.connect("late")
+            # a slow program takes its time to fill the system's buffers
+            late.socket.settimeout(3 * LIMIT)
             late.ask([b"OPEN\n"])
             late.bye()
             one.socket.close()
