@@ -1,5 +1,5 @@
 -- Accepting the connections of a listener (accept(2) of Linux).
-use Rattle.std.specs.Prelude.{ℕ, ℤ, pos, negsuc, ◌≡◌, ◌==◌, Bool, true, false, List, [], ◌∷◌, Option, Some, None}
+use Rattle.std.specs.Prelude.{ℕ, ℤ, pos, negsuc, ◌==◌, Bool, true, false, List, [], ◌∷◌, Option, Some, None}
 use Rattle.std.specs.List.{list_any}
 use Rattle.kn_tcp.specs.declared.accepting.Again.{Again}
 use Rattle.kn_tcp.specs.declared.accepting.Again.TheVariants.{AtOnce, Later, Never}
