@@ -3,6 +3,7 @@
 import contextlib
 import os
 import resource
+import shutil
 import socket
 import subprocess
 import threading
@@ -30,6 +31,12 @@ FLOOD = ASK + b"\n" * 50_000
 RESETS, ENOUGH = 40, 200
 # descriptors of a run that leave room for four connections
 FEW = 8
+# errors of accept(2): those that nothing mends, and how often in a row each other one comes
+FINAL = ("EBADF", "EFAULT", "EINVAL", "ENOTSOCK", "EOPNOTSUPP")
+AGAIN = {
+    **dict.fromkeys(("ECONNABORTED", "EPROTO", "EPERM", "EINTR", "ENETDOWN", "ENOPROTOOPT", "EHOSTDOWN", "ENONET", "EHOSTUNREACH", "ENETUNREACH", "ETIMEDOUT"), 200),
+    **dict.fromkeys(("EMFILE", "ENFILE", "ENOBUFS", "ENOMEM", "EAGAIN", "ENOSR"), 5),
+}
 IDLE = "KEYNOTED_IDLE_SECONDS"
 IDLE_LINE = b"keynoted: KEYNOTED_IDLE_SECONDS isn't a number from 1 to 86400\n"
 
@@ -49,6 +56,13 @@ class Waiting:
         yield "more replies than are gathered", self.try_many
         yield "peers that reset while replies are written", self.try_resets
         yield "descriptors lack and come back", self.try_descriptors
+        if shutil.which("strace"):
+            for error, times in AGAIN.items():
+                yield f"an accept that fails by {error}, {times} times", lambda error=error, times=times: self.try_again(error, times)
+            for error in FINAL:
+                yield f"an accept that fails by {error}", lambda error=error: self.try_final(error)
+        else:
+            print("errors of accept are left out: they want strace")
         yield "idle connections end where a time is set", self.try_idle
         yield "a connection of which nothing is read ends where a time is set", self.try_unread
         for value in ("", "0", "86401", "x", "-1", "+5", "05", "1.5", " 5", "5\n", "99999999999", b"\xff"):
@@ -175,6 +189,35 @@ class Waiting:
                 one.bye()
             run.use_up()
             run.expect_end(1)
+
+    # -- errors of accept
+
+    def faulty(self, error, times):
+        """The program under strace, where its first calls of accept fail."""
+        name = self.room.path("faulty")
+        inject = f"inject=accept4:error={error}:when=1..{times}"
+        self.room.write("faulty", f'#!/bin/sh\nexec strace -f -qq -o /dev/null -e trace=accept4 -e {inject} "{self.program}" "$@"\n'.encode())
+        os.chmod(name, 0o755)
+        return name
+
+    def try_again(self, error, times):
+        """Each of the workers meets some of the errors, and all are there afterwards."""
+        run = Daemon(self.faulty(error, times), self.room.path("p.kn"), None, 4, ENOUGH)
+        with contextlib.closing(run):
+            held = [run.connect("held") for _ in range(4)]
+            for one in held:
+                one.ask([b"OPEN\n"])
+            for one in held:
+                one.bye()
+            run.use_up()
+            run.expect_end(1)
+
+    def try_final(self, error):
+        """The one worker ends, and nobody was served."""
+        words = words_of(free_port(), self.room.path("p.kn"), workers="1")
+        ran = subprocess.run([self.faulty(error, 1), "serve", *words], stdin=subprocess.DEVNULL, capture_output=True, timeout=LIMIT)
+        if (ran.stdout, ran.returncode) != (b"error listener\n", 7):
+            raise Fault(f"{ran.stdout!r} with status {ran.returncode}")
 
     # -- idle connections
 
