@@ -1,5 +1,5 @@
 //! The attributes of an action.
-ghost use Rattle.std.specs.Prelude.{◌≡◌, ◌≤◌, ◌↔◌, ◌⊎◌, true, false, [], length, Some, None, IsTrue, OnOk, OnErr, IfErr};
+ghost use Rattle.std.specs.Prelude.{◌≡◌, ◌≤◌, ◌⊎◌, true, false, [], length, Some, None, OnOk, OnErr, IfErr};
 ghost use Rattle.std.specs.List.{list_all, IsDistinct};
 ghost use Rattle.std.specs.Option.{option_map};
 ghost use Rattle.std.specs.Str.{bytes_eq};
@@ -193,12 +193,6 @@ impl Attributes {
         ensures different { IsDistinct bytes_eq (attribute_names self.now) }
     {
         self.entries.len() as u32
-    }
-
-    pub fn is_empty(&self) -> bool
-        ensures { IsTrue result ↔ (self.now ≡ []) }
-    {
-        self.entries.len() == 0
     }
 
     /// Takes all attributes away. Takes no memory.

@@ -1,6 +1,6 @@
 //! Tokens, and the list of those of a text.
 
-ghost use Rattle.std.specs.Prelude.{◌≡◌, ◌↔◌, IsTrue, length, map, slice_get};
+ghost use Rattle.std.specs.Prelude.{◌≡◌, length, map, slice_get};
 ghost use Rattle.std.specs.Option.{option_copied, option_map};
 
 use kn_base::{List, Span};
@@ -64,12 +64,6 @@ impl<'a> Tokens<'a> {
         ensures { result ≡ length self.now }
     {
         self.list.len()
-    }
-
-    pub fn is_empty(&self) -> bool
-        ensures { IsTrue result ↔ (length self.now ≡ 0) }
-    {
-        self.list.len() == 0
     }
 
     /// The token at place `i`, counted from 0, or None past the end.

@@ -52,13 +52,6 @@ impl MemFiles {
     {
         &self.asked
     }
-
-    /// How many reads failed.
-    pub fn faults(&self) -> u64
-        ensures { result ≡ self.now.faults }
-    {
-        self.faults
-    }
 }
 
 impl Files for MemFiles {

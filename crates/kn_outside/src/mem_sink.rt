@@ -45,13 +45,6 @@ impl MemSink {
     {
         self.written.as_slice()
     }
-
-    /// How many writes failed.
-    pub fn faults(&self) -> u64
-        ensures { result ≡ self.now.faults }
-    {
-        self.faults
-    }
 }
 
 impl Sink for MemSink {

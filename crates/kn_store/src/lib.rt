@@ -4,7 +4,6 @@
 mod book;
 mod credential;
 mod fault;
-mod items;
 pub mod laws;
 mod live_set;
 mod log;
@@ -13,8 +12,7 @@ mod update;
 mod version;
 
 pub use book::{Book, Done, Prepared};
-pub use credential::{Credential, LiveCredential, Ready};
+pub use credential::{Credential, Ready};
 pub use fault::StoreFault;
-pub use items::Items;
 pub use update::{CHANGES, Change, Numbered, Update};
 pub use version::{Snapshot, Version};

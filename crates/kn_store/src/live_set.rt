@@ -12,7 +12,6 @@ ghost use Rattle.kn_store.specs.Places.{IsIdAt, IsPlaceOf, ends_before};
 
 use crate::credential::LiveCredential;
 use crate::fault::StoreFault;
-use crate::items::Items;
 use crate::pages::Pages;
 use kn_base::NoMemory;
 use kn_base::limits::{LIVE_BYTES, LIVE_CREDENTIALS, LOGGED_BYTES, UPDATES};
@@ -93,12 +92,6 @@ impl LiveSet {
         ensures { slice_get self.now.credentials i ≡ Some result.now }
     {
         self.pages.get(i)
-    }
-
-    pub(crate) fn iter(&self) -> Items<'_, LiveCredential>
-        ensures { result ≡ self.now.credentials }
-    {
-        self.pages.iter()
     }
 
     /// The first fault of an addition of so many bytes.

@@ -6,7 +6,6 @@ ghost use Rattle.std.specs.List.{All};
 ghost use Rattle.std.specs.Option.{option_copied};
 ghost use Rattle.kn_store.specs.Pages.{joined, pages_of, unless_empty, with_item, without_item};
 
-use crate::items::Items;
 use kn_base::{List, NoMemory, Reserved};
 use std::alloc::Global;
 use std::marker::Model;
@@ -83,13 +82,6 @@ impl<T: Drop> Pages<T> {
         ensures { slice_get (slice_index_or self.now page []) place ≡ Some result.now }
     {
         &self.page(page)[place]
-    }
-
-    /// All items in their order.
-    pub(crate) fn iter(&self) -> Items<'_, T>
-        ensures { result ≡ joined self.now }
-    {
-        Items::of(self.closed.as_slice(), self.last.as_slice())
     }
 
     /// The item at place `i` of all, counted from 0.

@@ -7,9 +7,8 @@ ghost use Rattle.kn_store.specs.declared.fault.StoreFault.TheVariants.{NoMemory 
 ghost use Rattle.kn_store.specs.History.{all_changes, additions, credentials_of, text_bytes, is_valid_history, update_may_follow, updates_may_follow, refusal_of_text, refusal_of_id, addition_by, additions_by, removal_by, IsFirstRefused};
 ghost use Rattle.kn_store.specs.LiveView.{IdsAscend};
 
-use crate::credential::{Credential, LiveCredential, Ready};
+use crate::credential::{Credential, Ready};
 use crate::fault::StoreFault;
-use crate::items::Items;
 use crate::live_set::LiveSet;
 use crate::log::Log;
 use crate::update::{Change, Numbered, Update};
@@ -90,13 +89,6 @@ impl Version {
         ensures reading { assertion_of result.now.text ≡ Some result.now.assertion }
     {
         self.live.get(i).credential()
-    }
-
-    /// All live credentials in order of id.
-    pub fn iter(&self) -> Items<'_, LiveCredential>
-        ensures { result ≡ credentials_of self.now }
-    {
-        self.live.iter()
     }
 
     /// The same version, which shares all pages but the last ones.
