@@ -22,7 +22,7 @@ pub enum Ending {
     NoQuery,
     /// The text of the reply has the fault of this number in this line, counted from 1; of a wrong count of rows, `line` is
     /// the number of ROW lines.
-    Faulty { fault: u8, line: u32 },
+    Faulty { fault: u8, line: usize },
     /// The rows prove no such value: the first item that fails.
     Rejected(Reject),
     /// The rows prove that the query has this value, counted from the lowest, 0, of this name.

@@ -10,7 +10,7 @@ use kn_check::Reject;
 use kn_outside::{Failed, Sink, write_all};
 
 /// Prints the line of a fault in the text of a reply.
-fn print_text_fault<O: Sink>(out: &mut O, fault: u8, line: u32) -> Result<(), Failed>
+fn print_text_fault<O: Sink>(out: &mut O, fault: u8, line: usize) -> Result<(), Failed>
     ensures { Prints (is_whole result) (text_line fault line) (O.seen out.old) (O.seen out.new) }
 {
     let mut fault_digits = Buffer::new();

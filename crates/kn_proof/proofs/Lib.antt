@@ -6,3 +6,5 @@ pub mod Only
 pub mod Whole
 pub mod OneLine
 pub mod Exists
+pub mod Sizes
+pub mod Scanned

@@ -1,10 +1,17 @@
 -- The quoted bytes of a principal (keynoted's own line protocol).
-use Rattle.std.specs.Prelude.{ℕ, ◌≡◌, ◌≢◌, ◌⊎◌, ◌+◌, ◌/◌, ◌%◌, ◌<◌, ◌≤◌, List, [], ◌∷◌, ◌++◌}
+use Rattle.std.specs.Prelude.{ℕ, ◌≡◌, ◌≢◌, ◌⊎◌, ◌+◌, ◌/◌, ◌%◌, ◌<◌, ◌≤◌, List, [], ◌∷◌, ◌++◌, flat_map}
 use Rattle.kn_proof.specs.Texts.{quoted_byte}
+use Rattle.kn_proof.specs.Lines.{AreBytes}
 
 -- no quoted byte stands there
 abbrev pub HasNoByte : List ℕ → Type 0
 HasNoByte text = (byte : ℕ) (rest : List ℕ) → byte < 256 → text ≢ quoted_byte byte ++ rest
+
+-- quoted bytes stand there, and this behind them
+pub record IsQuotedTo (text rest : List ℕ) : Type 0 where
+  pub principal : List ℕ
+  pub spelled : text ≡ flat_map quoted_byte principal ++ rest
+  pub bytes : AreBytes principal
 
 -- a byte that stands for itself
 pub record IsPlain (byte : ℕ) : Type 0 where

@@ -105,6 +105,22 @@ pub record IsLaterFault (text : List ℕ) (fault : ProofFault) : Type 0 where
 abbrev pub IsFirstFault : List ℕ → ProofFault → Type 0
 IsFirstFault text fault = IsHeaderFault text fault ⊎ IsLaterFault text fault
 
+-- a reply with this value, this name and this version
+pub record IsHeadOf (reply : ReadReply) (value : ℕ) (name : List ℕ) (version : ℕ) : Type 0 where
+  pub tells_value : reply.value ≡ value
+  pub tells_name : reply.name ≡ name
+  pub tells_version : reply.version ≡ version
+
+-- the text is that of such a reply
+pub record HasHead (text : List ℕ) (value : ℕ) (name : List ℕ) (version : ℕ) : Type 0 where
+  pub reply : ReadReply
+  pub read : IsReplyText text reply
+  pub head : IsHeadOf reply value name version
+
+-- why a text isn't read: its first fault, or for the text of a reply want of memory
+abbrev pub IsUnread : List ℕ → ProofFault → Type 0
+IsUnread text fault = IsFirstFault text fault ⊎ ((fault ≡ NoMemory) × ((reply : ReadReply) × IsReplyText text reply))
+
 -- the number of a fault; want of memory has none
 abbrev pub fault_number : ProofFault → Option ℕ
 fault_number (Line n) = Some 1

@@ -1,9 +1,10 @@
 -- What the reader cuts a reply into.
 use Rattle.std.specs.Prelude.{ℕ, ◌≡◌, ◌≢◌, ◌+◌, false, ◌==◌, List, [], ◌∷◌, ◌++◌, length, codes, flat_map, All}
 use Rattle.std.specs.List.{list_any}
+use Rattle.kn_proof.specs.declared.named.Id.{Id}
 use Rattle.kn_proof.specs.declared.named.NamedRow.{NamedRow}
 use Rattle.kn_proof.specs.declared.reply.ReadReply.{ReadReply}
-use Rattle.kn_proof.specs.Texts.{row_text}
+use Rattle.kn_proof.specs.Texts.{row_text, quoted_byte}
 use Rattle.kn_proof.specs.declared.fault.ProofFault.{ProofFault}
 use Rattle.kn_proof.specs.declared.fault.ProofFault.TheVariants.{Line, Number, Count, NoMemory}
 use Rattle.kn_proof.specs.declared.header.Header.{Header}
@@ -36,6 +37,15 @@ pub record AreRowWords (text value id rest : List ℕ) : Type 0 where
   pub spelled : text ≡ row_front value id ++ rest
   pub cut : IsCutRow value id
 
+-- a row stands there, which tells this value and this id; this is behind the quote before its principal, and this behind its line
+pub record IsRowAt (text : List ℕ) (value : ℕ) (id : Id) (quoted rest : List ℕ) : Type 0 where
+  pub row : NamedRow
+  pub same_value : row.value ≡ value
+  pub same_id : row.id ≡ id
+  pub spelled : text ≡ row_text row ++ rest
+  pub range : IsReadRow row
+  pub closed : quoted ≡ flat_map quoted_byte row.principal ++ (codes "\"\n" ++ rest)
+
 -- what is wrong with a ROW line of this number
 abbrev pub IsRowLineFault : ℕ → List ℕ → ProofFault → Type 0
 IsRowLineFault line text (Line n) = (n ≡ line) × HasNoRow text
@@ -63,10 +73,23 @@ pub record AreRowLines (header : Header) (lines : List ℕ) (reply : ReadReply) 
   pub spelled : lines ≡ flat_map row_text reply.rows ++ codes "END\n"
   pub each : All IsReadRow reply.rows
 
+-- the lines behind line 1 are those of so many rows
+pub record AreCountedLines (count : ℕ) (lines : List ℕ) : Type 0 where
+  pub rows : List NamedRow
+  pub counted : length rows ≡ count
+  pub spelled : lines ≡ flat_map row_text rows ++ codes "END\n"
+  pub each : All IsReadRow rows
+
 -- rows stand at the front of these lines, and this is left
 pub record AreRowsTo (lines : List ℕ) (rows : List NamedRow) (left : List ℕ) : Type 0 where
   pub spelled : lines ≡ flat_map row_text rows ++ left
   pub each : All IsReadRow rows
+
+-- so many rows stand at the front of these lines, and this is left
+pub record AreCountedTo (lines : List ℕ) (count : ℕ) (left : List ℕ) : Type 0 where
+  pub rows : List NamedRow
+  pub counted : length rows ≡ count
+  pub to : AreRowsTo lines rows left
 
 -- what is wrong first in the lines behind line 1
 pub record IsFaultBehind (header : Header) (lines : List ℕ) (fault : ProofFault) : Type 0 where

@@ -7,12 +7,12 @@ ghost use Rattle.kn_proof.specs.Reading.{fault_number, fault_line};
 #[derive(Debug, Clone, Copy, PartialEq, Eq)]
 pub enum ProofFault {
     /// Fault 1: line `n` isn't of its form, is missing, or stands behind `END`.
-    Line { n: u32 },
+    Line { n: usize },
     /// Fault 2: a number in line `n` has more than nine digits, or a compliance value in it is above 255.
-    Number { n: u32 },
+    Number { n: usize },
     /// Fault 3: there are `n` ROW lines, which isn't the number that line 1 tells.
-    Count { n: u32 },
-    /// There was no memory for the parts of the reply, or it has more lines than a `u32` counts.
+    Count { n: usize },
+    /// There was no memory for the parts of the reply.
     NoMemory,
 }
 
@@ -30,7 +30,7 @@ impl ProofFault {
     }
 
     /// The `n` of the fault, a line or for `Count` the number of ROW lines. Want of memory has none.
-    pub fn line(&self) -> Option<u32>
+    pub fn line(&self) -> Option<usize>
         ensures { result ≡ fault_line self.now }
     {
         match self {

@@ -29,6 +29,16 @@ pub(crate) struct HeaderLine<'a> {
     pub rest: &'a [u8],
 }
 
+/// What line 1 tells, its name as it stands there, and the lines behind it.
+#[derive(Clone, Copy)]
+pub(crate) struct ScannedHeader<'a> {
+    pub value: u8,
+    pub name: &'a [u8],
+    pub version: u32,
+    pub count: u32,
+    pub rest: &'a [u8],
+}
+
 /// Line 1 by its words, and the lines behind it.
 #[derive(Clone, Copy)]
 struct HeaderWords<'a> {
@@ -45,6 +55,31 @@ pub(crate) fn read_header(alloc: Global, text: &[u8]) -> Result<HeaderLine<'_>, 
     ensures range { IfOk result (λ line. IsHeader line.header) }
     ensures err { IfErr result (λ fault. (fault ≡ F.NoMemory) ⊎ IsHeaderFault text.now fault) }
 {
+    let line = match scan_header(text) {
+        Ok(line) => line,
+        Err(fault) => return Err(fault),
+    };
+    let name = match Octets::from_slice(alloc, line.name) {
+        Ok(name) => name,
+        Err(NoMemory) => return Err(ProofFault::NoMemory),
+    };
+    Ok(HeaderLine {
+        header: Header {
+            value: line.value,
+            name,
+            version: line.version,
+            count: line.count,
+        },
+        rest: line.rest,
+    })
+}
+
+/// Tries line 1 of a text, without memory.
+pub(crate) fn scan_header(text: &[u8]) -> Result<ScannedHeader<'_>, ProofFault>
+    ensures spelled { IfOk result (λ line. text.now ≡ header_text (record { value = line.value; name = line.name.now; version = line.version; count = line.count }) ++ line.rest.now) }
+    ensures range { IfOk result (λ line. IsHeader (record { value = line.value; name = line.name.now; version = line.version; count = line.count })) }
+    ensures err { IfErr result (λ fault. IsHeaderFault text.now fault) }
+{
     let Some(words) = header_words(text) else {
         return Err(ProofFault::Line { n: 1 });
     };
@@ -60,17 +95,11 @@ pub(crate) fn read_header(alloc: Global, text: &[u8]) -> Result<HeaderLine<'_>, 
     let Some(count) = number(words.count) else {
         return Err(ProofFault::Number { n: 1 });
     };
-    let name = match Octets::from_slice(alloc, words.name) {
-        Ok(name) => name,
-        Err(NoMemory) => return Err(ProofFault::NoMemory),
-    };
-    Ok(HeaderLine {
-        header: Header {
-            value,
-            name,
-            version,
-            count,
-        },
+    Ok(ScannedHeader {
+        value,
+        name: words.name,
+        version,
+        count,
         rest: words.rest,
     })
 }

@@ -15,6 +15,6 @@ mod text;
 
 pub use fault::ProofFault;
 pub use named::{Id, NamedRow};
-pub use reader::read_reply;
-pub use reply::ReadReply;
+pub use reader::{read_reply, scan_reply};
+pub use reply::{FILE_ROWS, ReadReply, ReplyHead};
 pub use row::{Proof, Row};

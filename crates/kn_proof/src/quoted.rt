@@ -3,7 +3,7 @@ ghost use Rattle.std.specs.Prelude.{◌≡◌, ◌≢◌, ◌↔◌, ◌<◌, �
 ghost use Rattle.std.specs.Bool.{OnTrue, OnFalse};
 ghost use Rattle.kn_proof.specs.Texts.{quoted_byte};
 ghost use Rattle.kn_proof.specs.Lines.{AreBytes};
-ghost use Rattle.kn_proof.specs.Quoting.{HasNoByte, IsPlain, IsUnprinted, AreOctal, octal_digits};
+ghost use Rattle.kn_proof.specs.Quoting.{HasNoByte, IsQuotedTo, IsPlain, IsUnprinted, AreOctal, octal_digits};
 
 use kn_base::{NoMemory, Octets};
 use std::alloc::Global;
@@ -32,9 +32,24 @@ pub(crate) fn unquoted(alloc: Global, text: &[u8]) -> Result<Quoted<'_>, NoMemor
     }
 }
 
+/// What is behind the bytes that are quoted at the front of a text. Takes no memory.
+pub(crate) fn behind_quoted(text: &[u8]) -> &[u8]
+    ensures quoted { IsQuotedTo text.now result.now }
+    ensures all { HasNoByte result.now }
+{
+    let mut rest = text;
+    'bytes: loop {
+        let Some((_byte, behind)) = first_byte(rest) else {
+            return rest;
+        };
+        rest = behind;
+    }
+}
+
 /// The byte that is quoted at the front of a text, and what is behind.
 fn first_byte(text: &[u8]) -> Option<(u8, &[u8])>
     ensures some { IfSome result (λ first. text.now ≡ quoted_byte first.0 ++ first.1.now) }
+    ensures small { IfSome result (λ first. first.0 < 256) }
     ensures none { IfNone result (HasNoByte text.now) }
 {
     let Some((byte, behind)) = text.split_first() else {

@@ -3,12 +3,12 @@ ghost use Rattle.std.specs.Prelude.{◌≡◌, ◌≤◌, ◌<◌, ◌++◌, ℕ
 ghost use Rattle.kn_proof.specs.Texts.{id_text, row_text};
 ghost use Rattle.kn_proof.specs.Lines.{is_id};
 ghost use Rattle.kn_proof.specs.Reading.{HasNoRow, IsReadRow, id_number};
-ghost use Rattle.kn_proof.specs.Words.{AreRowWords, IsRowLineFault};
+ghost use Rattle.kn_proof.specs.Words.{AreRowWords, IsRowAt, IsRowLineFault};
 ghost use Rattle.kn_proof.specs.declared.fault.ProofFault.TheVariants as F;
 
 use crate::fault::ProofFault;
 use crate::named::{Id, NamedRow};
-use crate::quoted::unquoted;
+use crate::quoted::{behind_quoted, unquoted};
 use crate::text::{is_numeral, number, small_number};
 use kn_base::NoMemory;
 use kn_base::text::{behind, cut};
@@ -21,6 +21,16 @@ pub(crate) struct RowLine<'a> {
     pub rest: &'a [u8],
 }
 
+/// What a ROW line tells, its principal as it stands there, and the lines behind its own.
+#[derive(Clone, Copy)]
+pub(crate) struct ScannedRow<'a> {
+    value: u8,
+    id: Id,
+    /// The quoted bytes of the principal, and all that is behind them.
+    quoted: &'a [u8],
+    pub rest: &'a [u8],
+}
+
 /// The words of a ROW line before its principal, and what is behind the quote.
 #[derive(Clone, Copy)]
 struct RowWords<'a> {
@@ -30,10 +40,32 @@ struct RowWords<'a> {
 }
 
 /// Reads the ROW line of number `n` at the front of a text.
-pub(crate) fn read_row(alloc: Global, n: u32, text: &[u8]) -> Result<RowLine<'_>, ProofFault>
+pub(crate) fn read_row(alloc: Global, n: usize, text: &[u8]) -> Result<RowLine<'_>, ProofFault>
     ensures spelled { IfOk result (λ line. text.now ≡ row_text line.row ++ line.rest.now) }
     ensures range { IfOk result (λ line. IsReadRow line.row) }
     ensures err { IfErr result (λ fault. (fault ≡ F.NoMemory) ⊎ IsRowLineFault n text.now fault) }
+{
+    let line = match scan_row(n, text) {
+        Ok(line) => line,
+        Err(fault) => return Err(fault),
+    };
+    match unquoted(alloc, line.quoted) {
+        Ok(quoted) => Ok(RowLine {
+            row: NamedRow {
+                value: line.value,
+                id: line.id,
+                principal: quoted.principal,
+            },
+            rest: line.rest,
+        }),
+        Err(NoMemory) => Err(ProofFault::NoMemory),
+    }
+}
+
+/// Tries the ROW line of number `n` at the front of a text, without memory.
+pub(crate) fn scan_row(n: usize, text: &[u8]) -> Result<ScannedRow<'_>, ProofFault>
+    ensures ok { IfOk result (λ line. IsRowAt text.now line.value line.id line.quoted.now line.rest.now) }
+    ensures err { IfErr result (λ fault. IsRowLineFault n text.now fault) }
 {
     let Some(words) = row_words(text) else {
         return Err(ProofFault::Line { n });
@@ -41,11 +73,7 @@ pub(crate) fn read_row(alloc: Global, n: u32, text: &[u8]) -> Result<RowLine<'_>
     if !is_numeral(words.value) || !is_id(words.id) {
         return Err(ProofFault::Line { n });
     }
-    let quoted = match unquoted(alloc, words.rest) {
-        Ok(quoted) => quoted,
-        Err(NoMemory) => return Err(ProofFault::NoMemory),
-    };
-    let Some(rest) = behind(quoted.rest, b"\"\n") else {
+    let Some(rest) = behind(behind_quoted(words.rest), b"\"\n") else {
         return Err(ProofFault::Line { n });
     };
     let Some(value) = small_number(words.value) else {
@@ -54,12 +82,10 @@ pub(crate) fn read_row(alloc: Global, n: u32, text: &[u8]) -> Result<RowLine<'_>
     let Some(id) = read_id(words.id) else {
         return Err(ProofFault::Number { n });
     };
-    Ok(RowLine {
-        row: NamedRow {
-            value,
-            id,
-            principal: quoted.principal,
-        },
+    Ok(ScannedRow {
+        value,
+        id,
+        quoted: words.rest,
         rest,
     })
 }

@@ -1,5 +1,5 @@
 //! The words of a line.
-ghost use Rattle.std.specs.Prelude.{◌≡◌, ◌==◌, ◌&&◌, nat_le, true, IfSome, decimal, ◌<◌, IfNone};
+ghost use Rattle.std.specs.Prelude.{◌≡◌, ◌==◌, ◌&&◌, nat_le, true, IfSome, decimal, ◌<◌, ◌≤◌, IfNone};
 ghost use Rattle.std.specs.List.{list_any, list_all};
 ghost use Rattle.kn_base.specs.Decimal.{is_digit};
 ghost use Rattle.kn_proof.specs.Lines.{is_numeral, is_name, IsShort, IsSmall};
@@ -40,6 +40,7 @@ pub(crate) fn number(numeral: &[u8]) -> Option<u32>
 pub(crate) fn small_number(numeral: &[u8]) -> Option<u8>
     requires { is_numeral numeral.now ≡ true }
     ensures small { IfSome result (λ n. IsSmall numeral.now) }
+    ensures range { IfSome result (λ n. n ≤ 255) }
     ensures spelled { IfSome result (λ n. decimal n ≡ numeral.now) }
     ensures large { IfNone result (¬ IsSmall numeral.now) }
 {

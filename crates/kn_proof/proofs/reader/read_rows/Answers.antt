@@ -2,9 +2,6 @@ use Rattle.kn_proof.proofs.Whole.{more_rows}
 use Rattle.kn_proof.proofs.reader.read_rows.Goals as goal
 
 pub rows-preserved : goal.rows-preserved
-rows-preserved c = record {
-  read =
-      rw c.in-Ok-push.ensures.ok
-      (more_rows c.args.lines.now c.rows.rest.now c.in-Ok.line.rest.now c.rows.rows c.in-Ok.line.row c.rows.invariant.read c.in-Ok.ensures.spelled c.in-Ok.ensures.range);
-  few = c.in-Ok-push.ensures.few;
-}
+rows-preserved c =
+    rw c.in-Ok-add.ensures.ok
+    (more_rows c.args.lines.now c.rows.rest.now c.in-Ok.line.rest.now c.rows.rows c.in-Ok.line.row c.rows.invariant c.in-Ok.ensures.spelled c.in-Ok.ensures.range)

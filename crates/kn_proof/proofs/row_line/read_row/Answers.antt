@@ -1,41 +1,7 @@
-use Rattle.std.proofs.Common.{inl, inr, refl, sym}
-use Rattle.kn_proof.proofs.Lines.{no_row_form, not_closed, large_row}
+use Rattle.kn_proof.proofs.Scanned.{row_again}
 use Rattle.kn_proof.proofs.row_line.read_row.Goals as goal
-use Rattle.kn_proof.proofs.row_line.read_row.Goals.{then-not-is_numeral-via-then-not-is_numeral, then-not-is_numeral-via-else-not-is_numeral+then-not-is_id}
 
-pub returns-then-not-is_numeral-clause-err : goal.returns-then-not-is_numeral-clause-err
-returns-then-not-is_numeral-clause-err c =
-    inr (
-      refl,
-      no_row_form c.args.text.now c.in-Some.words.value.now c.in-Some.words.id.now c.in-Some.words.rest.now c.in-Some.ensures
-          (elim c.then-not-is_numeral.branch [
-            | then-not-is_numeral-via-then-not-is_numeral w ↦ inl (sym w.if-not-is_numeral.ensures)
-            | then-not-is_numeral-via-else-not-is_numeral+then-not-is_id w ↦ inr (sym w.if-not-is_id.ensures)
-          ]),
-    )
-
-pub returns-in_default-behind-clause-err : goal.returns-in_default-behind-clause-err
-returns-in_default-behind-clause-err c =
-    inr (
-      refl,
-      not_closed c.args.text.now c.in-Some.words.value.now c.in-Some.words.id.now c.in-Some.words.rest.now c.in-Ok.quoted.principal c.in-Ok.quoted.rest.now
-          c.in-Some.ensures c.in-Ok.ensures.spelled c.in-Ok.ensures.bytes c.in-Ok.ensures.all c.in_default-behind.ensures,
-    )
-
-pub returns-in_default-small_number-clause-err : goal.returns-in_default-small_number-clause-err
-returns-in_default-small_number-clause-err c =
-    inr (
-      refl,
-      large_row c.args.text.now c.in-Some.words.value.now c.in-Some.words.id.now c.in-Some.words.rest.now c.in-Ok.quoted.principal c.in-Ok.quoted.rest.now
-          c.in-Some-behind.rest.now c.in-Some.ensures c.in-Ok.ensures.spelled c.in-Some-behind.ensures c.in-Ok.ensures.bytes (sym c.if-not-is_numeral.ensures) (sym c.if-not-is_id.ensures)
-          (inl c.in_default-small_number.ensures.large),
-    )
-
-pub returns-in_default-read_id-clause-err : goal.returns-in_default-read_id-clause-err
-returns-in_default-read_id-clause-err c =
-    inr (
-      refl,
-      large_row c.args.text.now c.in-Some.words.value.now c.in-Some.words.id.now c.in-Some.words.rest.now c.in-Ok.quoted.principal c.in-Ok.quoted.rest.now
-          c.in-Some-behind.rest.now c.in-Some.ensures c.in-Ok.ensures.spelled c.in-Some-behind.ensures c.in-Ok.ensures.bytes (sym c.if-not-is_numeral.ensures) (sym c.if-not-is_id.ensures)
-          (inr c.in_default-read_id.ensures.long),
-    )
+pub returns-in-Ok-unquoted-clause-spelled : goal.returns-in-Ok-unquoted-clause-spelled
+returns-in-Ok-unquoted-clause-spelled c =
+    row_again c.args.text.now c.in-Ok.line.quoted.now c.in-Ok.line.rest.now c.in-Ok-unquoted.quoted.principal c.in-Ok-unquoted.quoted.rest.now c.in-Ok.line.value c.in-Ok.line.id c.in-Ok.ensures.ok
+    c.in-Ok-unquoted.ensures.spelled c.in-Ok-unquoted.ensures.bytes c.in-Ok-unquoted.ensures.all
