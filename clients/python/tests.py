@@ -1,5 +1,5 @@
 #!/usr/bin/env python3
-"""Tests of keynoted.py against a built program: tests.py [PROGRAM]."""
+"""Tests of the client against a built program: tests.py [PROGRAM]."""
 
 import contextlib
 import glob
@@ -18,6 +18,8 @@ sys.dont_write_bytecode = True
 HERE = os.path.dirname(os.path.abspath(__file__))
 sys.path.insert(0, HERE)
 import keynoted  # noqa: E402
+import keynoted.command  # noqa: E402
+from keynoted import connection, reader, texts  # noqa: E402
 
 TOP = os.path.dirname(os.path.dirname(HERE))
 PROGRAM = os.path.abspath(sys.argv.pop(1)) if len(sys.argv) > 1 else os.path.join(TOP, "crates", "keynoted", "out", "keynoted")
@@ -45,7 +47,7 @@ class Room(unittest.TestCase):
         """The status of a command of the client, and what it prints on both outputs."""
         out, errors = io.StringIO(), io.StringIO()
         with contextlib.redirect_stdout(out), contextlib.redirect_stderr(errors):
-            status = keynoted.main(words)
+            status = keynoted.command.main(words)
         return status, out.getvalue(), errors.getvalue()
 
     def daemon_line(self, text):
@@ -109,7 +111,7 @@ class Refusals(Room):
                 self.assertRaises(ValueError, call)
             self.assertEqual(session.query("no", "yes").index, 0)
         for word in ("a\n", "a\r", "\nb", b"a\nb"):
-            self.assertRaises(ValueError, keynoted.words_of, b"AUTH", word)
+            self.assertRaises(ValueError, connection.words_of, b"AUTH", word)
 
     def test_bytes_of_all_kinds_are_a_value(self):
         self.write("p.kn", POLICY + b'Conditions: x == "a\\nb\\015" -> "yes";\n')
@@ -209,11 +211,11 @@ class Explanations(Room):
                 self.assertNotRegex(keynoted.explain(line), r": fault \d+( in|$)", name)
             elif not line:
                 accepted += 1
-                for start, end in keynoted.split_file(text):
-                    fields = keynoted.fields_of(text[start:end])
+                for start, end in texts.split_file(text):
+                    fields = texts.fields_of(text[start:end])
                     for field in fields:
                         for fault in (16, 17, 18, 19) if field.number in (1, 3, 5, 7) else ():
-                            keynoted.Reader(field, fault, keynoted.constants_of(fields)).read()
+                            reader.Reader(field, fault, texts.constants_of(fields)).read()
         self.assertTrue(accepted > 20 and refused > 20, (accepted, refused))
 
     def test_values_of_literals(self):
@@ -221,7 +223,7 @@ class Explanations(Room):
             (rb'"\012\101\000\7"', b"\nA0007"), (rb'"\n\r\t\f\q\"\\"', b'\n\r\t\fq"\\'), (b'"a\\\n   \n b"', b"ab"), (b'"a\\ b"', b"a b"),
             (rb'"\07\078"', b"\x07\x078"), (rb'"\0778"', b"?8"), (rb'"\400"', b"400"), (rb'"\00"', b"00"), (b'""', b""), (b'"', b""),
         ):
-            self.assertEqual(keynoted.value_of(keynoted.Token("text", 0, len(spelled), spelled)), value, spelled)
+            self.assertEqual(texts.value_of(texts.Token("text", 0, len(spelled), spelled)), value, spelled)
 
     def test_each_line_has_words(self):
         lines = ["error words", "error memory", "error query", "error listener", "error keys 3", "error file a b read", "error file a b large"]
@@ -237,7 +239,7 @@ class Explanations(Room):
     def test_standard_input_is_copied_and_explained(self):
         self.write("p.kn", b'Authorizer: "POLICY"\nLicensees: alice\n')
         given = b"OK 1 1\nerror policy p.kn 1 19 5\nerror policy gone.kn 1 2 3\n\xff\nNO 3 session"
-        run = subprocess.run([sys.executable, keynoted.__file__, "explain"], input=given, capture_output=True)
+        run = subprocess.run([sys.executable, os.path.join(HERE, "keynoted.py"), "explain"], input=given, capture_output=True)
         self.assertEqual((run.returncode, run.stdout), (0, given))
         told = run.stderr.decode().splitlines()
         self.assertEqual(told[0], 'p.kn:2:12: alice is no local constant: a principal stands in quotes, "alice"')

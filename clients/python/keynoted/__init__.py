@@ -1,0 +1,29 @@
+"""Asks keynoted, and tells in words and places what it refuses: a library, and a command (keynoted.py --help).
+
+    import keynoted
+    with keynoted.start("policy.kn") as daemon, daemon.session() as session:
+        session.auth("alice")
+        session.set("action", "read")
+        answer = session.query("no", "log", "yes")      # the lowest value first
+        print(answer.at_least("log"))
+
+Nothing is decided here: each answer is the daemon's. An answer is compared by its index and never by its name. What would
+be read as another request is refused before it is sent (ValueError), and each refusal of the daemon is an exception of its
+own. A connection serves one thread at a time.
+"""
+
+from .answers import Answer, Row
+from .connection import Connection, Session, connect, start
+from .errors import (
+    KeynotedError, LinkEnded, NoAdmin, NoAuth, NoBlock, NoCommand, NoLimit, NoLong, NoMemory, NoName, NoPolicy,
+    NoPrincipal, NoRead, NoSession, NoSyntax, NoUnknown, NoValue, NoValues, Refusal,
+)
+from .explaining import explain
+from .linting import lint
+from .version import __version__
+
+__all__ = [
+    "Answer", "Connection", "KeynotedError", "LinkEnded", "NoAdmin", "NoAuth", "NoBlock", "NoCommand", "NoLimit",
+    "NoLong", "NoMemory", "NoName", "NoPolicy", "NoPrincipal", "NoRead", "NoSession", "NoSyntax", "NoUnknown",
+    "NoValue", "NoValues", "Refusal", "Row", "Session", "__version__", "connect", "explain", "lint", "start",
+]

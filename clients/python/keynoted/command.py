@@ -1,0 +1,102 @@
+"""The command: asks once, explains errors, and warns (keynoted.py --help)."""
+
+from __future__ import annotations
+
+import argparse
+import os
+import subprocess
+import sys
+from typing import Optional, Sequence
+
+from .connection import Connection, connect, program_of, start
+from .errors import KeynotedError, LinkEnded
+from .explaining import explain
+from .linting import lint
+from .texts import place_of, read_file, split_file
+
+
+def run_query(args: argparse.Namespace) -> int:
+    values = args.values.split(",")
+    with connected(args) as daemon, daemon.session() as session:
+        for principal in args.auth:
+            session.auth(principal)
+        for pair in args.set:
+            session.set(*pair.partition("=")[::2])
+        answer = session.query(*values)
+    for principal in args.auth:
+        print(f"{principal} asks, and has {values[-1]}")
+    starts = split_file(read_file(args.policy)) if args.policy else []
+    for row in answer.rows:
+        number = int(row.id[1:])
+        known = row.id.startswith("a") and number <= len(starts)
+        where = f", {args.policy}:{place_of(read_file(args.policy), starts[number - 1][0])}" if known else ""
+        print(f"{row.principal.decode('utf-8', 'replace')} has {values[row.level]} by {row.id}{where}")
+    print(f"answer: {answer.name}, which is {answer.index} of {args.values}")
+    return 0 if answer.at_least(args.at_least or values[-1]) else 1
+
+
+def connected(args: argparse.Namespace) -> Connection:
+    if bool(args.policy) == bool(args.connect):
+        raise ValueError("either a policy file or --connect HOST:PORT is wanted")
+    if args.connect:
+        host, _, port = args.connect.rpartition(":")
+        return connect(host, int(port), 60)
+    return start(args.policy, args.keys)
+
+
+def run_explain(args: argparse.Namespace) -> int:
+    """Explains these lines, or copies standard input and explains what in it is an error."""
+    lines = [os.fsencode(line) for line in args.line]
+    found = False
+    for raw in lines or sys.stdin.buffer:
+        if not lines:
+            sys.stdout.buffer.write(raw)
+            sys.stdout.buffer.flush()
+        line = raw.rstrip(b"\n").decode("utf-8", "surrogateescape")
+        try:
+            told = explain(line, args.file or "")
+        except OSError as why:
+            told = f"{line}: {why}"
+        found = found or bool(told)
+        if told or lines:
+            print(told or f"no error line: {line}", file=sys.stderr, flush=True)
+    return 0 if found or not lines else 2
+
+
+def run_lint(args: argparse.Namespace) -> int:
+    run = subprocess.run([program_of(), "ask", args.policy], stdin=subprocess.DEVNULL, stdout=subprocess.PIPE)
+    if run.returncode:
+        raise LinkEnded(run.stdout.decode("utf-8", "surrogateescape").strip())
+    told = lint(args.policy, args.script)
+    for line in told:
+        print(line)
+    return 1 if told else 0
+
+
+def main(words: Optional[Sequence[str]] = None) -> int:
+    """Runs the command with these words, or those of the process, and answers its status."""
+    parser = argparse.ArgumentParser(prog="keynoted.py", description="Asks keynoted, explains its errors, and warns of what is surely not meant.")
+    commands = parser.add_subparsers(required=True, metavar="query|explain|lint")
+    query = commands.add_parser("query", help="asks once: 0 at least the value named, 1 less, 2 an error")
+    query.add_argument("policy", nargs="?", help="the policy file, unless --connect is given")
+    query.add_argument("--connect", metavar="HOST:PORT", help="a daemon that serves")
+    query.add_argument("--keys", help="the key file")
+    query.add_argument("--auth", action="append", default=[], metavar="PRINCIPAL", help="who asks")
+    query.add_argument("--set", action="append", default=[], metavar="NAME=VALUE", help="an attribute of the action")
+    query.add_argument("--values", required=True, help="the values, the lowest first, with commas between")
+    query.add_argument("--at-least", metavar="VALUE", help="the value that is wanted (else the highest)")
+    query.set_defaults(run=run_query)
+    told = commands.add_parser("explain", help="tells lines 'error ..' and 'NO ..' in words, on standard error")
+    told.add_argument("--file", help="the text or key file that was refused, where the line doesn't name it")
+    told.add_argument("line", nargs="*", help="lines (else standard input, which is copied)")
+    told.set_defaults(run=run_explain)
+    warned = commands.add_parser("lint", help="warns of what is accepted and surely not meant: 0 nothing, 1 warnings, 2 an error")
+    warned.add_argument("policy")
+    warned.add_argument("script", nargs="*", help="files of requests")
+    warned.set_defaults(run=run_lint)
+    args = parser.parse_args(words)
+    try:
+        return int(args.run(args))
+    except (KeynotedError, ValueError, OSError) as why:
+        print(explain(str(why)) or f"{parser.prog}: {why}", file=sys.stderr)
+        return 2

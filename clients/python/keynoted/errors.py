@@ -1,0 +1,63 @@
+"""What goes wrong: each refusal of the daemon's is an exception of its own."""
+
+from __future__ import annotations
+
+import re
+from typing import Dict, Type
+
+
+class KeynotedError(Exception):
+    """Another answer than the one that was asked for."""
+
+
+class LinkEnded(KeynotedError):
+    """The connection ended, or what came is no reply to the request; nothing more can be asked on it."""
+
+
+class NoMemory(KeynotedError):
+    """The daemon had no memory for the request, which has changed nothing: neither a yes nor a no."""
+
+
+class Refusal(KeynotedError):
+    """The daemon refused the request, which has changed nothing; `line` is its reply."""
+
+    of_code: Dict[int, Type[Refusal]] = {}
+    code = 0
+
+    def __init_subclass__(cls, code: int) -> None:
+        Refusal.of_code[code], cls.code = cls, code
+
+    def __init__(self, line: str) -> None:
+        super().__init__(f"{line}: {self.__doc__}")
+        self.line = line
+        self.parts = line.split()[3:]
+
+
+class NoSyntax(Refusal, code=1): "the line hasn't the form of its command"
+class NoCommand(Refusal, code=2): "the first word is no command; commands are in upper case"
+class NoSession(Refusal, code=3): "no such session is open on this connection"
+class NoAdmin(Refusal, code=4): "the secret is wrong, or ADD or DROP came before a right one"
+class NoRead(Refusal, code=5): "the text is no assertion; `parts` are the fault and its place"
+class NoPolicy(Refusal, code=6): "the authorizer of a private assertion is POLICY"
+class NoAuth(Refusal, code=7): "the credential isn't admitted: 1 no signature, 2 another algorithm, 3 no key, 4 another code"
+class NoName(Refusal, code=8): "no attribute can have this name: a letter, then letters, digits and _, at most 128 bytes"
+class NoValue(Refusal, code=9): "the value has more than 4,096 bytes"
+class NoValues(Refusal, code=10): "the values aren't 2 to 64 different names"
+class NoPrincipal(Refusal, code=11): "the principal is empty, has more than 4,096 bytes, or is POLICY"
+class NoUnknown(Refusal, code=12): "the assertion, credential, attribute or requester isn't there"
+class NoLimit(Refusal, code=13): "a limit is met; `parts` are its word and what there is"
+class NoLong(Refusal, code=14): "the line has more than 8,192 bytes"
+class NoBlock(Refusal, code=15): "the text has more than 16,384 bytes, or isn't as long as was said; the connection ends"
+
+
+REFUSAL = re.compile(
+    r"NO (?:1 syntax|2 command|3 session|4 admin|5 read (?:0|[1-9]\d*) (?:0|[1-9]\d*)|6 policy|7 auth [1-9]\d*|8 name|9 value"
+    r"|10 values|11 principal|12 unknown|13 limit [a-z-]+ (?:0|[1-9]\d*)|14 long|15 block)"
+)
+
+
+def refusal_of(line: str) -> Refusal:
+    """The exception of a line `NO ..`; ValueError where the line is none."""
+    if not REFUSAL.fullmatch(line):
+        raise ValueError(f"no refusal: {line!r}")
+    return Refusal.of_code[int(line.split()[1])](line)

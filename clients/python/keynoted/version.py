@@ -1,0 +1,3 @@
+"""The version of this package, which is that of the repository (CHANGELOG.md)."""
+
+__version__ = "0.9.0"
