@@ -7,23 +7,29 @@
         answer = session.query("no", "log", "yes")      # the lowest value first
         print(answer.at_least("log"))
 
-Nothing is decided here: each answer is the daemon's. An answer is compared by its index and never by its name. What would
-be read as another request is refused before it is sent (ValueError), and each refusal of the daemon is an exception of its
-own. A connection serves one thread at a time.
+Nothing is decided here: each answer is the daemon's. An answer is compared by its index and never by its name. What
+would be read as another request is refused before it is sent (ValueError), and each refusal of the daemon is an
+exception of its own. Whatever interrupts a request ends its connection. A gateway asks by a `Pool`:
+
+    pool = keynoted.Pool("[::1]:2704", values=("no", "log", "yes"))
+    pool.ask(["alice"], {"action": "read"}).at_least("log")
 """
 
 from .answers import Answer, Row
+from .asynchronous import AsyncConnection, AsyncPool, connect_async
 from .connection import Connection, Session, connect, start
 from .errors import (
     KeynotedError, LinkEnded, NoAdmin, NoAuth, NoBlock, NoCommand, NoLimit, NoLong, NoMemory, NoName, NoPolicy,
-    NoPrincipal, NoRead, NoSession, NoSyntax, NoUnknown, NoValue, NoValues, Refusal,
+    NoPrincipal, NoRead, NoSession, NoSyntax, NoUnknown, NoValue, NoValues, Refusal, TimedOut,
 )
 from .explaining import explain
 from .linting import lint
+from .pool import Pool
 from .version import __version__
 
 __all__ = [
-    "Answer", "Connection", "KeynotedError", "LinkEnded", "NoAdmin", "NoAuth", "NoBlock", "NoCommand", "NoLimit",
-    "NoLong", "NoMemory", "NoName", "NoPolicy", "NoPrincipal", "NoRead", "NoSession", "NoSyntax", "NoUnknown",
-    "NoValue", "NoValues", "Refusal", "Row", "Session", "__version__", "connect", "explain", "lint", "start",
+    "Answer", "AsyncConnection", "AsyncPool", "Connection", "KeynotedError", "LinkEnded", "NoAdmin", "NoAuth",
+    "NoBlock", "NoCommand", "NoLimit", "NoLong", "NoMemory", "NoName", "NoPolicy", "NoPrincipal", "NoRead",
+    "NoSession", "NoSyntax", "NoUnknown", "NoValue", "NoValues", "Pool", "Refusal", "Row", "Session", "TimedOut",
+    "__version__", "connect", "connect_async", "explain", "lint", "start",
 ]

@@ -11,18 +11,16 @@ from typing import Optional, Sequence
 from .connection import Connection, connect, program_of, start
 from .errors import KeynotedError, LinkEnded
 from .explaining import explain
-from .linting import lint
+from .linting import lint, lint_values
 from .texts import place_of, read_file, split_file
 
 
 def run_query(args: argparse.Namespace) -> int:
     values = args.values.split(",")
-    with connected(args) as daemon, daemon.session() as session:
-        for principal in args.auth:
-            session.auth(principal)
-        for pair in args.set:
-            session.set(*pair.partition("=")[::2])
-        answer = session.query(*values)
+    for warning in lint_values(values):
+        print(f"{args.prog}: {warning}", file=sys.stderr)
+    with connected(args) as daemon:
+        answer = daemon.ask(args.auth, dict(pair.partition("=")[::2] for pair in args.set), values)
     for principal in args.auth:
         print(f"{principal} asks, and has {values[-1]}")
     starts = split_file(read_file(args.policy)) if args.policy else []
@@ -39,9 +37,8 @@ def connected(args: argparse.Namespace) -> Connection:
     if bool(args.policy) == bool(args.connect):
         raise ValueError("either a policy file or --connect HOST:PORT is wanted")
     if args.connect:
-        host, _, port = args.connect.rpartition(":")
-        return connect(host, int(port), 60)
-    return start(args.policy, args.keys)
+        return connect(args.connect, record=args.record)
+    return start(args.policy, args.keys, loading=None, record=args.record)
 
 
 def run_explain(args: argparse.Namespace) -> int:
@@ -66,7 +63,8 @@ def run_explain(args: argparse.Namespace) -> int:
 def run_lint(args: argparse.Namespace) -> int:
     run = subprocess.run([program_of(), "ask", args.policy], stdin=subprocess.DEVNULL, stdout=subprocess.PIPE)
     if run.returncode:
-        raise LinkEnded(run.stdout.decode("utf-8", "surrogateescape").strip())
+        line = run.stdout.decode("utf-8", "surrogateescape").strip()
+        raise LinkEnded(explain(line) or f"the program ended with status {run.returncode}", line)
     told = lint(args.policy, args.script)
     for line in told:
         print(line)
@@ -79,13 +77,14 @@ def main(words: Optional[Sequence[str]] = None) -> int:
     commands = parser.add_subparsers(required=True, metavar="query|explain|lint")
     query = commands.add_parser("query", help="asks once: 0 at least the value named, 1 less, 2 an error")
     query.add_argument("policy", nargs="?", help="the policy file, unless --connect is given")
-    query.add_argument("--connect", metavar="HOST:PORT", help="a daemon that serves")
+    query.add_argument("--connect", metavar="HOST:PORT", help="a daemon that serves, as localhost or [::1]:2704")
     query.add_argument("--keys", help="the key file")
     query.add_argument("--auth", action="append", default=[], metavar="PRINCIPAL", help="who asks")
     query.add_argument("--set", action="append", default=[], metavar="NAME=VALUE", help="an attribute of the action")
     query.add_argument("--values", required=True, help="the values, the lowest first, with commas between")
     query.add_argument("--at-least", metavar="VALUE", help="the value that is wanted (else the highest)")
-    query.set_defaults(run=run_query)
+    query.add_argument("--record", metavar="PREFIX", help="keeps what is sent and what comes: two new files")
+    query.set_defaults(run=run_query, prog=parser.prog)
     told = commands.add_parser("explain", help="tells lines 'error ..' and 'NO ..' in words, on standard error")
     told.add_argument("--file", help="the text or key file that was refused, where the line doesn't name it")
     told.add_argument("line", nargs="*", help="lines (else standard input, which is copied)")
@@ -98,5 +97,6 @@ def main(words: Optional[Sequence[str]] = None) -> int:
     try:
         return int(args.run(args))
     except (KeynotedError, ValueError, OSError) as why:
-        print(explain(str(why)) or f"{parser.prog}: {why}", file=sys.stderr)
+        in_words = isinstance(why, LinkEnded) and why.line
+        print(why if in_words else f"{parser.prog}: {why}", file=sys.stderr)
         return 2

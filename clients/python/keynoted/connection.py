@@ -3,42 +3,43 @@
 from __future__ import annotations
 
 import os
-import re
-import socket
 import subprocess
-from typing import BinaryIO, NoReturn, Optional, Tuple, Union
+import threading
+from typing import Callable, Iterable, List, Mapping, Optional, Sequence, Tuple, Union
 
-from .answers import NUMBER, Answer, Row
-from .errors import KeynotedError, LinkEnded, NoMemory, refusal_of
+from .answers import Answer
+from .errors import KeynotedError, LinkEnded, NoSession, TimedOut
+from .explaining import explain
+from .link import Link, dial, host_and_port
+from .question import Desk, Question
+from .recording import Transcript
+from .wire import (
+    ADDED, ANY, OK, OPENED, PRIVATE, REQUESTS, VERSION, Replies, Reply, Request, Text, answer_of, bytes_of, query_of,
+    values_of, words_of,
+)
 
-Text = Union[str, bytes]
-LINE_BYTES = 131072  # longer than any line of a reply: a principal has at most 4,096 bytes, each told by four at most
-VALUE = re.compile(rb"VALUE %b ([!-+\--~]{1,128}) %b %b" % (NUMBER, NUMBER, NUMBER))
-ROW = re.compile(rb'ROW %b ([ap]%b) "((?:[ !#-\[\]-~]|\\["\\]|\\[0-7]{3})*)"' % (NUMBER, NUMBER))
-
-
-def bytes_of(text: Text) -> bytes:
-    return text.encode("utf-8", "surrogateescape") if isinstance(text, str) else text
-
-
-def words_of(*parts: Text) -> bytes:
-    """A line of these words: each but the last has no space and isn't empty, and none has an end of line."""
-    words = [bytes_of(part) for part in parts]
-    for word in words:
-        if b"\n" in word or b"\r" in word:
-            raise ValueError(f"an end of line would end the request: {word!r}")
-    for word in words[:-1]:
-        if not word or b" " in word:
-            raise ValueError(f"a word that is empty or has a space would be read as others: {word!r}")
-    return b" ".join(words)
+LIMIT = 5.0  # seconds, where nothing is said
+LOADING = 60.0
+Check = Callable[[Sequence[Reply]], None]
 
 
 class Connection:
-    """A connection to the daemon; as a context manager it says BYE at its end. `connect` and `start` make one."""
+    """A connection to the daemon; as a context manager it says BYE at its end. `connect` and `start` make one.
 
-    def __init__(self, reader: BinaryIO, writer: BinaryIO, process: Optional[subprocess.Popen[bytes]] = None) -> None:
-        self._reader, self._writer, self._process = reader, writer, process
-        self._ended = False
+    Threads may share it: an exchange, which is what is sent at once and its replies, is one thread's at a time. Whatever
+    interrupts an exchange ends the connection, since the next request would get its reply. In another process than its
+    own, as after a fork, it has ended.
+    """
+
+    def __init__(self, link: Link, *, timeout: Optional[float] = LIMIT, values: Sequence[str] = (),
+                 record: Optional[str] = None) -> None:
+        self.order = values_of(values, None) if values else None
+        self._link, self._timeout = link, timeout
+        self._transcript = Transcript(record) if record is not None else None
+        self._lock, self._owner = threading.RLock(), os.getpid()
+        self._ready = True  # no exchange is under way, and the connection hasn't ended
+        self._asked = 0
+        self._desk: Optional[Desk] = None
 
     def __enter__(self) -> Connection:
         return self
@@ -48,91 +49,184 @@ class Connection:
 
     def close(self) -> None:
         """Says BYE where that is still possible, and closes the connection."""
-        try:
-            self.ask(b"BYE")
-        except KeynotedError:
-            pass
-        self._end()
-        if self._process:
-            self._process.wait()
+        if self._owner != os.getpid():
+            return self._link.close()  # the copy of this process: BYE would end the other's too
+        with self._lock:
+            try:
+                if self._ready:
+                    self.exchange([Request(b"BYE")])
+            except KeynotedError:
+                pass
+            self._end()
+
+    def ask(self, principals: Iterable[Text], attributes: Mapping[Text, Text], values: Sequence[str] = (),
+            private: Iterable[Text] = ()) -> Answer:
+        """Asks one question in one write: what these principals have together, with these attributes and nothing else.
+
+        It goes by the newest version of the credentials, and by these private assertions, which are gone afterwards.
+        """
+        return self.answer(Question(principals, attributes, values, private, self.order))
+
+    def answer(self, question: Question) -> Answer:
+        """The answer to a question, on a session that serves for nothing else."""
+        with self._lock:
+            if self._desk is None:
+                self._desk = Desk(self._open()[0])
+            desk = self._desk
+            requests = question.requests(desk)
+            replies = self.exchange(requests, lambda came: question.settle(desk, requests, came))
+            try:
+                return question.answer(requests, replies)
+            except NoSession:
+                self._desk = None
+                raise
 
     def session(self) -> Session:
         """Opens a session, pinned to the newest version of the credentials."""
-        number, version = self._numbers(self.ask(b"OPEN"), rb"OK %b %b" % (NUMBER, NUMBER))
-        return Session(self, int(number), int(version))
+        return Session(self, *self._open())
 
     def admin(self, secret: bytes) -> None:
         """Shows the administrators' secret, after which `add` and `drop` are allowed."""
-        self.expect_ok(words_of(b"ADMIN", secret.hex()))
+        if not isinstance(secret, bytes):
+            raise TypeError(f"secret: bytes are wanted, and this is of type {type(secret).__name__}")
+        if not secret:
+            raise ValueError("secret: it is empty")
+        self.parts(Request(words_of(b"ADMIN", secret.hex().encode())))
 
     def add(self, text: Text) -> Tuple[str, int]:
         """Adds a shared credential: its id and the version that this makes."""
-        reply = self.ask(b"ADD %d" % len(bytes_of(text)), bytes_of(text))
-        name, _, version = self._numbers(reply, rb"OK (a%b) %b" % (NUMBER, NUMBER))
+        block = bytes_of(text, "text")
+        name, _, version = self.parts(Request(words_of(b"ADD", b"%d" % len(block)), block, ADDED))
         return name.decode(), int(version)
 
     def drop(self, name: str) -> int:
         """Takes a shared credential away: the version that this makes."""
-        return int(self._numbers(self.ask(words_of(b"DROP", name)), rb"OK %b" % NUMBER)[0])
+        return int(self.parts(Request(words_of(b"DROP", bytes_of(name, "name")), None, VERSION))[0])
 
-    def expect_ok(self, request: bytes) -> None:
-        self._numbers(self.ask(request), rb"OK")
+    def request(self, line: bytes, block: Optional[bytes] = None) -> Tuple[bytes, ...]:
+        """Sends a request as it stands, with its block, and answers the lines of its reply."""
+        if not isinstance(line, bytes):
+            raise TypeError(f"line: bytes are wanted, and this is of type {type(line).__name__}")
+        if block is not None and line.split(b" ")[-1] != b"%d" % len(block):
+            raise ValueError(f"the line doesn't say the length of its block: {line!r}")
+        request = Request(words_of(line), block, ANY)
+        reply = self.exchange([request])[0]
+        reply.raise_refusal(request)
+        return reply.lines
 
-    def ask(self, request: bytes, block: Optional[bytes] = None) -> bytes:
-        """Sends one request, with its block, and answers the first line of its reply."""
-        if self._ended:
-            raise LinkEnded("the connection has ended")
-        if b"\n" in request or b"\r" in request:
-            raise ValueError(f"an end of line would end the request: {request!r}")
-        try:
-            self._writer.write(request + b"\n" + (b"" if block is None else block + b"\n"))
-            self._writer.flush()
-        except OSError:
-            pass  # a refusal may have come before the end: it is read below
-        line = self.line()
-        if line == b"NOMEM":
-            raise NoMemory(NoMemory.__doc__)
-        if line.startswith(b"NO "):
+    def parts(self, request: Request) -> Tuple[bytes, ...]:
+        """The parts of the reply to one request; a refusal is raised."""
+        return self.exchange([request])[0].parts(request)
+
+    def _open(self) -> Tuple[int, int]:
+        number, version = self.parts(Request(b"OPEN", None, OPENED))
+        return int(number), int(version)
+
+    def exchange(self, requests: Sequence[Request], check: Optional[Check] = None) -> List[Reply]:
+        """Sends requests at once and answers their replies, refusals too.
+
+        Whatever is raised before `check`, which gets the replies, is through with them ends the connection.
+        """
+        if self._owner != os.getpid():
+            raise LinkEnded("the connection is another process's")
+        with self._lock:
+            if not self._ready:
+                raise LinkEnded("the connection has ended")
+            replies = Replies(requests)
+            self._ready = False
             try:
-                raise refusal_of(line.decode())
-            except ValueError:
-                self.fail(line)
-        if not line.startswith((b"OK", b"VALUE ")):
-            self.fail(line)
-        return line
+                self._count(requests)
+                self._talk(requests, replies)
+                if check:
+                    check(replies.whole)
+                self._ready = not replies.ended
+            finally:
+                if not self._ready:
+                    self._end()
+        return replies.whole
 
-    def line(self) -> bytes:
-        """The next line of the daemon's."""
+    def left(self) -> int:
+        """How many requests the connection may still send; 0 where it has ended."""
+        return REQUESTS - 1 - self._asked if self._ready and self._owner == os.getpid() else 0
+
+    def _count(self, requests: Sequence[Request]) -> None:
+        self._asked += len(requests)
+        # behind the last reply would come the line that says so: one request is left for BYE
+        if self._asked >= REQUESTS and requests[0].line != b"BYE":
+            raise LinkEnded("a connection has 1,000,000 requests at most")
+
+    def _talk(self, requests: Sequence[Request], replies: Replies) -> None:
+        data = b"".join([it.text() for it in requests])
         try:
-            line = self._reader.readline(LINE_BYTES)
-        except OSError as why:
-            self._end()
-            raise LinkEnded(f"the connection failed: {why}") from why
-        if not line.endswith(b"\n"):
-            self.fail(line)
-        return line[:-1]
+            if not self._link.is_quiet():
+                self._link.exchange(b"", Replies([]).feed, self._limit())
+            self._link.exchange(data, replies.feed, self._limit())
+        except LinkEnded as why:
+            raise self._in_words(why) from why.__cause__
+        finally:
+            if self._transcript:
+                self._transcript.keep(zip(requests, replies.whole))
 
-    def fail(self, line: bytes) -> NoReturn:
-        self._end()
-        raise LinkEnded(line.decode("utf-8", "replace") or "the connection ended without a reply")
+    def _limit(self) -> Optional[float]:
+        return self._timeout
 
-    def _numbers(self, line: bytes, form: bytes) -> Tuple[bytes, ...]:
-        match = re.fullmatch(form, line)
-        if not match:
-            self.fail(line)
-        return match.groups()
+    def _in_words(self, why: LinkEnded) -> LinkEnded:
+        # over TCP the names of files are those of another machine
+        if why.line and not why.line.startswith(("error policy ", "error file ", "error keys ")):
+            why.args = (explain(why.line) or why.line,)
+        return why
 
     def _end(self) -> None:
-        self._ended = True
-        for end in (self._writer, self._reader):
-            try:
-                end.close()
-            except OSError:
-                pass
+        self._ready = False
+        self._link.close()
+        if self._transcript:
+            self._transcript.close()
+
+
+class Started(Connection):
+    """A connection to a daemon of one's own, which ends with it."""
+
+    def __init__(self, process: subprocess.Popen[bytes], keys: str, loading: Optional[float], *,
+                 timeout: Optional[float], values: Sequence[str], record: Optional[str]) -> None:
+        assert process.stdin and process.stdout
+        super().__init__(Link(process.stdout, process.stdin), timeout=timeout, values=values, record=record)
+        self._process, self._keys, self._loading = process, keys, loading
+
+    def close(self) -> None:
+        super().close()
+        if self._owner == os.getpid():
+            stop(self._process, self._timeout)
+
+    def _talk(self, requests: Sequence[Request], replies: Replies) -> None:
+        super()._talk(requests, replies)
+        self._loading = 0.0
+
+    def _limit(self) -> Optional[float]:
+        return None if self._timeout is None or self._loading is None else self._timeout + self._loading
+
+    def _in_words(self, why: LinkEnded) -> LinkEnded:
+        """The words of the program's last line, with file, line and column; without one, the program's status."""
+        try:
+            if why.line:
+                why.args = (explain(why.line, self._keys) or why.line,)
+            elif not isinstance(why, TimedOut):
+                why.args = (f"{why}: the program ended with status {self._process.wait(1)}",)
+        except (OSError, subprocess.TimeoutExpired):
+            pass  # the file is gone meanwhile, or the program goes on
+        return why
+
+
+def stop(process: subprocess.Popen[bytes], limit: Optional[float]) -> None:
+    """Waits for a program whose input has ended, and kills it where it doesn't end."""
+    try:
+        process.wait(limit)
+    except subprocess.TimeoutExpired:
+        process.kill()
+        process.wait()
 
 
 class Session:
-    """A session of a connection; as a context manager it is closed at its end."""
+    """A session of a connection; as a context manager it is closed at its end. It is for one question at a time."""
 
     def __init__(self, connection: Connection, number: int, version: int) -> None:
         self._connection, self.number, self.version = connection, number, version
@@ -146,89 +240,89 @@ class Session:
         except KeynotedError:
             pass  # it was closed before, or the connection has ended
 
-    def _line(self, word: bytes, *parts: Text) -> bytes:
+    def _line(self, word: bytes, *parts: bytes) -> bytes:
         return words_of(word, b"%d" % self.number, *parts)
 
+    def _ok(self, word: bytes, *parts: bytes) -> None:
+        self._connection.parts(Request(self._line(word, *parts), None, OK))
+
     def close(self) -> None:
-        self._connection.expect_ok(self._line(b"CLOSE"))
+        self._ok(b"CLOSE")
 
     def pin(self) -> int:
         """Pins the session to the newest version of the credentials, which is answered."""
-        reply = self._connection.ask(self._line(b"PIN"))
-        self.version = int(self._connection._numbers(reply, rb"OK %b" % NUMBER)[0])
+        self.version = int(self._connection.parts(Request(self._line(b"PIN"), None, VERSION))[0])
         return self.version
 
     def auth(self, principal: Text) -> None:
         """Names a requesting principal."""
-        self._connection.expect_ok(self._line(b"AUTH", principal))
+        self._ok(b"AUTH", bytes_of(principal, "principal"))
 
     def unauth(self, principal: Text) -> None:
-        self._connection.expect_ok(self._line(b"UNAUTH", principal))
+        self._ok(b"UNAUTH", bytes_of(principal, "principal"))
 
     def set(self, name: Text, value: Text) -> None:
         """Gives an attribute a value without an end of line; `set_bytes` takes any."""
-        self._connection.expect_ok(self._line(b"SET", name, value))
+        self._ok(b"SET", bytes_of(name, "name"), bytes_of(value, "value"))
 
     def set_bytes(self, name: Text, value: bytes) -> None:
-        self._connection.expect_ok(self._line(b"SETX", name, value.hex()))
+        self._ok(b"SETX", bytes_of(name, "name"), bytes_of(value, "value").hex().encode())
 
     def unset(self, name: Text) -> None:
-        self._connection.expect_ok(self._line(b"UNSET", name))
+        self._ok(b"UNSET", bytes_of(name, "name"))
 
     def clear(self) -> None:
         """Takes all attributes and requesters away; version and private assertions stay."""
-        self._connection.expect_ok(self._line(b"CLEAR"))
+        self._ok(b"CLEAR")
 
     def add_private(self, text: Text) -> str:
         """Adds a private assertion, which nobody verifies: its id."""
-        block = bytes_of(text)
-        reply = self._connection.ask(self._line(b"ASSERT", b"%d" % len(block)), block)
-        return self._connection._numbers(reply, rb"OK (p%b)" % NUMBER)[0].decode()
+        block = bytes_of(text, "text")
+        return self._connection.parts(Request(self._line(b"ASSERT", b"%d" % len(block)), block, PRIVATE))[0].decode()
 
     def retract(self, name: str) -> None:
-        self._connection.expect_ok(self._line(b"RETRACT", name))
+        self._ok(b"RETRACT", bytes_of(name, "name"))
 
     def query(self, *values: str) -> Answer:
         """Asks for the policy's value among these, of which the lowest is the first."""
-        for value in values:
-            if "," in value:
-                raise ValueError(f"a comma would part the value in two: {value!r}")
-        reply = self._connection.ask(self._line(b"QUERY", ",".join(values)))
-        index, name, version, count = self._connection._numbers(reply, VALUE.pattern)
-        rows = tuple(self._row() for _ in range(int(count)))
-        if self._connection.line() != b"END" or int(index) >= len(values) or name != values[int(index)].encode():
-            self._connection.fail(reply)
-        return Answer(int(index), values, int(version), rows)
-
-    def _row(self) -> Row:
-        level, name, _, principal = self._connection._numbers(self._connection.line(), ROW.pattern)
-        return Row(int(level), name.decode(), re.sub(rb'\\([0-7]{3}|["\\])', unescaped, principal))
+        request = query_of(b"%d" % self.number, values_of(values, self._connection.order))
+        return answer_of(self._connection.exchange([request])[0], request)
 
 
-def unescaped(match: re.Match[bytes]) -> bytes:
-    return match[1] if len(match[1]) == 1 else bytes([int(match[1], 8)])
+def connect(host: str, port: Optional[int] = None, timeout: Optional[float] = LIMIT, *, values: Sequence[str] = (),
+            record: Optional[str] = None) -> Connection:
+    """A connection over TCP. The host may be an address as `[::1]:2704`; the port that isn't said is 2704.
 
-
-def connect(host: str, port: int, timeout: Optional[float] = None) -> Connection:
-    """A connection over TCP. After `timeout` seconds without a reply it has ended."""
+    Connecting and each exchange may take `timeout` seconds, or as long as they want where it is None. `values` are the
+    order that each query has to keep. `record` is the prefix of two new files, for what is sent and what comes.
+    """
+    link = dial(*host_and_port(host, port), timeout)
     try:
-        link = socket.create_connection((host, port), timeout)
-    except OSError as why:
-        raise LinkEnded(f"no connection to {host}:{port}: {why}") from why
-    link.setsockopt(socket.IPPROTO_TCP, socket.TCP_NODELAY, 1)
-    with link:
-        return Connection(link.makefile("rb"), link.makefile("wb"))
+        return Connection(Link(link, link), timeout=timeout, values=values, record=record)
+    except BaseException:
+        link.close()
+        raise
 
 
-def start(policy: str, keys: Optional[str] = None, program: Optional[str] = None) -> Connection:
-    """Starts a daemon of one's own over this policy file and key file, with pipes to it."""
-    words = [program or program_of(), "ask", policy] + ([keys] if keys else [])
+Path = Union[str, "os.PathLike[str]"]
+
+
+def start(policy: Path, keys: Optional[Path] = None, program: Optional[str] = None, *, timeout: Optional[float] = LIMIT,
+          loading: Optional[float] = LOADING, values: Sequence[str] = (), record: Optional[str] = None) -> Connection:
+    """Starts a daemon of one's own over this policy file and key file, with pipes to it.
+
+    Its first reply may take `loading` seconds more than `timeout`, since the program reads its files first.
+    """
+    words = [program or program_of(), "ask", os.fspath(policy)] + ([os.fspath(keys)] if keys else [])
     try:
-        process = subprocess.Popen(words, stdin=subprocess.PIPE, stdout=subprocess.PIPE)
+        process = subprocess.Popen(words, stdin=subprocess.PIPE, stdout=subprocess.PIPE, bufsize=0)
     except OSError as why:
         raise LinkEnded(f"{words[0]} doesn't start: {why}") from why
-    assert process.stdin and process.stdout
-    return Connection(process.stdout, process.stdin, process)
+    try:
+        return Started(process, words[3] if keys else "", loading, timeout=timeout, values=values, record=record)
+    except BaseException:
+        process.kill()
+        raise
 
 
 def program_of() -> str:

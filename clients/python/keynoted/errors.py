@@ -11,7 +11,18 @@ class KeynotedError(Exception):
 
 
 class LinkEnded(KeynotedError):
-    """The connection ended, or what came is no reply to the request; nothing more can be asked on it."""
+    """The connection ended, or what came is no reply to the request; nothing more can be asked on it.
+
+    `line` is the daemon's, where there was one.
+    """
+
+    def __init__(self, what: str, line: str = "") -> None:
+        super().__init__(what)
+        self.line = line
+
+
+class TimedOut(LinkEnded):
+    """A limit of time was met: no connection, no whole reply, or no connection of a pool that is free."""
 
 
 class NoMemory(KeynotedError):
@@ -27,8 +38,8 @@ class Refusal(KeynotedError):
     def __init_subclass__(cls, code: int) -> None:
         Refusal.of_code[code], cls.code = cls, code
 
-    def __init__(self, line: str) -> None:
-        super().__init__(f"{line}: {self.__doc__}")
+    def __init__(self, line: str, what: str = "") -> None:
+        super().__init__(f"{line}: {what or self.__doc__}")
         self.line = line
         self.parts = line.split()[3:]
 

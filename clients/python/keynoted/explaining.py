@@ -83,6 +83,13 @@ def explain_policy(line: str) -> str:
     return f"{name}:{place_of(data, start + at)}: {what}"
 
 
+def explain_text(text: bytes, line: str) -> str:
+    """The place in a text and the words of the line `NO 5 read ..` that refuses it."""
+    fault, place = line.split()[3:]
+    at, what = fault_in(text, int(fault), int(place))
+    return f"{place_of(text, at)}: {what}"
+
+
 def explain(line: str, file: str = "") -> str:
     """The words of a line `error ..` or `NO ..` of the daemon's, or nothing for another line. `file` is what was sent or named."""
     if line.startswith("error policy "):
@@ -100,10 +107,8 @@ def explain(line: str, file: str = "") -> str:
         match = re.fullmatch(rf"error {start}((?: \d+)?)", line)
         if match:
             return LINES[start] + match[1].strip()
-    match = re.fullmatch(r"NO 5 read (\d+) (\d+)", line)
-    if match and file:
-        at, what = fault_in(read_file(file), int(match[1]), int(match[2]))
-        return f"{file}:{place_of(read_file(file), at)}: {what}"
+    if file and re.fullmatch(r"NO 5 read \d+ \d+", line):
+        return f"{file}:{explain_text(read_file(file), line)}"
     if REFUSAL.fullmatch(line):
         refusal = refusal_of(line)
         what = {7: AUTHS.get(refusal.parts[0]), 13: f"the limit of {refusal.parts[0]} is met: {refusal.parts[-1]}"} if refusal.parts else {}

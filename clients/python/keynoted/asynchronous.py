@@ -1,0 +1,270 @@
+"""The same for asyncio: a connection and a pool, whose `ask` is awaited."""
+
+from __future__ import annotations
+
+import asyncio
+import collections
+import os
+from typing import Callable, Deque, Iterable, List, Mapping, Optional, Sequence, Tuple
+
+from .answers import Answer
+from .connection import LIMIT
+from .errors import KeynotedError, LinkEnded, NoSession, TimedOut
+from .explaining import explain
+from .link import host_and_port
+from .pool import SIZE
+from .question import Desk, Question
+from .recording import Transcript
+from .wire import OPENED, REQUESTS, Replies, Reply, Request, Text, values_of
+
+
+class Exchange(asyncio.Protocol):
+    """What asyncio calls: gives what comes to the replies that are awaited."""
+
+    def __init__(self) -> None:
+        self.transport: Optional[asyncio.Transport] = None
+        self.ended = False
+        self._replies: Optional[Replies] = None
+        self._whole: Optional[asyncio.Future[None]] = None
+
+    def connection_made(self, transport: asyncio.BaseTransport) -> None:
+        assert isinstance(transport, asyncio.Transport)
+        self.transport = transport
+
+    def data_received(self, data: bytes) -> None:
+        if self._replies is None or self._whole is None or self._whole.done():
+            return self.end(LinkEnded("something came that nobody asked for"))
+        try:
+            if self._replies.feed(data):
+                self._whole.set_result(None)
+        except LinkEnded as why:
+            self.end(why)
+
+    def connection_lost(self, why: Optional[Exception]) -> None:
+        self.end(LinkEnded(f"the connection failed: {why}" if why else "the connection ended without a reply"))
+
+    def end(self, why: LinkEnded) -> None:
+        """Ends the connection at once, and tells so whoever waits."""
+        self.ended = True
+        if self._whole and not self._whole.done():
+            self._whole.set_exception(why)
+        if self.transport:
+            self.transport.abort()
+
+    async def talk(self, data: bytes, replies: Replies, limit: Optional[float]) -> None:
+        """Sends the data and waits for the replies."""
+        loop = asyncio.get_running_loop()
+        self._replies, self._whole = replies, loop.create_future()
+        late = TimedOut("no reply came within the limit of time")
+        timer = None if limit is None else loop.call_later(limit, self.end, late)
+        assert self.transport
+        try:
+            self.transport.write(data)
+            await self._whole
+        finally:
+            self._replies = None
+            if timer:
+                timer.cancel()
+
+
+class AsyncConnection:
+    """A connection over TCP that asks questions; whatever interrupts one, as a task's end, ends the connection."""
+
+    def __init__(self, exchange: Exchange, timeout: Optional[float], order: Optional[Tuple[str, ...]],
+                 record: Optional[str]) -> None:
+        self.order, self._exchange, self._timeout = order, exchange, timeout
+        self._transcript = Transcript(record) if record is not None else None
+        self._lock, self._owner = asyncio.Lock(), os.getpid()
+        self._ready, self._asked = True, 0
+        self._desk: Optional[Desk] = None
+
+    async def ask(self, principals: Iterable[Text], attributes: Mapping[Text, Text], values: Sequence[str] = (),
+                  private: Iterable[Text] = ()) -> Answer:
+        """Asks one question as `Connection.ask` does."""
+        return await self.answer(Question(principals, attributes, values, private, self.order))
+
+    async def answer(self, question: Question) -> Answer:
+        """The answer to a question."""
+        async with self._lock:
+            if self._desk is None:
+                opening = Request(b"OPEN", None, OPENED)
+                self._desk = Desk(int((await self._talk([opening]))[0].parts(opening)[0]))
+            desk = self._desk
+            requests = question.requests(desk)
+            replies = await self._talk(requests, lambda came: question.settle(desk, requests, came))
+            try:
+                return question.answer(requests, replies)
+            except NoSession:
+                self._desk = None
+                raise
+
+    async def close(self) -> None:
+        """Says BYE where that is still possible, and closes the connection."""
+        async with self._lock:
+            try:
+                if self.left():
+                    await self._talk([Request(b"BYE")])
+            except KeynotedError:
+                pass
+            self._end()
+
+    def left(self) -> int:
+        """How many requests the connection may still send; 0 where it has ended."""
+        usable = self._ready and not self._exchange.ended and self._owner == os.getpid()
+        return REQUESTS - 1 - self._asked if usable else 0
+
+    async def _talk(self, requests: Sequence[Request], check: Optional[Callable[[List[Reply]], None]] = None) -> List[Reply]:
+        if not self.left():
+            raise LinkEnded("the connection has ended")
+        replies = Replies(requests)
+        self._ready = False
+        try:
+            self._asked += len(requests)
+            if self._asked >= REQUESTS:
+                raise LinkEnded("a connection has 1,000,000 requests at most")
+            await self._exchange.talk(b"".join([it.text() for it in requests]), replies, self._timeout)
+            if check:
+                check(replies.whole)
+            self._ready = not replies.ended
+        except LinkEnded as why:
+            why.args = (explain(why.line) if why.line.startswith("error link ") else str(why),)
+            raise
+        finally:
+            if self._transcript:
+                self._transcript.keep(zip(requests, replies.whole))
+            if not self._ready:
+                self._end()
+        return replies.whole
+
+    def _end(self) -> None:
+        self._ready = False
+        if self._exchange.transport:
+            self._exchange.transport.abort()
+        if self._transcript:
+            self._transcript.close()
+
+
+async def connect_async(host: str, port: Optional[int] = None, timeout: Optional[float] = LIMIT, *,
+                        values: Sequence[str] = (), record: Optional[str] = None) -> AsyncConnection:
+    """A connection over TCP, as `connect` makes one."""
+    order = values_of(values, None) if values else None
+    host, port = host_and_port(host, port)
+    opening = asyncio.get_running_loop().create_connection(Exchange, host, port)
+    try:
+        transport, exchange = await asyncio.wait_for(opening, timeout)
+    except asyncio.TimeoutError as why:
+        raise TimedOut(f"no connection to {host}:{port} within {timeout} s") from why
+    except OSError as why:
+        raise LinkEnded(f"no connection to {host}:{port}: {why}") from why
+    try:
+        return AsyncConnection(exchange, timeout, order, record)
+    except BaseException:
+        transport.abort()
+        raise
+
+
+def fail(waiter: asyncio.Future[None], why: LinkEnded) -> None:
+    if not waiter.done():
+        waiter.set_exception(why)
+
+
+class AsyncPool:
+    """At most `size` connections to one daemon, as `Pool` has them, for the tasks of one loop."""
+
+    def __init__(self, host: str, port: Optional[int] = None, *, size: int = SIZE, timeout: Optional[float] = LIMIT,
+                 values: Sequence[str] = (), record: Optional[str] = None) -> None:
+        if not isinstance(size, int) or size < 1:
+            raise ValueError(f"size: a number from 1 is wanted, and this is {size!r}")
+        self.order = values_of(values, None) if values else None
+        self._address, self._size, self._timeout, self._record = (host, port), size, timeout, record
+        self._used = 0
+        self._waiting: Deque[asyncio.Future[None]] = collections.deque()
+        self._idle: List[AsyncConnection] = []
+        self._made, self._closed = 0, False
+
+    async def __aenter__(self) -> AsyncPool:
+        return self
+
+    async def __aexit__(self, *_: object) -> None:
+        await self.close()
+
+    async def close(self) -> None:
+        """Closes the connections that nobody uses now, and each other one when its question is answered."""
+        self._closed = True
+        while self._idle:
+            await self._idle.pop().close()
+
+    async def ask(self, principals: Iterable[Text], attributes: Mapping[Text, Text], values: Sequence[str] = (),
+                  private: Iterable[Text] = ()) -> Answer:
+        """Asks one question as `Connection.ask` does."""
+        question = Question(principals, attributes, values, private, self.order)
+        await self._enter()
+        try:
+            return await self._answer(question)
+        finally:
+            self._used -= 1
+            self._wake()
+
+    async def _enter(self) -> None:
+        """Waits until less than `size` questions are under way, and counts one more."""
+        late = TimedOut(f"all {self._size} connections of the pool were in use for {self._timeout} s")
+        loop = asyncio.get_running_loop()
+        deadline = None if self._timeout is None else loop.time() + self._timeout
+        while self._used >= self._size:
+            waiter = loop.create_future()
+            timer = None if deadline is None else loop.call_at(deadline, fail, waiter, late)
+            self._waiting.append(waiter)
+            try:
+                await waiter
+            except BaseException:
+                self._wake()  # for the one that was woken in vain
+                raise
+            finally:
+                if timer:
+                    timer.cancel()
+        self._used += 1
+
+    def _wake(self) -> None:
+        while self._waiting:
+            waiter = self._waiting.popleft()
+            if not waiter.done():
+                return waiter.set_result(None)
+
+    async def _answer(self, question: Question) -> Answer:
+        connection = await self._take(question)
+        if connection:
+            try:
+                return await connection.answer(question)
+            except TimedOut:
+                raise
+            except LinkEnded:
+                pass  # it ended since its last question: nothing was decided, and the question changes nothing
+            finally:
+                await self._give(connection)
+        connection = await self._open()
+        try:
+            return await connection.answer(question)
+        finally:
+            await self._give(connection)
+
+    async def _take(self, question: Question) -> Optional[AsyncConnection]:
+        while self._idle:
+            connection = self._idle.pop()
+            if connection.left() > question.size:
+                return connection
+            await connection.close()
+        return None
+
+    async def _open(self) -> AsyncConnection:
+        if self._closed:
+            raise LinkEnded("the pool is closed")
+        self._made += 1
+        host, port = self._address
+        record = None if self._record is None else f"{self._record}.{os.getpid()}.{self._made}"
+        return await connect_async(host, port, self._timeout, values=self.order or (), record=record)
+
+    async def _give(self, connection: AsyncConnection) -> None:
+        if connection.left():
+            self._idle.append(connection)
+        if self._closed:
+            await self.close()

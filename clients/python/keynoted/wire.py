@@ -1,0 +1,201 @@
+"""Requests as bytes, and replies cut out of the bytes that come: without input and output, for every kind of connection."""
+
+from __future__ import annotations
+
+import re
+from typing import List, NamedTuple, NoReturn, Optional, Sequence, Tuple, Union
+
+from .answers import NUMBER, Answer, Row
+from .errors import REFUSAL, LinkEnded, NoMemory, NoRead, refusal_of
+from .explaining import explain_text
+
+Text = Union[str, bytes]
+REQUESTS = 1_000_000  # of a connection, after which the daemon ends it
+LINE_BYTES = 131072  # longer than any line of a reply: a principal has at most 4,096 bytes, each told by four at most
+OK = re.compile(rb"OK")
+OPENED = re.compile(rb"OK %b %b" % (NUMBER, NUMBER))
+VERSION = re.compile(rb"OK %b" % NUMBER)
+ADDED = re.compile(rb"OK (a%b) %b" % (NUMBER, NUMBER))
+PRIVATE = re.compile(rb"OK (p%b)" % NUMBER)
+VALUE = re.compile(rb"VALUE %b ([!-+\--~]{1,128}) %b %b" % (NUMBER, NUMBER, NUMBER))
+ROW = re.compile(rb'ROW %b ([ap]%b) "((?:[ !#-\[\]-~]|\\["\\]|\\[0-7]{3})*)"' % (NUMBER, NUMBER))
+ANY = re.compile(rb"OK(?: [ap]?%b)*|VALUE .*" % NUMBER)
+
+
+class Request(NamedTuple):
+    """A line, its block, and what the first line of its reply is where it isn't refused; `values` are those of a QUERY."""
+
+    line: bytes
+    block: Optional[bytes] = None
+    form: re.Pattern[bytes] = OK
+    values: Tuple[str, ...] = ()
+
+    def text(self) -> bytes:
+        """What is sent."""
+        return self.line + b"\n" if self.block is None else b"%b\n%b\n" % (self.line, self.block)
+
+
+class Reply(NamedTuple):
+    """The lines of a reply, without their ends, and the rows among them."""
+
+    lines: Tuple[bytes, ...]
+    rows: Tuple[Row, ...] = ()
+
+    def text(self) -> bytes:
+        """What came."""
+        return b"\n".join(self.lines) + b"\n"
+
+    def raise_refusal(self, request: Request) -> None:
+        """Raises what the daemon refused, or its want of memory."""
+        line = self.lines[0]
+        if line == b"NOMEM":
+            raise NoMemory(NoMemory.__doc__)
+        if line.startswith(b"NO "):
+            refused = refusal_of(line.decode())
+            if isinstance(refused, NoRead) and request.block is not None:
+                raise NoRead(refused.line, explain_text(request.block, refused.line))
+            raise refused
+
+    def parts(self, request: Request) -> Tuple[bytes, ...]:
+        """The parts of the reply's first line by the form that the request gives it; a refusal is raised."""
+        self.raise_refusal(request)
+        match = request.form.fullmatch(self.lines[0])
+        if not match:
+            raise LinkEnded(f"no reply to the request: {self.lines[0]!r}")
+        return match.groups()
+
+
+def answer_of(reply: Reply, request: Request) -> Answer:
+    """The answer of a QUERY; a refusal is raised."""
+    index, _, version, _ = reply.parts(request)
+    return Answer(int(index), request.values, int(version), reply.rows)
+
+
+class Replies:
+    """Cuts what the daemon sends into the replies to these requests, and raises `LinkEnded` at anything else.
+
+    Without requests it waits for what came unasked, which is the daemon's last line or the connection's end.
+    """
+
+    def __init__(self, requests: Sequence[Request]) -> None:
+        self._requests, self._rest = requests, b""
+        self._lines: List[bytes] = []  # of a reply of several lines that has begun
+        self._rows: List[Row] = []
+        self._due = 0  # its lines that are still to come
+        self.whole: List[Reply] = []
+        self.ended = False  # by a refusal after which the daemon ends the connection
+
+    def feed(self, data: bytes) -> bool:
+        """Takes what came, and answers whether all replies are there."""
+        if not data:
+            raise LinkEnded("the connection ended within a reply" if self._rest or self._due
+                            else "the connection ended without a reply", self._rest.decode("utf-8", "replace"))
+        lines = (self._rest + data).split(b"\n")
+        self._rest = lines.pop()
+        for line in lines:
+            self._take(line)
+            if self.ended:
+                return True
+        done = len(self.whole) == len(self._requests) > 0
+        if len(self._rest) > LINE_BYTES or (done and self._rest):
+            fail(self._rest)
+        return done
+
+    def _take(self, line: bytes) -> None:
+        if self._due:
+            self._take_row(line)
+        elif len(self.whole) == len(self._requests):
+            fail(line)
+        elif line.startswith(b"VALUE "):
+            self._begin_value(line)
+        elif line.startswith(b"NO "):
+            if not REFUSAL.fullmatch(line.decode("utf-8", "replace")):
+                fail(line)
+            self.whole.append(Reply((line,)))
+            self.ended = line == b"NO 15 block"
+        elif line == b"NOMEM" or self._requests[len(self.whole)].form.fullmatch(line):
+            self.whole.append(Reply((line,)))
+        else:
+            fail(line)
+
+    def _begin_value(self, line: bytes) -> None:
+        request, match = self._requests[len(self.whole)], VALUE.fullmatch(line)
+        if not match or not request.form.fullmatch(line):
+            fail(line)
+        index, values = int(match[1]), request.values
+        if values and (index >= len(values) or match[2] != values[index].encode()):
+            fail(line)
+        self._lines, self._rows, self._due = [line], [], int(match[4]) + 1
+
+    def _take_row(self, line: bytes) -> None:
+        self._lines.append(line)
+        self._due -= 1
+        if self._due:
+            self._rows.append(row_of(line))
+        elif line != b"END":
+            fail(line)
+        else:
+            self.whole.append(Reply(tuple(self._lines), tuple(self._rows)))
+
+
+def fail(line: bytes) -> NoReturn:
+    text = line.decode("utf-8", "surrogateescape")
+    raise LinkEnded(text or "an empty line came, which is no reply", text)
+
+
+def row_of(line: bytes) -> Row:
+    match = ROW.fullmatch(line)
+    if not match:
+        fail(line)
+    principal = match[4]
+    if b"\\" in principal:
+        principal = re.sub(rb'\\([0-7]{3}|["\\])', unescaped, principal)
+    return Row(int(match[1]), match[2].decode(), principal)
+
+
+def unescaped(match: re.Match[bytes]) -> bytes:
+    return match[1] if len(match[1]) == 1 else bytes([int(match[1], 8)])
+
+
+def bytes_of(text: Text, name: str = "text") -> bytes:
+    """The bytes of a text; TypeError, which names the argument, where it is neither a text nor bytes."""
+    if isinstance(text, str):
+        return text.encode("utf-8", "surrogateescape")
+    if isinstance(text, bytes):
+        return text
+    raise TypeError(f"{name}: a text or bytes are wanted, and this is of type {type(text).__name__}")
+
+
+def words_of(*parts: bytes) -> bytes:
+    """A line of these words: each but the last has no space and isn't empty, and none has an end of line."""
+    for word in parts:
+        if b"\n" in word or b"\r" in word:
+            raise ValueError(f"an end of line would end the request: {word!r}")
+    for word in parts[:-1]:
+        if not word or b" " in word:
+            raise ValueError(f"a word that is empty or has a space would be read as others: {word!r}")
+    return b" ".join(parts)
+
+
+def query_of(session: bytes, values: Tuple[str, ...]) -> Request:
+    return Request(words_of(b"QUERY", session, ",".join(values).encode("utf-8", "surrogateescape")), None, VALUE, values)
+
+
+def values_of(values: Sequence[str], order: Optional[Tuple[str, ...]]) -> Tuple[str, ...]:
+    """The values of a query, the lowest first; `order` is that of the connection, where it was told one."""
+    if isinstance(values, (str, bytes)):
+        raise TypeError("values: a list of texts is wanted, the lowest first, and this is one text")
+    for value in values:
+        if not isinstance(value, str):
+            raise TypeError(f"values: each value is a text, and this is of type {type(value).__name__}")
+        if "," in value:
+            raise ValueError(f"a comma would part the value in two: {value!r}")
+    found = tuple(values)
+    if not found and order:
+        return order
+    if not found:
+        raise ValueError("values: none are named, and the connection was told no order")
+    if order and (found[0] != order[0] or list(found) != [it for it in order if it in found]):
+        raise ValueError(f"the values {','.join(found)} aren't in the order of this connection, {','.join(order)}, "
+                         f"or don't begin with its lowest, {order[0]}")
+    return found
