@@ -12,8 +12,8 @@ from tests_room import CREDENTIAL, HERE, POLICY, PROGRAM, TOP, Room
 
 class Explanations(Room):
     def test_the_mistakes_of_the_page(self):
-        with open(os.path.join(TOP, "docs", "CLIENT.md"), encoding="utf-8") as file:
-            listed = file.read().split("count characters from 1.\n\n")[1].split("\n\n## ")[0]
+        with open(os.path.join(TOP, "docs", "MISTAKES.md"), encoding="utf-8") as file:
+            listed = file.read().split("count characters from 1.\n\n")[1]
         text, count = "", 0
         for told in listed.splitlines():
             if not told.startswith("        policy.kn:"):

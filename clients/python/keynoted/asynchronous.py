@@ -5,10 +5,10 @@ from __future__ import annotations
 import asyncio
 import collections
 import os
-from typing import Callable, Deque, Iterable, List, Mapping, Optional, Sequence, Tuple
+from typing import Deque, Iterable, List, Mapping, Optional, Sequence, Tuple
 
 from .answers import Answer
-from .connection import LIMIT
+from .connection import LIMIT, Check
 from .errors import KeynotedError, LinkEnded, NoSession, TimedOut
 from .explaining import explain
 from .link import host_and_port
@@ -113,7 +113,7 @@ class AsyncConnection:
         usable = self._ready and not self._exchange.ended and self._owner == os.getpid()
         return REQUESTS - 1 - self._asked if usable else 0
 
-    async def _talk(self, requests: Sequence[Request], check: Optional[Callable[[List[Reply]], None]] = None) -> List[Reply]:
+    async def _talk(self, requests: Sequence[Request], check: Optional[Check] = None) -> List[Reply]:
         if not self.left():
             raise LinkEnded("the connection has ended")
         replies = Replies(requests)
@@ -207,10 +207,10 @@ class AsyncPool:
 
     async def _enter(self) -> None:
         """Waits until less than `size` questions are under way, and counts one more."""
-        late = TimedOut(f"all {self._size} connections of the pool were in use for {self._timeout} s")
         loop = asyncio.get_running_loop()
         deadline = None if self._timeout is None else loop.time() + self._timeout
         while self._used >= self._size:
+            late = TimedOut(f"all {self._size} connections of the pool were in use for {self._timeout} s")
             waiter = loop.create_future()
             timer = None if deadline is None else loop.call_at(deadline, fail, waiter, late)
             self._waiting.append(waiter)
