@@ -7,7 +7,8 @@ import subprocess
 import sys
 
 import keynoted
-from tests_room import HERE, PROGRAM, TOP, Room, version_of_the_repository
+from keynoted import sending
+from tests_room import CREDENTIAL, HERE, PROGRAM, TOP, Room, version_of_the_repository
 
 
 class Queries(Room):
@@ -42,6 +43,18 @@ class Queries(Room):
         with open("talk.requests", "rb") as file:
             self.assertEqual(file.read(), b"OPEN\nCLEAR 1\nPIN 1\nAUTH 1 alice\nQUERY 1 no,yes\nBYE\n")
         self.assertEqual(self.command("query", "p.kn", "--values", "no,yes", "--auth", "alice", "--record", "talk")[0], 2)
+
+    def test_requests_that_are_sent_as_they_stand(self):
+        script = b"OPEN\nopen\nASSERT 1 37\r\n%b\nAUTH 1 bob\nQUERY 1 no,yes\nADMIN 733363726574\nASSERT 1 0\n\nDROP a1\nBYE\nOPEN\n"
+        command = [sys.executable, os.path.join(HERE, "keynoted.py"), "record", "talk", "p.kn", "--keys", "keys"]
+        run = subprocess.run(command, input=script % CREDENTIAL, stdout=subprocess.PIPE)
+        asked = subprocess.run([PROGRAM, "ask", "p.kn", "keys"], input=script % CREDENTIAL, stdout=subprocess.PIPE)
+        self.assertEqual((run.returncode, run.stdout), (0, asked.stdout))
+        with open("talk.requests", "rb") as requests, open("talk.replies", "rb") as replies:
+            self.assertEqual(replies.read(), asked.stdout)
+            self.assertEqual(requests.read().splitlines()[-5:], [b"ADMIN 00", b"ASSERT 1 0", b"", b"DROP a1", b"BYE"])
+        self.assertEqual(len(list(sending.requests_in(b"OPEN\nASSERT 1 37\nAuth"))), 1)
+        self.assertEqual(len(list(sending.requests_in(b"OPEN\nOPEN"))), 1)
 
     def test_a_policy_that_is_refused_is_told_by_its_place(self):
         self.write("p.kn", b'Authorizer: "POLICY"\nLicensees: alice\n')
@@ -79,6 +92,16 @@ class Package(Room):
         run = subprocess.run(query, env=env, capture_output=True, text=True)
         self.assertEqual((run.returncode, run.stdout.splitlines()[-1]), (0, "answer: yes, which is 1 of no,yes"), run.stderr)
 
+    def test_types(self):
+        probe = [[it, "-m", "mypy", "--version"] for it in (sys.executable, "/usr/bin/python3")]
+        python = next((it[0] for it in probe if succeeds(it)), None)
+        if not python:
+            print("clients/python: the check of types is left out: there is no mypy")
+            return
+        words = [python, "-m", "mypy", "--strict", "--cache-dir", os.path.join(self.room, "cache"), "-p", "keynoted"]
+        run = subprocess.run(words, cwd=HERE, stdout=subprocess.PIPE, stderr=subprocess.STDOUT, text=True)
+        self.assertEqual(run.returncode, 0, run.stdout)
+
     def test_every_version_is_the_same(self):
         self.assertEqual(keynoted.__version__, version_of_the_repository())
         self.assertEqual([it for it in keynoted.__all__ if not hasattr(keynoted, it)], [])
@@ -86,8 +109,12 @@ class Package(Room):
 
 def can_build(python):
     probe = "import pip, setuptools, wheel, sys; sys.exit(int(setuptools.__version__.split('.')[0]) < 61)"
+    return succeeds([python, "-c", probe])
+
+
+def succeeds(words):
     with contextlib.suppress(OSError):
-        return not subprocess.run([python, "-c", probe], stderr=subprocess.DEVNULL).returncode
+        return not subprocess.run(words, stdout=subprocess.DEVNULL, stderr=subprocess.DEVNULL).returncode
     return False
 
 

@@ -12,6 +12,7 @@ from .connection import Connection, connect, program_of, start
 from .errors import KeynotedError, LinkEnded
 from .explaining import explain
 from .linting import lint, lint_values
+from .sending import add_record
 from .texts import place_of, read_file, split_file
 
 
@@ -93,6 +94,7 @@ def main(words: Optional[Sequence[str]] = None) -> int:
     warned.add_argument("policy")
     warned.add_argument("script", nargs="*", help="files of requests")
     warned.set_defaults(run=run_lint)
+    add_record(commands, connected)
     args = parser.parse_args(words)
     try:
         return int(args.run(args))
