@@ -425,10 +425,18 @@ class Arguments(Room):
                 ("principals", lambda: pool.ask("alice", {})),
                 ("host", lambda: keynoted.connect(2704)),
                 ("port", lambda: keynoted.connect("localhost", "2704")),
+                ("timeout", lambda: keynoted.connect("localhost", timeout="5")),
+                ("values", lambda: keynoted.start("p.kn", values="no,yes")),
+                ("policy", lambda: keynoted.start(5)),
+                ("keys", lambda: keynoted.start("p.kn", 5)),
+                ("loading", lambda: keynoted.start("p.kn", loading="5")),
+                ("record", lambda: keynoted.start("p.kn", record=5)),
+                ("size", lambda: keynoted.Pool("localhost", size="3")),
+                ("timeout", lambda: keynoted.AsyncPool("localhost", timeout="3")),
+                ("host", lambda: keynoted.AsyncPool(("localhost", 2704))),
             ):
                 self.assertRaisesRegex(TypeError, f"^{name}: ", call)
             self.assertEqual(daemon.ask(["alice"], {"size": "5"}, ("no", "yes")).index, 1)
-        self.assertRaises(TypeError, keynoted.start, 5)
 
     def test_values_keep_the_order_that_the_connection_was_told(self):
         order = ("no", "log", "yes")

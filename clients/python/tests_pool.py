@@ -147,8 +147,7 @@ class Pools(Room):
             for thread in threads:
                 thread.join(10)
         self.assertEqual(len(pool._leases), 0)
-        for size in (0, "3"):
-            self.assertRaises(ValueError, keynoted.Pool, "localhost", size=size)
+        self.assertRaises(ValueError, keynoted.Pool, "localhost", size=0)
 
     def test_a_closed_pool_asks_no_more(self):
         pool = keynoted.Pool(self.fake().address, values=VALUES)

@@ -8,6 +8,7 @@ import os
 from typing import Deque, Iterable, List, Mapping, Optional, Sequence, Tuple
 
 from .answers import Answer
+from .arguments import Path, Text, limit_of, order_of, path_of, size_of
 from .connection import LIMIT, Check
 from .errors import KeynotedError, LinkEnded, NoSession, TimedOut
 from .explaining import explain
@@ -15,7 +16,7 @@ from .link import host_and_port
 from .pool import SIZE
 from .question import Desk, Question
 from .recording import Transcript
-from .wire import OPENED, REQUESTS, Replies, Reply, Request, Text, values_of
+from .wire import OPENED, REQUESTS, Replies, Reply, Request
 
 
 class Exchange(asyncio.Protocol):
@@ -71,9 +72,9 @@ class AsyncConnection:
     """A connection over TCP that asks questions; whatever interrupts one, as a task's end, ends the connection."""
 
     def __init__(self, exchange: Exchange, timeout: Optional[float], order: Optional[Tuple[str, ...]],
-                 record: Optional[str]) -> None:
+                 record: Optional[Path]) -> None:
         self.order, self._exchange, self._timeout = order, exchange, timeout
-        self._transcript = Transcript(record) if record is not None else None
+        self._transcript = Transcript(path_of(record, "record")) if record is not None else None
         self._lock, self._owner = asyncio.Lock(), os.getpid()
         self._ready, self._asked = True, 0
         self._desk: Optional[Desk] = None
@@ -145,10 +146,11 @@ class AsyncConnection:
 
 
 async def connect_async(host: str, port: Optional[int] = None, timeout: Optional[float] = LIMIT, *,
-                        values: Sequence[str] = (), record: Optional[str] = None) -> AsyncConnection:
+                        values: Sequence[str] = (), record: Optional[Path] = None) -> AsyncConnection:
     """A connection over TCP, as `connect` makes one."""
-    order = values_of(values, None) if values else None
+    order = order_of(values)
     host, port = host_and_port(host, port)
+    limit_of(timeout, "timeout")
     opening = asyncio.get_running_loop().create_connection(Exchange, host, port)
     try:
         transport, exchange = await asyncio.wait_for(opening, timeout)
@@ -172,11 +174,10 @@ class AsyncPool:
     """At most `size` connections to one daemon, as `Pool` has them, for the tasks of one loop."""
 
     def __init__(self, host: str, port: Optional[int] = None, *, size: int = SIZE, timeout: Optional[float] = LIMIT,
-                 values: Sequence[str] = (), record: Optional[str] = None) -> None:
-        if not isinstance(size, int) or size < 1:
-            raise ValueError(f"size: a number from 1 is wanted, and this is {size!r}")
-        self.order = values_of(values, None) if values else None
-        self._address, self._size, self._timeout, self._record = (host, port), size, timeout, record
+                 values: Sequence[str] = (), record: Optional[Path] = None) -> None:
+        self.order, self._size = order_of(values), size_of(size)
+        self._address, self._timeout = host_and_port(host, port), limit_of(timeout, "timeout")
+        self._record = None if record is None else path_of(record, "record")
         self._used = 0
         self._waiting: Deque[asyncio.Future[None]] = collections.deque()
         self._idle: List[AsyncConnection] = []

@@ -5,17 +5,17 @@ from __future__ import annotations
 import os
 import subprocess
 import threading
-from typing import Callable, Iterable, List, Mapping, Optional, Sequence, Tuple, Union
+from typing import Callable, Iterable, List, Mapping, Optional, Sequence, Tuple
 
 from .answers import Answer
+from .arguments import Path, Text, bytes_of, limit_of, order_of, path_of, refuse, values_of
 from .errors import KeynotedError, LinkEnded, NoSession, TimedOut
 from .explaining import explain
 from .link import Link, dial, host_and_port
 from .question import Desk, Question
 from .recording import Transcript
 from .wire import (
-    ADDED, ANY, OK, OPENED, PRIVATE, REQUESTS, VERSION, Replies, Reply, Request, Text, answer_of, bytes_of, query_of,
-    values_of, words_of,
+    ADDED, ANY, OK, OPENED, PRIVATE, REQUESTS, VERSION, Replies, Reply, Request, answer_of, query_of, words_of,
 )
 
 LIMIT = 5.0  # seconds, where nothing is said
@@ -32,10 +32,10 @@ class Connection:
     """
 
     def __init__(self, link: Link, *, timeout: Optional[float] = LIMIT, values: Sequence[str] = (),
-                 record: Optional[str] = None) -> None:
-        self.order = values_of(values, None) if values else None
-        self._link, self._timeout = link, timeout
-        self._transcript = Transcript(record) if record is not None else None
+                 record: Optional[Path] = None) -> None:
+        self.order = order_of(values)
+        self._link, self._timeout = link, limit_of(timeout, "timeout")
+        self._transcript = Transcript(path_of(record, "record")) if record is not None else None
         self._lock, self._owner = threading.RLock(), os.getpid()
         self._ready = True  # no exchange is under way, and the connection hasn't ended
         self._asked = 0
@@ -88,7 +88,7 @@ class Connection:
     def admin(self, secret: bytes) -> None:
         """Shows the administrators' secret, after which `add` and `drop` are allowed."""
         if not isinstance(secret, bytes):
-            raise TypeError(f"secret: bytes are wanted, and this is of type {type(secret).__name__}")
+            refuse("secret", "bytes are", secret)
         if not secret:
             raise ValueError("secret: it is empty")
         self.parts(Request(words_of(b"ADMIN", secret.hex().encode())))
@@ -106,7 +106,7 @@ class Connection:
     def request(self, line: bytes, block: Optional[bytes] = None) -> Tuple[bytes, ...]:
         """Sends a request as it stands, with its block, and answers the lines of its reply."""
         if not isinstance(line, bytes):
-            raise TypeError(f"line: bytes are wanted, and this is of type {type(line).__name__}")
+            refuse("line", "bytes are", line)
         if block is not None and line.split(b" ")[-1] != b"%d" % len(block):
             raise ValueError(f"the line doesn't say the length of its block: {line!r}")
         request = Request(words_of(line), block, ANY)
@@ -187,7 +187,7 @@ class Started(Connection):
     """A connection to a daemon of one's own, which ends with it."""
 
     def __init__(self, process: subprocess.Popen[bytes], keys: str, loading: Optional[float], *,
-                 timeout: Optional[float], values: Sequence[str], record: Optional[str]) -> None:
+                 timeout: Optional[float], values: Sequence[str], record: Optional[Path]) -> None:
         assert process.stdin and process.stdout
         super().__init__(Link(process.stdout, process.stdin), timeout=timeout, values=values, record=record)
         self._process, self._keys, self._loading = process, keys, loading
@@ -290,13 +290,13 @@ class Session:
 
 
 def connect(host: str, port: Optional[int] = None, timeout: Optional[float] = LIMIT, *, values: Sequence[str] = (),
-            record: Optional[str] = None) -> Connection:
+            record: Optional[Path] = None) -> Connection:
     """A connection over TCP. The host may be an address as `[::1]:2704`; the port that isn't said is 2704.
 
     Connecting and each exchange may take `timeout` seconds, or as long as they want where it is None. `values` are the
     order that each query has to keep. `record` is the prefix of two new files, for what is sent and what comes.
     """
-    link = dial(*host_and_port(host, port), timeout)
+    link = dial(*host_and_port(host, port), limit_of(timeout, "timeout"))
     try:
         return Connection(Link(link, link), timeout=timeout, values=values, record=record)
     except BaseException:
@@ -304,22 +304,21 @@ def connect(host: str, port: Optional[int] = None, timeout: Optional[float] = LI
         raise
 
 
-Path = Union[str, "os.PathLike[str]"]
-
-
 def start(policy: Path, keys: Optional[Path] = None, program: Optional[str] = None, *, timeout: Optional[float] = LIMIT,
-          loading: Optional[float] = LOADING, values: Sequence[str] = (), record: Optional[str] = None) -> Connection:
+          loading: Optional[float] = LOADING, values: Sequence[str] = (), record: Optional[Path] = None) -> Connection:
     """Starts a daemon of one's own over this policy file and key file, with pipes to it.
 
     Its first reply may take `loading` seconds more than `timeout`, since the program reads its files first.
     """
-    words = [program or program_of(), "ask", os.fspath(policy)] + ([os.fspath(keys)] if keys else [])
+    words = [path_of(program or program_of(), "program"), "ask", path_of(policy, "policy")]
+    words += [path_of(keys, "keys")] if keys is not None else []
+    limit_of(loading, "loading")
     try:
         process = subprocess.Popen(words, stdin=subprocess.PIPE, stdout=subprocess.PIPE, bufsize=0)
     except OSError as why:
         raise LinkEnded(f"{words[0]} doesn't start: {why}") from why
     try:
-        return Started(process, words[3] if keys else "", loading, timeout=timeout, values=values, record=record)
+        return Started(process, words[3] if keys is not None else "", loading, timeout=timeout, values=values, record=record)
     except BaseException:
         process.kill()
         raise

@@ -9,6 +9,7 @@ import socket
 import time
 from typing import Callable, Optional, Protocol, Tuple
 
+from .arguments import refuse
 from .errors import LinkEnded, TimedOut
 
 PORT = 2704  # where nothing is said
@@ -99,9 +100,9 @@ def address_of(text: str) -> Tuple[str, int]:
 def host_and_port(host: str, port: Optional[int]) -> Tuple[str, int]:
     """The same where the port may be said apart."""
     if not isinstance(host, str):
-        raise TypeError(f"host: a text is wanted, and this is of type {type(host).__name__}")
+        refuse("host", "a text is", host)
     if port is not None and (not isinstance(port, int) or isinstance(port, bool)):
-        raise TypeError(f"port: a number is wanted, and this is of type {type(port).__name__}")
+        refuse("port", "a number is", port)
     if port is None:
         return address_of(host)
     return host[1:-1] if host.startswith("[") and host.endswith("]") else host, port

@@ -9,10 +9,11 @@ import weakref
 from typing import Iterable, List, Mapping, Optional, Sequence
 
 from .answers import Answer
+from .arguments import Path, Text, limit_of, order_of, path_of, size_of
 from .connection import LIMIT, Connection, connect
 from .errors import LinkEnded, TimedOut
+from .link import host_and_port
 from .question import Question
-from .wire import Text, values_of
 
 SIZE = 3  # where nothing is said: a daemon of four workers has one left for its administrators
 
@@ -32,11 +33,10 @@ class Pool:
     """
 
     def __init__(self, host: str, port: Optional[int] = None, *, size: int = SIZE, timeout: Optional[float] = LIMIT,
-                 values: Sequence[str] = (), record: Optional[str] = None) -> None:
-        if not isinstance(size, int) or size < 1:
-            raise ValueError(f"size: a number from 1 is wanted, and this is {size!r}")
-        self.order = values_of(values, None) if values else None
-        self._address, self._size, self._timeout, self._record = (host, port), size, timeout, record
+                 values: Sequence[str] = (), record: Optional[Path] = None) -> None:
+        self.order, self._size = order_of(values), size_of(size)
+        self._address, self._timeout = host_and_port(host, port), limit_of(timeout, "timeout")
+        self._record = None if record is None else path_of(record, "record")
         self._begin()
 
     def _begin(self) -> None:

@@ -5,8 +5,9 @@ from __future__ import annotations
 from typing import Iterable, List, Mapping, Optional, Sequence, Tuple
 
 from .answers import Answer
+from .arguments import Text, attributes_of, texts_of, values_of
 from .errors import LinkEnded
-from .wire import PRIVATE, VERSION, Reply, Request, Text, answer_of, bytes_of, query_of, values_of, words_of
+from .wire import PRIVATE, VERSION, Reply, Request, answer_of, query_of, words_of
 
 
 class Desk:
@@ -24,9 +25,9 @@ class Question:
 
     def __init__(self, principals: Iterable[Text], attributes: Mapping[Text, Text], values: Sequence[str],
                  private: Iterable[Text], order: Optional[Tuple[str, ...]]) -> None:
-        self._principals = texts_of("principals", principals)
+        self._principals = texts_of(principals, "principals")
         self._attributes = attributes_of(attributes)
-        self._private = texts_of("private", private)
+        self._private = texts_of(private, "private")
         self._values = values_of(values, order)
         self.size = 3 + len(self._principals) + len(self._attributes) + 2 * len(self._private)
 
@@ -59,18 +60,6 @@ class Question:
         for request, reply in zip(requests[:last], replies):
             reply.raise_refusal(request)
         return answer_of(replies[last], requests[last])
-
-
-def texts_of(name: str, texts: Iterable[Text]) -> List[bytes]:
-    if isinstance(texts, (str, bytes)) or not isinstance(texts, Iterable):
-        raise TypeError(f"{name}: a list of texts is wanted, and this is of type {type(texts).__name__}")
-    return [bytes_of(it, name) for it in texts]
-
-
-def attributes_of(attributes: Mapping[Text, Text]) -> List[Tuple[bytes, bytes]]:
-    if not isinstance(attributes, Mapping):
-        raise TypeError(f"attributes: a mapping of names to values is wanted, and this is of type {type(attributes).__name__}")
-    return [(bytes_of(name, "attributes"), bytes_of(value, f"attributes[{name!r}]")) for name, value in attributes.items()]
 
 
 def set_of(session: bytes, name: bytes, value: bytes) -> Request:

@@ -3,13 +3,12 @@
 from __future__ import annotations
 
 import re
-from typing import List, NamedTuple, NoReturn, Optional, Sequence, Tuple, Union
+from typing import List, NamedTuple, NoReturn, Optional, Sequence, Tuple
 
 from .answers import NUMBER, Answer, Row
 from .errors import REFUSAL, LinkEnded, NoMemory, NoRead, refusal_of
 from .explaining import explain_text
 
-Text = Union[str, bytes]
 REQUESTS = 1_000_000  # of a connection, after which the daemon ends it
 LINE_BYTES = 131072  # longer than any line of a reply: a principal has at most 4,096 bytes, each told by four at most
 OK = re.compile(rb"OK")
@@ -157,15 +156,6 @@ def unescaped(match: re.Match[bytes]) -> bytes:
     return match[1] if len(match[1]) == 1 else bytes([int(match[1], 8)])
 
 
-def bytes_of(text: Text, name: str = "text") -> bytes:
-    """The bytes of a text; TypeError, which names the argument, where it is neither a text nor bytes."""
-    if isinstance(text, str):
-        return text.encode("utf-8", "surrogateescape")
-    if isinstance(text, bytes):
-        return text
-    raise TypeError(f"{name}: a text or bytes are wanted, and this is of type {type(text).__name__}")
-
-
 def words_of(*parts: bytes) -> bytes:
     """A line of these words: each but the last has no space and isn't empty, and none has an end of line."""
     for word in parts:
@@ -179,23 +169,3 @@ def words_of(*parts: bytes) -> bytes:
 
 def query_of(session: bytes, values: Tuple[str, ...]) -> Request:
     return Request(words_of(b"QUERY", session, ",".join(values).encode("utf-8", "surrogateescape")), None, VALUE, values)
-
-
-def values_of(values: Sequence[str], order: Optional[Tuple[str, ...]]) -> Tuple[str, ...]:
-    """The values of a query, the lowest first; `order` is that of the connection, where it was told one."""
-    if isinstance(values, (str, bytes)):
-        raise TypeError("values: a list of texts is wanted, the lowest first, and this is one text")
-    for value in values:
-        if not isinstance(value, str):
-            raise TypeError(f"values: each value is a text, and this is of type {type(value).__name__}")
-        if "," in value:
-            raise ValueError(f"a comma would part the value in two: {value!r}")
-    found = tuple(values)
-    if not found and order:
-        return order
-    if not found:
-        raise ValueError("values: none are named, and the connection was told no order")
-    if order and (found[0] != order[0] or list(found) != [it for it in order if it in found]):
-        raise ValueError(f"the values {','.join(found)} aren't in the order of this connection, {','.join(order)}, "
-                         f"or don't begin with its lowest, {order[0]}")
-    return found
