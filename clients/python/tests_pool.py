@@ -254,6 +254,15 @@ class Tasks(Room):
 
         self.run_tasks(work, address)
 
+    def test_one_connection(self):
+        async def run():
+            async with await keynoted.connect_async(self.fake().address, values=VALUES) as connection:
+                asked = [connection.ask([who], {}) for who in ("alice", "mallory")]
+                return [it.index for it in await asyncio.gather(*asked)], connection
+
+        indexes, connection = asyncio.run(run())
+        self.assertEqual((indexes, connection.left()), ([1, 0], 0))
+
     def test_limits_of_time(self):
         daemon = self.fake(delay=0.3)
 

@@ -79,6 +79,12 @@ class AsyncConnection:
         self._ready, self._asked = True, 0
         self._desk: Optional[Desk] = None
 
+    async def __aenter__(self) -> AsyncConnection:
+        return self
+
+    async def __aexit__(self, *_: object) -> None:
+        await self.close()
+
     async def ask(self, principals: Iterable[Text], attributes: Mapping[Text, Text], values: Sequence[str] = (),
                   private: Iterable[Text] = ()) -> Answer:
         """Asks one question as `Connection.ask` does."""
