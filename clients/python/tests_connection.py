@@ -383,7 +383,7 @@ class Limits(Room):
     def test_what_came_unasked_is_no_reply(self):
         ours, theirs = socket.socketpair()
         with theirs:
-            theirs.sendall(b"OK 1 1\nOK\n")
+            theirs.sendall(b"OK 1 1\n")
             self.assertRaises(keynoted.LinkEnded, keynoted.Connection(link.Link(ours, ours)).session)
 
     def test_the_daemons_last_line_is_told_in_words(self):

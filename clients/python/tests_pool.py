@@ -100,6 +100,18 @@ class Pools(Room):
             process, _ = self.serve(int(address.split(":")[1]))
             self.assertEqual(pool.ask(["alice"], {}).index, 1)  # by an idle connection that has ended
 
+    def test_a_question_whose_connection_has_ended_is_asked_once_more(self):
+        daemon = self.fake()
+        with keynoted.Pool(daemon.address, values=VALUES) as pool:
+            self.assertEqual(pool.ask(["alice"], {}).index, 1)
+            daemon.stop()
+            again = self.fake(port=daemon.port)
+            self.assertEqual((pool.ask(["alice"], {}).index, again.accepted), (1, 1))
+            again.stop()
+            last = self.fake(port=daemon.port, say={b"PIN": b"OK 1\nerror link read"})
+            self.assertRaises(keynoted.LinkEnded, pool.ask, ["alice"], {})
+            self.assertEqual(last.accepted, 1)  # no more than once
+
     def test_a_new_connection_before_the_requests_are_used_up(self):
         with mock.patch.object(connection, "REQUESTS", 50), mock.patch.object(asynchronous, "REQUESTS", 50):
             daemon = self.fake(most=50)
