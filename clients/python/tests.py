@@ -18,7 +18,7 @@ def main():
     for name in sorted(glob.glob(os.path.join(HERE, "tests_*.py"))):
         module = importlib.import_module(os.path.basename(name)[:-3])
         globals().update({it: found for it, found in vars(module).items() if isinstance(found, type)})
-    unittest.main()
+    unittest.main(warnings="ignore")  # of what a test leaves open
 
 
 if __name__ == "__main__":

@@ -205,7 +205,7 @@ class Pools(Room):
                 thread.join()
         self.assertEqual(wrong, [])
         print(f"a gateway of three threads asks {sum(count) / seconds:.0f} questions a second by a pool of 3 over TCP")
-        self.assertGreater(sum(count) / seconds, 200)
+        self.assertGreater(sum(count) / seconds, 20)
 
 
 class Tasks(Room):
@@ -318,7 +318,7 @@ class Tasks(Room):
 
         self.run_tasks(work, self.serve()[1])
         print(f"six tasks ask {asked[0] / seconds:.0f} questions a second by a pool of 3 over TCP")
-        self.assertGreater(asked[0] / seconds, 200)
+        self.assertGreater(asked[0] / seconds, 20)
 
 
 class Transcripts(Room):

@@ -321,6 +321,7 @@ def start(policy: Path, keys: Optional[Path] = None, program: Optional[str] = No
         return Started(process, words[3] if keys is not None else "", loading, timeout=timeout, values=values, record=record)
     except BaseException:
         process.kill()
+        process.communicate()
         raise
 
 
