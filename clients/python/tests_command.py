@@ -108,7 +108,7 @@ class Package(Room):
 
 
 def can_build(python):
-    probe = "import pip, setuptools, wheel, sys; sys.exit(int(setuptools.__version__.split('.')[0]) < 61)"
+    probe = "import setuptools, pip, wheel, sys; sys.exit(int(setuptools.__version__.split('.')[0]) < 61)"
     return succeeds([python, "-c", probe])
 
 
