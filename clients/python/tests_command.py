@@ -39,13 +39,15 @@ class Queries(Room):
         self.assertEqual(self.command("query", "p.kn", "--values", "no,yes", "--auth", "alice")[2], "")
 
     def test_a_record(self):
-        self.assertEqual(self.command("query", "p.kn", "--values", "no,yes", "--auth", "alice", "--record", "talk")[0], 0)
+        words = ("query", "p.kn", "--values", "no,yes", "--auth", "alice", "--record", "talk")
+        self.assertEqual(self.command(*words)[0], 0)
         with open("talk.requests", "rb") as file:
             self.assertEqual(file.read(), b"OPEN\nCLEAR 1\nPIN 1\nAUTH 1 alice\nQUERY 1 no,yes\nBYE\n")
-        self.assertEqual(self.command("query", "p.kn", "--values", "no,yes", "--auth", "alice", "--record", "talk")[0], 2)
+        self.assertEqual(self.command(*words)[0], 2)
 
     def test_requests_that_are_sent_as_they_stand(self):
-        script = b"OPEN\nopen\nASSERT 1 37\r\n%b\nAUTH 1 bob\nQUERY 1 no,yes\nADMIN 733363726574\nASSERT 1 0\n\nDROP a1\nBYE\nOPEN\n"
+        script = b"OPEN\nopen\nASSERT 1 37\r\n%b\nAUTH 1 bob\nQUERY 1 no,yes\nADMIN 733363726574\n"
+        script += b"ASSERT 1 0\n\nDROP a1\nBYE\nOPEN\n"
         command = [sys.executable, os.path.join(HERE, "keynoted.py"), "record", "talk", "p.kn", "--keys", "keys"]
         run = subprocess.run(command, input=script % CREDENTIAL, stdout=subprocess.PIPE)
         asked = subprocess.run([PROGRAM, "ask", "p.kn", "keys"], input=script % CREDENTIAL, stdout=subprocess.PIPE)
@@ -72,7 +74,8 @@ class Package(Room):
             print("clients/python: pip's installation is left out: there is no setuptools with wheel")
             return
         shutil.copytree(HERE, "python", ignore=shutil.ignore_patterns("__pycache__", "build", "*.egg-info"))
-        words = [python, "-m", "pip", "install", "--quiet", "--no-build-isolation", "--no-index", "--no-deps", "--target", "lib", "./python"]
+        words = [python, "-m", "pip", "install", "--quiet", "--no-build-isolation", "--no-index", "--no-deps"]
+        words += ["--target", "lib", "./python"]
         run = subprocess.run(words, stdout=subprocess.PIPE, stderr=subprocess.STDOUT, text=True)
         self.assertEqual(run.returncode, 0, run.stdout)
         self.assertTrue(os.path.exists("lib/keynoted/py.typed"))
@@ -82,15 +85,18 @@ class Package(Room):
         self.assertEqual(run.stdout, version_of_the_repository() + "\n")
         query = [python, "lib/bin/keynoted-client", "query", "p.kn", "--auth", "alice", "--values", "no,yes"]
         run = subprocess.run(query, env=env, capture_output=True, text=True)
-        self.assertEqual((run.returncode, run.stdout.splitlines()[-1]), (0, "answer: yes, which is 1 of no,yes"), run.stderr)
+        self.assertEqual((run.returncode, run.stderr), (0, ""))
+        self.assertEqual(run.stdout.splitlines()[-1], "answer: yes, which is 1 of no,yes")
 
     def test_make_installs_both_without_pip(self):
-        words = ["make", "-C", TOP, "-o", "all", "install", f"PROGRAM={PROGRAM}", "PREFIX=/usr", f"DESTDIR={self.room}/to"]
+        words = ["make", "-C", TOP, "-o", "all", "install", f"PROGRAM={PROGRAM}", "PREFIX=/usr"]
+        words.append(f"DESTDIR={self.room}/to")
         subprocess.run(words, check=True, stdout=subprocess.DEVNULL)
         env = {"PATH": "/usr/bin:/bin", "PYTHONDONTWRITEBYTECODE": "1"}
         query = ["to/usr/bin/keynoted-client", "query", "p.kn", "--auth", "alice", "--values", "no,yes"]
         run = subprocess.run(query, env=env, capture_output=True, text=True)
-        self.assertEqual((run.returncode, run.stdout.splitlines()[-1]), (0, "answer: yes, which is 1 of no,yes"), run.stderr)
+        self.assertEqual((run.returncode, run.stderr), (0, ""))
+        self.assertEqual(run.stdout.splitlines()[-1], "answer: yes, which is 1 of no,yes")
 
     def test_types(self):
         probe = [[it, "-m", "mypy", "--version"] for it in (sys.executable, "/usr/bin/python3")]
@@ -125,13 +131,14 @@ class Script(Room):
         shutil.copy(os.path.join(TOP, "keynoted"), "bin/keynoted")
         shutil.copy(PROGRAM, "libexec/keynoted/keynoted")
         env = {"PATH": "/usr/bin:/bin"}
-        return subprocess.run(["bin/keynoted", *words], stdin=subprocess.DEVNULL, capture_output=True, text=True, env=env)
+        words = ["bin/keynoted", *words]
+        return subprocess.run(words, stdin=subprocess.DEVNULL, capture_output=True, text=True, env=env)
 
     def test_help_and_version(self):
         version = version_of_the_repository()
         for words in ([], ["help"], ["-h"], ["--help"], ["ask", "-h"], ["check", "--help"]):
             run = self.run_script(*words)
-            self.assertEqual((run.returncode, run.stderr, run.stdout.split("\n")[0][:12]), (0, "", "keynoted ask"), words)
+            self.assertEqual((run.returncode, run.stderr, run.stdout[:12]), (0, "", "keynoted ask"), words)
         for word in ("-V", "--version"):
             run = self.run_script(word)
             self.assertEqual((run.returncode, run.stdout, run.stderr), (0, f"keynoted {version}\n", ""))

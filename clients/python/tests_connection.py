@@ -89,9 +89,10 @@ class Replies(Room):
 
     def test_what_is_no_reply_ends_the_connection(self):
         for text in (
-            b"", b"OK", b"VALUE 1 yes 1 1\nROW 1 a1 \"POLICY\"\n", b"VALUE 1 yes 1 0\nROW", b"VALUE 2 yes 1 0\nEND\n", b"VALUE 0 yes 1 0\nEND\n",
-            b"VALUE 1 YES 1 0\nEND\n", b"VALUE 01 yes 1 0\nEND\n", b"VALUE 1 yes 1 1\nROW 1 a1 POLICY\nEND\n", b"OK\n", b"NO 3 limit\n",
-            b"VALUE 1 yes 1 0\nOK\n", b'VALUE 1 yes 1 0\nROW 1 a1 "POLICY"\nEND\n', b"NO 16 batch\n", b"error link budget\n", b"VALUE 1 yes 1 0 \nEND\n", b"yes\n",
+            b"", b"OK", b"VALUE 1 yes 1 1\nROW 1 a1 \"POLICY\"\n", b"VALUE 1 yes 1 0\nROW", b"VALUE 2 yes 1 0\nEND\n",
+            b"VALUE 0 yes 1 0\nEND\n", b"VALUE 1 YES 1 0\nEND\n", b"VALUE 01 yes 1 0\nEND\n", b"OK\n", b"NO 3 limit\n",
+            b"VALUE 1 yes 1 1\nROW 1 a1 POLICY\nEND\n", b"VALUE 1 yes 1 0\nOK\n", b"NO 16 batch\n", b"yes\n",
+            b'VALUE 1 yes 1 0\nROW 1 a1 "POLICY"\nEND\n', b"error link budget\n", b"VALUE 1 yes 1 0 \nEND\n",
         ):
             # what stands behind it would be taken for the reply to the next request
             session = self.reply(text + b"OK\nOK\n" if text.endswith(b"\n") else text)
@@ -113,7 +114,8 @@ class Replies(Room):
         with self.assertRaises(keynoted.LinkEnded) as raised, keynoted.start("p.kn") as daemon:
             daemon.session()
         self.assertEqual(raised.exception.line, "error policy p.kn 1 19 5")
-        self.assertEqual(str(raised.exception), 'p.kn:2:12: alice is no local constant: a principal stands in quotes, "alice"')
+        told = 'p.kn:2:12: alice is no local constant: a principal stands in quotes, "alice"'
+        self.assertEqual(str(raised.exception), told)
 
     def test_a_key_file_that_is_refused_is_told_by_its_line(self):
         self.write("keys", b"secret 00\nsecret 01\n")
@@ -144,7 +146,8 @@ class Replies(Room):
             thread = threading.Thread(target=serve)
             thread.start()
             port = str(listener.getsockname()[1])
-            status, out, _ = self.command("query", "--connect", f"127.0.0.1:{port}", "--auth", "alice", "--values", "no,yes")
+            words = ("--connect", f"127.0.0.1:{port}", "--auth", "alice", "--values", "no,yes")
+            status, out, _ = self.command("query", *words)
             thread.join()
         self.assertEqual((status, out.splitlines()[-1]), (0, "answer: yes, which is 1 of no,yes"))
         with self.assertRaises(keynoted.LinkEnded):
@@ -185,7 +188,7 @@ class Interruptions(Room):
             pass
 
     def rounds(self, prepare, most):
-        """1,000 rounds in which alice's question is interrupted and mallory's comes next; `prepare` gives both on a connection."""
+        """1,000 rounds in which alice's question is interrupted and mallory's comes next; `prepare` gives both."""
         daemon, ended, asks = self.fake(delay=0.0003), 0, None
         for _ in range(1000):
             asks = asks or prepare(keynoted.connect(daemon.address))
@@ -451,12 +454,14 @@ class Arguments(Room):
 
     def test_addresses(self):
         for text, wanted in (
-            ("[::1]:2704", ("::1", 2704)), ("[::1]", ("::1", 2704)), ("::1", ("::1", 2704)), ("localhost", ("localhost", 2704)),
-            ("localhost:17", ("localhost", 17)), ("127.0.0.1:65535", ("127.0.0.1", 65535)), ("[fe80::1%lo]:3", ("fe80::1%lo", 3)),
+            ("[::1]:2704", ("::1", 2704)), ("[::1]", ("::1", 2704)), ("::1", ("::1", 2704)),
+            ("localhost", ("localhost", 2704)), ("localhost:17", ("localhost", 17)),
+            ("127.0.0.1:65535", ("127.0.0.1", 65535)), ("[fe80::1%lo]:3", ("fe80::1%lo", 3)),
         ):
             self.assertEqual(link.host_and_port(text, None), wanted)
         self.assertEqual(link.host_and_port("[::1]", 5), ("::1", 5))
-        for text in ("", ":2704", "localhost:", "localhost:0", "localhost:65536", "localhost:x", "[::1]2704", "[]:1", "localhost:\u0661"):
+        for text in ("", ":2704", "localhost:", "localhost:0", "localhost:65536", "localhost:x", "[::1]2704", "[]:1",
+                     "localhost:\u0661"):
             self.assertRaises(ValueError, link.host_and_port, text, None)
 
     def test_connections_by_name_and_over_ipv6(self):

@@ -50,7 +50,9 @@ class Questions(Room):
             self.assertRaises(keynoted.LinkEnded, daemon.ask, ["alice"], {}, VALUES)
 
     def test_an_answer_counts_only_where_all_before_it_was_taken(self):
-        for wrong, raised in ((b"NOMEM", keynoted.NoMemory), (b"NO 11 principal", keynoted.NoPrincipal), (b"OK 1", keynoted.LinkEnded)):
+        for wrong, raised in (
+            (b"NOMEM", keynoted.NoMemory), (b"NO 11 principal", keynoted.NoPrincipal), (b"OK 1", keynoted.LinkEnded),
+        ):
             lines = [b"OK", b"OK 1", wrong, b"OK", b"VALUE 1 yes 1 0", b"END", b""]
             with talk(b"OK 1 1\n", b"\n".join(lines)) as daemon:
                 self.assertRaises(raised, daemon.ask, ["alice"], {"a": "b"}, VALUES)
@@ -153,7 +155,10 @@ class Pools(Room):
     def test_all_taken_is_told_after_the_limit(self):
         daemon = self.fake(delay=0.3)
         with keynoted.Pool(daemon.address, size=1, timeout=0.2, values=VALUES) as pool:
-            threads = [threading.Thread(target=lambda: self.assertRaises(keynoted.TimedOut, pool.ask, ["alice"], {})) for _ in range(3)]
+            def ask():
+                self.assertRaises(keynoted.TimedOut, pool.ask, ["alice"], {})
+
+            threads = [threading.Thread(target=ask) for _ in range(3)]
             for thread in threads:
                 thread.start()
             for thread in threads:
@@ -181,7 +186,7 @@ class Pools(Room):
             self.assertEqual((pool.ask(["alice"], {}).index, daemon.accepted), (1, 2))
 
     def test_a_gateway_over_tcp(self):
-        """Some seconds of questions by threads that share a pool. KEYNOTED_SECONDS says how long, 3 where it isn't said."""
+        """Questions by threads that share a pool, for KEYNOTED_SECONDS, 3 where nothing is said."""
         seconds, count, wrong = float(os.environ.get("KEYNOTED_SECONDS", "3")), [], []
         self.write("p.kn", POLICY + b'Conditions: door == "front" -> "yes";\n')
         with keynoted.Pool(self.serve(workers=4)[1], size=3, values=VALUES) as pool:
@@ -354,7 +359,8 @@ class Transcripts(Room):
         self.assertEqual(requests.replace(b"0" * 8192, b"0.."), b"ADMIN 00\nADMIN 00\nDROP a1\nADMIN\nADMIN 0..\nBYE\n")
         self.assertEqual(self.read("talk.replies"), b"NO 4 admin\nOK\nOK 2\nNO 1 syntax\nNO 14 long\nOK\n")
         # the stored requests have the same replies, but for what the secret allowed
-        self.assertEqual(self.replayed("talk.requests"), b"NO 4 admin\nNO 4 admin\nNO 4 admin\nNO 1 syntax\nNO 14 long\nOK\n")
+        played = b"NO 4 admin\nNO 4 admin\nNO 4 admin\nNO 1 syntax\nNO 14 long\nOK\n"
+        self.assertEqual(self.replayed("talk.requests"), played)
 
     def test_a_request_whose_reply_is_lost_is_left_out(self):
         with keynoted.connect(self.fake(say={b"PIN": b"OK 1\nerror link read"}).address, record="talk") as daemon:

@@ -1,4 +1,4 @@
-"""What the tests of the client stand on: a folder with a policy, the built program, and a daemon of their own that can fail."""
+"""What the tests of the client stand on: a folder with a policy, the built program, and a daemon that can fail."""
 
 import contextlib
 import io

@@ -31,7 +31,7 @@ class Answer:
         return self.values[self.index]
 
     def at_least(self, value: str) -> bool:
-        """Whether the answer is this value of the query or a higher one; ValueError where the query has no such value."""
+        """Whether the answer is this value of the query or a higher one; ValueError where it has no such value."""
         return self.index >= self._index_of(value)
 
     def _index_of(self, value: object) -> int:

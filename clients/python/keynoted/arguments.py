@@ -31,7 +31,8 @@ def texts_of(texts: Iterable[Text], name: str) -> List[bytes]:
 def attributes_of(attributes: Mapping[Text, Text]) -> List[Tuple[bytes, bytes]]:
     if not isinstance(attributes, Mapping):
         refuse("attributes", "a mapping of names to values is", attributes)
-    return [(bytes_of(name, "attributes"), bytes_of(value, f"attributes[{name!r}]")) for name, value in attributes.items()]
+    pairs = attributes.items()
+    return [(bytes_of(name, "attributes"), bytes_of(value, f"attributes[{name!r}]")) for name, value in pairs]
 
 
 def values_of(values: Sequence[str], order: Optional[Tuple[str, ...]]) -> Tuple[str, ...]:

@@ -26,9 +26,9 @@ Check = Callable[[Sequence[Reply]], None]
 class Connection:
     """A connection to the daemon; as a context manager it says BYE at its end. `connect` and `start` make one.
 
-    Threads may share it: an exchange, which is what is sent at once and its replies, is one thread's at a time. Whatever
-    interrupts an exchange ends the connection, since the next request would get its reply. In another process than its
-    own, as after a fork, it has ended.
+    Threads may share it: an exchange, which is what is sent at once and its replies, is one thread's at a time.
+    Whatever interrupts an exchange ends the connection, since the next request would get its reply. In another process
+    than its own, as after a fork, it has ended.
     """
 
     def __init__(self, link: Link, *, timeout: Optional[float] = LIMIT, values: Sequence[str] = (),
@@ -318,7 +318,8 @@ def start(policy: Path, keys: Optional[Path] = None, program: Optional[str] = No
     except OSError as why:
         raise LinkEnded(f"{words[0]} doesn't start: {why}") from why
     try:
-        return Started(process, words[3] if keys is not None else "", loading, timeout=timeout, values=values, record=record)
+        told = words[3] if keys is not None else ""
+        return Started(process, told, loading, timeout=timeout, values=values, record=record)
     except BaseException:
         process.kill()
         process.communicate()

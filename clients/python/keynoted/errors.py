@@ -50,20 +50,20 @@ class NoSession(Refusal, code=3): "no such session is open on this connection"
 class NoAdmin(Refusal, code=4): "the secret is wrong, or ADD or DROP came before a right one"
 class NoRead(Refusal, code=5): "the text is no assertion; `parts` are the fault and its place"
 class NoPolicy(Refusal, code=6): "the authorizer of a private assertion is POLICY"
-class NoAuth(Refusal, code=7): "the credential isn't admitted: 1 no signature, 2 another algorithm, 3 no key, 4 another code"
-class NoName(Refusal, code=8): "no attribute can have this name: a letter, then letters, digits and _, at most 128 bytes"
+class NoAuth(Refusal, code=7): "it isn't admitted: 1 no signature, 2 another algorithm, 3 no key, 4 another code"
+class NoName(Refusal, code=8): "no attribute can have this name: a letter, then letters, digits and _, up to 128 bytes"
 class NoValue(Refusal, code=9): "the value has more than 4,096 bytes"
 class NoValues(Refusal, code=10): "the values aren't 2 to 64 different names"
 class NoPrincipal(Refusal, code=11): "the principal is empty, has more than 4,096 bytes, or is POLICY"
 class NoUnknown(Refusal, code=12): "the assertion, credential, attribute or requester isn't there"
 class NoLimit(Refusal, code=13): "a limit is met; `parts` are its word and what there is"
 class NoLong(Refusal, code=14): "the line has more than 8,192 bytes"
-class NoBlock(Refusal, code=15): "the text has more than 16,384 bytes, or isn't as long as was said; the connection ends"
+class NoBlock(Refusal, code=15): "the text has over 16,384 bytes, or isn't as long as was said; the connection ends"
 
 
 REFUSAL = re.compile(
-    r"NO (?:1 syntax|2 command|3 session|4 admin|5 read (?:0|[1-9]\d*) (?:0|[1-9]\d*)|6 policy|7 auth [1-9]\d*|8 name|9 value"
-    r"|10 values|11 principal|12 unknown|13 limit [a-z-]+ (?:0|[1-9]\d*)|14 long|15 block)"
+    r"NO (?:1 syntax|2 command|3 session|4 admin|5 read (?:0|[1-9]\d*) (?:0|[1-9]\d*)|6 policy|7 auth [1-9]\d*|8 name"
+    r"|9 value|10 values|11 principal|12 unknown|13 limit [a-z-]+ (?:0|[1-9]\d*)|14 long|15 block)"
 )
 
 

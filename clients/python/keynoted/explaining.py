@@ -12,29 +12,41 @@ from .texts import FIELDS, Field, Token, constants_of, fields_of, place_of, read
 
 
 FAULTS = {
-    1: "only ASCII stands outside literals and comments, and a byte 0 nowhere", 2: "this literal isn't closed on its line",
+    1: "only ASCII stands outside literals and comments, and a byte 0 nowhere",
+    2: "this literal isn't closed on its line",
     3: "nothing begins with this", 4: "write '&&' for and; numbers with a fraction are left out",
     5: "regular expressions (~=) are left out", 6: "a number above 2147483647", 7: "a blank line within an assertion",
-    8: "the assertion has more than 16,384 bytes", 9: "a line that goes on begins with a space or a tab, any other with a label",
+    8: "the assertion has more than 16,384 bytes",
+    9: "a line that goes on begins with a space or a tab, any other with a label",
     10: "this field stood before", 11: "KeyNote-Version stands first, and Signature last",
     12: "no Authorizer; a blank line within an assertion cuts it in two", 13: "the version must be 2",
     14: "expected NAME = \"text\", with a name that stood not before and begins with a letter",
     15: "more than 64 open brackets, or more than 8 of ! - @ $ in a row",
 }
-BYTES = {b"'": "write \" in place of '", b"|": "write '||' in place of '|'", b":": "a label begins its line; a name with ':' stands in quotes"}
+BYTES = {
+    b"'": "write \" in place of '", b"|": "write '||' in place of '|'",
+    b":": "a label begins its line; a name with ':' stands in quotes",
+}
 LINES = {
     "words": "the words are none of: ask POLICY [KEYS], check POLICY SCRIPT REPLY (keynoted help)",
-    "memory": "out of memory; nothing was answered", "query": "the script has no QUERY on an open session with 2 to 64 different values",
-    "link read": "standard input couldn't be read", "link write": "a reply couldn't be written", "listener": "the address couldn't be served",
-    "link budget": "a connection has 1,000,000 requests at most", "link cut": "the input ended within a request, after bytes of it: ",
+    "memory": "out of memory; nothing was answered",
+    "query": "the script has no QUERY on an open session with 2 to 64 different values",
+    "link read": "standard input couldn't be read", "link write": "a reply couldn't be written",
+    "listener": "the address couldn't be served", "link budget": "a connection has 1,000,000 requests at most",
+    "link cut": "the input ended within a request, after bytes of it: ",
     "link block": "a text of this length was refused, or no newline stood behind it: ",
     "proof text 1": "a line of the reply isn't of its form, is missing, or answers another query: line ",
-    "proof text 2": "a number of the reply is too large: line ", "proof text 3": "the reply says another number of rows than it has: ",
+    "proof text 2": "a number of the reply is too large: line ",
+    "proof text 3": "the reply says another number of rows than it has: ",
 }
-AUTHS = {"1": "it has no signature", "2": "its signature isn't of sig-hmac-sha256-hex", "3": "its authorizer has no key", "4": "its code is another one"}
+AUTHS = {
+    "1": "it has no signature", "2": "its signature isn't of sig-hmac-sha256-hex", "3": "its authorizer has no key",
+    "4": "its code is another one",
+}
 REJECTS = (
-    "the row names a principal or an assertion that the query doesn't have, or too high a level", "the row's principal is a requester",
-    "the row's principal has a level by an earlier row", "the row's level is 0", "the assertion's authorizer is another principal",
+    "the row names a principal or an assertion that the query doesn't have, or too high a level",
+    "the row's principal is a requester", "the row's principal has a level by an earlier row", "the row's level is 0",
+    "the assertion's authorizer is another principal",
     "the assertion is worth less before this row", "an assertion is worth more than its authorizer has after all rows",
     "POLICY has another value after all rows",
 )
@@ -91,7 +103,10 @@ def explain_text(text: bytes, line: str) -> str:
 
 
 def explain(line: str, file: str = "") -> str:
-    """The words of a line `error ..` or `NO ..` of the daemon's, or nothing for another line. `file` is what was sent or named."""
+    """The words of a line `error ..` or `NO ..` of the daemon's, or nothing for another line.
+
+    `file` is what was sent or named.
+    """
     if line.startswith("error policy "):
         return explain_policy(line)
     match = re.fullmatch(r"error file (.+) (read|large)", line, re.S)
@@ -99,10 +114,12 @@ def explain(line: str, file: str = "") -> str:
         return f"{match[1]}: " + ("couldn't be read" if match[2] == "read" else "has more than 16,777,216 bytes")
     match = re.fullmatch(r"error keys (\d+)", line)
     if match:
-        return f"{file or 'the key file'}:{match[1]}:1: neither mac DIGITS PRINCIPAL nor digest DIGITS nor secret DIGITS, or a second one"
+        forms = "neither mac DIGITS PRINCIPAL nor digest DIGITS nor secret DIGITS, or a second one"
+        return f"{file or 'the key file'}:{match[1]}:1: {forms}"
     match = re.fullmatch(r"error proof reject ([1-8]) (\d+) (\d+)", line)
     if match:
-        return f"the rows prove no such value: {REJECTS[int(match[1]) - 1]} (row or assertion {match[2]} from 0, found {match[3]})"
+        where = f"(row or assertion {match[2]} from 0, found {match[3]})"
+        return f"the rows prove no such value: {REJECTS[int(match[1]) - 1]} {where}"
     for start in sorted(LINES, key=len, reverse=True):
         match = re.fullmatch(rf"error {start}((?: \d+)?)", line)
         if match:
@@ -111,6 +128,10 @@ def explain(line: str, file: str = "") -> str:
         return f"{file}:{explain_text(read_file(file), line)}"
     if REFUSAL.fullmatch(line):
         refusal = refusal_of(line)
-        what = {7: AUTHS.get(refusal.parts[0]), 13: f"the limit of {refusal.parts[0]} is met: {refusal.parts[-1]}"} if refusal.parts else {}
-        return f"{line}: {what.get(refusal.code, refusal.__doc__)}"
+        what = refusal.__doc__
+        if refusal.code == 7:
+            what = AUTHS.get(refusal.parts[0])
+        elif refusal.code == 13:
+            what = f"the limit of {refusal.parts[0]} is met: {refusal.parts[-1]}"
+        return f"{line}: {what}"
     return "out of memory for this request: no answer" if line == "NOMEM" else ""

@@ -39,7 +39,7 @@ class Link:
             self._both.register(self._in, select.POLLIN)
 
     def exchange(self, data: bytes, feed: Callable[[bytes], bool], limit: Optional[float]) -> None:
-        """Writes the data, and gives what comes to `feed` until that is content. Nothing is read before the first write."""
+        """Writes the data, and gives what comes to `feed` until that is content."""
         deadline = None if limit is None else time.monotonic() + limit
         left = memoryview(data)
         while True:
@@ -81,7 +81,7 @@ class Link:
 
 
 def address_of(text: str) -> Tuple[str, int]:
-    """The host and the port of an address: HOST, HOST:PORT, [HOST]:PORT or [HOST], where 2704 is the port that isn't said."""
+    """The host and the port of an address HOST, HOST:PORT, [HOST]:PORT or [HOST]; 2704 is the port that isn't said."""
     host, colon, port = text, "", ""
     if text.startswith("["):
         host, _, behind = text[1:].partition("]")

@@ -1,4 +1,4 @@
-"""One question: who asks, about which attributes, among which values; as requests that are sent at once, and their replies."""
+"""One question: who asks, about which attributes, among which values. Its requests are sent at once."""
 
 from __future__ import annotations
 

@@ -8,7 +8,9 @@ from .texts import FIELDS, Field, Token, value_of
 
 LEVELS = ((b"+", b"-", b"."), (b"*", b"/", b"%"), (b"^",))
 COMPARISONS = (b"==", b"!=", b"<", b">", b"<=", b">=")
-INSTEAD = {b"=": "==", b"or": "||", b"and": "&&", b"not": "!", b"in": "== with ||", b"is": "==", b"then": "->", b"else": ";"}
+INSTEAD = {
+    b"=": "==", b"or": "||", b"and": "&&", b"not": "!", b"in": "== with ||", b"is": "==", b"then": "->", b"else": ";",
+}
 
 
 class Wrong(Exception):
@@ -20,7 +22,7 @@ class Wrong(Exception):
 
 
 class Reader:
-    """Reads the tokens of a field by its grammar, up to the first place that has the fault, and raises `Wrong` there."""
+    """Reads the tokens of a field by its grammar, and raises `Wrong` at the first place that has the fault."""
 
     def __init__(self, field: Field, fault: int, constants: Dict[bytes, Token]) -> None:
         self.field, self.fault, self.constants, self.at = field, fault, constants, 0
@@ -76,7 +78,8 @@ class Reader:
         self.at += 1
         if self.fault != 19:
             return
-        value = value_of(self.constants.get(token.text, token)) if token.sort == "text" or token.text in self.constants else b"?"
+        known = token.sort == "text" or token.text in self.constants
+        value = value_of(self.constants.get(token.text, token)) if known else b"?"
         if token.sort == "name" and token.text != b"POLICY" and token.text not in self.constants:
             name = token.text.decode()
             raise Wrong(token.start, f"{name} is no local constant: a principal stands in quotes, \"{name}\"")
@@ -159,7 +162,8 @@ class Reader:
         behind, right = self.token().start, self.chain(0)
         if {left, right} == {"text", "number"}:
             at = at if left == "text" else behind
-            self.kind(left, right, at, "a text is compared with a number: put '@' before the text, or the number in quotes")
+            hint = "a text is compared with a number: put '@' before the text, or the number in quotes"
+            self.kind(left, right, at, hint)
         if "truth" in (left, right):
             self.kind("truth", "text", at if left == "truth" else behind, "a truth can't be compared")
         return "truth"

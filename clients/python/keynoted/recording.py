@@ -10,7 +10,7 @@ from .wire import Reply, Request
 class Transcript:
     """Two new files, PREFIX.requests and PREFIX.replies, which hold the requests whose replies came whole, and these.
 
-    The administrators' secret is left out: in place of it ADMIN has the digits 00, behind which the daemon's reply stands.
+    The administrators' secret is left out: in place of it ADMIN has the digits 00, with the daemon's reply as it came.
     """
 
     def __init__(self, prefix: str) -> None:

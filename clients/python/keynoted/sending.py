@@ -30,7 +30,7 @@ def add_record(commands: argparse._SubParsersAction[argparse.ArgumentParser],
                 sys.stdout.buffer.flush()
         return 0
 
-    record = commands.add_parser("record", help="sends the requests of standard input, and keeps them with their replies")
+    record = commands.add_parser("record", help="sends the requests of standard input, and keeps both sides")
     record.add_argument("record", metavar="PREFIX", help="of two new files, PREFIX.requests and PREFIX.replies")
     record.add_argument("policy", nargs="?", help="the policy file, unless --connect is given")
     record.add_argument("--connect", metavar="HOST:PORT", help="a daemon that serves")

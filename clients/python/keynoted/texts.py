@@ -38,7 +38,7 @@ def scan(data: bytes) -> Iterator[Token]:
 
 
 def split_file(data: bytes) -> List[Tuple[int, int]]:
-    """Where the assertions of a policy file begin and end: its parts between blank lines that are more than comments."""
+    """Where the assertions of a policy file begin and end: its parts between blank lines, but those of comments."""
     spans, first, real = [], -1, False
     for token in [*scan(data), Token("blank", len(data), len(data), b"")]:
         if token.sort == "blank":

@@ -1,4 +1,4 @@
-"""Requests as bytes, and replies cut out of the bytes that come: without input and output, for every kind of connection."""
+"""Requests as bytes, and replies cut out of the bytes that come, for every kind of connection."""
 
 from __future__ import annotations
 
@@ -22,7 +22,7 @@ ANY = re.compile(rb"OK(?: [ap]?%b)*|VALUE .*" % NUMBER)
 
 
 class Request(NamedTuple):
-    """A line, its block, and what the first line of its reply is where it isn't refused; `values` are those of a QUERY."""
+    """A line, its block, and what its reply begins with where it isn't refused; `values` are those of a QUERY."""
 
     line: bytes
     block: Optional[bytes] = None
@@ -168,4 +168,5 @@ def words_of(*parts: bytes) -> bytes:
 
 
 def query_of(session: bytes, values: Tuple[str, ...]) -> Request:
-    return Request(words_of(b"QUERY", session, ",".join(values).encode("utf-8", "surrogateescape")), None, VALUE, values)
+    listed = ",".join(values).encode("utf-8", "surrogateescape")
+    return Request(words_of(b"QUERY", session, listed), None, VALUE, values)
