@@ -1,0 +1,3 @@
+module keynoted
+
+go 1.19

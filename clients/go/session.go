@@ -1,0 +1,105 @@
+package keynoted
+
+// Sessions, each request of which is an exchange of its own.
+
+import (
+	"context"
+	"fmt"
+	"regexp"
+	"strconv"
+	"strings"
+)
+
+// Session is a session of a connection: a version of the credentials, attributes, requesters and private assertions.
+type Session struct {
+	Number     int
+	connection *Connection
+	version    int // under the connection's mutex
+}
+
+func (session *Session) ask(form *regexp.Regexp, block *string, word string, rest ...string) ([]string, error) {
+	words := append([]string{word, strconv.Itoa(session.Number)}, rest...)
+	return session.connection.askForm(form, block, words...)
+}
+
+func (session *Session) expectOK(word string, rest ...string) error {
+	_, err := session.ask(okForm, nil, word, rest...)
+	return err
+}
+
+// Version is the version of the credentials to which the session is pinned.
+func (session *Session) Version() int {
+	session.connection.mutex.Lock()
+	defer session.connection.mutex.Unlock()
+	return session.version
+}
+
+// Close ends the session.
+func (session *Session) Close() error { return session.expectOK("CLOSE") }
+
+// Pin pins the session to the newest version of the credentials, which it gives.
+func (session *Session) Pin() (version int, err error) {
+	parts, err := session.ask(versionForm, nil, "PIN")
+	if err != nil {
+		return 0, err
+	}
+	session.connection.mutex.Lock()
+	defer session.connection.mutex.Unlock()
+	session.version = numberOf(parts[1])
+	return session.version, nil
+}
+
+// Auth names a requesting principal.
+func (session *Session) Auth(principal string) error { return session.expectOK("AUTH", principal) }
+
+// Unauth takes a requesting principal away.
+func (session *Session) Unauth(principal string) error { return session.expectOK("UNAUTH", principal) }
+
+// Set gives an attribute a value without an end of line; SetBytes takes any.
+func (session *Session) Set(name, value string) error { return session.expectOK("SET", name, value) }
+
+// SetBytes gives an attribute a value of any bytes.
+func (session *Session) SetBytes(name string, value []byte) error {
+	return session.expectOK("SETX", name, fmt.Sprintf("%x", value))
+}
+
+// Unset takes an attribute away.
+func (session *Session) Unset(name string) error { return session.expectOK("UNSET", name) }
+
+// Clear takes all attributes and requesters away; version and private assertions stay.
+func (session *Session) Clear() error { return session.expectOK("CLEAR") }
+
+// AddPrivate adds a private assertion, which nobody verifies: its id.
+func (session *Session) AddPrivate(text string) (id string, err error) {
+	parts, err := session.ask(privateForm, &text, "ASSERT", strconv.Itoa(len(text)))
+	if err != nil {
+		return "", err
+	}
+	return parts[1], nil
+}
+
+// Retract takes a private assertion away.
+func (session *Session) Retract(id string) error { return session.expectOK("RETRACT", id) }
+
+// Query asks for the policy's value among these, of which the lowest is the first.
+func (session *Session) Query(values ...string) (*Answer, error) {
+	line, err := queryOf(session.Number, values)
+	if err != nil {
+		return nil, err
+	}
+	var answer *Answer
+	err = session.connection.exchange(context.Background(), line, func() (err error) {
+		answer, err = session.connection.readAnswer(values)
+		return err
+	})
+	return answer, err
+}
+
+func queryOf(number int, values []string) (string, error) {
+	for _, value := range values {
+		if strings.Contains(value, ",") {
+			return "", wrongArgument("a comma would part the value in two: %q", value)
+		}
+	}
+	return requestOf(nil, "QUERY", strconv.Itoa(number), strings.Join(values, ","))
+}
