@@ -9,11 +9,13 @@ import sys
 from typing import Optional, Sequence
 
 from .connection import Connection, connect, program_of, start
+from .drawing import run_drawing
 from .errors import KeynotedError, LinkEnded
 from .explaining import explain
 from .linting import lint, lint_values
 from .sending import add_record
 from .texts import place_of, read_file, split_file
+from .why import add_commands as add_why
 
 
 def run_query(args: argparse.Namespace) -> int:
@@ -43,7 +45,9 @@ def connected(args: argparse.Namespace) -> Connection:
 
 
 def run_explain(args: argparse.Namespace) -> int:
-    """Explains these lines, or copies standard input and explains what in it is an error."""
+    """Draws a proof, or explains these lines, or copies standard input and explains what in it is an error."""
+    if args.picture:
+        return run_drawing(args)
     lines = [os.fsencode(line) for line in args.line]
     found = False
     for raw in lines or sys.stdin.buffer:
@@ -62,11 +66,12 @@ def run_explain(args: argparse.Namespace) -> int:
 
 
 def run_lint(args: argparse.Namespace) -> int:
-    run = subprocess.run([program_of(), "ask", args.policy], stdin=subprocess.DEVNULL, stdout=subprocess.PIPE)
+    files = [args.policy] + ([args.keys] if args.keys else [])
+    run = subprocess.run([program_of(), "ask", *files], stdin=subprocess.DEVNULL, stdout=subprocess.PIPE)
     if run.returncode:
         line = run.stdout.decode("utf-8", "surrogateescape").strip()
         raise LinkEnded(explain(line) or f"the program ended with status {run.returncode}", line)
-    told = lint(args.policy, args.script)
+    told = lint(args.policy, args.script, args.keys)
     for line in told:
         print(line)
     return 1 if told else 0
@@ -75,7 +80,7 @@ def run_lint(args: argparse.Namespace) -> int:
 def main(words: Optional[Sequence[str]] = None) -> int:
     """Runs the command with these words, or those of the process, and answers its status."""
     parser = argparse.ArgumentParser(prog="keynoted.py", description="Asks keynoted, explains its errors, and warns of what is surely not meant.")
-    commands = parser.add_subparsers(required=True, metavar="query|explain|lint")
+    commands = parser.add_subparsers(required=True, metavar="query|why|explain|lint")
     query = commands.add_parser("query", help="asks once: 0 at least the value named, 1 less, 2 an error")
     query.add_argument("policy", nargs="?", help="the policy file, unless --connect is given")
     query.add_argument("--connect", metavar="HOST:PORT", help="a daemon that serves, as localhost or [::1]:2704")
@@ -89,12 +94,16 @@ def main(words: Optional[Sequence[str]] = None) -> int:
     told = commands.add_parser("explain", help="tells lines 'error ..' and 'NO ..' in words, on standard error")
     told.add_argument("--file", help="the text or key file that was refused, where the line doesn't name it")
     told.add_argument("line", nargs="*", help="lines (else standard input, which is copied)")
+    told.add_argument("--html", dest="picture", action="store_const", const="html", help="draws a proof as a page: POLICY SCRIPT [OUTPUT] as words")
+    told.add_argument("--dot", dest="picture", action="store_const", const="dot", help="the same for Graphviz")
     told.set_defaults(run=run_explain)
     warned = commands.add_parser("lint", help="warns of what is accepted and surely not meant: 0 nothing, 1 warnings, 2 an error")
     warned.add_argument("policy")
     warned.add_argument("script", nargs="*", help="files of requests")
+    warned.add_argument("--keys", help="the key file")
     warned.set_defaults(run=run_lint)
     add_record(commands, connected)
+    add_why(commands)
     args = parser.parse_args(words)
     try:
         return int(args.run(args))

@@ -1,0 +1,221 @@
+"""Draws a proof: `explain --html` and `explain --dot`. The rows are the daemon's, and so is what `check` says of them."""
+
+from __future__ import annotations
+
+import argparse
+import os
+import re
+import subprocess
+import sys
+import tempfile
+from typing import Dict, Iterator, List, NamedTuple, Optional, Sequence, Set, Tuple
+
+from .answers import Row
+from .connection import ROW, VALUE, program_of, unescaped
+from .explaining import explain
+from .linting import Part, normal, parts_of, requests_of, words
+from .pages import page_of
+from .texts import read_file
+
+LONGEST = 72  # characters of a principal, and of a line of a text
+LINES = 14  # of a text in its box
+
+
+class Question(NamedTuple):
+    """What the last query of a script is asked by."""
+
+    requesters: List[bytes]
+    values: List[str]
+    private: Dict[str, Part]
+
+
+class Box(NamedTuple):
+    """A box of the picture: a principal, or a credential with its text."""
+
+    key: str
+    sort: str  # requester, principal, absent or credential
+    level: int
+    head: str
+    whole: str
+    lines: Tuple[str, ...]
+    rank: int
+
+
+class Edge(NamedTuple):
+    """What a principal brings to a credential, or a credential gives to its authorizer, by the level's index."""
+
+    start: str
+    end: str
+    level: int
+
+
+class Picture(NamedTuple):
+    boxes: Dict[str, Box]
+    edges: List[Edge]
+
+
+class Proof:
+    """A VALUE reply with the policy and the script that it answers."""
+
+    def __init__(self, policy: str, script: str, output: bytes) -> None:
+        found = [it.group() for it in re.finditer(rb"^VALUE .*?^END\n", output, re.S | re.M)]
+        if not found:
+            raise ValueError("there is no reply from VALUE to END")
+        self.reply = found[-1]
+        head, *rows = self.reply.split(b"\n")[:-2]
+        value, matches = VALUE.fullmatch(head), [ROW.fullmatch(it) for it in rows]
+        if not value or None in matches:
+            raise ValueError("the reply isn't of its form")
+        self.index, self.name, self.version = int(value[1]), words(value[2]), int(value[3])
+        self.rows = [Row(int(it[1]), words(it[2]), re.sub(rb'\\([0-7]{3}|["\\])', unescaped, it[4])) for it in matches if it]
+        self.question = question_of(script)
+        self.parts = {f"a{at}": part for at, part in enumerate(parts_of(policy), 1)}
+        self.parts.update(self.question.private)
+        self.verdict = verdict_of(policy, script, self.reply)
+
+    def level(self, index: int) -> str:
+        """The name of a value; its index where the script doesn't name it."""
+        if index == self.index:
+            return self.name
+        return self.question.values[index] if index < len(self.question.values) else str(index)
+
+    @property
+    def highest(self) -> int:
+        return max([len(self.question.values) - 1, self.index, *(row.level for row in self.rows)])
+
+    def licensees(self, row: Row) -> List[bytes]:
+        part = self.parts.get(row.id)
+        return list(dict.fromkeys(who for _, who in part.principals(5))) if part else []
+
+    def leading(self) -> List[Row]:
+        """The rows on which that of POLICY leans; all of them where POLICY has none."""
+        wanted: Set[bytes] = {b"POLICY"}
+        for row in reversed(self.rows):
+            if row.principal in wanted:
+                wanted |= set(self.licensees(row))
+        return [row for row in self.rows if row.principal in wanted] if self.index else list(self.rows)
+
+
+def question_of(script: str) -> Question:
+    """The requesters, values and private assertions of the last query of a script, whose requests are taken for granted."""
+    data, count = read_file(script), 0
+    sessions: Dict[bytes, Question] = {}
+    last = Question([], [], {})
+    for _, line, start, end in requests_of(data):
+        word, number, rest = (line.split(b" ", 2) + [b"", b""])[:3]
+        if word == b"OPEN":
+            count += 1
+            sessions[b"%d" % count] = Question([], [], {})
+        session = sessions.get(number)
+        if not session:
+            continue
+        if word == b"AUTH" and normal(rest) not in session.requesters:
+            session.requesters.append(normal(rest))
+        elif word == b"UNAUTH" and normal(rest) in session.requesters:
+            session.requesters.remove(normal(rest))
+        elif word == b"CLEAR":
+            session.requesters.clear()
+        elif word == b"ASSERT":
+            session.private[f"p{len(session.private) + 1}"] = Part(script, data, start, end)
+        elif word == b"QUERY":
+            last = Question(list(session.requesters), words(rest).split(","), dict(session.private))
+    return last
+
+
+def verdict_of(policy: str, script: str, reply: bytes) -> str:
+    """What the program's `check` says of the reply, in its words and, where it is refused, in ours."""
+    with tempfile.TemporaryDirectory() as room:
+        name = os.path.join(room, "reply")
+        with open(name, "wb") as file:
+            file.write(reply)
+        run = subprocess.run([program_of(), "check", policy, script, name], stdin=subprocess.DEVNULL, stdout=subprocess.PIPE)
+    line = run.stdout.decode("utf-8", "replace").strip()
+    told = explain(line) if run.returncode else ""
+    return f"{line} ({told})" if told else line
+
+
+def picture_of(proof: Proof) -> Picture:
+    """The boxes and edges of the rows on which the answer leans."""
+    boxes: Dict[str, Box] = {}
+    edges: List[Edge] = []
+    held: Dict[bytes, int] = {}
+    for who in proof.question.requesters:
+        held[who] = proof.highest
+    for row in proof.leading():
+        licensees = proof.licensees(row)
+        for who in (it for it in licensees if it in proof.question.requesters):
+            boxes.setdefault(f"p{words(who)}", principal_box(who, "requester", proof.highest, 0))
+        there = [f"p{words(it)}" for it in licensees if held.get(it)]
+        rank = 1 + max((boxes[it].rank for it in there if it in boxes), default=0)
+        key = f"c{row.id}"
+        boxes[key] = credential_box(proof, row, rank)
+        edges += [Edge(f"p{words(it)}", key, held.get(it, 0)) for it in licensees]
+        edges.append(Edge(key, f"p{words(row.principal)}", row.level))
+        boxes[f"p{words(row.principal)}"] = principal_box(row.principal, "principal", row.level, rank + 1)
+        held[row.principal] = row.level
+    for edge in edges:
+        if edge.start not in boxes:
+            boxes[edge.start] = principal_box(edge.start[1:].encode(), "absent", 0, boxes[edge.end].rank - 1)
+    if "pPOLICY" not in boxes:
+        boxes["pPOLICY"] = principal_box(b"POLICY", "principal", proof.index, 1 + max((it.rank for it in boxes.values()), default=-1))
+    return Picture(boxes, edges)
+
+
+def principal_box(who: bytes, sort: str, level: int, rank: int) -> Box:
+    name = printable(words(who))
+    return Box(f"p{words(who)}", sort, level, shortened(name), name, (), rank)
+
+
+def credential_box(proof: Proof, row: Row, rank: int) -> Box:
+    part = proof.parts.get(row.id)
+    if not part:
+        return Box(f"c{row.id}", "credential", row.level, row.id, f"{row.id}, whose text isn't in the files", ("(added: its text", " isn't in the files)"), rank)
+    place = printable(part.place(part.fields[0].label.start if part.fields else 0))
+    lines = [printable(it.replace("\t", "    ").rstrip()) for it in words(part.text).split("\n")]
+    lines = [it for it in lines if it and not it.startswith("#")]
+    shown = [shortened(it) for it in lines[:LINES]] + (["…"] if len(lines) > LINES else [])
+    return Box(f"c{row.id}", "credential", row.level, shortened(f"{row.id}, {os.path.basename(place)}"), f"{row.id}, {place}", tuple(shown), rank)
+
+
+def shortened(text: str) -> str:
+    return text if len(text) <= LONGEST else text[:LONGEST - 1] + "…"
+
+
+def printable(text: str) -> str:
+    """A text in which each character that isn't seen is spelled, since it might turn or hide others."""
+    return "".join(it if it.isprintable() else f"\\u{ord(it):04x}" for it in text)
+
+
+def dot_of(proof: Proof) -> Iterator[str]:
+    """The picture in the language of Graphviz."""
+    picture = picture_of(proof)
+    names = {key: f"n{at}" for at, key in enumerate(picture.boxes)}
+    yield "digraph proof {"
+    yield "    rankdir=BT; node [fontname=\"monospace\", fontsize=10]; edge [fontname=\"monospace\", fontsize=9];"
+    yield f"    label={dot_text(f'POLICY has {proof.name}; check says: {proof.verdict}')};"
+    for key, box in picture.boxes.items():
+        level = "" if box.sort in ("credential", "absent") else f"\n{proof.level(box.level)}"
+        text = "\n".join([box.head, *box.lines]) + "\n" if box.lines else box.head + level
+        shape = {"credential": "shape=box", "requester": "shape=box, style=\"rounded,bold\"", "absent": "shape=box, style=\"rounded,dashed\""}
+        yield f"    {names[key]} [label={dot_text(text, bool(box.lines))}, {shape.get(box.sort, 'shape=box, style=rounded')}];"
+    for edge in picture.edges:
+        look = f"label={dot_text(proof.level(edge.level))}" if edge.level else "style=dashed, color=gray"
+        yield f"    {names[edge.start]} -> {names[edge.end]} [{look}];"
+    yield "}"
+
+
+def dot_text(text: str, left: bool = False) -> str:
+    """A text in quotes, its lines on the left or in the middle."""
+    spelled = text.replace("\\", "\\\\").replace('"', '\\"').replace("\n", "\\l" if left else "\\n")
+    return f'"{spelled}"'
+
+
+def run_drawing(args: argparse.Namespace) -> int:
+    """Draws the last VALUE reply of an output: with the words POLICY SCRIPT [OUTPUT], and standard input for no output."""
+    if not 2 <= len(args.line) <= 3:
+        raise ValueError("a picture wants POLICY SCRIPT [OUTPUT], as check does")
+    output = read_file(args.line[2]) if len(args.line) == 3 else sys.stdin.buffer.read()
+    proof = Proof(args.line[0], args.line[1], output)
+    text = "\n".join(dot_of(proof)) if args.picture == "dot" else page_of(proof, picture_of(proof))
+    sys.stdout.buffer.write(text.encode("utf-8", "replace") + b"\n")
+    return 0
