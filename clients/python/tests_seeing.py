@@ -1,11 +1,18 @@
-"""Tests of what lint names, of why, and of pictures."""
+"""Tests of what lint names, of what why says, and of pictures."""
 
+import html.parser
 import os
+import random
 import re
-import sys
-import tempfile
+import shutil
+import subprocess
+import xml.etree.ElementTree
 
-HERE = os.path.dirname(os.path.abspath(__file__))
+import keynoted
+from keynoted import drawing, linting, pages, trees, why
+from tests_room import CREDENTIAL, HERE, POLICY, PROGRAM, TOP, Room
+
+CHROMIUM = shutil.which("chromium") or shutil.which("chromium-browser") or shutil.which("google-chrome")
 
 
 def cases_of(name):
@@ -17,7 +24,283 @@ def cases_of(name):
         title, _, wanted = head.partition(": ")
         rule, _, line = wanted.partition(" ")
         policy, *more = re.split(r"^--- (.*)\n", body, flags=re.M)
-        sections = {key.split()[0]: (key, text) for key, text in zip(more[::2], more[1::2])}
-        script = sections.get("requests", ("", ""))[1]
-        keys, text = sections.get("keys", ("", ""))
-        yield title, rule, line, policy.rstrip("\n") + "\n", script.rstrip("\n") + "\n" if script else "", text, int((keys.split() + ["", "600"])[1] or "600", 8)
+        sections = {it.split()[0]: (it.split()[1:], text.rstrip("\n") + "\n") for it, text in zip(more[::2], more[1::2])}
+        script, (mode, keys) = sections.get("requests", ([], ""))[1], sections.get("keys", ([], ""))
+        yield title, rule, line, policy.rstrip("\n") + "\n", script, keys, int((mode or ["600"])[0], 8)
+
+
+class LintCases(Room):
+    def findings(self, policy, script, keys, mode):
+        """What lint finds in the files of a case, which the program takes."""
+        self.write("policy.kn", policy.encode())
+        self.write("script", script.encode())
+        if os.path.exists("keys"):
+            os.remove("keys")
+        if keys:
+            self.write("keys", keys.encode())
+            os.chmod("keys", mode)
+        words = [PROGRAM, "ask", "policy.kn"] + (["keys"] if keys else [])
+        run = subprocess.run(words, input=script.encode(), stdout=subprocess.PIPE)
+        self.assertEqual((run.returncode, re.findall(rb"^(?:NO|error) .*", run.stdout, re.M)), (0, []), policy)
+        return linting.findings("policy.kn", ["script"] if script else [], "keys" if keys else None)
+
+    def test_most_mistakes_are_named(self):
+        missed, count = [], 0
+        for title, rule, line, *files in cases_of("wrong.txt"):
+            found = self.findings(*files)
+            count += 1
+            if not any((it.rule, it.place.split(":")[1]) == (rule, line) for it in found):
+                missed.append((title, found))
+        self.assertEqual(count, 40)
+        self.assertLessEqual(len(missed), 8, missed)
+
+    def test_nothing_is_said_of_what_is_right(self):
+        count = 0
+        for title, _, _, *files in cases_of("right.txt"):
+            self.assertEqual(self.findings(*files), [], title)
+            count += 1
+        self.assertEqual(count, 20)
+
+
+class Rules(Room):
+    def rules(self, policy, script=""):
+        self.write("policy.kn", policy.encode())
+        self.write("script", script.encode())
+        return [it.rule for it in linting.findings("policy.kn", ["script"] if script else [])]
+
+    def conditions(self, text, script=""):
+        return self.rules(f'Authorizer: "POLICY"\nLicensees: "alice"\nConditions: {text}\n', script)
+
+    def test_of_conditions(self):
+        for text, wanted in (
+            ('size > "1000000"', ["numbers"]), ('"-5" < balance', ["numbers"]), ('load < "0.75"', ["numbers"]), ('time >= "8:30"', ["numbers"]),
+            ('addr >= "10.0.0.1"', ["numbers"]), ('n > "5000000000"', ["numbers"]), ('$name >= "9"', ["numbers"]), ('(a . b) < "10"', ["numbers"]),
+            ('time >= "08:30"', []), ('day < "20270101"', []), ('t >= "0900" && t < "1700"', []), ('grade <= "B"', []), ('@n >= 10', []), ('n == "10"', []),
+            ('true; x == "1" -> "yes"', ["never"]), ('x == "1"; x == "1" && y == "2" -> "yes"', ["never"]), ('x == "1" -> {}', ["never"]),
+            ('x == "1" || y == "2"; x == "1"', ["never"]), ('x != "1" || x != "2"', ["never"]), ('@h < 8 && @h > 18', ["never"]),
+            ('@h >= 8 || @h < 18', ["never"]), ('x == "1" && x != "1"', ["never"]), ('1 == 2', ["never"]), ('"a" == "a"', ["never"]),
+            ('!(x == "1" && x == "2")', ["never"]), ('1/@x == 2 || true', []), ('@h >= 8 && @h < 18', []), ('x == "1" -> "log"; true -> "ask"', []),
+            ('x == "1" -> "read"; true -> "write"', ["never"]), ('x == "1" -> "write"; true -> "read"', []), ('x == "1"; x == "1"', ["never"]),
+            ('x == "1" -> { y == "1" -> "a"; true -> "b"; }', []), ('x == "1" -> "block"', ["deny"]), ('true -> "deny"', ["deny"]),
+            ('x == "1" -> "yes"; true -> "no"', []), ('x == NULL', ["null"]), ('nil != x', ["null"]), ('x == "undefined"', ["null"]), ('cipher == "null"', []),
+            ('x == ""', []), ('file == "*.txt"', ["wildcard"]), ('"any" == verb', ["wildcard"]), ('@a * @b > 3', []), ('scope == "all"', []),
+            ('a == "1" && b == "2" || c == "3"', ["brackets"]), ('a == "1" || b == "2" && c == "3"', ["brackets"]),
+            ('(a == "1" && b == "2") || c == "3"', []), ('a == "1" && (b == "2" || c == "3")', []),
+            (r'dir == "C:\\temp"', []), (r'dir == "C:\temp"', ["escape"]), (r'who == "CORP\nora"', ["escape"]), (r'dir == "\\\\host\tools"', []),
+            (r'dir == "\\host\tools"', ["escape"]), (r'x == "a\.b"', ["escape"]), (r'x == "a\n"', []), (r'x == "OK\n"', []), (r'x == "\101"', []), (r'x == "\9"', ["escape"]),
+        ):
+            self.assertEqual(self.conditions(text), wanted, text)
+
+    def test_of_conditions_with_a_script(self):
+        script = "OPEN\nAUTH 1 alice\nSET 1 x 9\nSET 1 y 10\nQUERY 1 refuse,some,full\n"
+        for text, wanted in (
+            ('x == "1" -> "some"; true -> "full"', ["never"]), ('x == "1" -> "full"; true -> "some"', []), ('x == "1" -> "refuse"', ["deny"]),
+            ("x < y", ["numbers"]), ('y >= "10"', ["numbers"]), ('x > "09"', ["numbers"]), ('z == "1"', ["unset"]), ('X == "1"', ["unset"]), ('x == "9" -> "other"', ["value"]),
+        ):
+            self.assertEqual(self.conditions(text, script), wanted, text)
+
+    def test_of_licensees_and_constants(self):
+        for text, wanted in (
+            ('Licensees: 2-of("a", "b" || "a", "c")', ["repeated"]), ('Licensees: 2-of("a" && "b", "b" && "c", "a" && "c")', []),
+            ('Licensees: "a" || "b" || "a"', ["repeated"]), ('Licensees: ("a" && "b") || ("a" && "c")', []), ('Licensees: "everyone"', ["wildcard"]),
+            ('Licensees: "user-*"', ["wildcard"]), ('Licensees: "CN=\\"x\\""', []), ('Licensees: "\\"x\\""', ["quotes"]), (r'Licensees: "a\tb"', ["escape"]),
+            ('Local-Constants: h = "9"\nLicensees: "a"\nConditions: @h >= 8;', ["hidden"]), ('Local-Constants: h = "9"\nLicensees: "a"\nConditions: x == h;', []),
+            ('Licensees: "a"\nConditions:', []), ('Conditions: x == "1";', ["licensees"]), ("Licensees: \"a\"\nSignature: \"x\"", ["signature"]),
+        ):
+            self.assertEqual(self.rules(f'Authorizer: "POLICY"\n{text}\n'), wanted, text)
+
+    def test_of_several_assertions(self):
+        one = 'Authorizer: "POLICY"\nLicensees: "a" || "b"\nConditions: role == "x";\n'
+        same = '# again\nlicensees: B || "a"\nLocal-Constants: B = "b"\nauthorizer: POLICY\nconditions: role == "x"\n'
+        hiding = 'Local-Constants: role = "x"\nAuthorizer: "POLICY"\nLicensees: "c"\nConditions: y == role;\n'
+        self.assertEqual(self.rules(one + "\n" + same), ["duplicate"])
+        self.assertEqual(self.rules(one + "\n" + hiding), ["hidden"])
+        self.assertEqual(self.rules(hiding), [])
+
+    def test_a_stranger_in_a_script_is_a_test(self):
+        script = "OPEN\nAUTH 1 alice\nAUTH 1 mallory\nQUERY 1 no,yes\n"
+        self.assertEqual(self.rules(POLICY.decode(), script), [])
+        self.assertEqual(self.rules(POLICY.decode(), script.replace("mallory", "Alice")), ["requester"])
+        self.assertEqual(self.rules(POLICY.decode(), script.replace("alice", "bob")), ["requester"] * 2)
+
+
+class Trees(Room):
+    def test_all_that_the_daemon_takes_is_read(self):
+        count = 0
+        for root, _, names in os.walk(os.path.join(TOP, "tests", "cases")):
+            name = os.path.join(root, "p.kn")
+            if "p.kn" not in names or self.daemon_line(linting.read_file(name)):
+                continue
+            for part in linting.parts_of(name):
+                for number, tree in ((5, part.formula), (3, part.clauses)):
+                    field = part.field(number)
+                    if field and any(it.text != b";" for it in field.tokens):
+                        self.assertTrue(tree, name)
+                        count += 1
+        self.assertGreater(count, 100)
+
+    def test_a_long_chain_is_no_deep_tree(self):
+        self.write("policy.kn", POLICY + b"Conditions: " + b"1+" * 5000 + b"1 == @x;\n")
+        self.assertEqual(linting.lint("policy.kn"), [])
+        self.assertEqual(len(list(trees.nodes_of(linting.parts_of("policy.kn")[0].clauses))), 5005)
+
+
+class Whys(Room):
+    def why(self, policy, *words):
+        self.write("policy.kn", policy.encode())
+        return self.command("why", "policy.kn", *words)
+
+    def test_the_words(self):
+        policy = ('Comment: one\nAuthorizer: "POLICY"\nLicensees: "bob" && 2-of("alice", "carol", "dave")\n\n'
+                  'Authorizer: "POLICY"\nLicensees: "dave"\nConditions: app_domain == "doors" && @hour < 18;\n')
+        status, out, _ = self.why(policy, "--auth", "dave", "--values", "no,yes", "--set", "hour=20")
+        self.assertEqual((status, out.splitlines()), (1, [
+            "answer: no, which is 0 of no,yes",
+            "a2, policy.kn:5:1: its conditions give no with these attributes; app_domain isn't set; @hour < 18 isn't true where hour is 20; "
+            "with that the answer would be yes",
+            "a1, policy.kn:1:1: bob and one more of alice, carol are missing; with that the answer would be yes",
+        ]))
+        self.assertEqual(self.why(policy, "--auth", "dave", "--set", "app_domain=doors", "--set", "hour=9", "--values", "no,yes"),
+                         (0, "answer: yes, which is 1 of no,yes\n", ""))
+        self.assertEqual(self.why(policy, "--values", "no,yes")[0], 2)
+
+    def test_words_of_groups(self):
+        for licensees, wanted in (
+            ('"a" || "b"', "one of a, b is missing"), ('"a" && "b"', "a and b are missing"), ('3-of("a", "b", "x", "c")', "two more of a, b, c are missing"),
+            ('"a" || ("b" && "c")', "one of a, (b and c) is missing"), ('"x" && "a"', "a is missing"), ('2-of("a" && "x", "b" && "x")', "a and b are missing"),
+            ('"a" && ("b" || "c")', "a and one of b, c are missing"), ('2-of("a", "b", "c")', "two of a, b, c are missing"),
+        ):
+            out = self.why(f'Authorizer: "POLICY"\nLicensees: {licensees}\n', "--auth", "x", "--values", "no,yes")[1]
+            self.assertIn(f": {wanted}; with that the answer would be yes\n", out)
+
+    def test_behind_others_and_by_levels(self):
+        policy = ('Authorizer: "POLICY"\nLicensees: "head"\n\nAuthorizer: "head"\nLicensees: "why" || "x"\n'
+                  'Conditions: a == "1" -> { b == "1" -> "read"; b == "2" -> "write"; };\n')
+        out = self.why(policy, "--auth", "x", "--set", "a=1", "--set", "b=1", "--values", "none,read,write")[1]
+        self.assertIn("a2, policy.kn:4:1: its conditions give read with these attributes; b == \"2\" isn't true where b is 1; with that the answer would be write\n", out)
+        out = self.why(policy, "--auth", "x", "--values", "none,read,write", "--at-least", "write", "--most", "1")[1]
+        self.assertIn("a2, policy.kn:4:1: its conditions give none with these attributes; a isn't set; b isn't set; with that the answer would be write\n1 more", out)
+
+    def test_what_is_missing_is_enough(self):
+        """Where no test is missing, the program gives the assertion more once the named principals ask too."""
+        draw, tried = random.Random(7), 0
+        names = [f"p{it}" for it in range(9)]
+        for _ in range(30):
+            parts = [self.generated(draw, names, "POLICY" if at < 2 else draw.choice(names)) for at in range(8)]
+            self.write("policy.kn", "\n".join(parts).encode())
+            asking = draw.sample(names, 2)
+            with keynoted.start("policy.kn") as daemon:
+                inquiry = why.Inquiry(daemon, linting.parts_of("policy.kn"), asking, {"x": "1"}, ["no", "log", "yes"])
+                index = inquiry.ask().index
+                for near in why.nearest(inquiry, index) if index < 2 else ():
+                    answer = daemon.ask([*asking, *near.principals], {"x": "1"}, ["no", "log", "yes"])
+                    authorizer = next(who for _, who in near.part.principals(1))
+                    held = {row.principal: row.level for row in answer.rows}
+                    held.update({who.encode(): 2 for who in asking}, **{})
+                    held.update({who: 2 for who in near.principals})
+                    if not near.tests:
+                        self.assertGreater(held.get(authorizer, 0), index, parts)
+                        self.assertEqual(near.reached, answer.index)
+                        tried += 1
+        self.assertGreater(tried, 60)
+
+    @staticmethod
+    def generated(draw, names, authorizer):
+        a, b, c, d = (f'"{it}"' for it in draw.sample(names, 4))
+        licensees = draw.choice([a, f"{a} || {b}", f"{a} && ({b} || {c})", f"2-of({a}, {b}, {c} && {d})", f"({a} && {b}) || {c}"])
+        conditions = draw.choice(["", 'Conditions: x == "1" -> "log"; x == "2";\n', 'Conditions: y == "1";\n'])
+        return f'Authorizer: "{authorizer}"\nLicensees: {licensees}\n{conditions}'
+
+
+HOSTILE = b"""Authorizer: "POLICY"
+Licensees: 2-of("a", "b<script>document.title='x'</script>", "it's & \\"c\\"") || "owner"
+Conditions: x == "]]> --> </svg>" -> "write"; true -> "<i>read";
+
+Authorizer: "a"
+Licensees: "anna" && "ben\\033[31m"
+
+Authorizer: "b<script>document.title='x'</script>"
+Licensees: "carl" || "anna"
+Conditions: true -> "<i>read";
+"""
+SCRIPT = b"OPEN\nAUTH 1 anna\nAUTH 1 ben\x1b[31m\nAUTH 1 carl\nASSERT 1 60\n" + (
+    b'Authorizer: "nobody"\nLicensees: "carl"\nComment: </title>\xe2\x80\xae\n') + b"\nQUERY 1 none,<i>read,write\n"
+
+
+class Pictures(Room):
+    def picture(self, form, policy=HOSTILE, script=SCRIPT):
+        self.write("policy.kn", policy)
+        self.write("script", script)
+        with open("output", "wb") as output:
+            subprocess.run([PROGRAM, "ask", "policy.kn"], input=script, stdout=output, check=True)
+        run = subprocess.run([os.path.join(HERE, "keynoted.py"), "explain", form, "policy.kn", "script", "output"], stdout=subprocess.PIPE, check=True)
+        return run.stdout.decode()
+
+    def test_a_page_stands_alone_and_escapes_all(self):
+        page = self.picture("--html")
+        self.assertIn("PROVED 1 &lt;i&gt;read", page)
+        tags = []
+        parser = html.parser.HTMLParser()
+        parser.handle_starttag = lambda tag, attributes: tags.append((tag, dict(attributes)))
+        parser.feed(page)
+        self.assertFalse({tag for tag, _ in tags} & {"script", "i", "img", "link", "iframe", "object", "image", "use", "a"})
+        self.assertFalse([name for _, found in tags for name in found if name.startswith("on") or name in ("src", "href", "xlink:href", "data", "style")])
+        self.assertIn(("meta", {"http-equiv": "Content-Security-Policy", "content": "default-src 'none'; style-src 'unsafe-inline'"}), tags)
+        self.assertEqual(re.findall(r"https?://[^\"]*", page), ["http://www.w3.org/2000/svg"])
+        self.assertNotRegex(page, "[\\x00-\\x08\\x0b-\\x1f\\x7f\u202e]")
+        svg = xml.etree.ElementTree.fromstring(page[page.index("<svg"):page.index("</svg>") + 6])
+        texts = "".join(svg.itertext())
+        for text in ("a1, policy.kn:1:1", "b<script>document.title='x'</script>", 'it\'s & "c"', "ben\\u001b[31m", "asks: write", "<i>read"):
+            self.assertIn(text, texts)
+
+    def test_levels_stand_on_the_edges(self):
+        self.picture("--html")
+        with open("output", "rb") as file:
+            proof = drawing.Proof("policy.kn", "script", file.read())
+        picture = drawing.picture_of(proof)
+        edges = {(it.start, it.end): it.level for it in picture.edges}
+        self.assertEqual(edges["panna", "ca2"], 2)
+        self.assertEqual((edges["ca2", "pa"], edges["pa", "ca1"], edges["ca1", "pPOLICY"]), (2, 2, 1))
+        self.assertEqual(edges["powner", "ca1"], 0)
+        self.assertEqual({key for key, box in picture.boxes.items() if box.sort == "requester"}, {"panna", "pben\x1b[31m", "pcarl"})
+        spots = list(pages.layout(proof, picture).values())
+        for at, one in enumerate(spots):
+            for other in spots[at + 1:]:
+                self.assertTrue(one.left + one.width <= other.left or other.left + other.width <= one.left
+                                or one.top + one.height <= other.top or other.top + other.height <= one.top, (one, other))
+
+    def test_dot(self):
+        text = self.picture("--dot")
+        self.assertRegex(text, r'(?s)^digraph proof \{\n(    ([^"]|"(\\.|[^"\\])*")*;\n)+\}\n$')
+        if shutil.which("dot"):
+            subprocess.run(["dot", "-Tsvg"], input=text.encode(), stdout=subprocess.DEVNULL, check=True)
+
+    def test_a_refused_reply_and_no_value(self):
+        page = self.picture("--html", POLICY, b"OPEN\nAUTH 1 bob\nQUERY 1 no,yes\n")
+        self.assertIn("PROVED 0 no", page)
+        self.write("output", b'VALUE 1 yes 1 1\nROW 1 a1 "POLICY"\nEND\n')
+        status, _, _ = self.command("explain", "--dot", "policy.kn", "script")
+        self.assertEqual(status, 2)
+        run = subprocess.run([os.path.join(HERE, "keynoted.py"), "explain", "--html", "policy.kn", "script", "output"], stdout=subprocess.PIPE, check=True)
+        self.assertIn(b"error proof reject 6 0 0 (the rows prove no such value", run.stdout)
+
+    def test_an_added_credential_has_no_text_here(self):
+        self.write("output", b'VALUE 1 yes 2 2\nROW 1 a2 "alice"\nROW 1 a1 "POLICY"\nEND\n')
+        self.write("script", b"OPEN\nAUTH 1 bob\nADD 37\n" + CREDENTIAL + b"\nPIN 1\nQUERY 1 no,yes\n")
+        run = subprocess.run([os.path.join(HERE, "keynoted.py"), "explain", "--html", "p.kn", "script", "output"], stdout=subprocess.PIPE, check=True)
+        self.assertIn(b"added: its text", run.stdout)
+
+    def test_in_a_browser(self):
+        if not CHROMIUM:
+            print("pictures in Chromium are left out: there is no chromium")
+            return
+        self.write("page.html", self.picture("--html").encode())
+        words = [CHROMIUM, "--headless", "--no-sandbox", "--disable-gpu", f"--user-data-dir={self.room}/profile", "--screenshot=page.png",
+                 "--window-size=1200,1400", "--dump-dom", "file://" + os.path.join(self.room, "page.html")]
+        run = subprocess.run(words, stdout=subprocess.PIPE, stderr=subprocess.DEVNULL, timeout=120)
+        if run.returncode:
+            print("pictures in Chromium are left out: it doesn't start here")
+            return
+        dom = run.stdout.decode()
+        self.assertIn("<title>POLICY has &lt;i&gt;read</title>", dom)
+        self.assertEqual(dom.count("<rect"), self.picture("--html").count("<rect"))

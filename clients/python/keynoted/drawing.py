@@ -11,11 +11,12 @@ import tempfile
 from typing import Dict, Iterator, List, NamedTuple, Optional, Sequence, Set, Tuple
 
 from .answers import Row
-from .connection import ROW, VALUE, program_of, unescaped
+from .connection import program_of
 from .explaining import explain
 from .linting import Part, normal, parts_of, requests_of, words
 from .pages import page_of
 from .texts import read_file
+from .wire import VALUE, Replies, Request
 
 LONGEST = 72  # characters of a principal, and of a line of a text
 LINES = 14  # of a text in its box
@@ -62,12 +63,8 @@ class Proof:
         if not found:
             raise ValueError("there is no reply from VALUE to END")
         self.reply = found[-1]
-        head, *rows = self.reply.split(b"\n")[:-2]
-        value, matches = VALUE.fullmatch(head), [ROW.fullmatch(it) for it in rows]
-        if not value or None in matches:
-            raise ValueError("the reply isn't of its form")
-        self.index, self.name, self.version = int(value[1]), words(value[2]), int(value[3])
-        self.rows = [Row(int(it[1]), words(it[2]), re.sub(rb'\\([0-7]{3}|["\\])', unescaped, it[4])) for it in matches if it]
+        index, name, version, self.rows = rows_of(self.reply)
+        self.index, self.name, self.version = int(index), words(name), int(version)
         self.question = question_of(script)
         self.parts = {f"a{at}": part for at, part in enumerate(parts_of(policy), 1)}
         self.parts.update(self.question.private)
@@ -94,6 +91,16 @@ class Proof:
             if row.principal in wanted:
                 wanted |= set(self.licensees(row))
         return [row for row in self.rows if row.principal in wanted] if self.index else list(self.rows)
+
+
+def rows_of(text: bytes) -> Tuple[bytes, bytes, bytes, Tuple[Row, ...]]:
+    """The value, its name, the version and the rows of a reply."""
+    request = Request(b"QUERY", None, VALUE)
+    replies = Replies([request])
+    if not replies.feed(text):
+        raise ValueError("the reply isn't of its form")
+    index, name, version, _ = replies.whole[0].parts(request)
+    return index, name, version, replies.whole[0].rows
 
 
 def question_of(script: str) -> Question:
@@ -171,14 +178,24 @@ def credential_box(proof: Proof, row: Row, rank: int) -> Box:
     if not part:
         return Box(f"c{row.id}", "credential", row.level, row.id, f"{row.id}, whose text isn't in the files", ("(added: its text", " isn't in the files)"), rank)
     place = printable(part.place(part.fields[0].label.start if part.fields else 0))
-    lines = [printable(it.replace("\t", "    ").rstrip()) for it in words(part.text).split("\n")]
-    lines = [it for it in lines if it and not it.startswith("#")]
-    shown = [shortened(it) for it in lines[:LINES]] + (["…"] if len(lines) > LINES else [])
+    lines = [it for it in words(part.text).split("\n") if it.strip() and not it.startswith("#")]
+    lines = [piece for it in lines for piece in wrapped(printable(it.replace("\t", "    ").rstrip()))]
+    shown = lines[:LINES] + (["…"] if len(lines) > LINES else [])
     return Box(f"c{row.id}", "credential", row.level, shortened(f"{row.id}, {os.path.basename(place)}"), f"{row.id}, {place}", tuple(shown), rank)
 
 
 def shortened(text: str) -> str:
     return text if len(text) <= LONGEST else text[:LONGEST - 1] + "…"
+
+
+def wrapped(line: str) -> List[str]:
+    """A line in pieces that fit, cut behind spaces where there are some."""
+    pieces = []
+    while len(line) > LONGEST:
+        cut = line.rfind(" ", LONGEST // 2, LONGEST) + 1 or LONGEST
+        pieces.append(line[:cut])
+        line = "    " + line[cut:]
+    return pieces + [line]
 
 
 def printable(text: str) -> str:

@@ -9,13 +9,14 @@ whether a test is true, and what the answer would be if what lacks were there.
 from __future__ import annotations
 
 import argparse
-from typing import Dict, Iterator, List, NamedTuple, Optional, Sequence, Tuple
+from typing import Dict, Iterator, List, Mapping, NamedTuple, Optional, Sequence, Tuple
 
 from .answers import Answer
-from .connection import Session, start
+from .connection import Connection, start
 from .errors import Refusal
 from .linting import Part, normal, parts_of, words
 from .trees import Clause, Node
+from .wire import Text
 
 PROBES = 48  # private assertions of one question: a session has at most 64
 PROBE_BYTES = 131072  # of their texts: a session has at most 262,144
@@ -24,14 +25,14 @@ COUNTS = ("no", "one", "two", "three", "four", "five", "six", "seven", "eight", 
 
 
 class Near(NamedTuple):
-    """An assertion, what it lacks, and the index of the answer that there would be with that."""
+    """An assertion, what it lacks, and the index that the answer would have with that."""
 
     number: int  # among the assertions of the file, from 1
     part: Part
     principals: Tuple[bytes, ...]
     tests: Tuple[Node, ...]
     what: str
-    index: int
+    reached: int
 
 
 class Way(NamedTuple):
@@ -42,10 +43,11 @@ class Way(NamedTuple):
 
 
 class Inquiry:
-    """Questions about one query, in a session that has its attributes and requesters."""
+    """Hypothetical questions about one query: who asks, its attributes and its values, over the assertions of a policy."""
 
-    def __init__(self, session: Session, parts: Sequence[Part], requesters: Sequence[str], attributes: Dict[str, str], values: Sequence[str]) -> None:
-        self.session, self.attributes, self.values = session, attributes, tuple(values)
+    def __init__(self, daemon: Connection, parts: Sequence[Part], requesters: Sequence[str], attributes: Mapping[Text, Text],
+                 values: Sequence[str]) -> None:
+        self.daemon, self.attributes, self.values = daemon, attributes, tuple(values)
         self.requesters = [normal(it.encode("utf-8", "surrogateescape")) for it in requesters]
         self.prefix = b"why"
         while any(who.startswith(self.prefix) for part in parts for number in (1, 5) for _, who in part.principals(number)):
@@ -53,24 +55,10 @@ class Inquiry:
         # the assertions by their numbers, but those whose copies with other principals might be too long
         longest = max((4 * len(it) for it in self.requesters), default=0)
         self.parts = {at: it for at, it in enumerate(parts, 1) if len(it.text) + longest + 64 <= TEXT_BYTES}
-        for name, value in attributes.items():
-            session.set(name, value)
-        for requester in requesters:
-            session.auth(requester)
 
     def ask(self, private: Sequence[bytes] = (), requesters: Sequence[bytes] = ()) -> Answer:
         """The program's answer with these private assertions and further requesters."""
-        names = []
-        try:
-            for requester in requesters:
-                self.session.auth(requester)
-            names = [self.session.add_private(text) for text in private]
-            return self.session.query(*self.values)
-        finally:
-            for name in names:
-                self.session.retract(name)
-            for requester in requesters:
-                self.session.unauth(requester)
+        return self.daemon.ask([*self.requesters, *requesters], self.attributes, self.values, private)
 
     def levels(self, bodies: Sequence[Tuple[Part, bytes]]) -> List[int]:
         """What assertions of these licensees and conditions are worth, each with the constants of its part."""
@@ -133,7 +121,7 @@ def nearest(inquiry: Inquiry, index: int) -> List[Near]:
         if tests is not None and (tests or who):
             what = "; ".join(it for it in (told, named) if it)
             found.append(Near(number, part, who, tests, what, hypothetical(inquiry, part, who, bool(tests))))
-    return sorted(found, key=lambda it: (it.index <= index, len(it.principals), len(it.tests)))
+    return sorted(found, key=lambda it: (it.reached <= index, len(it.principals), len(it.tests)))
 
 
 def given_by_conditions(inquiry: Inquiry) -> Dict[int, int]:
@@ -226,7 +214,7 @@ def failing(inquiry: Inquiry, part: Part, test: Node) -> List[str]:
     unset = [f"{it} isn't set" for it in names if it not in inquiry.attributes]
     if unset:
         return unset
-    known = ", ".join(f"{it} is {inquiry.attributes[it]}" for it in names)
+    known = ", ".join(f"{it} is {inquiry.attributes[it]!s}" for it in names)
     return [f"{part.source(test)} isn't true" + (f" where {known}" if known else "")]
 
 
@@ -235,7 +223,7 @@ def tell(inquiry: Inquiry, index: int, most: int) -> Iterator[str]:
     found = nearest(inquiry, index)
     for it in found[:most]:
         place = it.part.place(it.part.fields[0].label.start)
-        more = f"with that the answer would be {inquiry.values[it.index]}" if it.index > index else "that alone isn't enough"
+        more = f"with that the answer would be {inquiry.values[it.reached]}" if it.reached > index else "that alone isn't enough"
         yield f"a{it.number}, {place}: {it.what}; {more}"
     if not found:
         yield "no assertion gives more to whoever requests"
@@ -246,10 +234,10 @@ def tell(inquiry: Inquiry, index: int, most: int) -> Iterator[str]:
 def run_why(args: argparse.Namespace) -> int:
     """Asks once, and tells what lacks where the answer is below the value that is wanted."""
     values = args.values.split(",")
-    attributes = dict(pair.partition("=")[::2] for pair in args.set)
-    with start(args.policy) as daemon, daemon.session() as session:
-        inquiry = Inquiry(session, parts_of(args.policy), args.auth, attributes, values)
-        answer = session.query(*values)
+    attributes: Dict[Text, Text] = dict(pair.partition("=")[::2] for pair in args.set)
+    with start(args.policy, loading=None) as daemon:
+        inquiry = Inquiry(daemon, parts_of(args.policy), args.auth, attributes, values)
+        answer = inquiry.ask()
         print(f"answer: {answer.name}, which is {answer.index} of {args.values}")
         enough = answer.at_least(args.at_least or values[-1])
         if not enough and not args.auth:
