@@ -177,7 +177,7 @@ def credential_box(proof: Proof, row: Row, rank: int) -> Box:
     part = proof.parts.get(row.id)
     if not part:
         return Box(f"c{row.id}", "credential", row.level, row.id, f"{row.id}, whose text isn't in the files", ("(added: its text", " isn't in the files)"), rank)
-    place = printable(part.place(part.fields[0].label.start if part.fields else 0))
+    place = printable(part.place(0))
     lines = [it for it in words(part.text).split("\n") if it.strip() and not it.startswith("#")]
     lines = [piece for it in lines for piece in wrapped(printable(it.replace("\t", "    ").rstrip()))]
     shown = lines[:LINES] + (["…"] if len(lines) > LINES else [])

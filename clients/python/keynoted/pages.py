@@ -170,6 +170,6 @@ def texts_of(proof: Proof) -> Iterator[str]:
     for row in proof.rows:
         part = proof.parts.get(row.id)
         if part:
-            place = printable(part.place(part.fields[0].label.start if part.fields else 0))
+            place = printable(part.place(0))
             text = "\n".join(printable(it.replace("\t", "    ")) for it in part.text.decode("utf-8", "replace").split("\n"))
             yield f"<p>{escape(row.id)}, {escape(place)}</p><pre>{escape(text)}</pre>"

@@ -72,7 +72,7 @@ def hidden_by(part: Part, name: bytes, script: Script, parts: Sequence[Part]) ->
         return "a request sets it"
     for other in parts:
         if name not in other.constants and any(it.text == name for it in nodes_of(other.clauses) if it.sign == "name"):
-            return f"{other.place(other.fields[0].label.start)} has a condition on it"
+            return f"{other.place(0)} has a condition on it"
     return ""
 
 
@@ -382,7 +382,7 @@ def lint_twice(parts: Sequence[Part]) -> Iterator[Tuple[Part, int, str]]:
     for part in parts:
         first = seen.setdefault(contents(part), part)
         if first is not part:
-            yield part, part.fields[0].label.start, f"this assertion stands before, in {first.place(first.fields[0].label.start)}"
+            yield part, 0, f"this assertion stands before, in {first.place(0)}"
 
 
 def contents(part: Part) -> Tuple[object, ...]:

@@ -222,7 +222,7 @@ def tell(inquiry: Inquiry, index: int, most: int) -> Iterator[str]:
     """The assertions that stand nearest to more than this value, in words."""
     found = nearest(inquiry, index)
     for it in found[:most]:
-        place = it.part.place(it.part.fields[0].label.start)
+        place = it.part.place(0)
         more = f"with that the answer would be {inquiry.values[it.reached]}" if it.reached > index else "that alone isn't enough"
         yield f"a{it.number}, {place}: {it.what}; {more}"
     if not found:
