@@ -41,10 +41,11 @@ class Part:
         return next((it for it in self.fields if it.number == number), None)
 
     def place(self, at: int) -> str:
-        return f"{self.name}:{place_of(self.data, self.start + at)}"
+        return f"{self.name}:{self.spot(at)}"
 
-    def line(self, at: int) -> int:
-        return int(place_of(self.data, self.start + at).split(":")[0])
+    def spot(self, at: int) -> str:
+        """A place without the file's name."""
+        return place_of(self.data, self.start + at)
 
     def source(self, node: Node) -> str:
         """A part of the assertion as it is written, on one line."""
@@ -133,7 +134,7 @@ def findings(policy: str, scripts: Sequence[str] = (), keys: Optional[str] = Non
     found += lint_requesters(script, licensed)
     found += lint_reach(parts)
     for part in parts:
-        found += (Finding(rule, part.place(at), what) for rule, at, what in lint_part(part, script, parts))
+        found += (Finding(rule, part.place(at), what) for rule, at, what in sorted(lint_part(part, script, parts), key=lambda it: it[1]))
     found += (Finding("signature", part.place(field.label.start), "a signature isn't verified in a policy file, whose assertions are all trusted")
               for part in own for field in part.fields if field.number == 7)
     found += (Finding("duplicate", part.place(at), what) for part, at, what in lint_twice(own))

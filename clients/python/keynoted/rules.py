@@ -67,7 +67,7 @@ def hidden_by(part: Part, name: bytes, script: Script, parts: Sequence[Part]) ->
     for node in nodes:
         leaves = [it for it in node.walk() if not it.parts] if node.sign in COMPARISONS else []
         if any(it.text == name and it.sign == "name" for it in leaves) and all(it.sign == "number" or part.value(it) is not None for it in leaves):
-            return f"the comparison in line {part.line(node.start)} has no attribute"
+            return f"the comparison at {part.spot(node.start)} has no attribute"
     if name in script.settings:
         return "a request sets it"
     for other in parts:
@@ -186,7 +186,7 @@ def lint_program(part: Part, clauses: Sequence[Clause], script: Script) -> Itera
             yield "never", clause.test.start, "this clause gives nothing: no clause stands in its braces"
         over = [it for it in clauses if it is not clause and is_over(part, it, clause, script)] if truth is not False else []
         if over:
-            what = f"the clause of line {part.line(over[0].test.start)} gives as much wherever this one gives anything"
+            what = f"the clause at {part.spot(over[0].test.start)} gives as much wherever this one gives anything"
             yield "never", clause.test.start, f"this clause never decides: {what}"
         default = truth and at == len(clauses) - 1 and at > 0
         if clause.value and is_lowest(part, clause.value, script) and not default:
