@@ -9,11 +9,11 @@
 //	})
 //	allowed, err := answer.AtLeast("log")
 //
-// Nothing is decided here: each answer is the daemon's. An answer is compared by its index and never by its name. What would
-// be read as another request is refused before it is sent. Never take an error for a yes.
+// Nothing is decided here: each answer is the daemon's. An answer is compared by its index and never by its name. What
+// would be read as another request is refused before it is sent. Never take an error for a yes.
 //
-// A connection may be used by several goroutines: an exchange, which is a request with its whole reply, is never parted. One
-// that is interrupted ends the connection, since its reply would be taken for that of the next request.
+// A connection may be used by several goroutines: an exchange, which is a request with its whole reply, is never parted.
+// One that is interrupted ends the connection, since its reply would be taken for that of the next request.
 package keynoted
 
 import (
@@ -35,7 +35,8 @@ const (
 	// DefaultTimeout holds for connecting and for each exchange where nothing else is said.
 	DefaultTimeout = 5 * time.Second
 
-	lineBytes = 131072 // longer than any line of a reply: a principal has at most 4,096 bytes, each written by four at most
+	// longer than any line of a reply: a principal has at most 4,096 bytes, each written by four at most
+	lineBytes = 131072
 )
 
 // Connection is a connection to the daemon, which Connect and Start make. Close it at its end.
@@ -85,8 +86,8 @@ func max(a, b time.Duration) time.Duration {
 	return b
 }
 
-// Start starts a daemon of one's own, with pipes to it, over this policy file and, where keys isn't empty, this key file. The
-// program is $KEYNOTED, or keynoted on PATH.
+// Start starts a daemon of one's own, with pipes to it, over this policy file and, where keys isn't empty, this key file.
+// The program is $KEYNOTED, or keynoted on PATH.
 func Start(policy, keys string) (*Connection, error) {
 	program := os.Getenv("KEYNOTED")
 	if program == "" {
@@ -238,9 +239,9 @@ func (connection *Connection) exchange(ctx context.Context, requests string, rea
 	return connection.exchangeMade(ctx, func() (string, error) { return requests, nil }, read)
 }
 
-// exchangeMade writes requests, which are made when the connection is free for them, and has `read` read the whole of their
-// replies. While it goes on the connection counts as ended, so that one which is interrupted, in whatever way, is never used
-// again. Refusals leave it open.
+// exchangeMade writes requests, which are made when the connection is free for them, and has `read` read the whole of
+// their replies. While it goes on the connection counts as ended, so that one which is interrupted, in whatever way, is
+// never used again. Refusals leave it open.
 func (connection *Connection) exchangeMade(ctx context.Context, make func() (string, error), read func() error) error {
 	connection.mutex.Lock()
 	defer connection.mutex.Unlock()

@@ -174,11 +174,13 @@ func TestWhatWouldBeAnotherRequestIsNotSent(t *testing.T) {
 	_, comma := session.Query("no,yes", "maybe")
 	_, line := session.Query("no", "yes\nAUTH 1 alice")
 	_, drop := daemon.Drop("a1\nAUTH 1 alice")
-	_, asked := daemon.Ask(context.Background(), Question{Principals: []string{"bob\nAUTH 2 alice"}, Values: []string{"no", "yes"}})
-	_, named := daemon.Ask(context.Background(), Question{Attributes: map[string]string{"x 1\n": ""}, Values: []string{"no", "yes"}})
+	values := []string{"no", "yes"}
+	_, asked := daemon.Ask(context.Background(), Question{Principals: []string{"bob\nAUTH 2 alice"}, Values: values})
+	_, named := daemon.Ask(context.Background(), Question{Attributes: map[string]string{"x 1\n": ""}, Values: values})
 	for at, err := range []error{
-		comma, line, drop, asked, named, session.Auth("bob\nAUTH 1 alice"), session.Auth("alice\r"), session.Set("x", "1\nAUTH 1 alice"),
-		session.Set("x y", "1"), session.Set("", "1"), session.Unset("x\nAUTH 1 alice"), session.Retract("p1\nAUTH 1 alice"),
+		comma, line, drop, asked, named, session.Auth("bob\nAUTH 1 alice"), session.Auth("alice\r"),
+		session.Set("x", "1\nAUTH 1 alice"), session.Set("x y", "1"), session.Set("", "1"),
+		session.Unset("x\nAUTH 1 alice"), session.Retract("p1\nAUTH 1 alice"),
 	} {
 		if !errors.Is(err, WrongArgument) {
 			t.Errorf("%d: %v", at, err)
@@ -201,7 +203,8 @@ func TestAskLeavesNothingBehind(t *testing.T) {
 		check(t, err)
 		return answer.Index
 	}
-	all := Question{Principals: []string{"bob"}, Attributes: map[string]string{"note": "a\nb"}, Private: []string{credential}}
+	note := map[string]string{"note": "a\nb"}
+	all := Question{Principals: []string{"bob"}, Attributes: note, Private: []string{credential}}
 	for round := 0; round < 40; round++ {
 		found := []int{
 			index(all),
@@ -243,8 +246,9 @@ func TestAnswersGoByTheirIndex(t *testing.T) {
 
 func TestGoroutinesShareAConnection(t *testing.T) {
 	daemon := started(t, policy)
+	values := []string{"no", "yes"}
 	ask := func(principal string, wanted int) error {
-		answer, err := daemon.Ask(context.Background(), Question{Principals: []string{principal}, Values: []string{"no", "yes"}})
+		answer, err := daemon.Ask(context.Background(), Question{Principals: []string{principal}, Values: values})
 		if err == nil && answer.Index != wanted {
 			err = fmt.Errorf("%s has %s", principal, answer.Name())
 		}
@@ -273,17 +277,17 @@ func TestGoroutinesShareAConnection(t *testing.T) {
 func TestAnInterruptedExchangeEndsTheConnection(t *testing.T) {
 	path := write(t, "p.kn", policy)
 	program(t)
-	interrupted, answered := 0, 0
+	interrupted, answered, values := 0, 0, []string{"no", "yes"}
 	for round := 0; round < 1000; round++ {
 		daemon, err := Start(path, "")
 		check(t, err)
 		ctx, cancel := context.WithTimeout(context.Background(), time.Duration(rand.Intn(6000))*time.Microsecond)
-		_, err = daemon.Ask(ctx, Question{Principals: []string{"alice"}, Values: []string{"no", "yes"}})
+		_, err = daemon.Ask(ctx, Question{Principals: []string{"alice"}, Values: values})
 		cancel()
 		if errors.Is(err, LinkEnded) {
 			interrupted++
 		}
-		answer, second := daemon.Ask(context.Background(), Question{Principals: []string{"mallory"}, Values: []string{"no", "yes"}})
+		answer, second := daemon.Ask(context.Background(), Question{Principals: []string{"mallory"}, Values: values})
 		switch {
 		case errors.Is(err, LinkEnded) != errors.Is(second, LinkEnded):
 			t.Fatal(err, second)
@@ -332,9 +336,10 @@ func TestASilentDaemonMeetsTheTimeLimit(t *testing.T) {
 
 func TestWhatIsNoReplyEndsTheConnection(t *testing.T) {
 	for _, reply := range []string{
-		"OK\n", "VALUE 1 yes 1 1\nROW 1 a1 \"POLICY\"\nOK\n", "VALUE 2 yes 1 0\nEND\n", "VALUE 0 yes 1 0\nEND\n", "VALUE 1 YES 1 0\nEND\n",
-		"VALUE 01 yes 1 0\nEND\n", "VALUE 1 yes 1 1\nROW 1 a1 POLICY\nEND\n", "NO 3 limit\n", "VALUE 1 yes 1 0\nNO 3 session\n",
-		"VALUE 1 yes 1 0\nNOMEM\n", "NO 16 batch\n", "error link budget\n", "VALUE 1 yes 1 0 \nEND\n", "yes\n", strings.Repeat("x", lineBytes) + "\n",
+		"OK\n", "VALUE 1 yes 1 1\nROW 1 a1 \"POLICY\"\nOK\n", "VALUE 2 yes 1 0\nEND\n", "VALUE 0 yes 1 0\nEND\n",
+		"VALUE 1 YES 1 0\nEND\n", "VALUE 01 yes 1 0\nEND\n", "VALUE 1 yes 1 1\nROW 1 a1 POLICY\nEND\n", "NO 3 limit\n",
+		"VALUE 1 yes 1 0\nNO 3 session\n", "VALUE 1 yes 1 0\nNOMEM\n", "NO 16 batch\n", "error link budget\n",
+		"VALUE 1 yes 1 0 \nEND\n", "yes\n", strings.Repeat("x", lineBytes) + "\n",
 	} {
 		daemon, err := Connect(listening(t, "OK 1 1\n"+reply+"OK\nOK\n"))
 		check(t, err)
@@ -375,7 +380,8 @@ func TestOverTCP(t *testing.T) {
 	}()
 	connection, err := Connect(listener.Addr().String())
 	check(t, err)
-	answer, err := connection.Ask(context.Background(), Question{Principals: []string{"alice"}, Values: []string{"no", "yes"}})
+	question := Question{Principals: []string{"alice"}, Values: []string{"no", "yes"}}
+	answer, err := connection.Ask(context.Background(), question)
 	check(t, err)
 	if answer.Index != 1 {
 		t.Error(answer)

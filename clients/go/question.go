@@ -19,8 +19,8 @@ type Question struct {
 }
 
 // Ask asks one question in one write, by the newest version of the credentials, in a session of its own: nothing of one
-// question is left for the next. The first refusal of one of its requests is the error. A context that ends while the replies
-// are awaited ends the connection.
+// question is left for the next. The first refusal of one of its requests is the error. A context that ends while the
+// replies are awaited ends the connection.
 func (connection *Connection) Ask(ctx context.Context, question Question) (*Answer, error) {
 	number, requests, err := 0, []string(nil), error(nil)
 	var answer *Answer
@@ -38,8 +38,8 @@ func (connection *Connection) Ask(ctx context.Context, question Question) (*Answ
 	return answer, nil
 }
 
-// readQuestion reads the replies to the requests of a question: to OPEN, to those that name what it depends on, to QUERY, and
-// to CLOSE. All are read, also where one is a refusal, and the first that isn't as it should be is the error.
+// readQuestion reads the replies to the requests of a question: to OPEN, to those that name what it depends on, to QUERY,
+// and to CLOSE. All are read, also where one is a refusal, and the first that isn't as it should be is the error.
 func (connection *Connection) readQuestion(count int, values []string) (answer *Answer, first error) {
 	for at := 0; at < count; at++ {
 		var err error

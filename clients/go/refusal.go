@@ -76,8 +76,9 @@ var (
 	WrongArgument = errors.New("wrong argument")
 )
 
-var refusalForm = regexp.MustCompile(`^NO (?:1 syntax|2 command|3 session|4 admin|5 read (?:0|[1-9]\d*) (?:0|[1-9]\d*)|6 policy` +
-	`|7 auth [1-9]\d*|8 name|9 value|10 values|11 principal|12 unknown|13 limit [a-z-]+ (?:0|[1-9]\d*)|14 long|15 block)$`)
+var refusalForm = regexp.MustCompile(`^NO (?:1 syntax|2 command|3 session|4 admin` +
+	`|5 read (?:0|[1-9]\d*) (?:0|[1-9]\d*)|6 policy|7 auth [1-9]\d*|8 name|9 value|10 values|11 principal` +
+	`|12 unknown|13 limit [a-z-]+ (?:0|[1-9]\d*)|14 long|15 block)$`)
 
 // refusalOf is the error of a line NO; nil where the line is none.
 func refusalOf(line string) error {

@@ -18,5 +18,6 @@ class Go(Room):
             env["GOCACHE"] = os.path.join(tempfile.gettempdir(), "keynoted-go-cache")
         folder = os.path.join(TOP, "clients", "go")
         for words in (["go", "vet", "."], ["go", "test", "-count=1", "."]):
-            run = subprocess.run(words, cwd=folder, env=env, stdin=subprocess.DEVNULL, stdout=subprocess.PIPE, stderr=subprocess.STDOUT)
+            run = subprocess.run(words, cwd=folder, env=env, stdin=subprocess.DEVNULL, stdout=subprocess.PIPE,
+                                 stderr=subprocess.STDOUT)
             self.assertEqual(run.returncode, 0, run.stdout.decode("utf-8", "replace"))

@@ -6,6 +6,7 @@ import random
 import re
 import shutil
 import subprocess
+import sys
 import xml.etree.ElementTree
 
 import keynoted
@@ -24,7 +25,8 @@ def cases_of(name):
         title, _, wanted = head.partition(": ")
         rule, _, line = wanted.partition(" ")
         policy, *more = re.split(r"^--- (.*)\n", body, flags=re.M)
-        sections = {it.split()[0]: (it.split()[1:], text.rstrip("\n") + "\n") for it, text in zip(more[::2], more[1::2])}
+        heads, texts = more[::2], [it.rstrip("\n") + "\n" for it in more[1::2]]
+        sections = {head.split()[0]: (head.split()[1:], text) for head, text in zip(heads, texts)}
         script, (mode, keys) = sections.get("requests", ([], ""))[1], sections.get("keys", ([], ""))
         yield title, rule, line, policy.rstrip("\n") + "\n", script, keys, int((mode or ["600"])[0], 8)
 
@@ -73,39 +75,59 @@ class Rules(Room):
 
     def test_of_conditions(self):
         for text, wanted in (
-            ('size > "1000000"', ["numbers"]), ('"-5" < balance', ["numbers"]), ('load < "0.75"', ["numbers"]), ('time >= "8:30"', ["numbers"]),
-            ('addr >= "10.0.0.1"', ["numbers"]), ('n > "5000000000"', ["numbers"]), ('$name >= "9"', ["numbers"]), ('(a . b) < "10"', ["numbers"]),
-            ('time >= "08:30"', []), ('day < "20270101"', []), ('t >= "0900" && t < "1700"', []), ('grade <= "B"', []), ('@n >= 10', []), ('n == "10"', []),
-            ('true; x == "1" -> "yes"', ["never"]), ('x == "1"; x == "1" && y == "2" -> "yes"', ["never"]), ('x == "1" -> {}', ["never"]),
-            ('x == "1" || y == "2"; x == "1"', ["never"]), ('x != "1" || x != "2"', ["never"]), ('@h < 8 && @h > 18', ["never"]),
-            ('@h >= 8 || @h < 18', ["never"]), ('x == "1" && x != "1"', ["never"]), ('1 == 2', ["never"]), ('"a" == "a"', ["never"]),
-            ('!(x == "1" && x == "2")', ["never"]), ('1/@x == 2 || true', []), ('@h >= 8 && @h < 18', []), ('x == "1" -> "log"; true -> "ask"', []),
-            ('x == "1" -> "read"; true -> "write"', ["never"]), ('x == "1" -> "write"; true -> "read"', []), ('x == "1"; x == "1"', ["never"]),
-            ('x == "1" -> { y == "1" -> "a"; true -> "b"; }', []), ('x == "1" -> "block"', ["deny"]), ('true -> "deny"', ["deny"]),
-            ('x == "1" -> "yes"; true -> "no"', []), ('x == NULL', ["null"]), ('nil != x', ["null"]), ('x == "undefined"', ["null"]), ('cipher == "null"', []),
-            ('x == ""', []), ('file == "*.txt"', ["wildcard"]), ('"any" == verb', ["wildcard"]), ('@a * @b > 3', []), ('scope == "all"', []),
+            ('size > "1000000"', ["numbers"]), ('"-5" < balance', ["numbers"]), ('load < "0.75"', ["numbers"]),
+            ('time >= "8:30"', ["numbers"]),
+            ('addr >= "10.0.0.1"', ["numbers"]), ('n > "5000000000"', ["numbers"]), ('$name >= "9"', ["numbers"]),
+            ('(a . b) < "10"', ["numbers"]),
+            ('time >= "08:30"', []), ('day < "20270101"', []), ('t >= "0900" && t < "1700"', []),
+            ('grade <= "B"', []), ('@n >= 10', []), ('n == "10"', []),
+            ('true; x == "1" -> "yes"', ["never"]), ('x == "1"; x == "1" && y == "2" -> "yes"', ["never"]),
+            ('x == "1" -> {}', ["never"]),
+            ('x == "1" || y == "2"; x == "1"', ["never"]), ('x != "1" || x != "2"', ["never"]),
+            ('@h < 8 && @h > 18', ["never"]),
+            ('@h >= 8 || @h < 18', ["never"]), ('x == "1" && x != "1"', ["never"]), ('1 == 2', ["never"]),
+            ('"a" == "a"', ["never"]),
+            ('!(x == "1" && x == "2")', ["never"]), ('1/@x == 2 || true', []), ('@h >= 8 && @h < 18', []),
+            ('x == "1" -> "log"; true -> "ask"', []),
+            ('x == "1" -> "read"; true -> "write"', ["never"]), ('x == "1" -> "write"; true -> "read"', []),
+            ('x == "1"; x == "1"', ["never"]),
+            ('x == "1" -> { y == "1" -> "a"; true -> "b"; }', []), ('x == "1" -> "block"', ["deny"]),
+            ('true -> "deny"', ["deny"]),
+            ('x == "1" -> "yes"; true -> "no"', []), ('x == NULL', ["null"]), ('nil != x', ["null"]),
+            ('x == "undefined"', ["null"]), ('cipher == "null"', []),
+            ('x == ""', []), ('file == "*.txt"', ["wildcard"]), ('"any" == verb', ["wildcard"]), ('@a * @b > 3', []),
+            ('scope == "all"', []),
             ('a == "1" && b == "2" || c == "3"', ["brackets"]), ('a == "1" || b == "2" && c == "3"', ["brackets"]),
             ('(a == "1" && b == "2") || c == "3"', []), ('a == "1" && (b == "2" || c == "3")', []),
-            (r'dir == "C:\\temp"', []), (r'dir == "C:\temp"', ["escape"]), (r'who == "CORP\nora"', ["escape"]), (r'dir == "\\\\host\tools"', []),
-            (r'dir == "\\host\tools"', ["escape"]), (r'x == "a\.b"', ["escape"]), (r'x == "a\n"', []), (r'x == "OK\n"', []), (r'x == "\101"', []), (r'x == "\9"', ["escape"]),
+            (r'dir == "C:\\temp"', []), (r'dir == "C:\temp"', ["escape"]), (r'who == "CORP\nora"', ["escape"]),
+            (r'dir == "\\\\host\tools"', []),
+            (r'dir == "\\host\tools"', ["escape"]), (r'x == "a\.b"', ["escape"]), (r'x == "a\n"', []),
+            (r'x == "OK\n"', []), (r'x == "\101"', []), (r'x == "\9"', ["escape"]),
         ):
             self.assertEqual(self.conditions(text), wanted, text)
 
     def test_of_conditions_with_a_script(self):
         script = "OPEN\nAUTH 1 alice\nSET 1 x 9\nSET 1 y 10\nQUERY 1 refuse,some,full\n"
         for text, wanted in (
-            ('x == "1" -> "some"; true -> "full"', ["never"]), ('x == "1" -> "full"; true -> "some"', []), ('x == "1" -> "refuse"', ["deny"]),
-            ("x < y", ["numbers"]), ('y >= "10"', ["numbers"]), ('x > "09"', ["numbers"]), ('z == "1"', ["unset"]), ('X == "1"', ["unset"]), ('x == "9" -> "other"', ["value"]),
+            ('x == "1" -> "some"; true -> "full"', ["never"]), ('x == "1" -> "full"; true -> "some"', []),
+            ('x == "1" -> "refuse"', ["deny"]),
+            ("x < y", ["numbers"]), ('y >= "10"', ["numbers"]), ('x > "09"', ["numbers"]), ('z == "1"', ["unset"]),
+            ('X == "1"', ["unset"]), ('x == "9" -> "other"', ["value"]),
         ):
             self.assertEqual(self.conditions(text, script), wanted, text)
 
     def test_of_licensees_and_constants(self):
         for text, wanted in (
-            ('Licensees: 2-of("a", "b" || "a", "c")', ["repeated"]), ('Licensees: 2-of("a" && "b", "b" && "c", "a" && "c")', []),
-            ('Licensees: "a" || "b" || "a"', ["repeated"]), ('Licensees: ("a" && "b") || ("a" && "c")', []), ('Licensees: "everyone"', ["wildcard"]),
-            ('Licensees: "user-*"', ["wildcard"]), ('Licensees: "CN=\\"x\\""', []), ('Licensees: "\\"x\\""', ["quotes"]), (r'Licensees: "a\tb"', ["escape"]),
-            ('Local-Constants: h = "9"\nLicensees: "a"\nConditions: @h >= 8;', ["hidden"]), ('Local-Constants: h = "9"\nLicensees: "a"\nConditions: x == h;', []),
-            ('Licensees: "a"\nConditions:', []), ('Conditions: x == "1";', ["licensees"]), ("Licensees: \"a\"\nSignature: \"x\"", ["signature"]),
+            ('Licensees: 2-of("a", "b" || "a", "c")', ["repeated"]),
+            ('Licensees: 2-of("a" && "b", "b" && "c", "a" && "c")', []),
+            ('Licensees: "a" || "b" || "a"', ["repeated"]), ('Licensees: ("a" && "b") || ("a" && "c")', []),
+            ('Licensees: "everyone"', ["wildcard"]),
+            ('Licensees: "user-*"', ["wildcard"]), ('Licensees: "CN=\\"x\\""', []),
+            ('Licensees: "\\"x\\""', ["quotes"]), (r'Licensees: "a\tb"', ["escape"]),
+            ('Local-Constants: h = "9"\nLicensees: "a"\nConditions: @h >= 8;', ["hidden"]),
+            ('Local-Constants: h = "9"\nLicensees: "a"\nConditions: x == h;', []),
+            ('Licensees: "a"\nConditions:', []), ('Conditions: x == "1";', ["licensees"]),
+            ("Licensees: \"a\"\nSignature: \"x\"", ["signature"]),
         ):
             self.assertEqual(self.rules(f'Authorizer: "POLICY"\n{text}\n'), wanted, text)
 
@@ -156,19 +178,22 @@ class Whys(Room):
         status, out, _ = self.why(policy, "--auth", "dave", "--values", "no,yes", "--set", "hour=20")
         self.assertEqual((status, out.splitlines()), (1, [
             "answer: no, which is 0 of no,yes",
-            "a2, policy.kn:5:1: its conditions give no with these attributes; app_domain isn't set; @hour < 18 isn't true where hour is 20; "
-            "with that the answer would be yes",
+            "a2, policy.kn:5:1: its conditions give no with these attributes; app_domain isn't set; "
+            "@hour < 18 isn't true where hour is 20; with that the answer would be yes",
             "a1, policy.kn:1:1: bob and one more of alice, carol are missing; with that the answer would be yes",
         ]))
-        self.assertEqual(self.why(policy, "--auth", "dave", "--set", "app_domain=doors", "--set", "hour=9", "--values", "no,yes"),
-                         (0, "answer: yes, which is 1 of no,yes\n", ""))
+        words = ("--auth", "dave", "--set", "app_domain=doors", "--set", "hour=9", "--values", "no,yes")
+        self.assertEqual(self.why(policy, *words), (0, "answer: yes, which is 1 of no,yes\n", ""))
         self.assertEqual(self.why(policy, "--values", "no,yes")[0], 2)
 
     def test_words_of_groups(self):
         for licensees, wanted in (
-            ('"a" || "b"', "one of a, b is missing"), ('"a" && "b"', "a and b are missing"), ('3-of("a", "b", "x", "c")', "two more of a, b, c are missing"),
-            ('"a" || ("b" && "c")', "one of a, (b and c) is missing"), ('"x" && "a"', "a is missing"), ('2-of("a" && "x", "b" && "x")', "a and b are missing"),
-            ('"a" && ("b" || "c")', "a and one of b, c are missing"), ('2-of("a", "b", "c")', "two of a, b, c are missing"),
+            ('"a" || "b"', "one of a, b is missing"), ('"a" && "b"', "a and b are missing"),
+            ('3-of("a", "b", "x", "c")', "two more of a, b, c are missing"),
+            ('"a" || ("b" && "c")', "one of a, (b and c) is missing"), ('"x" && "a"', "a is missing"),
+            ('2-of("a" && "x", "b" && "x")', "a and b are missing"),
+            ('"a" && ("b" || "c")', "a and one of b, c are missing"),
+            ('2-of("a", "b", "c")', "two of a, b, c are missing"),
         ):
             out = self.why(f'Authorizer: "POLICY"\nLicensees: {licensees}\n', "--auth", "x", "--values", "no,yes")[1]
             self.assertIn(f": {wanted}; with that the answer would be yes\n", out)
@@ -177,9 +202,12 @@ class Whys(Room):
         policy = ('Authorizer: "POLICY"\nLicensees: "head"\n\nAuthorizer: "head"\nLicensees: "why" || "x"\n'
                   'Conditions: a == "1" -> { b == "1" -> "read"; b == "2" -> "write"; };\n')
         out = self.why(policy, "--auth", "x", "--set", "a=1", "--set", "b=1", "--values", "none,read,write")[1]
-        self.assertIn("a2, policy.kn:4:1: its conditions give read with these attributes; b == \"2\" isn't true where b is 1; with that the answer would be write\n", out)
-        out = self.why(policy, "--auth", "x", "--values", "none,read,write", "--at-least", "write", "--most", "1")[1]
-        self.assertIn("a2, policy.kn:4:1: its conditions give none with these attributes; a isn't set; b isn't set; with that the answer would be write\n1 more", out)
+        self.assertIn("a2, policy.kn:4:1: its conditions give read with these attributes; "
+                      "b == \"2\" isn't true where b is 1; with that the answer would be write\n", out)
+        words = ("--auth", "x", "--values", "none,read,write", "--at-least", "write", "--most", "1")
+        out = self.why(policy, *words)[1]
+        self.assertIn("a2, policy.kn:4:1: its conditions give none with these attributes; a isn't set; b isn't set; "
+                      "with that the answer would be write\n1 more", out)
 
     def test_what_is_missing_is_enough(self):
         """Where no test is missing, the program gives the assertion more once the named principals ask too."""
@@ -196,7 +224,7 @@ class Whys(Room):
                     answer = daemon.ask([*asking, *near.principals], {"x": "1"}, ["no", "log", "yes"])
                     authorizer = next(who for _, who in near.part.principals(1))
                     held = {row.principal: row.level for row in answer.rows}
-                    held.update({who.encode(): 2 for who in asking}, **{})
+                    held.update({who.encode(): 2 for who in asking})
                     held.update({who: 2 for who in near.principals})
                     if not near.tests:
                         self.assertGreater(held.get(authorizer, 0), index, parts)
@@ -207,7 +235,8 @@ class Whys(Room):
     @staticmethod
     def generated(draw, names, authorizer):
         a, b, c, d = (f'"{it}"' for it in draw.sample(names, 4))
-        licensees = draw.choice([a, f"{a} || {b}", f"{a} && ({b} || {c})", f"2-of({a}, {b}, {c} && {d})", f"({a} && {b}) || {c}"])
+        joined = [a, f"{a} || {b}", f"{a} && ({b} || {c})", f"2-of({a}, {b}, {c} && {d})", f"({a} && {b}) || {c}"]
+        licensees = draw.choice(joined)
         conditions = draw.choice(["", 'Conditions: x == "1" -> "log"; x == "2";\n', 'Conditions: y == "1";\n'])
         return f'Authorizer: "{authorizer}"\nLicensees: {licensees}\n{conditions}'
 
@@ -233,8 +262,13 @@ class Pictures(Room):
         self.write("script", script)
         with open("output", "wb") as output:
             subprocess.run([PROGRAM, "ask", "policy.kn"], input=script, stdout=output, check=True)
-        run = subprocess.run([os.path.join(HERE, "keynoted.py"), "explain", form, "policy.kn", "script", "output"], stdout=subprocess.PIPE, check=True)
-        return run.stdout.decode()
+        return self.drawn(form, "policy.kn", "script", "output")
+
+    @staticmethod
+    def drawn(*words):
+        """What `explain` writes with these words."""
+        command = [sys.executable, os.path.join(HERE, "keynoted.py"), "explain", *words]
+        return subprocess.run(command, stdout=subprocess.PIPE, check=True).stdout.decode()
 
     def test_a_page_stands_alone_and_escapes_all(self):
         page = self.picture("--html")
@@ -243,14 +277,19 @@ class Pictures(Room):
         parser = html.parser.HTMLParser()
         parser.handle_starttag = lambda tag, attributes: tags.append((tag, dict(attributes)))
         parser.feed(page)
-        self.assertFalse({tag for tag, _ in tags} & {"script", "i", "img", "link", "iframe", "object", "image", "use", "a"})
-        self.assertFalse([name for _, found in tags for name in found if name.startswith("on") or name in ("src", "href", "xlink:href", "data", "style")])
-        self.assertIn(("meta", {"http-equiv": "Content-Security-Policy", "content": "default-src 'none'; style-src 'unsafe-inline'"}), tags)
+        loading = {"script", "i", "img", "link", "iframe", "object", "image", "use", "a"}
+        self.assertFalse({tag for tag, _ in tags} & loading)
+        names = {name for _, found in tags for name in found}
+        self.assertFalse(names & {"src", "href", "xlink:href", "data", "style"})
+        self.assertFalse([it for it in names if it.startswith("on")])
+        policy = {"http-equiv": "Content-Security-Policy", "content": "default-src 'none'; style-src 'unsafe-inline'"}
+        self.assertIn(("meta", policy), tags)
         self.assertEqual(re.findall(r"https?://[^\"]*", page), ["http://www.w3.org/2000/svg"])
         self.assertNotRegex(page, "[\\x00-\\x08\\x0b-\\x1f\\x7f\u202e]")
         svg = xml.etree.ElementTree.fromstring(page[page.index("<svg"):page.index("</svg>") + 6])
         texts = "".join(svg.itertext())
-        for text in ("a1, policy.kn:1:1", "b<script>document.title='x'</script>", 'it\'s & "c"', "ben\\u001b[31m", "asks: write", "<i>read"):
+        script = "b<script>document.title='x'</script>"
+        for text in ("a1, policy.kn:1:1", script, 'it\'s & "c"', "ben\\u001b[31m", "asks: write", "<i>read"):
             self.assertIn(text, texts)
 
     def test_levels_stand_on_the_edges(self):
@@ -262,12 +301,14 @@ class Pictures(Room):
         self.assertEqual(edges["panna", "ca2"], 2)
         self.assertEqual((edges["ca2", "pa"], edges["pa", "ca1"], edges["ca1", "pPOLICY"]), (2, 2, 1))
         self.assertEqual(edges["powner", "ca1"], 0)
-        self.assertEqual({key for key, box in picture.boxes.items() if box.sort == "requester"}, {"panna", "pben\x1b[31m", "pcarl"})
+        asking = {key for key, box in picture.boxes.items() if box.sort == "requester"}
+        self.assertEqual(asking, {"panna", "pben\x1b[31m", "pcarl"})
         spots = list(pages.layout(proof, picture).values())
         for at, one in enumerate(spots):
             for other in spots[at + 1:]:
-                self.assertTrue(one.left + one.width <= other.left or other.left + other.width <= one.left
-                                or one.top + one.height <= other.top or other.top + other.height <= one.top, (one, other))
+                apart = one.left + one.width <= other.left or other.left + other.width <= one.left
+                above = one.top + one.height <= other.top or other.top + other.height <= one.top
+                self.assertTrue(apart or above, (one, other))
 
     def test_dot(self):
         text = self.picture("--dot")
@@ -281,21 +322,21 @@ class Pictures(Room):
         self.write("output", b'VALUE 1 yes 1 1\nROW 1 a1 "POLICY"\nEND\n')
         status, _, _ = self.command("explain", "--dot", "policy.kn", "script")
         self.assertEqual(status, 2)
-        run = subprocess.run([os.path.join(HERE, "keynoted.py"), "explain", "--html", "policy.kn", "script", "output"], stdout=subprocess.PIPE, check=True)
-        self.assertIn(b"error proof reject 6 0 0 (the rows prove no such value", run.stdout)
+        page = self.drawn("--html", "policy.kn", "script", "output")
+        self.assertIn("error proof reject 6 0 0 (the rows prove no such value", page)
+        self.assertIn("<h1>Not proved by these files: POLICY has yes</h1>", page)
 
     def test_an_added_credential_has_no_text_here(self):
         self.write("output", b'VALUE 1 yes 2 2\nROW 1 a2 "alice"\nROW 1 a1 "POLICY"\nEND\n')
         self.write("script", b"OPEN\nAUTH 1 bob\nADD 37\n" + CREDENTIAL + b"\nPIN 1\nQUERY 1 no,yes\n")
-        run = subprocess.run([os.path.join(HERE, "keynoted.py"), "explain", "--html", "p.kn", "script", "output"], stdout=subprocess.PIPE, check=True)
-        self.assertIn(b"added: its text", run.stdout)
+        self.assertIn("added: its text", self.drawn("--html", "p.kn", "script", "output"))
 
     def test_in_a_browser(self):
         if not CHROMIUM:
             print("pictures in Chromium are left out: there is no chromium")
             return
         self.write("page.html", self.picture("--html").encode())
-        words = [CHROMIUM, "--headless", "--no-sandbox", "--disable-gpu", f"--user-data-dir={self.room}/profile", "--screenshot=page.png",
+        words = [CHROMIUM, "--headless", "--no-sandbox", "--disable-gpu", f"--user-data-dir={self.room}/profile",
                  "--window-size=1200,1400", "--dump-dom", "file://" + os.path.join(self.room, "page.html")]
         run = subprocess.run(words, stdout=subprocess.PIPE, stderr=subprocess.DEVNULL, timeout=120)
         if run.returncode:

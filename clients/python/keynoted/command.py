@@ -9,10 +9,10 @@ import sys
 from typing import Optional, Sequence
 
 from .connection import Connection, connect, program_of, start
-from .drawing import run_drawing
 from .errors import KeynotedError, LinkEnded
 from .explaining import explain
 from .linting import lint, lint_values
+from .pages import run_drawing
 from .sending import add_record
 from .texts import place_of, read_file, split_file
 from .why import add_commands as add_why

@@ -1,25 +1,26 @@
-"""Draws a proof: `explain --html` and `explain --dot`. The rows are the daemon's, and so is what `check` says of them."""
+"""The picture of a proof, and its form for Graphviz. The rows are the program's, and so is what `check` says."""
 
 from __future__ import annotations
 
-import argparse
 import os
 import re
 import subprocess
-import sys
 import tempfile
-from typing import Dict, Iterator, List, NamedTuple, Optional, Sequence, Set, Tuple
+from typing import Dict, Iterator, List, NamedTuple, Set, Tuple
 
 from .answers import Row
 from .connection import program_of
 from .explaining import explain
-from .linting import Part, normal, parts_of, requests_of, words
-from .pages import page_of
+from .parts import Part, normal, parts_of, requests_of, words
 from .texts import read_file
 from .wire import VALUE, Replies, Request
 
 LONGEST = 72  # characters of a principal, and of a line of a text
 LINES = 14  # of a text in its box
+SHAPES = {
+    "credential": "shape=box", "principal": "shape=box, style=rounded",
+    "requester": 'shape=box, style="rounded,bold"', "absent": 'shape=box, style="rounded,dashed"',
+}
 
 
 class Question(NamedTuple):
@@ -104,7 +105,7 @@ def rows_of(text: bytes) -> Tuple[bytes, bytes, bytes, Tuple[Row, ...]]:
 
 
 def question_of(script: str) -> Question:
-    """The requesters, values and private assertions of the last query of a script, whose requests are taken for granted."""
+    """What the last query of a script is asked by, where each of its requests is taken."""
     data, count = read_file(script), 0
     sessions: Dict[bytes, Question] = {}
     last = Question([], [], {})
@@ -135,7 +136,8 @@ def verdict_of(policy: str, script: str, reply: bytes) -> str:
         name = os.path.join(room, "reply")
         with open(name, "wb") as file:
             file.write(reply)
-        run = subprocess.run([program_of(), "check", policy, script, name], stdin=subprocess.DEVNULL, stdout=subprocess.PIPE)
+        check = [program_of(), "check", policy, script, name]
+        run = subprocess.run(check, stdin=subprocess.DEVNULL, stdout=subprocess.PIPE)
     line = run.stdout.decode("utf-8", "replace").strip()
     told = explain(line) if run.returncode else ""
     return f"{line} ({told})" if told else line
@@ -164,7 +166,8 @@ def picture_of(proof: Proof) -> Picture:
         if edge.start not in boxes:
             boxes[edge.start] = principal_box(edge.start[1:].encode(), "absent", 0, boxes[edge.end].rank - 1)
     if "pPOLICY" not in boxes:
-        boxes["pPOLICY"] = principal_box(b"POLICY", "principal", proof.index, 1 + max((it.rank for it in boxes.values()), default=-1))
+        top = 1 + max((it.rank for it in boxes.values()), default=-1)
+        boxes["pPOLICY"] = principal_box(b"POLICY", "principal", proof.index, top)
     return Picture(boxes, edges)
 
 
@@ -174,14 +177,16 @@ def principal_box(who: bytes, sort: str, level: int, rank: int) -> Box:
 
 
 def credential_box(proof: Proof, row: Row, rank: int) -> Box:
-    part = proof.parts.get(row.id)
+    part, key = proof.parts.get(row.id), f"c{row.id}"
     if not part:
-        return Box(f"c{row.id}", "credential", row.level, row.id, f"{row.id}, whose text isn't in the files", ("(added: its text", " isn't in the files)"), rank)
+        lines = ["(added: its text", " isn't in the files)"]
+        return Box(key, "credential", row.level, row.id, f"{row.id}, whose text isn't in the files", tuple(lines), rank)
     place = printable(part.place(0))
     lines = [it for it in words(part.text).split("\n") if it.strip() and not it.startswith("#")]
     lines = [piece for it in lines for piece in wrapped(printable(it.replace("\t", "    ").rstrip()))]
     shown = lines[:LINES] + (["…"] if len(lines) > LINES else [])
-    return Box(f"c{row.id}", "credential", row.level, shortened(f"{row.id}, {os.path.basename(place)}"), f"{row.id}, {place}", tuple(shown), rank)
+    head = shortened(f"{row.id}, {os.path.basename(place)}")
+    return Box(key, "credential", row.level, head, f"{row.id}, {place}", tuple(shown), rank)
 
 
 def shortened(text: str) -> str:
@@ -213,8 +218,7 @@ def dot_of(proof: Proof) -> Iterator[str]:
     for key, box in picture.boxes.items():
         level = "" if box.sort in ("credential", "absent") else f"\n{proof.level(box.level)}"
         text = "\n".join([box.head, *box.lines]) + "\n" if box.lines else box.head + level
-        shape = {"credential": "shape=box", "requester": "shape=box, style=\"rounded,bold\"", "absent": "shape=box, style=\"rounded,dashed\""}
-        yield f"    {names[key]} [label={dot_text(text, bool(box.lines))}, {shape.get(box.sort, 'shape=box, style=rounded')}];"
+        yield f"    {names[key]} [label={dot_text(text, bool(box.lines))}, {SHAPES[box.sort]}];"
     for edge in picture.edges:
         look = f"label={dot_text(proof.level(edge.level))}" if edge.level else "style=dashed, color=gray"
         yield f"    {names[edge.start]} -> {names[edge.end]} [{look}];"
@@ -225,14 +229,3 @@ def dot_text(text: str, left: bool = False) -> str:
     """A text in quotes, its lines on the left or in the middle."""
     spelled = text.replace("\\", "\\\\").replace('"', '\\"').replace("\n", "\\l" if left else "\\n")
     return f'"{spelled}"'
-
-
-def run_drawing(args: argparse.Namespace) -> int:
-    """Draws the last VALUE reply of an output: with the words POLICY SCRIPT [OUTPUT], and standard input for no output."""
-    if not 2 <= len(args.line) <= 3:
-        raise ValueError("a picture wants POLICY SCRIPT [OUTPUT], as check does")
-    output = read_file(args.line[2]) if len(args.line) == 3 else sys.stdin.buffer.read()
-    proof = Proof(args.line[0], args.line[1], output)
-    text = "\n".join(dot_of(proof)) if args.picture == "dot" else page_of(proof, picture_of(proof))
-    sys.stdout.buffer.write(text.encode("utf-8", "replace") + b"\n")
-    return 0

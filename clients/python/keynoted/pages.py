@@ -2,11 +2,13 @@
 
 from __future__ import annotations
 
+import argparse
 import html
-from typing import TYPE_CHECKING, Dict, Iterator, List, NamedTuple, Tuple
+import sys
+from typing import Dict, Iterator, List, NamedTuple, Tuple
 
-if TYPE_CHECKING:
-    from .drawing import Box, Edge, Picture, Proof
+from .drawing import Box, Edge, Picture, Proof, dot_of, picture_of, printable
+from .texts import read_file
 
 CHARACTER, LINE, PAD, BETWEEN, GAP = 7.3, 16, 10, 58, 30  # of the picture, in pixels
 STYLE = """
@@ -18,8 +20,10 @@ svg text { font: 12px ui-monospace, "DejaVu Sans Mono", monospace; fill: #1c2330
 .requester { stroke: #33507a; stroke-width: 3 } .absent { fill: #f3f4f6; stroke: #a9b1bd; stroke-dasharray: 4 3 }
 .edge { fill: none; stroke: #33507a; stroke-width: 1.5 } .none { stroke: #b4bac4; stroke-dasharray: 4 3 }
 .tag { stroke: #33507a; stroke-width: .6 }
-table { border-collapse: collapse } td, th { border: 1px solid #d5dae3; padding: .25rem .6rem; text-align: left; vertical-align: top }
-pre, code { font: 12.5px/1.4 ui-monospace, "DejaVu Sans Mono", monospace } pre { background: #f5f7fa; padding: .6rem; overflow-x: auto }
+table { border-collapse: collapse }
+td, th { border: 1px solid #d5dae3; padding: .25rem .6rem; text-align: left; vertical-align: top }
+pre, code { font: 12.5px/1.4 ui-monospace, "DejaVu Sans Mono", monospace }
+pre { background: #f5f7fa; padding: .6rem; overflow-x: auto }
 """
 
 
@@ -79,15 +83,19 @@ def middle(spot: Spot) -> float:
 def shade(level: int, highest: int) -> str:
     """The colour of a level: the higher the darker."""
     part = level / highest if highest else 0
-    return "#%02x%02x%02x" % tuple(round(low + (high - low) * part) for low, high in ((0xf0, 0x9f), (0xf4, 0xd3), (0xfa, 0xb4)))
+    ends = ((0xf0, 0x9f), (0xf4, 0xd3), (0xfa, 0xb4))
+    return "#%02x%02x%02x" % tuple(round(low + (high - low) * part) for low, high in ends)
 
 
 def svg_of(proof: Proof, picture: Picture) -> Iterator[str]:
     spots = layout(proof, picture)
-    width, height = (max(getattr(it, near) + getattr(it, far) for it in spots.values()) + PAD for near, far in (("left", "width"), ("top", "height")))
-    yield f'<svg xmlns="http://www.w3.org/2000/svg" width="{width:.0f}" height="{height:.0f}" viewBox="0 0 {width:.0f} {height:.0f}" role="img">'
+    width = max(it.left + it.width for it in spots.values()) + PAD
+    height = max(it.top + it.height for it in spots.values()) + PAD
+    yield (f'<svg xmlns="http://www.w3.org/2000/svg" width="{width:.0f}" height="{height:.0f}" '
+           f'viewBox="0 0 {width:.0f} {height:.0f}" role="img">')
     yield f"<title>{escape(f'Why POLICY has {proof.name}')}</title>"
-    yield '<defs><marker id="tip" markerWidth="9" markerHeight="8" refX="8" refY="4" orient="auto"><path d="M0,0 L9,4 L0,8 z" fill="#33507a"/></marker></defs>'
+    yield ('<defs><marker id="tip" markerWidth="9" markerHeight="8" refX="8" refY="4" orient="auto">'
+           '<path d="M0,0 L9,4 L0,8 z" fill="#33507a"/></marker></defs>')
     for edge in picture.edges:
         yield path_of(edge, spots)
     for key, box in picture.boxes.items():
@@ -99,7 +107,7 @@ def svg_of(proof: Proof, picture: Picture) -> Iterator[str]:
 
 
 def ends_of(edge: Edge, spots: Dict[str, Spot]) -> Tuple[float, float, float, float]:
-    """Where an edge begins, on top of a box, and where it ends, under another; the other way round where that one stands lower."""
+    """Where an edge begins, on top of a box, and ends, under another; the other way round where that stands lower."""
     start, end = spots[edge.start], spots[edge.end]
     if end.top > start.top:
         return middle(start), start.top + start.height, middle(end), end.top
@@ -119,7 +127,8 @@ def tag_of(proof: Proof, edge: Edge, spots: Dict[str, Spot]) -> Iterator[str]:
     name = proof.level(edge.level)
     name = name if len(name) <= 10 else name[:9] + "…"
     width, across, down = len(name) * CHARACTER + 8, (x + to_x) / 2, (y + to_y) / 2
-    yield f'<rect class="tag" x="{across - width / 2:.1f}" y="{down - 9:.1f}" width="{width:.1f}" height="18" rx="4" fill="{shade(edge.level, proof.highest)}"/>'
+    yield (f'<rect class="tag" x="{across - width / 2:.1f}" y="{down - 9:.1f}" width="{width:.1f}" height="18" rx="4" '
+           f'fill="{shade(edge.level, proof.highest)}"/>')
     yield f'<text x="{across:.1f}" y="{down + 4:.1f}" text-anchor="middle">{escape(name)}</text>'
 
 
@@ -127,36 +136,36 @@ def box_of(proof: Proof, box: Box, spot: Spot) -> Iterator[str]:
     round_corners = 3 if box.sort == "credential" else 14
     fill = f' fill="{shade(box.level, proof.highest)}"' if box.sort in ("requester", "principal") else ""
     yield f"<g><title>{escape(box.whole)}</title>"
-    yield (f'<rect class="{box.sort}" x="{spot.left:.1f}" y="{spot.top:.1f}" width="{spot.width:.1f}" height="{spot.height:.1f}" '
-           f'rx="{round_corners}"{fill}/>')
+    yield (f'<rect class="{box.sort}" x="{spot.left:.1f}" y="{spot.top:.1f}" width="{spot.width:.1f}" '
+           f'height="{spot.height:.1f}" rx="{round_corners}"{fill}/>')
     for at, line in enumerate(lines_of(proof, box)):
         look = ' class="head"' if at == 0 else ""
-        yield f'<text{look} xml:space="preserve" x="{spot.left + PAD:.1f}" y="{spot.top + PAD + 12 + at * LINE:.1f}">{escape(line)}</text>'
+        down = spot.top + PAD + 12 + at * LINE
+        yield f'<text{look} xml:space="preserve" x="{spot.left + PAD:.1f}" y="{down:.1f}">{escape(line)}</text>'
     yield "</g>"
 
 
 def page_of(proof: Proof, picture: Picture) -> str:
     """The whole page. It asks for nothing: no script, no other file, no network."""
-    from .drawing import printable
-
-    title = escape(printable(f"POLICY has {proof.name}"))
+    head = f"POLICY has {proof.name}"
+    title = escape(printable(head if proof.verdict.startswith("PROVED ") else f"Not proved by these files: {head}"))
+    values, verdict = escape(printable(",".join(proof.question.values))), escape(printable(proof.verdict))
     lines = [
         '<!DOCTYPE html>', '<html lang="en"><head><meta charset="utf-8">',
         '<meta http-equiv="Content-Security-Policy" content="default-src \'none\'; style-src \'unsafe-inline\'">',
         f"<title>{title}</title><style>{STYLE}</style></head><body>", f"<h1>{title}</h1>",
-        f"<p>It is value {proof.index} of {escape(printable(','.join(proof.question.values)))}, by version {proof.version} of the credentials. "
-        f"<code>keynoted check</code> says of the rows: <code>{escape(printable(proof.verdict))}</code>.</p>",
+        f"<p>It is value {proof.index} of {values}, by version {proof.version} of the credentials. "
+        f"<code>keynoted check</code> says of the rows: <code>{verdict}</code>.</p>",
         '<div class="picture">', *svg_of(proof, picture), "</div>",
-        "<p>A thick border marks who asks and so has the highest value; a box with a text is an assertion, which gives its authorizer "
-        "the value on its arrow; what is dashed brought nothing.</p>", "<h2>The rows, in their order</h2>", *table_of(proof),
+        "<p>A thick border marks who asks and so has the highest value; a box with a text is an assertion, which gives "
+        "its authorizer the value on its arrow; what is dashed brought nothing.</p>",
+        "<h2>The rows, in their order</h2>", *table_of(proof),
         "<h2>The assertions</h2>", *texts_of(proof), "</body></html>",
     ]
     return "\n".join(lines)
 
 
 def table_of(proof: Proof) -> Iterator[str]:
-    from .drawing import printable
-
     yield "<table><tr><th>row</th><th>principal</th><th>has</th><th>by</th></tr>"
     for at, row in enumerate(proof.rows, 1):
         who, level = printable(row.principal.decode("utf-8", "replace")), printable(proof.level(row.level))
@@ -165,11 +174,21 @@ def table_of(proof: Proof) -> Iterator[str]:
 
 
 def texts_of(proof: Proof) -> Iterator[str]:
-    from .drawing import printable
-
     for row in proof.rows:
         part = proof.parts.get(row.id)
         if part:
             place = printable(part.place(0))
-            text = "\n".join(printable(it.replace("\t", "    ")) for it in part.text.decode("utf-8", "replace").split("\n"))
+            lines = part.text.decode("utf-8", "replace").replace("\t", "    ").split("\n")
+            text = "\n".join(printable(it) for it in lines)
             yield f"<p>{escape(row.id)}, {escape(place)}</p><pre>{escape(text)}</pre>"
+
+
+def run_drawing(args: argparse.Namespace) -> int:
+    """Draws the last VALUE reply of an output: the words are POLICY SCRIPT [OUTPUT], else standard input is one."""
+    if not 2 <= len(args.line) <= 3:
+        raise ValueError("a picture wants POLICY SCRIPT [OUTPUT], as check does")
+    output = read_file(args.line[2]) if len(args.line) == 3 else sys.stdin.buffer.read()
+    proof = Proof(args.line[0], args.line[1], output)
+    text = "\n".join(dot_of(proof)) if args.picture == "dot" else page_of(proof, picture_of(proof))
+    sys.stdout.buffer.write(text.encode("utf-8", "replace") + b"\n")
+    return 0

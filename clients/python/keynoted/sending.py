@@ -7,7 +7,7 @@ import sys
 from typing import Callable, Iterator
 
 from .connection import Connection
-from .linting import BLOCK, requests_of
+from .parts import BLOCK, requests_of
 from .wire import ANY, Request
 
 

@@ -1,9 +1,9 @@
 """Which assertions stand nearest to a higher answer, and what each of them lacks.
 
 Nothing is decided here: each fact is an answer of the program to a hypothetical question. A private assertion by a new
-principal, which nobody licenses, changes nothing else; its level stands in the rows of the proof, which name whoever has a
-value above the lowest. So the program says what the conditions of an assertion give by themselves, what its licensees have,
-whether a test is true, and what the answer would be if what lacks were there.
+principal, which nobody licenses, changes nothing else; its level stands in the rows of the proof, which name whoever
+has a value above the lowest. So the program says what the conditions of an assertion give by themselves, what its
+licensees have, whether a test is true, and what the answer would be if what lacks were there.
 """
 
 from __future__ import annotations
@@ -14,7 +14,7 @@ from typing import Dict, Iterator, List, Mapping, NamedTuple, Optional, Sequence
 from .answers import Answer
 from .connection import Connection, start
 from .errors import Refusal
-from .linting import Part, normal, parts_of, words
+from .parts import Part, normal, parts_of, words
 from .trees import Clause, Node
 from .wire import Text
 
@@ -43,14 +43,15 @@ class Way(NamedTuple):
 
 
 class Inquiry:
-    """Hypothetical questions about one query: who asks, its attributes and its values, over the assertions of a policy."""
+    """Hypothetical questions about one query, by its requesters, attributes and values, over a policy's assertions."""
 
-    def __init__(self, daemon: Connection, parts: Sequence[Part], requesters: Sequence[str], attributes: Mapping[Text, Text],
-                 values: Sequence[str]) -> None:
+    def __init__(self, daemon: Connection, parts: Sequence[Part], requesters: Sequence[str],
+                 attributes: Mapping[Text, Text], values: Sequence[str]) -> None:
         self.daemon, self.attributes, self.values = daemon, attributes, tuple(values)
         self.requesters = [normal(it.encode("utf-8", "surrogateescape")) for it in requesters]
+        known = {who for part in parts for number in (1, 5) for _, who in part.principals(number)}
         self.prefix = b"why"
-        while any(who.startswith(self.prefix) for part in parts for number in (1, 5) for _, who in part.principals(number)):
+        while any(who.startswith(self.prefix) for who in known):
             self.prefix += b"?"
         # the assertions by their numbers, but those whose copies with other principals might be too long
         longest = max((4 * len(it) for it in self.requesters), default=0)
@@ -85,7 +86,8 @@ class Inquiry:
 
 def quoted(principal: bytes) -> bytes:
     """The literal of a principal."""
-    return b'"' + b"".join(bytes([it]) if 32 <= it < 127 and it not in b'"\\' else b"\\%03o" % it for it in principal) + b'"'
+    spelled = (bytes([it]) if 32 <= it < 127 and it not in b'"\\' else b"\\%03o" % it for it in principal)
+    return b'"' + b"".join(spelled) + b'"'
 
 
 def assertion(part: Part, authorizer: bytes, body: bytes) -> bytes:
@@ -112,7 +114,7 @@ def source(part: Part, node: Node) -> bytes:
 
 
 def nearest(inquiry: Inquiry, index: int) -> List[Near]:
-    """The assertions that lack something for more than this value: first those that lack the fewest requesters, then tests."""
+    """The assertions that lack something for more than this value: those first that lack the fewest requesters."""
     found = []
     given = given_by_conditions(inquiry)
     for number, part in inquiry.parts.items():
@@ -180,12 +182,12 @@ def lacking(part: Part, node: Node, held: Dict[Tuple[int, int, str], bool]) -> T
 
 
 def lacking_tests(inquiry: Inquiry, part: Part, given: int, index: int) -> Tuple[Optional[Tuple[Node, ...]], str]:
-    """The tests that lack for a value above this, by the way with the fewest, and that in words; none where no way leads there."""
+    """The tests that lack for a value above this, by the way with the fewest, and in words; none where no way is."""
     if given > index:
         return (), ""
     ways = list(ways_of(part.clauses))
-    valued = [it for it in ways if it.value]
-    levels = iter(inquiry.levels([(part, conditions(inquiry, b"true -> " + source(part, it.value))) for it in valued if it.value]))
+    bodies = [b"true -> " + source(part, it.value) for it in ways if it.value]
+    levels = iter(inquiry.levels([(part, conditions(inquiry, it)) for it in bodies]))
     ways = [it for it in ways if it.value is None or next(levels) > index]
     tests = [test for way in ways for test in way.tests]
     truths = iter(inquiry.levels([(part, conditions(inquiry, source(part, it))) for it in tests]))
@@ -209,8 +211,8 @@ def ways_of(clauses: Sequence[Clause], before: Tuple[Node, ...] = ()) -> Iterato
 
 def failing(inquiry: Inquiry, part: Part, test: Node) -> List[str]:
     """Why a test isn't true, by the attributes that it names: those that aren't set, or what they are."""
-    names = list(dict.fromkeys(words(it.text) for it in test.walk() if it.sign == "name" and it.text not in part.constants))
-    names = [it for it in names if not it.startswith("_")]
+    leaves = [it.text for it in test.walk() if it.sign == "name" and it.text not in part.constants]
+    names = [words(it) for it in dict.fromkeys(leaves) if not it.startswith(b"_")]
     unset = [f"{it} isn't set" for it in names if it not in inquiry.attributes]
     if unset:
         return unset
@@ -223,7 +225,9 @@ def tell(inquiry: Inquiry, index: int, most: int) -> Iterator[str]:
     found = nearest(inquiry, index)
     for it in found[:most]:
         place = it.part.place(0)
-        more = f"with that the answer would be {inquiry.values[it.reached]}" if it.reached > index else "that alone isn't enough"
+        more = "that alone isn't enough"
+        if it.reached > index:
+            more = f"with that the answer would be {inquiry.values[it.reached]}"
         yield f"a{it.number}, {place}: {it.what}; {more}"
     if not found:
         yield "no assertion gives more to whoever requests"
@@ -249,7 +253,7 @@ def run_why(args: argparse.Namespace) -> int:
 
 
 def add_commands(commands: argparse._SubParsersAction[argparse.ArgumentParser]) -> None:
-    why = commands.add_parser("why", help="tells what lacks for a higher answer: 0 nothing lacks, 1 something, 2 an error")
+    why = commands.add_parser("why", help="tells what lacks for a higher answer: 0 nothing, 1 something, 2 an error")
     why.add_argument("policy", help="the policy file")
     why.add_argument("--auth", action="append", default=[], metavar="PRINCIPAL", help="who asks")
     why.add_argument("--set", action="append", default=[], metavar="NAME=VALUE", help="an attribute of the action")
