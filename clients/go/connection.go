@@ -12,7 +12,7 @@
 // Nothing is decided here: each answer is the daemon's. An answer is compared by its index and never by its name. What
 // would be read as another request is refused before it is sent. Never take an error for a yes.
 //
-// A connection may be used by several goroutines: an exchange, which is a request with its whole reply, is never parted.
+// Goroutines may share a connection: an exchange, which is what is sent at once with its whole reply, is never parted.
 // One that is interrupted ends the connection, since its reply would be taken for that of the next request.
 package keynoted
 
@@ -43,6 +43,11 @@ const (
 type Connection struct {
 	// Timeout holds for each exchange; set it before the first one. 0 is DefaultTimeout, and a negative one is no limit.
 	Timeout time.Duration
+
+	// Order is all values that are ever asked for, the lowest first; set it before the first query. Where there is one,
+	// a query whose values aren't in this order, or don't begin with its lowest, is refused, and one without values has
+	// all of them.
+	Order []string
 
 	mutex   sync.Mutex // held during a whole exchange
 	reader  *bufio.Reader
@@ -86,7 +91,7 @@ func max(a, b time.Duration) time.Duration {
 	return b
 }
 
-// Start starts a daemon of one's own, with pipes to it, over this policy file and, where keys isn't empty, this key file.
+// Start starts a daemon of one's own, with pipes to it, over this policy file and this key file, if keys isn't empty.
 // The program is $KEYNOTED, or keynoted on PATH.
 func Start(policy, keys string) (*Connection, error) {
 	program := os.Getenv("KEYNOTED")

@@ -244,6 +244,26 @@ func TestAnswersGoByTheirIndex(t *testing.T) {
 	}
 }
 
+func TestAnOrderOfValuesIsKept(t *testing.T) {
+	daemon := started(t, policy)
+	session := opened(t, daemon)
+	daemon.Order = []string{"no", "log", "yes"}
+	for _, values := range [][]string{{"yes", "no"}, {"log", "yes"}, {"no", "yes", "log"}, {"no", "maybe"}, {"no", "no"}} {
+		_, asked := daemon.Ask(context.Background(), Question{Values: values})
+		_, queried := session.Query(values...)
+		if !errors.Is(asked, WrongArgument) || !errors.Is(queried, WrongArgument) {
+			t.Error(values, asked, queried)
+		}
+	}
+	for wanted, values := range map[int][]string{3: nil, 2: {"no", "yes"}} {
+		answer, err := daemon.Ask(context.Background(), Question{Principals: []string{"alice"}, Values: values})
+		check(t, err)
+		if len(answer.Values) != wanted || answer.Name() != "yes" {
+			t.Error(values, answer)
+		}
+	}
+}
+
 func TestGoroutinesShareAConnection(t *testing.T) {
 	daemon := started(t, policy)
 	values := []string{"no", "yes"}

@@ -22,14 +22,18 @@ type Question struct {
 // question is left for the next. The first refusal of one of its requests is the error. A context that ends while the
 // replies are awaited ends the connection.
 func (connection *Connection) Ask(ctx context.Context, question Question) (*Answer, error) {
-	number, requests, err := 0, []string(nil), error(nil)
+	values, err := connection.orderOf(question.Values)
+	if err != nil {
+		return nil, err
+	}
+	question.Values = values
+	var requests []string
 	var answer *Answer
 	err = connection.exchangeMade(ctx, func() (string, error) {
-		number = connection.opened + 1
-		requests, err = question.requests(number)
+		requests, err = question.requests(connection.opened + 1)
 		return strings.Join(requests, ""), err
 	}, func() error {
-		answer, err = connection.readQuestion(len(requests), question.Values)
+		answer, err = connection.readQuestion(len(requests), values)
 		return err
 	})
 	if err != nil {
@@ -38,8 +42,8 @@ func (connection *Connection) Ask(ctx context.Context, question Question) (*Answ
 	return answer, nil
 }
 
-// readQuestion reads the replies to the requests of a question: to OPEN, to those that name what it depends on, to QUERY,
-// and to CLOSE. All are read, also where one is a refusal, and the first that isn't as it should be is the error.
+// readQuestion reads the replies to the requests of a question: to OPEN, to those that name what it depends on, to
+// QUERY, and to CLOSE. All are read, also where one is a refusal, and the first that isn't OK is the error.
 func (connection *Connection) readQuestion(count int, values []string) (answer *Answer, first error) {
 	for at := 0; at < count; at++ {
 		var err error

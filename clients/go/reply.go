@@ -42,7 +42,7 @@ type Answer struct {
 // Name is the name of the value. Compare by AtLeast.
 func (answer *Answer) Name() string { return answer.Values[answer.Index] }
 
-// AtLeast says whether the answer is this value of the query or a higher one; an error where the query has no such value.
+// AtLeast says whether the answer is this value of the query or a higher one; it fails for a value of no such name.
 func (answer *Answer) AtLeast(value string) (bool, error) {
 	for index, name := range answer.Values {
 		if name == value {

@@ -83,6 +83,10 @@ func (session *Session) Retract(id string) error { return session.expectOK("RETR
 
 // Query asks for the policy's value among these, of which the lowest is the first.
 func (session *Session) Query(values ...string) (*Answer, error) {
+	values, err := session.connection.orderOf(values)
+	if err != nil {
+		return nil, err
+	}
 	line, err := queryOf(session.Number, values)
 	if err != nil {
 		return nil, err
@@ -93,6 +97,31 @@ func (session *Session) Query(values ...string) (*Answer, error) {
 		return err
 	})
 	return answer, err
+}
+
+// orderOf are the values of a query, where they are in the connection's order.
+func (connection *Connection) orderOf(values []string) ([]string, error) {
+	order := connection.Order
+	if len(order) == 0 {
+		return values, nil
+	}
+	if len(values) == 0 {
+		return order, nil
+	}
+	rest := order
+	for _, value := range values {
+		for len(rest) > 0 && rest[0] != value {
+			rest = rest[1:]
+		}
+		if len(rest) == 0 {
+			return nil, wrongArgument("the values %q aren't in the order %q", values, order)
+		}
+		rest = rest[1:]
+	}
+	if values[0] != order[0] {
+		return nil, wrongArgument("the values %q don't begin with the lowest, %q", values, order[0])
+	}
+	return values, nil
 }
 
 func queryOf(number int, values []string) (string, error) {
