@@ -9,8 +9,7 @@ import subprocess
 import sys
 import xml.etree.ElementTree
 
-import keynoted
-from keynoted import drawing, linting, pages, trees, why
+from keynoted import drawing, linting, pages, parts, trees, why
 from tests_room import CREDENTIAL, HERE, POLICY, PROGRAM, TOP, Room
 
 CHROMIUM = shutil.which("chromium") or shutil.which("chromium-browser") or shutil.which("google-chrome")
@@ -153,7 +152,7 @@ class Trees(Room):
             name = os.path.join(root, "p.kn")
             if "p.kn" not in names or self.daemon_line(linting.read_file(name)):
                 continue
-            for part in linting.parts_of(name):
+            for part in parts.parts_of(name):
                 for number, tree in ((5, part.formula), (3, part.clauses)):
                     field = part.field(number)
                     if field and any(it.text != b";" for it in field.tokens):
@@ -164,7 +163,7 @@ class Trees(Room):
     def test_a_long_chain_is_no_deep_tree(self):
         self.write("policy.kn", POLICY + b"Conditions: " + b"1+" * 5000 + b"1 == @x;\n")
         self.assertEqual(linting.lint("policy.kn"), [])
-        self.assertEqual(len(list(trees.nodes_of(linting.parts_of("policy.kn")[0].clauses))), 5005)
+        self.assertEqual(len(list(trees.nodes_of(parts.parts_of("policy.kn")[0].clauses))), 5005)
 
 
 class Whys(Room):
@@ -217,11 +216,10 @@ class Whys(Room):
             parts = [self.generated(draw, names, "POLICY" if at < 2 else draw.choice(names)) for at in range(8)]
             self.write("policy.kn", "\n".join(parts).encode())
             asking = draw.sample(names, 2)
-            with keynoted.start("policy.kn") as daemon:
-                inquiry = why.Inquiry(daemon, linting.parts_of("policy.kn"), asking, {"x": "1"}, ["no", "log", "yes"])
+            with why.Inquiry("policy.kn", asking, {"x": "1"}, ["no", "log", "yes"]) as inquiry:
                 index = inquiry.ask().index
                 for near in why.nearest(inquiry, index) if index < 2 else ():
-                    answer = daemon.ask([*asking, *near.principals], {"x": "1"}, ["no", "log", "yes"])
+                    answer = inquiry.ask(requesters=near.principals)
                     authorizer = next(who for _, who in near.part.principals(1))
                     held = {row.principal: row.level for row in answer.rows}
                     held.update({who.encode(): 2 for who in asking})

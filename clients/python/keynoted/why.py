@@ -12,15 +12,16 @@ import argparse
 from typing import Dict, Iterator, List, Mapping, NamedTuple, Optional, Sequence, Tuple
 
 from .answers import Answer
+from .arguments import Text
 from .connection import Connection, start
 from .errors import Refusal
 from .parts import Part, normal, parts_of, words
 from .trees import Clause, Node
-from .wire import Text
 
 PROBES = 48  # private assertions of one question: a session has at most 64
 PROBE_BYTES = 131072  # of their texts: a session has at most 262,144
 TEXT_BYTES = 16384
+ROOM = 1000  # requests that one question has at most
 COUNTS = ("no", "one", "two", "three", "four", "five", "six", "seven", "eight", "nine")
 
 
@@ -45,9 +46,11 @@ class Way(NamedTuple):
 class Inquiry:
     """Hypothetical questions about one query, by its requesters, attributes and values, over a policy's assertions."""
 
-    def __init__(self, daemon: Connection, parts: Sequence[Part], requesters: Sequence[str],
-                 attributes: Mapping[Text, Text], values: Sequence[str]) -> None:
-        self.daemon, self.attributes, self.values = daemon, attributes, tuple(values)
+    def __init__(self, policy: str, requesters: Sequence[str], attributes: Mapping[Text, Text],
+                 values: Sequence[str]) -> None:
+        self.policy, self.attributes, self.values = policy, attributes, tuple(values)
+        self.daemon: Connection = start(policy, loading=None)
+        parts = parts_of(policy)
         self.requesters = [normal(it.encode("utf-8", "surrogateescape")) for it in requesters]
         known = {who for part in parts for number in (1, 5) for _, who in part.principals(number)}
         self.prefix = b"why"
@@ -57,8 +60,17 @@ class Inquiry:
         longest = max((4 * len(it) for it in self.requesters), default=0)
         self.parts = {at: it for at, it in enumerate(parts, 1) if len(it.text) + longest + 64 <= TEXT_BYTES}
 
+    def __enter__(self) -> Inquiry:
+        return self
+
+    def __exit__(self, *_: object) -> None:
+        self.daemon.close()
+
     def ask(self, private: Sequence[bytes] = (), requesters: Sequence[bytes] = ()) -> Answer:
         """The program's answer with these private assertions and further requesters."""
+        if self.daemon.left() < ROOM:
+            self.daemon.close()
+            self.daemon = start(self.policy, loading=None)
         return self.daemon.ask([*self.requesters, *requesters], self.attributes, self.values, private)
 
     def levels(self, bodies: Sequence[Tuple[Part, bytes]]) -> List[int]:
@@ -117,9 +129,12 @@ def nearest(inquiry: Inquiry, index: int) -> List[Near]:
     """The assertions that lack something for more than this value: those first that lack the fewest requesters."""
     found = []
     given = given_by_conditions(inquiry)
+    formulas = {at: it.formula for at, it in inquiry.parts.items() if it.formula}
+    bodies = [(inquiry.parts[at], licensees(source(inquiry.parts[at], it))) for at, it in formulas.items()]
+    reached = {**dict.fromkeys(inquiry.parts, 0), **dict(zip(formulas, inquiry.levels(bodies)))}
     for number, part in inquiry.parts.items():
         tests, told = lacking_tests(inquiry, part, given[number], index)
-        who, named = lacking_licensees(inquiry, part, index)
+        who, named = lacking_licensees(inquiry, part, index) if reached[number] <= index else ((), "")
         if tests is not None and (tests or who):
             what = "; ".join(it for it in (told, named) if it)
             found.append(Near(number, part, who, tests, what, hypothetical(inquiry, part, who, bool(tests))))
@@ -159,8 +174,6 @@ def lacking_licensees(inquiry: Inquiry, part: Part, index: int) -> Tuple[Tuple[b
     nodes = list(part.formula.walk())
     levels = inquiry.levels([(part, licensees(source(part, it))) for it in nodes])
     held = {(it.start, it.end, it.sign): level > index for it, level in zip(nodes, levels)}
-    if held[part.formula.start, part.formula.end, part.formula.sign]:
-        return (), ""
     who, told, several = lacking(part, part.formula, held)
     return who, f"{told} {'are' if several else 'is'} missing"
 
@@ -239,8 +252,7 @@ def run_why(args: argparse.Namespace) -> int:
     """Asks once, and tells what lacks where the answer is below the value that is wanted."""
     values = args.values.split(",")
     attributes: Dict[Text, Text] = dict(pair.partition("=")[::2] for pair in args.set)
-    with start(args.policy, loading=None) as daemon:
-        inquiry = Inquiry(daemon, parts_of(args.policy), args.auth, attributes, values)
+    with Inquiry(args.policy, args.auth, attributes, values) as inquiry:
         answer = inquiry.ask()
         print(f"answer: {answer.name}, which is {answer.index} of {args.values}")
         enough = answer.at_least(args.at_least or values[-1])
