@@ -247,13 +247,18 @@ func (connection *Connection) exchange(ctx context.Context, requests string, rea
 // exchangeMade writes requests, which are made when the connection is free for them, and has `read` read the whole of
 // their replies. While it goes on the connection counts as ended, so that one which is interrupted, in whatever way, is
 // never used again. Refusals leave it open.
-func (connection *Connection) exchangeMade(ctx context.Context, make func() (string, error), read func() error) error {
+func (connection *Connection) exchangeMade(
+	ctx context.Context, compose func() (string, error), read func() error,
+) error {
 	connection.mutex.Lock()
 	defer connection.mutex.Unlock()
+	if !connection.ended && connection.reader.Buffered() > 0 {
+		connection.end() // what came unasked would be taken for a reply
+	}
 	if connection.ended {
 		return LinkEnded
 	}
-	requests, err := make()
+	requests, err := compose()
 	if err == nil {
 		err = ctx.Err()
 	}
@@ -294,6 +299,9 @@ func (connection *Connection) limit(ctx context.Context) (stop func()) {
 		deadline = time.Now().Add(timeout)
 	}
 	connection.setDeadline(deadline)
+	if ctx.Done() == nil {
+		return func() {}
+	}
 	over, left := make(chan struct{}), make(chan struct{})
 	go func() {
 		defer close(left)
