@@ -13,6 +13,7 @@ import (
 	"os"
 	"os/exec"
 	"path/filepath"
+	"sort"
 	"strings"
 	"sync"
 	"testing"
@@ -295,14 +296,31 @@ func TestGoroutinesShareAConnection(t *testing.T) {
 	group.Wait()
 }
 
+// timeOfOne is how long the first question to a new daemon takes, in the middle of some.
+func timeOfOne(t *testing.T, path string) time.Duration {
+	t.Helper()
+	times := make([]time.Duration, 9)
+	for at := range times {
+		daemon, err := Start(path, "")
+		check(t, err)
+		start := time.Now()
+		_, err = daemon.Ask(context.Background(), Question{Values: []string{"no", "yes"}})
+		check(t, err)
+		times[at] = time.Since(start)
+		daemon.Close()
+	}
+	sort.Slice(times, func(a, b int) bool { return times[a] < times[b] })
+	return times[len(times)/2]
+}
+
 func TestAnInterruptedExchangeEndsTheConnection(t *testing.T) {
 	path := write(t, "p.kn", policy)
 	program(t)
-	interrupted, answered, values := 0, 0, []string{"no", "yes"}
+	interrupted, answered, values, longest := 0, 0, []string{"no", "yes"}, 2*timeOfOne(t, path)
 	for round := 0; round < 1000; round++ {
 		daemon, err := Start(path, "")
 		check(t, err)
-		ctx, cancel := context.WithTimeout(context.Background(), time.Duration(rand.Intn(6000))*time.Microsecond)
+		ctx, cancel := context.WithTimeout(context.Background(), time.Duration(rand.Int63n(int64(longest))))
 		_, err = daemon.Ask(ctx, Question{Principals: []string{"alice"}, Values: values})
 		cancel()
 		if errors.Is(err, LinkEnded) {
@@ -319,7 +337,7 @@ func TestAnInterruptedExchangeEndsTheConnection(t *testing.T) {
 		}
 		daemon.Close()
 	}
-	if interrupted < 50 || answered < 50 {
+	if interrupted < 20 || answered < 20 {
 		t.Fatal(interrupted, answered)
 	}
 }
