@@ -102,7 +102,9 @@ class Warnings(Room):
             self.assertTrue(any(line.startswith(told) for line in self.lint(policy, script)), (told, self.lint(policy, script)))
 
     def test_what_is_meant_is_passed(self):
-        self.assertEqual(self.lint(POLICY + b'Conditions: true -> _MAX_TRUST; $("a") == "b" -> "yes";\n', b"OPEN\r\nQUERY 1 no,yes\r\n"), [])
+        for conditions in (b"true -> _MAX_TRUST", b'$("a") == "b" -> "yes"'):
+            policy = POLICY + b"Conditions: " + conditions + b";\n"
+            self.assertEqual(self.lint(policy, b"OPEN\r\nQUERY 1 no,yes\r\n"), [])
         self.assertEqual(self.lint(POLICY, b"OPEN\nASSERT 1 37\n" + CREDENTIAL + b"\nAUTH 1 bob\nQUERY 1 no,yes"), [])
 
     def test_all_examples_pass(self):
