@@ -208,6 +208,13 @@ class Whys(Room):
         self.assertIn("a2, policy.kn:4:1: its conditions give none with these attributes; a isn't set; b isn't set; "
                       "with that the answer would be write\n1 more", out)
 
+    def test_what_is_not_enough_comes_last(self):
+        policy = ('Authorizer: "a"\nLicensees: "x"\nConditions: k == "1";\n\n'
+                  'Authorizer: "POLICY"\nLicensees: "c" && "d"\n')
+        lines = self.why(policy, "--auth", "x", "--values", "no,yes")[1].splitlines()
+        self.assertEqual([it[:2] for it in lines], ["an", "a2", "a1"])
+        self.assertTrue(lines[2].endswith("k isn't set; that alone isn't enough"), lines)
+
     def test_what_is_missing_is_enough(self):
         """Where no test is missing, the program gives the assertion more once the named principals ask too."""
         draw, tried = random.Random(7), 0
@@ -298,7 +305,9 @@ class Pictures(Room):
         edges = {(it.start, it.end): it.level for it in picture.edges}
         self.assertEqual(edges["panna", "ca2"], 2)
         self.assertEqual((edges["ca2", "pa"], edges["pa", "ca1"], edges["ca1", "pPOLICY"]), (2, 2, 1))
-        self.assertEqual(edges["powner", "ca1"], 0)
+        self.assertEqual((edges["powner", "ca1"], edges["pb<script>document.title='x'</script>", "ca1"]), (0, 1))
+        self.assertIn(b"nobody", [row.principal for row in proof.rows])
+        self.assertNotIn("pnobody", picture.boxes)  # POLICY's value doesn't lean on it
         asking = {key for key, box in picture.boxes.items() if box.sort == "requester"}
         self.assertEqual(asking, {"panna", "pben\x1b[31m", "pcarl"})
         spots = list(pages.layout(proof, picture).values())
@@ -307,6 +316,16 @@ class Pictures(Room):
                 apart = one.left + one.width <= other.left or other.left + other.width <= one.left
                 above = one.top + one.height <= other.top or other.top + other.height <= one.top
                 self.assertTrue(apart or above, (one, other))
+
+    def test_the_last_query_of_a_script_is_meant(self):
+        script = (b"OPEN\nOPEN\nAUTH 2 carl\nAUTH 1 bob\nAUTH 1 RSA-HEX:AB\nUNAUTH 1 rsa-hex:ab\nQUERY 2 a,b\nCLEAR 2\n"
+                  b"AUTH 2 x\nASSERT 1 37\n" + CREDENTIAL + b"\nQUERY 1 no,yes\nAUTH 1 later\n")
+        page = self.picture("--html", POLICY, script)
+        self.assertIn("<h1>POLICY has yes</h1>", page)
+        self.assertIn("<td>alice</td><td>yes</td><td>p1</td>", page)
+        question = drawing.question_of("script")
+        self.assertEqual((question.requesters, question.values), ([b"bob"], ["no", "yes"]))
+        self.assertEqual(list(question.private), ["p1"])
 
     def test_dot(self):
         text = self.picture("--dot")
