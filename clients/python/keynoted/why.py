@@ -9,7 +9,7 @@ licensees have, whether a test is true, and what the answer would be if what lac
 from __future__ import annotations
 
 import argparse
-from typing import Dict, Iterator, List, Mapping, NamedTuple, Optional, Sequence, Tuple
+from typing import Dict, Iterable, Iterator, List, Mapping, NamedTuple, Optional, Sequence, Tuple
 
 from .answers import Answer
 from .arguments import Text
@@ -25,14 +25,20 @@ ROOM = 1000  # requests that one question has at most
 COUNTS = ("no", "one", "two", "three", "four", "five", "six", "seven", "eight", "nine")
 
 
-class Near(NamedTuple):
-    """An assertion, what it lacks, and the index that the answer would have with that."""
+class Lack(NamedTuple):
+    """An assertion by its number in the file, and what it lacks: requesters, tests, and both in words."""
 
-    number: int  # among the assertions of the file, from 1
+    number: int
     part: Part
     principals: Tuple[bytes, ...]
     tests: Tuple[Node, ...]
     what: str
+
+
+class Near(NamedTuple):
+    """What an assertion lacks, and the index that the answer would have with that."""
+
+    lack: Lack
     reached: int
 
 
@@ -49,7 +55,6 @@ class Inquiry:
     def __init__(self, policy: str, requesters: Sequence[str], attributes: Mapping[Text, Text],
                  values: Sequence[str]) -> None:
         self.policy, self.attributes, self.values = policy, attributes, tuple(values)
-        self.daemon: Connection = start(policy, loading=None)
         parts = parts_of(policy)
         self.requesters = [normal(it.encode("utf-8", "surrogateescape")) for it in requesters]
         known = {who for part in parts for number in (1, 5) for _, who in part.principals(number)}
@@ -59,6 +64,8 @@ class Inquiry:
         # the assertions by their numbers, but those whose copies with other principals might be too long
         longest = max((4 * len(it) for it in self.requesters), default=0)
         self.parts = {at: it for at, it in enumerate(parts, 1) if len(it.text) + longest + 64 <= TEXT_BYTES}
+        self.known: Dict[bytes, int] = {}
+        self.daemon: Connection = start(policy, loading=None)
 
     def __enter__(self) -> Inquiry:
         return self
@@ -73,27 +80,40 @@ class Inquiry:
             self.daemon = start(self.policy, loading=None)
         return self.daemon.ask([*self.requesters, *requesters], self.attributes, self.values, private)
 
-    def levels(self, bodies: Sequence[Tuple[Part, bytes]]) -> List[int]:
-        """What assertions of these licensees and conditions are worth, each with the constants of its part."""
-        found: List[int] = []
-        for batch in self.batches(bodies):
-            held = {row.principal: row.level for row in self.ask(batch).rows}
-            found += [held.get(self.prefix + b" %d" % at, 0) for at in range(len(batch))]
-        return found
+    def level(self, body: bytes) -> int:
+        """What an assertion is worth whose fields are these, but for its authorizer."""
+        if body not in self.known:
+            self.prepare([body])
+        return self.known[body]
 
-    def batches(self, bodies: Sequence[Tuple[Part, bytes]]) -> Iterator[List[bytes]]:
+    def prepare(self, bodies: Iterable[bytes]) -> None:
+        """Asks what assertions of these fields are worth, many at once."""
         batch: List[bytes] = []
-        for part, body in bodies:
+        for body in dict.fromkeys(it for it in bodies if it not in self.known):
             if len(batch) == PROBES or sum(map(len, batch)) + len(body) > PROBE_BYTES:
-                yield batch
+                self.ask_levels(batch)
                 batch = []
-            batch.append(assertion(part, self.prefix + b" %d" % len(batch), body))
+            batch.append(body)
         if batch:
-            yield batch
+            self.ask_levels(batch)
 
-    def holder(self) -> bytes:
-        """A principal that has the highest value: a requester."""
-        return quoted(self.requesters[0])
+    def ask_levels(self, batch: Sequence[bytes]) -> None:
+        names = [self.prefix + b" %d" % at for at in range(len(batch))]
+        held = {row.principal: row.level for row in self.ask([assertion(*it) for it in zip(names, batch)]).rows}
+        self.known.update({body: held.get(name, 0) for name, body in zip(names, batch)})
+
+    def conditions(self, part: Part, text: bytes) -> bytes:
+        """The fields of conditions by themselves: what a requester has who is licensed under them."""
+        return self.licensees(part, quoted(self.requesters[0])) + b"Conditions: " + text + b"\n"
+
+    @staticmethod
+    def licensees(part: Part, text: bytes) -> bytes:
+        """The fields of licensees by themselves, with the constants of their assertion."""
+        field = part.field(6)
+        constants = b""
+        if field and field.tokens:
+            constants = part.text[field.label.start:field.tokens[-1].end] + b"\n"
+        return constants + b"Licensees: " + text + b"\n"
 
 
 def quoted(principal: bytes) -> bytes:
@@ -102,65 +122,86 @@ def quoted(principal: bytes) -> bytes:
     return b'"' + b"".join(spelled) + b'"'
 
 
-def assertion(part: Part, authorizer: bytes, body: bytes) -> bytes:
-    """An assertion by this principal with the constants of a part."""
-    return constants(part) + b"Authorizer: " + quoted(authorizer) + b"\n" + body
-
-
-def constants(part: Part) -> bytes:
-    field = part.field(6)
-    return part.text[field.label.start:field.tokens[-1].end] + b"\n" if field and field.tokens else b""
-
-
-def licensees(text: bytes) -> bytes:
-    return b"Licensees: " + text + b"\n"
-
-
-def conditions(inquiry: Inquiry, text: bytes) -> bytes:
-    """Conditions by themselves: what a requester has who is licensed under them."""
-    return licensees(inquiry.holder()) + b"Conditions: " + text + b"\n"
+def assertion(authorizer: bytes, body: bytes) -> bytes:
+    return b"Authorizer: " + quoted(authorizer) + b"\n" + body
 
 
 def source(part: Part, node: Node) -> bytes:
     return part.text[node.start:node.end]
 
 
-def nearest(inquiry: Inquiry, index: int) -> List[Near]:
-    """The assertions that lack something for more than this value: those first that lack the fewest requesters."""
-    found = []
-    given = given_by_conditions(inquiry)
-    formulas = {at: it.formula for at, it in inquiry.parts.items() if it.formula}
-    bodies = [(inquiry.parts[at], licensees(source(inquiry.parts[at], it))) for at, it in formulas.items()]
-    reached = {**dict.fromkeys(inquiry.parts, 0), **dict(zip(formulas, inquiry.levels(bodies)))}
+def nearest(inquiry: Inquiry, index: int, most: int) -> Tuple[List[Near], int]:
+    """The assertions that stand nearest to more than this value, at most so many, and how many lack something.
+
+    Those come first with which the answer would be more, of these those that lack the fewest requesters, then tests.
+    """
+    lacks = sorted(lacks_of(inquiry, index), key=lambda it: (len(it.principals), len(it.tests)))
+    enough: List[Near] = []
+    others: List[Near] = []
+    for lack in lacks:
+        near = Near(lack, hypothetical(inquiry, lack))
+        (enough if near.reached > index else others).append(near)
+        if len(enough) == most:
+            break
+    return (enough + others)[:most], len(lacks)
+
+
+def lacks_of(inquiry: Inquiry, index: int) -> Iterator[Lack]:
+    """What each assertion lacks that lacks something which might be there."""
+    prepare(inquiry, index)
     for number, part in inquiry.parts.items():
-        tests, told = lacking_tests(inquiry, part, given[number], index)
-        who, named = lacking_licensees(inquiry, part, index) if reached[number] <= index else ((), "")
+        tests, told = lacking_tests(inquiry, part, index)
+        who, named = lacking_licensees(inquiry, part, index)
         if tests is not None and (tests or who):
-            what = "; ".join(it for it in (told, named) if it)
-            found.append(Near(number, part, who, tests, what, hypothetical(inquiry, part, who, bool(tests))))
-    return sorted(found, key=lambda it: (it.reached <= index, len(it.principals), len(it.tests)))
+            yield Lack(number, part, who, tests, "; ".join(it for it in (told, named) if it))
 
 
-def given_by_conditions(inquiry: Inquiry) -> Dict[int, int]:
-    """What the conditions of each assertion give with these attributes."""
-    bodies = []
-    for part in inquiry.parts.values():
-        field = part.field(3)
-        text = part.text[field.tokens[0].start:field.tokens[-1].end] if field and field.tokens else b""
-        bodies.append((part, conditions(inquiry, text)))
-    return dict(zip(inquiry.parts, inquiry.levels(bodies)))
+def prepare(inquiry: Inquiry, index: int) -> None:
+    """Asks beforehand, in few questions, what the parts of all assertions are worth."""
+    parts = list(inquiry.parts.values())
+    inquiry.prepare(whole_conditions(inquiry, it) for it in parts)
+    inquiry.prepare(inquiry.licensees(it, source(it, it.formula)) for it in parts if it.formula)
+    short = [it for it in parts if inquiry.level(whole_conditions(inquiry, it)) <= index]
+    ways = [(part, way) for part in short for way in ways_of(part.clauses)]
+    inquiry.prepare(value_behind(inquiry, part, way.value) for part, way in ways if way.value)
+    tests = [(part, test) for part, way in ways if gives(inquiry, part, way) > index for test in way.tests]
+    inquiry.prepare(inquiry.conditions(part, source(part, test)) for part, test in tests)
+    away = [it for it in parts if it.formula and not has(inquiry, it, it.formula, index)]
+    nodes = [(part, node) for part in away if part.formula for node in part.formula.walk()]
+    inquiry.prepare(inquiry.licensees(part, source(part, node)) for part, node in nodes)
 
 
-def hypothetical(inquiry: Inquiry, part: Part, who: Sequence[bytes], unconditional: bool) -> int:
-    """The index of the answer if these principals requested too, and if this assertion had no conditions."""
+def whole_conditions(inquiry: Inquiry, part: Part) -> bytes:
+    field = part.field(3)
+    text = part.text[field.tokens[0].start:field.tokens[-1].end] if field and field.tokens else b""
+    return inquiry.conditions(part, text)
+
+
+def value_behind(inquiry: Inquiry, part: Part, value: Node) -> bytes:
+    return inquiry.conditions(part, b"true -> " + source(part, value))
+
+
+def gives(inquiry: Inquiry, part: Part, way: Way) -> int:
+    """The index of the value to which a way leads."""
+    return inquiry.level(value_behind(inquiry, part, way.value)) if way.value else len(inquiry.values) - 1
+
+
+def has(inquiry: Inquiry, part: Part, node: Node, index: int) -> bool:
+    """Whether a formula has more than this value."""
+    return inquiry.level(inquiry.licensees(part, source(part, node))) > index
+
+
+def hypothetical(inquiry: Inquiry, lack: Lack) -> int:
+    """The index of the answer if the missing principals requested too, and the missing tests weren't there."""
+    part = lack.part
     if not part.formula:
         return 0
     authorizer = next(it for _, it in part.principals(1))
     # a private assertion can't be by POLICY, which has what its assertion is worth
     stand_in = inquiry.prefix if authorizer == b"POLICY" else authorizer
-    text = assertion(part, stand_in, licensees(source(part, part.formula)))
+    text = assertion(stand_in, inquiry.licensees(part, source(part, part.formula)))
     try:
-        answer = inquiry.ask([text] if unconditional else [], who)
+        answer = inquiry.ask([text] if lack.tests else [], lack.principals)
     except Refusal:
         return 0  # so many can't request, or POLICY would
     worth = max((row.level for row in answer.rows if row.principal == inquiry.prefix), default=0)
@@ -169,21 +210,18 @@ def hypothetical(inquiry: Inquiry, part: Part, who: Sequence[bytes], uncondition
 
 def lacking_licensees(inquiry: Inquiry, part: Part, index: int) -> Tuple[Tuple[bytes, ...], str]:
     """Principals with whom the licensees have more than this, the fewest, and all ways to that in words."""
-    if not part.formula:
+    if not part.formula or has(inquiry, part, part.formula, index):
         return (), ""
-    nodes = list(part.formula.walk())
-    levels = inquiry.levels([(part, licensees(source(part, it))) for it in nodes])
-    held = {(it.start, it.end, it.sign): level > index for it, level in zip(nodes, levels)}
-    who, told, several = lacking(part, part.formula, held)
+    who, told, several = lacking(inquiry, part, part.formula, index)
     return who, f"{told} {'are' if several else 'is'} missing"
 
 
-def lacking(part: Part, node: Node, held: Dict[Tuple[int, int, str], bool]) -> Tuple[Tuple[bytes, ...], str, bool]:
+def lacking(inquiry: Inquiry, part: Part, node: Node, index: int) -> Tuple[Tuple[bytes, ...], str, bool]:
     """The fewest principals that lack for a formula, what lacks in words, and whether that is more than one."""
     if not node.parts:
         principal = part.principal(node)
         return (principal,), words(principal), False
-    away = [lacking(part, it, held) for it in node.parts if not held[it.start, it.end, it.sign]]
+    away = [lacking(inquiry, part, it, index) for it in node.parts if not has(inquiry, part, it, index)]
     need = node.threshold - (len(node.parts) - len(away))
     fewest = sorted(away, key=lambda it: len(it[0]))[:need]
     who = tuple(dict.fromkeys(principal for it in fewest for principal in it[0]))
@@ -194,22 +232,22 @@ def lacking(part: Part, node: Node, held: Dict[Tuple[int, int, str], bool]) -> T
     return who, f"{count}{more} of " + ", ".join(f"({it[1]})" if it[2] else it[1] for it in away), need > 1
 
 
-def lacking_tests(inquiry: Inquiry, part: Part, given: int, index: int) -> Tuple[Optional[Tuple[Node, ...]], str]:
+def lacking_tests(inquiry: Inquiry, part: Part, index: int) -> Tuple[Optional[Tuple[Node, ...]], str]:
     """The tests that lack for a value above this, by the way with the fewest, and in words; none where no way is."""
+    given = inquiry.level(whole_conditions(inquiry, part))
     if given > index:
         return (), ""
-    ways = list(ways_of(part.clauses))
-    bodies = [b"true -> " + source(part, it.value) for it in ways if it.value]
-    levels = iter(inquiry.levels([(part, conditions(inquiry, it)) for it in bodies]))
-    ways = [it for it in ways if it.value is None or next(levels) > index]
-    tests = [test for way in ways for test in way.tests]
-    truths = iter(inquiry.levels([(part, conditions(inquiry, source(part, it))) for it in tests]))
-    left = [tuple(test for test in way.tests if not next(truths)) for way in ways]
-    if not left:
+    ways = [it for it in ways_of(part.clauses) if gives(inquiry, part, it) > index]
+    if not ways:
         return None, ""
-    fewest = min(left, key=len)
+    fewest = min((untrue(inquiry, part, it) for it in ways), key=len)
     told = dict.fromkeys(it for test in fewest for it in failing(inquiry, part, test))
     return fewest, "; ".join([f"its conditions give {inquiry.values[given]} with these attributes", *told])
+
+
+def untrue(inquiry: Inquiry, part: Part, way: Way) -> Tuple[Node, ...]:
+    """The tests of a way that aren't true."""
+    return tuple(it for it in way.tests if not inquiry.level(inquiry.conditions(part, source(part, it))))
 
 
 def ways_of(clauses: Sequence[Clause], before: Tuple[Node, ...] = ()) -> Iterator[Way]:
@@ -235,17 +273,16 @@ def failing(inquiry: Inquiry, part: Part, test: Node) -> List[str]:
 
 def tell(inquiry: Inquiry, index: int, most: int) -> Iterator[str]:
     """The assertions that stand nearest to more than this value, in words."""
-    found = nearest(inquiry, index)
-    for it in found[:most]:
-        place = it.part.place(0)
+    found, count = nearest(inquiry, index, most)
+    for lack, reached in found:
         more = "that alone isn't enough"
-        if it.reached > index:
-            more = f"with that the answer would be {inquiry.values[it.reached]}"
-        yield f"a{it.number}, {place}: {it.what}; {more}"
-    if not found:
+        if reached > index:
+            more = f"with that the answer would be {inquiry.values[reached]}"
+        yield f"a{lack.number}, {lack.part.place(0)}: {lack.what}; {more}"
+    if not count:
         yield "no assertion gives more to whoever requests"
-    if len(found) > most:
-        yield f"{len(found) - most} more are as far or farther: --most {len(found)} tells all"
+    if count > len(found):
+        yield f"{count - len(found)} more are as far or farther: --most {count} tells all"
 
 
 def run_why(args: argparse.Namespace) -> int:
