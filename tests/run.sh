@@ -15,46 +15,58 @@
 # An example is a folder with policy.kn, requests.txt and replies.txt: what `ask` writes for the requests, with the key file
 # keys.txt where there is one.
 #
-# KEYNOTED names another program than the one that is built here.
+# KEYNOTED names another program than the one that is built here. LIMIT is the seconds that a case may take, 120 where it isn't
+# set: one that goes on fails.
 #
-# Each VALUE reply of a case is given to `check` too, which has to prove it (tests/prove). With no names given, tests/pipe,
-# tests/docs and clients/python/tests.py run too, where there is python3.
+# Each VALUE reply of a case is given to `check` too, which has to prove it (tests/prove). With no names given, tests/script,
+# tests/build and tests/harness run too, and where there is python3 tests/pipe, tests/docs and clients/python/tests.py.
 set -u
 
 top=$(cd "$(dirname "${BASH_SOURCE[0]}")/.." && pwd -P) || exit 1
 program=${KEYNOTED:-$top/crates/keynoted/out/keynoted}
+limit=${LIMIT:-120}
+# of a part that has cases of its own
+limit_of_part=1800
 room=$(mktemp -d) || exit 1
 trap 'rm -rf "$room"' EXIT
+
+# Runs words, and ends them with all that they started where they go on for longer: the status is then 124, or 137 where they
+# don't end by TERM.
+within() {
+    timeout -k 5 "$@"
+}
 
 # Runs the program with these words. A limit of memory holds for the program alone, and not for the script that starts it.
 run_program() {
     if [[ -e start ]]; then
-        ./start "$program"
+        within "$limit" ./start "$program"
         return
     fi
-    (
+    # shellcheck disable=SC2016
+    within "$limit" "$BASH" -c '
         if [[ -e memory ]]; then ulimit -v "$(<memory)"; fi
         if [[ -e seconds ]]; then ulimit -t "$(<seconds)"; fi
-        exec "$program" "$@"
-    )
+        exec "$@"
+    ' run "$program" "$@"
 }
 
 # Runs the case in the current folder, and says why it fails.
 run_case() {
     local words=(ask p.kn) status
     if [[ -e make ]]; then
-        ./make >"$room/made" 2>&1 || { echo "its files weren't made"; return; }
+        within "$limit" ./make >"$room/made" 2>&1 || { echo "its files weren't made"; return; }
     fi
     [[ -e output && -e status ]] || { echo "it has no output or no status"; return; }
     [[ -e input ]] || : >input
     [[ -e words ]] && mapfile -t words <words
     run_program "${words[@]}" <input >"$room/output" 2>"$room/errors"
     status=$?
+    [[ $status == 124 || $status == 137 ]] && { echo "it goes on for $limit s"; return; }
     [[ $status == "$(<status)" ]] || echo "status $status, and not $(<status)"
     cmp "$room/output" output 2>&1
     [[ -s $room/errors ]] && echo "on standard error: $(head -c 300 "$room/errors")"
     if [[ ${words[0]-} == ask ]] && grep -q '^VALUE ' "$room/output"; then
-        "$top/tests/prove" "$program" "${words[1]}" input "$room/output" 2>&1
+        within "$limit" "$top/tests/prove" "$program" "${words[1]}" input "$room/output" 2>&1 || echo "its replies aren't proved"
     fi
 }
 
@@ -73,19 +85,19 @@ if (($# == 0)); then
         [[ -e $example/requests.txt ]] || continue
         keys=()
         [[ -e $example/keys.txt ]] && keys=("$example/keys.txt")
-        if "$program" ask "$example/policy.kn" "${keys[@]}" <"$example/requests.txt" >"$room/output" &&
+        if within "$limit" "$program" ask "$example/policy.kn" "${keys[@]}" <"$example/requests.txt" >"$room/output" &&
             cmp "$room/output" "$example/replies.txt" &&
-            "$top/tests/prove" "$program" "$example/policy.kn" "$example/requests.txt" "$room/output"; then
+            within "$limit" "$top/tests/prove" "$program" "$example/policy.kn" "$example/requests.txt" "$room/output"; then
             ((passed += 1))
         else
             ((failed += 1))
             printf 'FAILED example %s\n' "$example"
         fi
     done
-    for part in tests/pipe tests/docs clients/python/tests.py; do
-        if ! command -v python3 >/dev/null; then
+    for part in tests/script tests/build tests/harness tests/pipe tests/docs clients/python/tests.py; do
+        if [[ $(head -n 1 "$top/$part") == *python3 ]] && ! command -v python3 >/dev/null; then
             echo "$part is left out: there is no python3"
-        elif "$top/$part" "$program" >"$room/output" 2>&1; then
+        elif within "$limit_of_part" "$top/$part" "$program" >"$room/output" 2>&1; then
             ((passed += 1))
             grep 'left out' "$room/output"
         else
