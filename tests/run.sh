@@ -18,8 +18,8 @@
 # KEYNOTED names another program than the one that is built here. LIMIT is the seconds that a case may take, 120 where it isn't
 # set: one that goes on fails.
 #
-# Each VALUE reply of a case is given to `check` too, which has to prove it (tests/prove). With no names given, tests/script,
-# tests/build and tests/harness run too, and where there is python3 tests/pipe, tests/docs and clients/python/tests.py.
+# Each VALUE reply of a case is given to `check` too, which has to prove it (tests/prove). With no names given, the tests that
+# README.md of this folder calls parts of it run too, those in Python where there is python3.
 set -u
 
 top=$(cd "$(dirname "${BASH_SOURCE[0]}")/.." && pwd -P) || exit 1
@@ -94,7 +94,7 @@ if (($# == 0)); then
             printf 'FAILED example %s\n' "$example"
         fi
     done
-    for part in tests/script tests/build tests/harness tests/pipe tests/docs clients/python/tests.py; do
+    for part in tests/script tests/build tests/harness tests/service tests/install tests/pipe tests/docs clients/python/tests.py; do
         if [[ $(head -n 1 "$top/$part") == *python3 ]] && ! command -v python3 >/dev/null; then
             echo "$part is left out: there is no python3"
         elif within "$limit_of_part" "$top/$part" "$program" >"$room/output" 2>&1; then
