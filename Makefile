@@ -1,4 +1,5 @@
-# Builds, installs and tests keynoted: make, make install [PREFIX=..] [DESTDIR=..], make uninstall, make check, make test, make deb.
+# Builds, installs and tests keynoted: make, make install [PREFIX=..] [DESTDIR=..], make uninstall, make check, make
+# test, make deb.
 PREFIX ?= /usr/local
 PROGRAM ?= crates/keynoted/out/keynoted
 VERSION = $$(sed -n 's/^version=//p' keynoted)

@@ -9,17 +9,17 @@
 #   memory    the KiB of address space that the program has (no file: as the shell has)
 #   seconds   the seconds of processor time that the program has (no file: as the shell has)
 #   make      a script that writes the large ones of these files into the copy
-#   start     a script that starts the program, whose path is its first word, with an input or an output of another kind, or
-#             more than once; what it writes and its status count as the program's
+#   start     a script that starts the program, whose path is its first word, with an input or an output of another
+#             kind, or more than once; what it writes and its status count as the program's
 #
-# An example is a folder with policy.kn, requests.txt and replies.txt: what `ask` writes for the requests, with the key file
-# keys.txt where there is one.
+# An example is a folder with policy.kn, requests.txt and replies.txt: what `ask` writes for the requests, with the
+# key file keys.txt where there is one.
 #
-# KEYNOTED names another program than the one that is built here. LIMIT is the seconds that a case may take, 120 where it isn't
-# set: one that goes on fails.
+# KEYNOTED names another program than the one that is built here. LIMIT is the seconds that a case may take, 120 where
+# it isn't set: one that goes on fails.
 #
-# Each VALUE reply of a case is given to `check` too, which has to prove it (tests/prove). With no names given, the tests that
-# README.md of this folder calls parts of it run too, those in Python where there is python3.
+# Each VALUE reply of a case is given to `check` too, which has to prove it (tests/prove). With no names given, the
+# tests that README.md of this folder calls parts of it run too, those in Python where there is python3.
 set -u
 
 top=$(cd "$(dirname "${BASH_SOURCE[0]}")/.." && pwd -P) || exit 1
@@ -30,13 +30,13 @@ limit_of_part=1800
 room=$(mktemp -d) || exit 1
 trap 'rm -rf "$room"' EXIT
 
-# Runs words, and ends them with all that they started where they go on for longer: the status is then 124, or 137 where they
-# don't end by TERM.
+# Runs words, and ends them with all that they started where they go on for longer: the status is then 124, or 137
+# where they don't end by TERM.
 within() {
     timeout -k 5 "$@"
 }
 
-# Runs the program with these words. A limit of memory holds for the program alone, and not for the script that starts it.
+# Runs the program with these words. A limit of memory holds for it alone, and not for the script that starts it.
 run_program() {
     if [[ -e start ]]; then
         within "$limit" ./start "$program"
@@ -66,7 +66,8 @@ run_case() {
     cmp "$room/output" output 2>&1
     [[ -s $room/errors ]] && echo "on standard error: $(head -c 300 "$room/errors")"
     if [[ ${words[0]-} == ask ]] && grep -q '^VALUE ' "$room/output"; then
-        within "$limit" "$top/tests/prove" "$program" "${words[1]}" input "$room/output" 2>&1 || echo "its replies aren't proved"
+        within "$limit" "$top/tests/prove" "$program" "${words[1]}" input "$room/output" 2>&1 ||
+            echo "its replies aren't proved"
     fi
 }
 
@@ -87,14 +88,16 @@ if (($# == 0)); then
         [[ -e $example/keys.txt ]] && keys=("$example/keys.txt")
         if within "$limit" "$program" ask "$example/policy.kn" "${keys[@]}" <"$example/requests.txt" >"$room/output" &&
             cmp "$room/output" "$example/replies.txt" &&
-            within "$limit" "$top/tests/prove" "$program" "$example/policy.kn" "$example/requests.txt" "$room/output"; then
+            within "$limit" "$top/tests/prove" "$program" "$example/policy.kn" "$example/requests.txt" \
+                "$room/output"; then
             ((passed += 1))
         else
             ((failed += 1))
             printf 'FAILED example %s\n' "$example"
         fi
     done
-    for part in tests/script tests/build tests/harness tests/service tests/install tests/pipe tests/docs clients/python/tests.py; do
+    parts=(tests/{script,build,harness,service,install,pipe,docs} clients/python/tests.py)
+    for part in "${parts[@]}"; do
         if [[ $(head -n 1 "$top/$part") == *python3 ]] && ! command -v python3 >/dev/null; then
             echo "$part is left out: there is no python3"
         elif within "$limit_of_part" "$top/$part" "$program" >"$room/output" 2>&1; then
