@@ -11,7 +11,7 @@ PYTHON = $(TO)/share/keynoted/python
 
 # what was built elsewhere is taken as it is
 all:
-	[ -x $(PROGRAM) -a $(PROGRAM) != crates/keynoted/out/keynoted ] || tools/build
+	case $(PROGRAM) in crates/*) tools/build ;; esac
 
 install: all
 	mkdir -p $(TO)/bin $(TO)/libexec/keynoted $(MAN)/man5 $(MAN)/man7 $(MAN)/man8 $(PYTHON)/keynoted $(EXAMPLES) $(DOC)
