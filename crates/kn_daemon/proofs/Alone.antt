@@ -4,6 +4,7 @@ use Rattle.std.specs.List.{cons_option}
 use Rattle.std.proofs.lemmas.List.{take_rest}
 use Rattle.kn_store.specs.declared.update.Update.{Update}
 use Rattle.kn_daemon.specs.declared.ended.Ended.{Ended}
+use Rattle.kn_daemon.specs.Shapes.{shape_of}
 use Rattle.kn_daemon.specs.Daemon.{Grounds, State, Permits, first_state}
 use Rattle.kn_daemon.specs.Linearized.{Exchange, Along, InOrder, IsBehind, update_of}
 use Rattle.kn_daemon.specs.Served.{IsServed}
@@ -44,12 +45,12 @@ alone g caller history low past (e ∷ es) old new s order (mid, permits, later)
     rest = filter_map (update_of caller) es
 
     Step : List Update → Type 0
-    Step next = (m : State) × Permits g caller next old e.request e.reply m × RunsAlone g caller next m es history new
+    Step next = (m : State) × Permits g caller next old (shape_of e.request) e.reply m × RunsAlone g caller next m es history new
 
     step : (n : ℕ) (next : List Update) → n ≡ e.place → IsSplit history n next rest → RunsAlone g caller next mid es history new → Step next
     step n next same split runs =
         let past_is : take e.place history ≡ next = ap (take e.place) split.whole ∙ take_at next rest e.place (split.size ∙ same) in
-        (mid, subst (λ p. Permits g caller p old e.request e.reply mid) past_is permits, runs)
+        (mid, subst (λ p. Permits g caller p old (shape_of e.request) e.reply mid) past_is permits, runs)
 
     by : (o : Option Update) → IsSplit history low past (cons_option o rest) → IsBehind o low e.place → e.place + length rest ≤ length history
         → ((next : List Update) (n : ℕ) → n ≡ e.place → IsSplit history n next rest → RunsAlone g caller next mid es history new)

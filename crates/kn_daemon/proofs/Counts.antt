@@ -5,11 +5,14 @@ use Rattle.std.specs.Option.{option_map_or}
 use Rattle.kn_principal.specs.Principals.{normal_form}
 use Rattle.kn_store.specs.declared.update.Update.{Update}
 use Rattle.kn_reply.specs.declared.refusal.Refusal.{Refusal}
-use Rattle.kn_wire.specs.Requests.{Request, Open, Close, Pin, Assert, Retract, Set, SetHex, Unset, Auth, Unauth, Clear, Query, Admin, Add, Drop, Bye, Faulty}
-use Rattle.kn_reply.specs.Replies.{Reply, Done, Started, Number, PrivateAdded, Added, Value, No, NoMemory}
-use Rattle.kn_daemon.specs.Daemon.{Grounds, State, first_state, with_session, own_refusal, changed, Does, Permits}
+use Rattle.kn_wire.specs.Requests.{Request}
+use Rattle.kn_reply.specs.Replies.{Reply, No, NoMemory}
+use Rattle.kn_daemon.specs.Daemon.{Grounds, State, first_state, with_session, own_refusal, looked, controlled, changed, Does, Permits}
 use Rattle.kn_daemon.specs.Played.{after_request, played}
-use Rattle.kn_session.specs.Sessions.{Session, started_session, add_requester, is_named}
+use Rattle.kn_session.specs.Sessions.{Session, started_session}
+use Rattle.kn_session.specs.Calls.{Call, add_requester, is_named, after_call}
+use Rattle.kn_session.specs.Calls as C
+use Rattle.kn_daemon.specs.Shapes.{Look, ForNew, ForOpen, Control, ShowSecret, Leave, Shape, Calls, Looks, Controls, shape_of}
 use Rattle.kn_daemon.specs.Linearized.{Exchange, Along}
 use Rattle.kn_wire.specs.Feeding.{Held}
 use Rattle.kn_daemon.specs.Underway.{IsUnderway, IsSmall}
@@ -58,42 +61,37 @@ requester-made text x = by (is_named x.requesters text)
     by true = omega arith
     by false = omega arith
 
-few-changed : (n : ℕ) (past : List Update) (state : State) (request : Request) → AreFew n state → AreFew (n + 1) (changed past state request)
-few-changed n past state Open few = let s = few.started in record { started = omega (arith, s); made = made-push n state.sessions (started_session (state.started + 1) past) few.made (omega arith) }
-few-changed n past state (Close s) few = let l = few.started in record { started = omega (arith, l); made = made-filter _ n state.sessions few.made }
-few-changed n past state (Pin s) few = few-with n state s _ (λ x. omega arith) few
-few-changed n past state (Assert s text) few = few-with n state s _ (λ x. omega arith) few
-few-changed n past state (Retract s k) few = few-with n state s _ (λ x. omega arith) few
-few-changed n past state (Set s name value) few = few-with n state s _ (λ x. omega arith) few
-few-changed n past state (SetHex s name digits) few = few-with n state s _ (λ x. omega arith) few
-few-changed n past state (Unset s name) few = few-with n state s _ (λ x. omega arith) few
-few-changed n past state (Auth s text) few = few-with n state s _ (requester-made text) few
-few-changed n past state (Unauth s text) few = few-with n state s _ (λ x. omega arith) few
-few-changed n past state (Clear s) few = few-with n state s _ (λ x. omega arith) few
-few-changed n past state (Query s names) few = few-more n state few
-few-changed n past state (Admin digits) few = let s = few.started in record { started = omega (arith, s); made = made-more n state.sessions few.made }
-few-changed n past state (Add text) few = few-more n state few
-few-changed n past state (Drop k) few = few-more n state few
-few-changed n past state Bye few = few-more n state few
-few-changed n past state (Faulty fault) few = few-more n state few
+made-called : (n s : ℕ) (call : Call) (xs : List Session) → AllMade n xs → AllMade (n + 1) (after_call xs s call)
+made-called n s C.Close xs h = made-filter _ n xs h
+made-called n s (C.Auth text) xs h = made-map (λ x. x.number == s) _ n (requester-made text) xs h
+made-called n s call xs h = made-map (λ x. x.number == s) _ n (λ x. omega arith) xs h
 
-few-does : (n : ℕ) (g : Grounds) (caller : ℕ) (past : List Update) (old : State) (request : Request) (reply : Reply) (new : State) → AreFew n old → Does g caller past old request reply new → AreFew (n + 1) new
-few-does n g caller past old request reply new few d = subst (AreFew (n + 1)) (sym d.next) (few-changed n past old request few)
+few-looked : (n : ℕ) (past : List Update) (state : State) (look : Look) → AreFew n state → AreFew (n + 1) (looked past state look)
+few-looked n past state ForNew few = let s = few.started in record { started = omega (arith, s); made = made-push n state.sessions (started_session (state.started + 1) past) few.made (omega arith) }
+few-looked n past state (ForOpen s) few = few-with n state s _ (λ x. omega arith) few
 
-few-permitted : (n : ℕ) (g : Grounds) (caller : ℕ) (past : List Update) (old : State) (request : Request) (reply : Reply) (new : State) → AreFew n old → Permits g caller past old request reply new → AreFew (n + 1) new
-few-permitted n g caller past old request Done new few h = few-does n g caller past old request Done new few h
-few-permitted n g caller past old request (Started s version) new few h = few-does n g caller past old request (Started s version) new few h
-few-permitted n g caller past old request (Number version) new few h = few-does n g caller past old request (Number version) new few h
-few-permitted n g caller past old request (PrivateAdded k) new few h = few-does n g caller past old request (PrivateAdded k) new few h
-few-permitted n g caller past old request (Added k version) new few h = few-does n g caller past old request (Added k version) new few h
-few-permitted n g caller past old request (Value index name version rows) new few h = few-does n g caller past old request (Value index name version rows) new few h
-few-permitted n g caller past old request (No refusal) new few h = subst (AreFew (n + 1)) (sym h.1) (few-more n old few)
-few-permitted n g caller past old request NoMemory new few h = subst (AreFew (n + 1)) (sym h.1) (few-more n old few)
+few-controlled : (n : ℕ) (state : State) (control : Control) → AreFew n state → AreFew (n + 1) (controlled state control)
+few-controlled n state (ShowSecret bytes) few = let s = few.started in record { started = omega (arith, s); made = made-more n state.sessions few.made }
+few-controlled n state Leave few = few-more n state few
+
+few-changed : (n : ℕ) (past : List Update) (state : State) (shape : Shape) → AreFew n state → AreFew (n + 1) (changed past state shape)
+few-changed n past state (Calls s call) few = let l = few.started in record { started = omega (arith, l); made = made-called n s call state.sessions few.made }
+few-changed n past state (Looks look) few = few-looked n past state look few
+few-changed n past state (Controls control) few = few-controlled n state control few
+few-changed n past state shape few = few-more n state few
+
+few-does : (n : ℕ) (g : Grounds) (caller : ℕ) (past : List Update) (old : State) (shape : Shape) (reply : Reply) (new : State) → AreFew n old → Does g caller past old shape reply new → AreFew (n + 1) new
+few-does n g caller past old shape reply new few d = subst (AreFew (n + 1)) (sym d.next) (few-changed n past old shape few)
+
+few-permitted : (n : ℕ) (g : Grounds) (caller : ℕ) (past : List Update) (old : State) (shape : Shape) (reply : Reply) (new : State) → AreFew n old → Permits g caller past old shape reply new → AreFew (n + 1) new
+few-permitted n g caller past old shape (No refusal) new few h = subst (AreFew (n + 1)) (sym h.1) (few-more n old few)
+few-permitted n g caller past old shape NoMemory new few h = subst (AreFew (n + 1)) (sym h.1) (few-more n old few)
+few-permitted n g caller past old shape reply new few h = few-does n g caller past old shape reply new few h
 
 few-along : (n : ℕ) (g : Grounds) (caller : ℕ) (history : List Update) (old : State) (es : List Exchange) (new : State) → AreFew n old → Along g caller history old es new → AreFew (n + length es) new
 few-along n g caller history old [] new few along = subst (λ k. AreFew k new) (sym (add-zero n)) (subst (AreFew n) (sym along) few)
 few-along n g caller history old (e ∷ es) new few (mid, permits, later) =
-    let rest = few-along (n + 1) g caller history mid es new (few-permitted n g caller (take e.place history) old e.request e.reply mid few permits) later in
+    let rest = few-along (n + 1) g caller history mid es new (few-permitted n g caller (take e.place history) old (shape_of e.request) e.reply mid few permits) later in
     subst (λ k. AreFew k new) (omega arith) rest
 
 made-found : (n s : ℕ) (xs : List Session) (session : Session) → AllMade n xs → find (λ x. x.number == s) xs ≡ Some session → session.made ≤ n
@@ -116,10 +114,10 @@ small g taken written history start caller stops state held answered u =
 -- Playing.
 
 few-after : (n : ℕ) (g : Grounds) (past : List Update) (state : State) (request : Request) → AreFew n state → AreFew (n + 1) (after_request g past state request)
-few-after n g past state request few = by (own_refusal g state request)
+few-after n g past state request few = by (own_refusal g state (shape_of request))
   where
-    by : (o : Option Refusal) → AreFew (n + 1) (option_map_or (λ refusal. state) o (changed past state request))
-    by None = few-changed n past state request few
+    by : (o : Option Refusal) → AreFew (n + 1) (option_map_or (λ refusal. state) o (changed past state (shape_of request)))
+    by None = few-changed n past state (shape_of request) few
     by (Some refusal) = few-more n state few
 
 few-played : (n : ℕ) (g : Grounds) (past : List Update) (state : State) (requests : List Request) → AreFew n state → AreFew (n + length requests) (played g past state requests)

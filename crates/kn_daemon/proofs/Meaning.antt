@@ -1,36 +1,22 @@
 -- Requests mean one query.
 use Rattle.std.proofs.Common.{◌≡◌, ◌⊎◌, ℕ, List, [], ◌∷◌, ◌++◌, Some, inl, inr, refl, sym, ap, ◌∙◌, subst}
 use Rattle.kn_store.specs.declared.update.Update.{Update}
-use Rattle.kn_wire.specs.Requests.{Request, Open, Close, Pin, Assert, Retract, Set, SetHex, Unset, Auth, Unauth, Clear, Query, Admin, Add, Drop, Bye, Faulty}
+use Rattle.kn_wire.specs.Requests.{Request}
+use Rattle.kn_daemon.specs.Shapes.{Shape, Asks, shape_of}
 use Rattle.kn_session.specs.Sessions.{Session}
 use Rattle.kn_daemon.specs.Daemon.{State, first_state}
-use Rattle.kn_daemon.specs.Played.{no_grounds, played, IsAsking, IsMeant}
+use Rattle.kn_daemon.specs.Played.{no_grounds, played, AsksOf, IsAsking, IsMeant}
 
 -- what is asked has one session and one list of values
-asking-one : (state : State) (request : Request) (session other : Session) (values others : List (List ℕ)) → IsAsking state request session values → IsAsking state request other others → (session ≡ other) × (values ≡ others)
-asking-one state (Query s names) session other values others h k = (by-session (sym h.0 ∙ k.0), by-values (sym h.1 ∙ k.1))
+asking-one : (state : State) (shape : Shape) (session other : Session) (values others : List (List ℕ)) → AsksOf state shape session values → AsksOf state shape other others → (session ≡ other) × (values ≡ others)
+asking-one state (Asks s names) session other values others h k = (by-session (sym h.0 ∙ k.0), by-values (sym h.1 ∙ k.1))
   where
     by-session : Some session ≡ Some other → session ≡ other
     by-session e = cc
 
     by-values : Some values ≡ Some others → values ≡ others
     by-values e = cc
-asking-one state Open session other values others h k = absurd h
-asking-one state (Close s) session other values others h k = absurd h
-asking-one state (Pin s) session other values others h k = absurd h
-asking-one state (Assert s text) session other values others h k = absurd h
-asking-one state (Retract s n) session other values others h k = absurd h
-asking-one state (Set s name value) session other values others h k = absurd h
-asking-one state (SetHex s name value) session other values others h k = absurd h
-asking-one state (Unset s name) session other values others h k = absurd h
-asking-one state (Auth s text) session other values others h k = absurd h
-asking-one state (Unauth s text) session other values others h k = absurd h
-asking-one state (Clear s) session other values others h k = absurd h
-asking-one state (Admin text) session other values others h k = absurd h
-asking-one state (Add text) session other values others h k = absurd h
-asking-one state (Drop n) session other values others h k = absurd h
-asking-one state Bye session other values others h k = absurd h
-asking-one state (Faulty fault) session other values others h k = absurd h
+asking-one state shape session other values others h k = absurd h
 
 -- Two cuts of one list: at the same place, or the second is behind the first.
 record IsBehind {A : Type 0} (front : List A) (x : A) (behind later : List A) (y : A) (rest : List A) : Type 0 where
@@ -67,7 +53,7 @@ one_meant history requests session other values others h k = by (cuts h.front h.
 
     by : Cuts h.front h.query h.behind k.front k.query k.behind → (session ≡ other) × (values ≡ others)
     by (inl at) =
-        asking-one (state_at h.front) h.query session other values others h.asking
+        asking-one (state_at h.front) (shape_of h.query) session other values others h.asking
         (subst (λ q. IsAsking (state_at h.front) q other others) (sym at.same) (subst (λ front. IsAsking (state_at front) k.query other others) (sym at.same_front) k.asking))
     by (inr (inl at)) = absurd (h.last at.between k.query k.behind other others at.left (subst (λ front. IsAsking (state_at front) k.query other others) at.longer k.asking))
     by (inr (inr at)) = absurd (k.last at.between h.query h.behind session values at.left (subst (λ front. IsAsking (state_at front) h.query session values) at.longer h.asking))

@@ -4,6 +4,7 @@ use Rattle.std.specs.Fmt.{digits}
 use Rattle.kn_wire.specs.Requests.{Open, Bye}
 use Rattle.kn_reply.specs.Replies.{Done, Started}
 use Rattle.kn_daemon.specs.declared.ended.Ended.TheVariants as E
+use Rattle.kn_daemon.specs.Shapes.{shape_of}
 use Rattle.kn_daemon.specs.Daemon.{Grounds, first_state, changed}
 use Rattle.kn_daemon.specs.Served.{IsServed}
 
@@ -13,9 +14,9 @@ opening-is_served g caller =
     record {
       exchanges = record { request = Open; reply = Started 1 0; place = 0 } ∷ record { request = Bye; reply = Done; place = 0 } ∷ [];
       rest = [];
-      last = changed [] first_state Open;
+      last = changed [] first_state (shape_of Open);
       requests = (codes "BYE\n", refl, ([], refl, refl));
-      replies = (changed [] first_state Open, record { accepted = refl; answered = refl; next = refl }, (changed [] first_state Open, record { accepted = refl; answered = refl; next = refl }, refl));
+      replies = (changed [] first_state (shape_of Open), record { accepted = refl; answered = refl; next = refl }, (changed [] first_state (shape_of Open), record { accepted = refl; answered = refl; next = refl }, refl));
       places = record {
         valid = refl;
         within = le_refl 0;

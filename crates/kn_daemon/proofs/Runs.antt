@@ -6,6 +6,7 @@ use Rattle.std.proofs.lemmas.List.Folds.{list_any-append}
 use Rattle.std.proofs.lemmas.Bool.{or_parts, or_from}
 use Rattle.kn_store.specs.declared.update.Update.{Update}
 use Rattle.kn_wire.specs.Requests.{Request, Takes, first_of}
+use Rattle.kn_daemon.specs.Shapes.{shape_of}
 use Rattle.kn_daemon.specs.Daemon.{Grounds, State, Permits}
 use Rattle.kn_daemon.specs.Linearized.{Exchange, Along, InOrder, IsBehind, StopsAt, StandsFor, is_placed, update_of}
 
@@ -35,14 +36,14 @@ along-longer g caller history more low high old [] new within order along = alon
 along-longer g caller history more low high old (e ∷ es) new within order (mid, permits, later) =
     let place = order-ends caller e.place es high order.1 in
     let same : take e.place history ≡ take e.place (history ++ more) = sym (take-append-le e.place history more (omega (arith, place, within))) in
-    (mid, subst (λ past. Permits g caller past old e.request e.reply mid) same permits, along-longer g caller history more e.place high mid es new within order.1 later)
+    (mid, subst (λ past. Permits g caller past old (shape_of e.request) e.reply mid) same permits, along-longer g caller history more e.place high mid es new within order.1 later)
 
 pub along-push : (g : Grounds) (caller : ℕ) (history : List Update) (old : State) (es : List Exchange) (mid : State) (e : Exchange) (new : State)
-    → Along g caller history old es mid → Permits g caller (take e.place history) mid e.request e.reply new → Along g caller history old (es ++ e ∷ []) new
-along-push g caller history old [] mid e new along permits = (new, subst (λ state. Permits g caller (take e.place history) state e.request e.reply new) along permits, refl)
+    → Along g caller history old es mid → Permits g caller (take e.place history) mid (shape_of e.request) e.reply new → Along g caller history old (es ++ e ∷ []) new
+along-push g caller history old [] mid e new along permits = (new, subst (λ state. Permits g caller (take e.place history) state (shape_of e.request) e.reply new) along permits, refl)
 along-push g caller history old (first ∷ es) mid e new (next, here, later) permits = (next, here, along-push g caller history next es mid e new later permits)
 
-pub stops-push : (es : List Exchange) (stops : List ℕ) (e : Exchange) (entries : List ℕ) → StopsAt es stops → StandsFor (is_placed e.request e.reply) e.place entries → StopsAt (es ++ e ∷ []) (stops ++ entries)
+pub stops-push : (es : List Exchange) (stops : List ℕ) (e : Exchange) (entries : List ℕ) → StopsAt es stops → StandsFor (is_placed (shape_of e.request) e.reply) e.place entries → StopsAt (es ++ e ∷ []) (stops ++ entries)
 stops-push [] stops e entries h stands = (entries, [], stands, refl, ap (λ front. front ++ entries) h ∙ sym (append-nil entries))
 stops-push (first ∷ es) stops e entries (here, later, is, rest, cut) stands =
     (here, later ++ entries, is, stops-push es later e entries rest stands, ap (λ all. all ++ entries) cut ∙ append_assoc here later entries)

@@ -5,11 +5,12 @@ use Rattle.std.proofs.lemmas.List.{map_push, length_push, length-map, length-dro
 use Rattle.std.proofs.lemmas.List.Elements.{filter-append, filter_map-append}
 use Rattle.kn_wire.specs.declared.fault.WireFault.TheVariants as F
 use Rattle.kn_store.specs.declared.update.Update.{Update}
-use Rattle.kn_wire.specs.Requests.{Request, Open, Close, Pin, Assert, Retract, Set, SetHex, Unset, Auth, Unauth, Clear, Query, Admin, Add, Drop, Bye, Faulty, Takes, first_of, is_newline}
+use Rattle.kn_wire.specs.Requests.{Request, Bye, Faulty, Takes, first_of, is_newline}
 use Rattle.kn_reply.specs.Replies.{Reply, reply_text}
 use Rattle.kn_store.specs.History.{is_valid_history, own_updates}
 use Rattle.kn_daemon.specs.declared.ended.Ended.{Ended}
 use Rattle.kn_daemon.specs.declared.ended.Ended.TheVariants as E
+use Rattle.kn_daemon.specs.Shapes.{shape_of}
 use Rattle.kn_daemon.specs.Daemon.{Grounds, State, first_state, Permits}
 use Rattle.kn_daemon.specs.Linearized.{Exchange, Along, InOrder, IsBehind, StopsAt, update_of, update_by, requests_in, texts_in}
 use Rattle.kn_wire.specs.Feeding.{Held, Bytes, InLong, Shut, held_bytes, pushed, held_after, next_of, is_shut}
@@ -35,22 +36,6 @@ one-of (Some update) = refl
 
 -- after a request that goes on, more can be taken
 not_shut-after : (text : List ℕ) (request : Request) (left : List ℕ) → is_block request ≡ false → is_shut (held_after text request left) ≡ false
-not_shut-after text Open left h = refl
-not_shut-after text (Close s) left h = refl
-not_shut-after text (Pin s) left h = refl
-not_shut-after text (Assert s block) left h = refl
-not_shut-after text (Retract s k) left h = refl
-not_shut-after text (Set s name value) left h = refl
-not_shut-after text (SetHex s name digits) left h = refl
-not_shut-after text (Unset s name) left h = refl
-not_shut-after text (Auth s principal) left h = refl
-not_shut-after text (Unauth s principal) left h = refl
-not_shut-after text (Clear s) left h = refl
-not_shut-after text (Query s names) left h = refl
-not_shut-after text (Admin digits) left h = refl
-not_shut-after text (Add block) left h = refl
-not_shut-after text (Drop k) left h = refl
-not_shut-after text Bye left h = refl
 not_shut-after text (Faulty F.Syntax) left h = refl
 not_shut-after text (Faulty F.Command) left h = refl
 not_shut-after text (Faulty F.Long) left h = by (list_any is_newline text)
@@ -59,6 +44,7 @@ not_shut-after text (Faulty F.Long) left h = by (list_any is_newline text)
     by true = refl
     by false = refl
 not_shut-after text (Faulty (F.Block n)) left h = cc
+not_shut-after text request left h = refl
 
 pub next-not_shut : (held after : Held) (request : Request) → is_shut held ≡ false → is_block request ≡ false → next_of held ≡ Some (request, after) → is_shut after ≡ false
 next-not_shut (Bytes text) after request no_block goes_on e = by (first_of text) e
@@ -75,7 +61,7 @@ next-not_shut (Bytes text) after request no_block goes_on e = by (first_of text)
 next-not_shut InLong after request no_block goes_on e = absurd (no_request (request, after) e)
 next-not_shut (Shut n) after request no_block goes_on e = cc
 
-module _ (g : Grounds) (taken written : List ℕ) (history more : List Update) (start caller : ℕ) (stops entries : List ℕ) (old new : State) (held after : Held) (answered : ℕ) (request : Request) (reply : Reply) (u : IsUnderway g taken written history start caller stops old held answered) (next : next_of held ≡ Some (request, after)) (r : IsReplied g caller history more entries old request reply new) where
+module _ (g : Grounds) (taken written : List ℕ) (history more : List Update) (start caller : ℕ) (stops entries : List ℕ) (old new : State) (held after : Held) (answered : ℕ) (request : Request) (reply : Reply) (u : IsUnderway g taken written history start caller stops old held answered) (next : next_of held ≡ Some (request, after)) (r : IsReplied g caller history more entries old (shape_of request) reply new) where
   abbrev exchange : Exchange
   exchange = record { request = request; reply = reply; place = length (history ++ more) }
 
@@ -97,17 +83,17 @@ module _ (g : Grounds) (taken written : List ℕ) (history more : List Update) (
   replies-all =
       along-push g caller (history ++ more) first_state u.exchanges old exchange new
       (along-longer g caller history more start (length history) first_state u.exchanges old (le_refl (length history)) u.in_order u.replies)
-      (subst (λ past. Permits g caller past old request reply new) (sym (take_all (length (history ++ more)) (history ++ more) (le_refl (length (history ++ more))))) r.permitted)
+      (subst (λ past. Permits g caller past old (shape_of request) reply new) (sym (take_all (length (history ++ more)) (history ++ more) (le_refl (length (history ++ more))))) r.permitted)
 
   order-all : InOrder caller start all (length (history ++ more))
-  order-all = order-push caller start u.exchanges (length history) exchange u.in_order (behind caller history more (update_by caller request reply) r.own)
+  order-all = order-push caller start u.exchanges (length history) exchange u.in_order (behind caller history more (update_by caller (shape_of request) reply) r.own)
 
   own-all : own_updates caller (drop start (history ++ more)) ≡ filter_map (update_of caller) all
   own-all =
       ap (own_updates caller) (drop-append-le start history more (order-ends caller start u.exchanges (length history) u.in_order))
       ∙ filter-append _ (drop start history) more
       ∙ ap (λ front. front ++ own_updates caller more) u.own
-      ∙ ap (λ back. filter_map (update_of caller) u.exchanges ++ back) (r.own ∙ sym (one-of (update_by caller request reply)))
+      ∙ ap (λ back. filter_map (update_of caller) u.exchanges ++ back) (r.own ∙ sym (one-of (update_by caller (shape_of request) reply)))
       ∙ sym (filter_map-append (update_of caller) u.exchanges (exchange ∷ []))
 
   stops-all : StopsAt all (stops ++ entries)
@@ -196,7 +182,7 @@ module _ (g : Grounds) (taken written : List ℕ) (history more : List Update) (
 
 pub ends-by_bye : (g : Grounds) (taken written : List ℕ) (history more : List Update) (start caller : ℕ) (stops entries : List ℕ) (old new : State) (held after : Held) (answered : ℕ) (reply : Reply) (is_over : Bool)
     → IsUnderway g taken written history start caller stops old held answered → answered < 1000000
-    → next_of held ≡ Some (Bye, after) → IsReplied g caller history more entries old Bye reply new → is_valid_history (history ++ more) ≡ true
+    → next_of held ≡ Some (Bye, after) → IsReplied g caller history more entries old (shape_of Bye) reply new → is_valid_history (history ++ more) ≡ true
     → IsServed g taken (written ++ reply_text reply) E.Done is_over (history ++ more) start (length (history ++ more)) caller (stops ++ entries)
 ends-by_bye g taken written history more start caller stops entries old new held after answered reply is_over u fewer next r valid =
     served-last g taken written history more start caller stops entries old new held after answered Bye reply u next r E.Done is_over (written ++ reply_text reply) fewer valid
@@ -205,7 +191,7 @@ ends-by_bye g taken written history more start caller stops entries old new held
 
 pub ends-by_block : (g : Grounds) (taken written : List ℕ) (history more : List Update) (start caller : ℕ) (stops entries : List ℕ) (old new : State) (held after : Held) (answered n : ℕ) (reply : Reply) (is_over : Bool)
     → IsUnderway g taken written history start caller stops old held answered → answered < 1000000
-    → next_of held ≡ Some (Faulty (F.Block n), after) → IsReplied g caller history more entries old (Faulty (F.Block n)) reply new → is_valid_history (history ++ more) ≡ true
+    → next_of held ≡ Some (Faulty (F.Block n), after) → IsReplied g caller history more entries old (shape_of (Faulty (F.Block n))) reply new → is_valid_history (history ++ more) ≡ true
     → IsServed g taken (written ++ reply_text reply) (E.Block n) is_over (history ++ more) start (length (history ++ more)) caller (stops ++ entries)
 ends-by_block g taken written history more start caller stops entries old new held after answered n reply is_over u fewer next r valid =
     served-last g taken written history more start caller stops entries old new held after answered (Faulty (F.Block n)) reply u next r (E.Block n) is_over (written ++ reply_text reply) fewer valid
@@ -214,7 +200,7 @@ ends-by_block g taken written history more start caller stops entries old new he
 
 pub ends-by_write : (g : Grounds) (taken written : List ℕ) (history more : List Update) (start caller : ℕ) (stops entries : List ℕ) (old new : State) (held after : Held) (answered at : ℕ) (request : Request) (reply : Reply) (is_over : Bool)
     → IsUnderway g taken written history start caller stops old held answered → answered < 1000000
-    → next_of held ≡ Some (request, after) → IsReplied g caller history more entries old request reply new
+    → next_of held ≡ Some (request, after) → IsReplied g caller history more entries old (shape_of request) reply new
     → at < length (reply_text reply) → is_valid_history (history ++ more) ≡ true
     → IsServed g taken (written ++ take at (reply_text reply)) E.WriteFault is_over (history ++ more) start (length (history ++ more)) caller (stops ++ entries)
 ends-by_write g taken written history more start caller stops entries old new held after answered at request reply is_over u fewer next r part valid =

@@ -5,6 +5,7 @@ use Rattle.kn_base.specs.declared.limits.TheConstants.{REQUESTS}
 use Rattle.kn_store.specs.declared.update.Update.{Update}
 use Rattle.kn_wire.specs.Requests.{Takes}
 use Rattle.kn_daemon.specs.declared.ended.Ended.{Ended}
+use Rattle.kn_daemon.specs.Shapes.{shape_of}
 use Rattle.kn_daemon.specs.Daemon.{Grounds, State, Permits, first_state}
 use Rattle.kn_daemon.specs.Linearized.{Exchange, update_of, requests_in, texts_in}
 use Rattle.kn_daemon.specs.Served.{IsWritten, HasEnd, is_bye}
@@ -18,7 +19,7 @@ history_with caller past e = past ++ option_to_list (update_of caller e)
 abbrev pub RunsAlone : Grounds → ℕ → List Update → State → List Exchange → List Update → State → Type 0
 RunsAlone g caller past old [] history new = (history ≡ past) × (new ≡ old)
 RunsAlone g caller past old (e ∷ es) history new = (mid : State)
-    × Permits g caller (history_with caller past e) old e.request e.reply mid × RunsAlone g caller (history_with caller past e) mid es history new
+    × Permits g caller (history_with caller past e) old (shape_of e.request) e.reply mid × RunsAlone g caller (history_with caller past e) mid es history new
 
 -- A connection of a caller that is alone, served: the bytes taken and written, how it ended, whether the input had ended, and
 -- the history before and afterwards.

@@ -1,5 +1,6 @@
 -- The sequential specification: what a daemon of one thread may reply (keynoted's own; the calls are those of keynote(3)).
--- Each request has its cases in `own_refusal`, `change_of`, `changed` and `Answers`, and `may_lack_memory` lists some.
+-- Requests are known by their shape, and each shape has its cases in `own_refusal`, `placed_refusal`, `changed`, `Answers` and
+-- `may_lack_memory`.
 use Rattle.std.specs.Prelude.{ℕ, ◌≡◌, ◌+◌, Bool, true, false, ◌==◌, ◌&&◌, not, nat_lt, List, [], ◌∷◌, ◌++◌, length, flat_map, slice_index_or, Option, Some, None, option_map, option_and_then, is_none, IsSomeAnd, Result, Ok, Err, if◌then◌else◌}
 use Rattle.std.specs.Option.{option_or}
 use Rattle.std.specs.Str.{bytes_eq}
@@ -14,22 +15,24 @@ use Rattle.kn_proof.specs.declared.named.Id.TheVariants.{Shared, Private}
 use Rattle.kn_proof.specs.declared.named.NamedRow.{NamedRow}
 use Rattle.kn_meaning.specs.Equations.{Equations, Part, equations_over, IsPolicyLevel}
 use Rattle.kn_meaning.specs.Proofs.{IsProof}
-use Rattle.kn_store.specs.declared.update.Change.{Change}
-use Rattle.kn_store.specs.declared.update.Change.TheVariants as C
 use Rattle.kn_store.specs.declared.update.Update.{Update}
 use Rattle.kn_store.specs.declared.fault.StoreFault.{StoreFault}
 use Rattle.kn_store.specs.declared.fault.StoreFault.TheVariants as U
-use Rattle.kn_store.specs.History.{NumberedText, all_changes, credentials_of, refusal_of, update_may_follow, addition_by, removal_by}
+use Rattle.kn_store.specs.History.{NumberedText, all_changes, credentials_of, refusal_of_text as fault_of_addition, refusal_of_id as fault_of_removal, update_may_follow, addition_by, removal_by}
 use Rattle.kn_session.specs.declared.fault.SessionFault.{SessionFault}
 use Rattle.kn_session.specs.declared.fault.SessionFault.TheVariants as S
-use Rattle.kn_session.specs.Sessions.{Session, session_in, with_changed, without_session, with_started, start_fault, fault_in, private_fault, retract_fault, set_fault, unset_fault, auth_fault, unauth_fault, pin_at, add_private, take_private, set_attribute, unset_attribute, add_requester, take_requester, cleared}
+use Rattle.kn_session.specs.declared.fault.CallFault.{CallFault}
+use Rattle.kn_session.specs.declared.fault.CallFault.TheVariants as T
+use Rattle.kn_session.specs.declared.call.Applied.{Applied}
+use Rattle.kn_session.specs.declared.call.Applied.TheVariants as A
+use Rattle.kn_session.specs.Sessions.{Session, session_in, with_changed, with_started, start_fault, fault_in, pin_at}
+use Rattle.kn_session.specs.Calls.{call_fault_in, after_call, call_answer, call_may_lack_memory}
 use Rattle.kn_wire.specs.declared.fault.WireFault.{WireFault}
 use Rattle.kn_wire.specs.declared.fault.WireFault.TheVariants as F
 use Rattle.kn_reply.specs.declared.refusal.Refusal.{Refusal}
 use Rattle.kn_reply.specs.declared.refusal.Refusal.TheVariants as R
 use Rattle.kn_reply.specs.declared.refusal.LimitWord.TheVariants as W
-use Rattle.kn_wire.specs.Digits.{bytes_of_digits}
-use Rattle.kn_wire.specs.Requests.{Request, Open, Close, Pin, Assert, Retract, Set, SetHex, Unset, Auth, Unauth, Clear, Query, Admin, Add, Drop, Bye, Faulty}
+use Rattle.kn_daemon.specs.Shapes.{Updating, AddText, DropId, Look, ForNew, ForOpen, Control, ShowSecret, Leave, Shape, Calls, Updates, Looks, Asks, Controls, AtFault}
 use Rattle.kn_reply.specs.Replies.{Reply, Done, Started, Number, PrivateAdded, Added, Value, No, NoMemory}
 
 -- what the daemon is started with: the administrators' secret, and the authenticator's number for a text, 0 where it is admitted
@@ -92,14 +95,14 @@ in_session (Some session) refusal = refusal session
 abbrev pub session_refusal : State → ℕ → (Session → Option SessionFault) → Option Refusal
 session_refusal state s fault = refusal_by (fault_in s (session_of state s) fault)
 
+-- the refusal that the fault of a text is; want of memory is none
+abbrev pub refusal_of_text : ReadFault → Option Refusal
+refusal_of_text fault = option_map (λ number. R.Read number (fault_place fault)) (fault_number fault)
+
 -- a text that has no reading is refused by its first fault, which is never want of memory
 abbrev pub refusal_of_reading : Result Assertion ReadFault → (Assertion → Option Refusal) → Option Refusal
 refusal_of_reading (Ok assertion) next = next assertion
-refusal_of_reading (Err fault) next = option_map (λ number. R.Read number (fault_place fault)) (fault_number fault)
-
--- why a private assertion of this text isn't added to an open session
-abbrev pub refusal_of_private : List ℕ → Session → Option Refusal
-refusal_of_private text session = refusal_of_reading (reading_of text) (λ a. refusal_by (private_fault text a session))
+refusal_of_reading (Err fault) next = refusal_of_text fault
 
 abbrev pub is_secret : List ℕ → List ℕ → Bool
 is_secret secret bytes = nat_lt 0 (length secret) && bytes_eq secret bytes
@@ -108,47 +111,32 @@ is_secret secret bytes = nat_lt 0 (length secret) && bytes_eq secret bytes
 abbrev pub refusal_of_verdict : ℕ → Option Refusal
 refusal_of_verdict number = refuse_if (not (number == 0)) (R.Auth number) None
 
-abbrev pub own_refusal : Grounds → State → Request → Option Refusal
-own_refusal g state Open = refusal_by (start_fault state.sessions)
-own_refusal g state (Close s) = session_refusal state s (λ x. None)
-own_refusal g state (Pin s) = session_refusal state s (λ x. None)
-own_refusal g state (Assert s text) = in_session (session_of state s) (refusal_of_private text)
-own_refusal g state (Retract s k) = session_refusal state s (retract_fault k)
-own_refusal g state (Set s name value) = session_refusal state s (set_fault name value)
-own_refusal g state (SetHex s name digits) = session_refusal state s (set_fault name (bytes_of_digits digits))
-own_refusal g state (Unset s name) = session_refusal state s (unset_fault name)
-own_refusal g state (Auth s text) = session_refusal state s (auth_fault text)
-own_refusal g state (Unauth s text) = session_refusal state s (unauth_fault text)
-own_refusal g state (Clear s) = session_refusal state s (λ x. None)
-own_refusal g state (Query s names) = in_session (session_of state s) (λ x. refuse_if (is_none (values_of names)) R.Values None)
-own_refusal g state (Admin digits) = refuse_if (not (is_secret g.secret (bytes_of_digits digits))) R.Admin None
-own_refusal g state (Add text) = refuse_if (not state.is_admin) R.Admin (refusal_of_reading (reading_of text) (λ a. refusal_of_verdict (g.verdict text a)))
-own_refusal g state (Drop k) = refuse_if (not state.is_admin) R.Admin None
-own_refusal g state Bye = None
-own_refusal g state (Faulty fault) = Some (refusal_of_fault fault)
+-- the refusal that a fault of a call is; want of memory is none
+abbrev pub refusal_of_call : CallFault → Option Refusal
+refusal_of_call (T.Text fault) = refusal_of_text fault
+refusal_of_call (T.Session fault) = refusal_of_session fault
+
+abbrev pub refusal_of_update : Grounds → Updating → Option Refusal
+refusal_of_update g (AddText text) = refusal_of_reading (reading_of text) (λ a. refusal_of_verdict (g.verdict text a))
+refusal_of_update g (DropId k) = None
+
+abbrev pub refusal_of_look : State → Look → Option Refusal
+refusal_of_look state ForNew = refusal_by (start_fault state.sessions)
+refusal_of_look state (ForOpen s) = session_refusal state s (λ x. None)
+
+abbrev pub refusal_of_control : Grounds → Control → Option Refusal
+refusal_of_control g (ShowSecret bytes) = refuse_if (not (is_secret g.secret bytes)) R.Admin None
+refusal_of_control g Leave = None
+
+abbrev pub own_refusal : Grounds → State → Shape → Option Refusal
+own_refusal g state (Calls s call) = option_and_then refusal_of_call (call_fault_in s (session_of state s) call)
+own_refusal g state (Updates update) = refuse_if (not state.is_admin) R.Admin (refusal_of_update g update)
+own_refusal g state (Looks look) = refusal_of_look state look
+own_refusal g state (Asks s names) = in_session (session_of state s) (λ x. refuse_if (is_none (values_of names)) R.Values None)
+own_refusal g state (Controls control) = refusal_of_control g control
+own_refusal g state (AtFault fault) = Some (refusal_of_fault fault)
 
 -- Refusals by the history before the request.
-
--- The change that a request asks of the history, with the id of a removal. What is asked for an addition as its id
--- doesn't matter to its refusal.
-abbrev pub change_of : Request → Option (Change × ℕ)
-change_of Open = None
-change_of (Close s) = None
-change_of (Pin s) = None
-change_of (Assert s text) = None
-change_of (Retract s k) = None
-change_of (Set s name value) = None
-change_of (SetHex s name digits) = None
-change_of (Unset s name) = None
-change_of (Auth s text) = None
-change_of (Unauth s text) = None
-change_of (Clear s) = None
-change_of (Query s names) = None
-change_of (Admin digits) = None
-change_of (Add text) = Some (C.Add text, 0)
-change_of (Drop k) = Some (C.Remove, k)
-change_of Bye = None
-change_of (Faulty fault) = None
 
 -- the refusal that a fault of the store is; want of memory is none
 abbrev pub refusal_of_store : StoreFault → Option Refusal
@@ -159,37 +147,44 @@ refusal_of_store (U.HistoryFull updates) = Some (R.Limit W.Updates updates)
 refusal_of_store (U.LogFull bytes) = Some (R.Limit W.LogBytes bytes)
 refusal_of_store U.NoMemory = None
 
-abbrev pub placed_refusal : List Update → Request → Option Refusal
-placed_refusal past request = option_and_then (λ asked. option_and_then refusal_of_store (refusal_of (all_changes past) asked.0 asked.1)) (change_of request)
+-- what the history refuses of an update
+abbrev pub fault_of_update : List Update → Updating → Option StoreFault
+fault_of_update past (AddText text) = fault_of_addition (all_changes past) text
+fault_of_update past (DropId k) = fault_of_removal (all_changes past) k
+
+abbrev pub placed_refusal : List Update → Shape → Option Refusal
+placed_refusal past (Calls s call) = None
+placed_refusal past (Updates update) = option_and_then refusal_of_store (fault_of_update past update)
+placed_refusal past (Looks look) = None
+placed_refusal past (Asks s names) = None
+placed_refusal past (Controls control) = None
+placed_refusal past (AtFault fault) = None
 
 -- the first refusal that applies: those by the history come after all others
-abbrev pub first_refusal : Grounds → List Update → State → Request → Option Refusal
-first_refusal g past state request = option_or (own_refusal g state request) (placed_refusal past request)
+abbrev pub first_refusal : Grounds → List Update → State → Shape → Option Refusal
+first_refusal g past state shape = option_or (own_refusal g state shape) (placed_refusal past shape)
 
 -- Changes.
 
--- what an accepted request after this history makes of the state
-abbrev pub changed : List Update → State → Request → State
-changed past state Open = record state {
+abbrev pub looked : List Update → State → Look → State
+looked past state ForNew = record state {
   started = state.started + 1;
   sessions = with_started state.started state.sessions past;
 }
-changed past state (Close s) = record state { sessions = without_session state.sessions s }
-changed past state (Pin s) = with_session state s (pin_at past)
-changed past state (Assert s text) = with_session state s (add_private text)
-changed past state (Retract s k) = with_session state s (take_private k)
-changed past state (Set s name value) = with_session state s (set_attribute name value)
-changed past state (SetHex s name digits) = with_session state s (set_attribute name (bytes_of_digits digits))
-changed past state (Unset s name) = with_session state s (unset_attribute name)
-changed past state (Auth s text) = with_session state s (add_requester text)
-changed past state (Unauth s text) = with_session state s (take_requester text)
-changed past state (Clear s) = with_session state s cleared
-changed past state (Query s names) = state
-changed past state (Admin digits) = record state { is_admin = true }
-changed past state (Add text) = state
-changed past state (Drop k) = state
-changed past state Bye = state
-changed past state (Faulty fault) = state
+looked past state (ForOpen s) = with_session state s (pin_at past)
+
+abbrev pub controlled : State → Control → State
+controlled state (ShowSecret bytes) = record state { is_admin = true }
+controlled state Leave = state
+
+-- what an accepted request after this history makes of the state
+abbrev pub changed : List Update → State → Shape → State
+changed past state (Calls s call) = record state { sessions = after_call state.sessions s call }
+changed past state (Updates update) = state
+changed past state (Looks look) = looked past state look
+changed past state (Asks s names) = state
+changed past state (Controls control) = controlled state control
+changed past state (AtFault fault) = state
 
 -- Answers.
 
@@ -234,49 +229,48 @@ pub record IsCommitted (past : List Update) (update : Update) : Type 0 where
   pub ends : past ≡ before ++ update ∷ []
   pub accepted : update_may_follow (all_changes before) update ≡ true
 
--- What an accepted request of this caller gives after this history. An addition or a removal is the last update of the history,
--- and a new private assertion is told by its id.
-abbrev pub Answers : ℕ → List Update → State → Request → Reply → Type 0
-Answers caller past old Open reply = reply ≡ Started (old.started + 1) (length past)
-Answers caller past old (Close s) reply = reply ≡ Done
-Answers caller past old (Pin s) reply = reply ≡ Number (length past)
-Answers caller past old (Assert s text) reply = IsSomeAnd (session_of old s) (λ session. reply ≡ PrivateAdded (session.made + 1))
-Answers caller past old (Retract s k) reply = reply ≡ Done
-Answers caller past old (Set s name value) reply = reply ≡ Done
-Answers caller past old (SetHex s name digits) reply = reply ≡ Done
-Answers caller past old (Unset s name) reply = reply ≡ Done
-Answers caller past old (Auth s text) reply = reply ≡ Done
-Answers caller past old (Unauth s text) reply = reply ≡ Done
-Answers caller past old (Clear s) reply = reply ≡ Done
-Answers caller past old (Query s names) reply = IsAnswered old s names reply
-Answers caller past old (Admin digits) reply = reply ≡ Done
-Answers caller past old (Add text) reply = (id : ℕ) × IsCommitted past (addition_by caller text id) × (reply ≡ Added id (length past))
-Answers caller past old (Drop k) reply = IsCommitted past (removal_by caller k) × (reply ≡ Number (length past))
-Answers caller past old Bye reply = reply ≡ Done
-Answers caller past old (Faulty fault) reply = ⊥
+-- a new private assertion is told by its id
+abbrev pub reply_of_call : Applied → Reply
+reply_of_call A.Done = Done
+reply_of_call (A.Added k) = PrivateAdded k
+
+-- an addition or a removal of this caller is the last update of the history
+abbrev pub IsUpdated : ℕ → List Update → Updating → Reply → Type 0
+IsUpdated caller past (AddText text) reply = (id : ℕ) × IsCommitted past (addition_by caller text id) × (reply ≡ Added id (length past))
+IsUpdated caller past (DropId k) reply = IsCommitted past (removal_by caller k) × (reply ≡ Number (length past))
+
+abbrev pub reply_of_look : List Update → State → Look → Reply
+reply_of_look past old ForNew = Started (old.started + 1) (length past)
+reply_of_look past old (ForOpen s) = Number (length past)
+
+-- what an accepted request of this caller gives after this history
+abbrev pub Answers : ℕ → List Update → State → Shape → Reply → Type 0
+Answers caller past old (Calls s call) reply = IsSomeAnd (session_of old s) (λ session. reply ≡ reply_of_call (call_answer call session))
+Answers caller past old (Updates update) reply = IsUpdated caller past update reply
+Answers caller past old (Looks look) reply = reply ≡ reply_of_look past old look
+Answers caller past old (Asks s names) reply = IsAnswered old s names reply
+Answers caller past old (Controls control) reply = reply ≡ Done
+Answers caller past old (AtFault fault) reply = ⊥
 
 -- The request is accepted: the state refuses nothing, and the reply and the next state are due. An update that the history
 -- holds already was judged by what is before it.
-pub record Does (g : Grounds) (caller : ℕ) (past : List Update) (old : State) (request : Request) (reply : Reply) (new : State) : Type 0 where
-  pub accepted : own_refusal g old request ≡ None
-  pub answered : Answers caller past old request reply
-  pub next : new ≡ changed past old request
+pub record Does (g : Grounds) (caller : ℕ) (past : List Update) (old : State) (shape : Shape) (reply : Reply) (new : State) : Type 0 where
+  pub accepted : own_refusal g old shape ≡ None
+  pub answered : Answers caller past old shape reply
+  pub next : new ≡ changed past old shape
 
 -- the requests to which want of memory may be the reply; then nothing has changed
-abbrev pub may_lack_memory : Request → Bool
-may_lack_memory Open = true
-may_lack_memory (Pin s) = true
-may_lack_memory (Assert s text) = true
-may_lack_memory (Set s name value) = true
-may_lack_memory (SetHex s name digits) = true
-may_lack_memory (Auth s text) = true
-may_lack_memory (Query s names) = true
-may_lack_memory (Add text) = true
-may_lack_memory (Drop k) = true
-may_lack_memory request = false
+abbrev pub may_lack_memory : Shape → Bool
+may_lack_memory (Calls s call) = call_may_lack_memory call
+may_lack_memory (Updates update) = true
+may_lack_memory (Looks look) = true
+may_lack_memory (Asks s names) = true
+may_lack_memory (Controls control) = false
+may_lack_memory (AtFault fault) = false
 
--- A daemon of one thread may give this reply to the caller's request after this history, and be in the state `new` then.
-abbrev pub Permits : Grounds → ℕ → List Update → State → Request → Reply → State → Type 0
-Permits g caller past old request (No refusal) new = (first_refusal g past old request ≡ Some refusal) × (new ≡ old)
-Permits g caller past old request NoMemory new = (may_lack_memory request ≡ true) × (new ≡ old)
-Permits g caller past old request reply new = Does g caller past old request reply new
+-- A daemon of one thread may give this reply to the caller's request of this shape after this history, and be in the state
+-- `new` then.
+abbrev pub Permits : Grounds → ℕ → List Update → State → Shape → Reply → State → Type 0
+Permits g caller past old shape (No refusal) new = (first_refusal g past old shape ≡ Some refusal) × (new ≡ old)
+Permits g caller past old shape NoMemory new = (may_lack_memory shape ≡ true) × (new ≡ old)
+Permits g caller past old shape reply new = Does g caller past old shape reply new

@@ -15,6 +15,7 @@ use Rattle.kn_reply.specs.Replies.{Reply, NoMemory, reply_text}
 use Rattle.kn_store.specs.History.{is_valid_history, own_updates}
 use Rattle.kn_daemon.specs.declared.ended.Ended.{Ended}
 use Rattle.kn_daemon.specs.declared.ended.Ended.TheVariants as E
+use Rattle.kn_daemon.specs.Shapes.{shape_of}
 use Rattle.kn_daemon.specs.Daemon.{Grounds, State, first_state, refusal_of_reading, Permits}
 use Rattle.kn_daemon.specs.Linearized.{Exchange, Along, requests_in}
 use Rattle.kn_session.specs.Sessions.{Session}
@@ -39,7 +40,7 @@ abbrev pub AnswersOne : Type 0
 AnswersOne = (g : Grounds) (taken written : List ℕ) (history more : List Update) (start caller : ℕ) (stops entries : List ℕ) (old new : State) (held after : Held) (answered : ℕ) (request : Request) (reply : Reply)
     → IsUnderway g taken written history start caller stops old held answered
     → next_of held ≡ Some (request, after)
-    → IsReplied g caller history more entries old request reply new
+    → IsReplied g caller history more entries old (shape_of request) reply new
     → is_bye request ≡ false → is_block request ≡ false
     → IsUnderway g taken (written ++ reply_text reply) (history ++ more) start caller (stops ++ entries) new after (answered + 1)
 
@@ -48,7 +49,7 @@ abbrev pub EndsByBye : Type 0
 EndsByBye = (g : Grounds) (taken written : List ℕ) (history more : List Update) (start caller : ℕ) (stops entries : List ℕ) (old new : State) (held after : Held) (answered : ℕ) (reply : Reply) (is_over : Bool)
     → IsUnderway g taken written history start caller stops old held answered → answered < REQUESTS
     → next_of held ≡ Some (Bye, after)
-    → IsReplied g caller history more entries old Bye reply new
+    → IsReplied g caller history more entries old (shape_of Bye) reply new
     → is_valid_history (history ++ more) ≡ true
     → IsServed g taken (written ++ reply_text reply) E.Done is_over (history ++ more) start (length (history ++ more)) caller (stops ++ entries)
 
@@ -57,7 +58,7 @@ abbrev pub EndsByBlock : Type 0
 EndsByBlock = (g : Grounds) (taken written : List ℕ) (history more : List Update) (start caller : ℕ) (stops entries : List ℕ) (old new : State) (held after : Held) (answered n : ℕ) (reply : Reply) (is_over : Bool)
     → IsUnderway g taken written history start caller stops old held answered → answered < REQUESTS
     → next_of held ≡ Some (Faulty (F.Block n), after)
-    → IsReplied g caller history more entries old (Faulty (F.Block n)) reply new
+    → IsReplied g caller history more entries old (shape_of (Faulty (F.Block n))) reply new
     → is_valid_history (history ++ more) ≡ true
     → IsServed g taken (written ++ reply_text reply) (E.Block n) is_over (history ++ more) start (length (history ++ more)) caller (stops ++ entries)
 
@@ -66,7 +67,7 @@ abbrev pub EndsByWrite : Type 0
 EndsByWrite = (g : Grounds) (taken written : List ℕ) (history more : List Update) (start caller : ℕ) (stops entries : List ℕ) (old new : State) (held after : Held) (answered at : ℕ) (request : Request) (reply : Reply) (is_over : Bool)
     → IsUnderway g taken written history start caller stops old held answered → answered < REQUESTS
     → next_of held ≡ Some (request, after)
-    → IsReplied g caller history more entries old request reply new
+    → IsReplied g caller history more entries old (shape_of request) reply new
     → at < length (reply_text reply)
     → is_valid_history (history ++ more) ≡ true
     → IsServed g taken (written ++ take at (reply_text reply)) E.WriteFault is_over (history ++ more) start (length (history ++ more)) caller (stops ++ entries)
@@ -104,7 +105,7 @@ ServedLonger = (g : Grounds) (taken written : List ℕ) (ended : Ended) (is_over
 -- what the daemon permits changes the state as playing does, unless memory was wanting
 abbrev pub PermittedIsPlayed : Type 0
 PermittedIsPlayed = (g : Grounds) (caller : ℕ) (past : List Update) (old : State) (request : Request) (reply : Reply) (new : State)
-    → Permits g caller past old request reply new → reply ≢ NoMemory → new ≡ after_request g past old request
+    → Permits g caller past old (shape_of request) reply new → reply ≢ NoMemory → new ≡ after_request g past old request
 
 -- and so does a list of exchanges, each after the whole history
 abbrev pub AlongIsPlayed : Type 0

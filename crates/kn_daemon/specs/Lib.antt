@@ -1,3 +1,4 @@
+pub mod Shapes
 pub mod Daemon
 pub mod Linearized
 pub mod Served

@@ -1,10 +1,12 @@
 -- A caller's requests at legal places of one history (keynoted's own).
-use Rattle.std.specs.Prelude.{ℕ, ◌≡◌, ◌≤◌, ◌<◌, Bool, true, false, List, [], ◌∷◌, ◌++◌, length, map, take, filter_map, slice_range, Option, Some, None}
+use Rattle.std.specs.Prelude.{ℕ, ◌≡◌, ◌≤◌, ◌<◌, Bool, true, false, List, [], ◌∷◌, ◌++◌, length, map, take, filter_map, slice_range, Option, Some, None, option_map, option_and_then, is_some, ◌&&◌, ◌||◌}
+use Rattle.kn_reply.specs.declared.refusal.Refusal.{Refusal}
 use Rattle.kn_reply.specs.declared.refusal.Refusal.TheVariants as R
 use Rattle.kn_store.specs.declared.update.Update.{Update}
-use Rattle.kn_wire.specs.Requests.{Request, Open, Close, Pin, Assert, Retract, Set, SetHex, Unset, Auth, Unauth, Clear, Query, Admin, Add, Drop, Bye, Faulty}
-use Rattle.kn_reply.specs.Replies.{Reply, Started, Number, Added, No, reply_text}
+use Rattle.kn_wire.specs.Requests.{Request}
+use Rattle.kn_reply.specs.Replies.{Reply, Done, Started, Number, PrivateAdded, Added, Value, No, NoMemory, reply_text}
 use Rattle.kn_store.specs.History.{is_valid_history, addition_by, removal_by, own_updates}
+use Rattle.kn_daemon.specs.Shapes.{Updating, AddText, DropId, Shape, Calls, Updates, Looks, Asks, Controls, AtFault, shape_of}
 use Rattle.kn_daemon.specs.Daemon.{Grounds, State, Permits}
 
 -- a request, its reply, and the place in the history where it stands: after so many updates
@@ -16,7 +18,7 @@ pub record Exchange : Type 0 where
 -- the replies follow from one another, each at its place of the one history
 abbrev pub Along : Grounds → ℕ → List Update → State → List Exchange → State → Type 0
 Along g caller history old [] new = new ≡ old
-Along g caller history old (e ∷ es) new = (mid : State) × Permits g caller (take e.place history) old e.request e.reply mid × Along g caller history mid es new
+Along g caller history old (e ∷ es) new = (mid : State) × Permits g caller (take e.place history) old (shape_of e.request) e.reply mid × Along g caller history mid es new
 
 abbrev pub requests_in : List Exchange → List Request
 requests_in exchanges = map (λ e. e.request) exchanges
@@ -24,30 +26,37 @@ requests_in exchanges = map (λ e. e.request) exchanges
 abbrev pub texts_in : List Exchange → List (List ℕ)
 texts_in exchanges = map (λ e. reply_text e.reply) exchanges
 
--- the caller's update, where the reply says that it was accepted
-abbrev pub update_by : ℕ → Request → Reply → Option Update
-update_by caller Open reply = None
-update_by caller (Close s) reply = None
-update_by caller (Pin s) reply = None
-update_by caller (Assert s text) reply = None
-update_by caller (Retract s k) reply = None
-update_by caller (Set s name value) reply = None
-update_by caller (SetHex s name digits) reply = None
-update_by caller (Unset s name) reply = None
-update_by caller (Auth s text) reply = None
-update_by caller (Unauth s text) reply = None
-update_by caller (Clear s) reply = None
-update_by caller (Query s names) reply = None
-update_by caller (Admin digits) reply = None
-update_by caller (Add text) (Added id version) = Some (addition_by caller text id)
-update_by caller (Add text) reply = None
-update_by caller (Drop id) (Number version) = Some (removal_by caller id)
-update_by caller (Drop id) reply = None
-update_by caller Bye reply = None
-update_by caller (Faulty fault) reply = None
+-- the text that an update adds, and the id that it removes
+abbrev pub added_text : Updating → Option (List ℕ)
+added_text (AddText text) = Some text
+added_text (DropId k) = None
+
+abbrev pub dropped_id : Updating → Option ℕ
+dropped_id (AddText text) = None
+dropped_id (DropId k) = Some k
+
+-- what a request asks of the history
+abbrev pub updating : Shape → Option Updating
+updating (Calls s call) = None
+updating (Updates update) = Some update
+updating (Looks look) = None
+updating (Asks s names) = None
+updating (Controls control) = None
+updating (AtFault fault) = None
+
+-- the caller's update that a request and its reply name: the reply says that it was accepted, and tells the id of an addition
+abbrev pub update_by : ℕ → Shape → Reply → Option Update
+update_by caller shape (Added id version) = option_map (λ text. addition_by caller text id) (option_and_then added_text (updating shape))
+update_by caller shape (Number version) = option_map (λ id. removal_by caller id) (option_and_then dropped_id (updating shape))
+update_by caller shape Done = None
+update_by caller shape (Started s version) = None
+update_by caller shape (PrivateAdded k) = None
+update_by caller shape (Value index name version rows) = None
+update_by caller shape (No refusal) = None
+update_by caller shape NoMemory = None
 
 abbrev pub update_of : ℕ → Exchange → Option Update
-update_of caller e = update_by caller e.request e.reply
+update_of caller e = update_by caller (shape_of e.request) e.reply
 
 -- what an exchange has to be behind: an update stands past all before it
 abbrev pub IsBehind : Option Update → ℕ → ℕ → Type 0
@@ -59,27 +68,47 @@ abbrev pub InOrder : ℕ → ℕ → List Exchange → ℕ → Type 0
 InOrder caller low [] high = low ≤ high
 InOrder caller low (e ∷ es) high = IsBehind (update_of caller e) low e.place × InOrder caller e.place es high
 
--- a reply to ADD or DROP that depends on the place: the update was accepted, or refused by the history
-abbrev pub is_placed_update : Reply → Bool
-is_placed_update (Number version) = true
-is_placed_update (Added id version) = true
-is_placed_update (No R.Unknown) = true
-is_placed_update (No (R.Limit word count)) = true
-is_placed_update reply = false
+abbrev pub is_update : Shape → Bool
+is_update shape = is_some (updating shape)
 
--- a reply to OPEN or PIN that depends on the place: the version was pinned
-abbrev pub is_placed_pin : Reply → Bool
-is_placed_pin (Started s version) = true
-is_placed_pin (Number version) = true
-is_placed_pin reply = false
+-- a version is taken at the place
+abbrev pub is_look : Shape → Bool
+is_look (Calls s call) = false
+is_look (Updates update) = false
+is_look (Looks look) = true
+is_look (Asks s names) = false
+is_look (Controls control) = false
+is_look (AtFault fault) = false
 
--- whether the reply depends on its place
-abbrev pub is_placed : Request → Reply → Bool
-is_placed Open reply = is_placed_pin reply
-is_placed (Pin s) reply = is_placed_pin reply
-is_placed (Add text) reply = is_placed_update reply
-is_placed (Drop k) reply = is_placed_update reply
-is_placed request reply = false
+-- a refusal by the history: of an update this depends on the place
+abbrev pub is_by_history : Refusal → Bool
+is_by_history R.Unknown = true
+is_by_history (R.Limit word count) = true
+is_by_history R.Syntax = false
+is_by_history R.Command = false
+is_by_history R.Session = false
+is_by_history R.Admin = false
+is_by_history (R.Read fault place) = false
+is_by_history R.Policy = false
+is_by_history (R.Auth fault) = false
+is_by_history R.Name = false
+is_by_history R.Value = false
+is_by_history R.Values = false
+is_by_history R.Principal = false
+is_by_history R.Long = false
+is_by_history R.Block = false
+
+-- whether the reply to a request of this shape depends on its place: a version was taken there, or an update was accepted, or
+-- refused by the history
+abbrev pub is_placed : Shape → Reply → Bool
+is_placed shape (Started s version) = is_look shape
+is_placed shape (Number version) = is_look shape || is_update shape
+is_placed shape (Added id version) = is_update shape
+is_placed shape (No refusal) = is_update shape && is_by_history refusal
+is_placed shape Done = false
+is_placed shape (PrivateAdded k) = false
+is_placed shape (Value index name version rows) = false
+is_placed shape NoMemory = false
 
 -- where the turn was had for an exchange: at its place if the reply depends on that, and else nowhere or once somewhere
 abbrev pub StandsFor : Bool → ℕ → List ℕ → Type 0
@@ -89,7 +118,7 @@ StandsFor false place entries = length entries ≤ 1
 -- where the turn was had for all of them, in order
 abbrev pub StopsAt : List Exchange → List ℕ → Type 0
 StopsAt [] stops = stops ≡ []
-StopsAt (e ∷ es) stops = (entries : List ℕ) × (later : List ℕ) × StandsFor (is_placed e.request e.reply) e.place entries × StopsAt es later × (stops ≡ entries ++ later)
+StopsAt (e ∷ es) stops = (entries : List ℕ) × (later : List ℕ) × StandsFor (is_placed (shape_of e.request) e.reply) e.place entries × StopsAt es later × (stops ≡ entries ++ later)
 
 -- The exchanges stand at legal places of one history, the caller's own updates between `start` and `end` are those of its
 -- accepted requests, and the turn was had at `stops`.

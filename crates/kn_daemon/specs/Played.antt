@@ -4,14 +4,15 @@ use Rattle.std.specs.Prelude.{ℕ, ◌≡◌, List, [], ◌∷◌, ◌++◌, Boo
 use Rattle.std.specs.Option.{option_map_or}
 use Rattle.kn_env.specs.Values.{values_of}
 use Rattle.kn_store.specs.declared.update.Update.{Update}
-use Rattle.kn_wire.specs.Requests.{Request, Query}
+use Rattle.kn_wire.specs.Requests.{Request}
+use Rattle.kn_daemon.specs.Shapes.{Shape, Calls, Updates, Looks, Asks, Controls, AtFault, shape_of}
 use Rattle.kn_daemon.specs.Daemon.{Grounds, State, first_state, session_of, own_refusal, changed}
 use Rattle.kn_session.specs.Sessions.{Session}
 use Rattle.kn_daemon.specs.Served.{is_bye, is_block}
 
 -- The state after a request: a refused one changes nothing. An update changes no state, so what refuses it by the history doesn't matter here.
 abbrev pub after_request : Grounds → List Update → State → Request → State
-after_request g past state request = option_map_or (λ refusal. state) (own_refusal g state request) (changed past state request)
+after_request g past state request = option_map_or (λ refusal. state) (own_refusal g state (shape_of request)) (changed past state (shape_of request))
 
 -- the state after these requests
 abbrev pub played : Grounds → List Update → State → List Request → State
@@ -31,10 +32,18 @@ up_to_end (request ∷ requests) = if is_last request then request ∷ [] else r
 abbrev pub no_grounds : Grounds
 no_grounds = record { secret = []; verdict = λ text a. 1 }
 
--- the request is a QUERY that is answered with a value: the session is open, and the text names these values
+-- the session is open, and the text names these values
+abbrev pub AsksOf : State → Shape → Session → List (List ℕ) → Type 0
+AsksOf state (Asks s names) session values = (session_of state s ≡ Some session) × (values_of names ≡ Some values)
+AsksOf state (Calls s call) session values = ⊥
+AsksOf state (Updates update) session values = ⊥
+AsksOf state (Looks look) session values = ⊥
+AsksOf state (Controls control) session values = ⊥
+AsksOf state (AtFault fault) session values = ⊥
+
+-- the request is a QUERY that is answered with a value
 abbrev pub IsAsking : State → Request → Session → List (List ℕ) → Type 0
-IsAsking state (Query s names) session values = (session_of state s ≡ Some session) × (values_of names ≡ Some values)
-IsAsking state request session values = ⊥
+IsAsking state request session values = AsksOf state (shape_of request) session values
 
 -- The query that requests mean over a history, without a secret: the last QUERY up to their end that is answered with a value,
 -- and the session as it then stands.

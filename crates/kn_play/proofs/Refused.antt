@@ -10,7 +10,8 @@ use Rattle.kn_fields.specs.Numbers.{fault_number, fault_place}
 use Rattle.kn_fields.specs.declared.fault.ReadFault.{ReadFault}
 use Rattle.kn_fields.specs.declared.fault.ReadFault.TheVariants.{NotText, BadString, BadToken, Float, Regex, Number, Blank, TooLong, BadField, FieldTwice, FieldOrder, NoAuthorizer, Version, Constant, TooDeep, Syntax, Kind, Threshold, Name, NoMemory}
 use Rattle.kn_assert.specs.Reading.{reading_of, fault_of}
-use Rattle.kn_session.specs.Sessions.{Session, OpenSessions, private_fault}
+use Rattle.kn_session.specs.Sessions.{Session, OpenSessions}
+use Rattle.kn_session.specs.Calls.{private_fault}
 use Rattle.kn_wire.specs.Requests.{Assert}
 use Rattle.kn_daemon.specs.Daemon.{State, session_of, in_session, refusal_by, refusal_of_reading, refusal_of_private, changed}
 use Rattle.kn_play.specs.Playing.{state_of_sessions, applied}

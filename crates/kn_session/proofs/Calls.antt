@@ -6,7 +6,8 @@ use Rattle.std.proofs.lemmas.List.Edits.{length-remove}
 use Rattle.kn_base.specs.declared.limits.TheConstants.{SESSIONS}
 use Rattle.kn_principal.specs.Principals.{normal_form}
 use Rattle.kn_session.specs.declared.fault.SessionFault.{SessionFault}
-use Rattle.kn_session.specs.Sessions.{Session, OpenSessions, session_in, fault_in, add_requester, is_named}
+use Rattle.kn_session.specs.Sessions.{Session, OpenSessions, session_in, fault_in}
+use Rattle.kn_session.specs.Calls.{add_requester, is_named}
 use Rattle.kn_session.specs.Connection.{fault_at, with_open_session, AreNumbers, AreOpen}
 use Rattle.kn_session.specs.Placed.{IsOneAt}
 use Rattle.kn_env.proofs.Requesters.{AllByRecursion-push}

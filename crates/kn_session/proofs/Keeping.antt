@@ -16,7 +16,8 @@ use Rattle.kn_store.specs.History.{NumberedText, text_bytes}
 use Rattle.kn_session.specs.declared.fault.SessionFault.{SessionFault}
 use Rattle.kn_session.specs.declared.fault.SessionFault.TheVariants as F
 use Rattle.kn_session.specs.declared.view.Private.{Private}
-use Rattle.kn_session.specs.Sessions.{Session, fault_if, private_fault, private_bytes, auth_fault, is_principal, is_named, started_session, cleared}
+use Rattle.kn_session.specs.Sessions.{Session, fault_if, started_session}
+use Rattle.kn_session.specs.Calls.{private_fault, private_bytes, auth_fault, is_principal, is_named, cleared}
 use Rattle.kn_session.specs.Views.{numbered_text, ids_of, IsReadPrivate, ArePrivates, AreNormalForms, IsSession, IsKept}
 use Rattle.kn_session.proofs.Closing.{next_is_new, AllByRecursion-remove, AllByRecursion-weaker, IsDistinct-push, IsDistinct-remove, map-remove}
 use Rattle.kn_session.proofs.Naming.{requesters_more, forms_more, requesters_fewer, forms_fewer}

@@ -13,7 +13,7 @@ use Rattle.kn_principal.proofs.NormalForms.{form_twice}
 use Rattle.kn_env.specs.Environment.{IsPrincipalSize, AreRequesters}
 use Rattle.kn_env.proofs.Requesters.{AllByRecursion-push, AreRequesters-push}
 use Rattle.kn_assert.proofs.Answered.{normal_length}
-use Rattle.kn_session.specs.Sessions.{is_principal, is_named}
+use Rattle.kn_session.specs.Calls.{is_principal, is_named}
 use Rattle.kn_session.specs.Views.{AreNormalForms}
 use Rattle.kn_session.proofs.OneAt.{AtMostOne, or_left, or_right}
 use Rattle.kn_session.proofs.Closing.{AllByRecursion-remove, IsDistinct-push, IsDistinct-remove}

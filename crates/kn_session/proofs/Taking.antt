@@ -6,7 +6,8 @@ use Rattle.kn_principal.specs.Principals.{normal_form}
 use Rattle.kn_store.specs.History.{NumberedText}
 use Rattle.kn_session.specs.declared.fault.SessionFault.TheVariants as F
 use Rattle.kn_session.specs.declared.view.Private.{Private}
-use Rattle.kn_session.specs.Sessions.{Session, fault_if, retract_fault, unauth_fault, take_private, take_requester}
+use Rattle.kn_session.specs.Sessions.{Session, fault_if}
+use Rattle.kn_session.specs.Calls.{retract_fault, unauth_fault, take_private, take_requester}
 use Rattle.kn_session.specs.Views.{numbered_text, ids_of, IsKept, AreNormalForms}
 use Rattle.kn_session.specs.Placed.{IsOneAt}
 use Rattle.kn_session.proofs.OneAt.{one_at, one_number, none_passes, some_passes}

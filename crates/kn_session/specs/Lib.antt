@@ -1,4 +1,5 @@
 pub mod Sessions
+pub mod Calls
 pub mod Views
 pub mod Connection
 pub mod Placed

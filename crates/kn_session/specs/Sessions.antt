@@ -1,16 +1,10 @@
--- The sessions of a connection, what refuses a change of one, and what the change makes of it (keynoted's own; the calls are
--- those of keynote(3)).
-use Rattle.std.specs.Prelude.{ℕ, ◌+◌, Bool, ◌==◌, ◌&&◌, not, nat_le, nat_lt, List, [], ◌∷◌, ◌++◌, length, map, filter, find, Option, Some, None, if◌then◌else◌}
-use Rattle.std.specs.List.{list_any}
-use Rattle.std.specs.Str.{bytes_eq}
-use Rattle.kn_base.specs.declared.limits.TheConstants.{SESSIONS, PRIVATE_ASSERTIONS, PRIVATE_BYTES, REQUESTERS, PRINCIPAL_BYTES}
-use Rattle.kn_principal.specs.Principals.{policy, normal_form}
-use Rattle.kn_env.specs.Attributes.{Attribute, attribute_fault, has_attribute, with_attribute, without_attribute}
-use Rattle.kn_env.specs.declared.attributes.EnvFault.{EnvFault}
-use Rattle.kn_env.specs.declared.attributes.EnvFault.TheVariants as V
-use Rattle.kn_trees.specs.declared.assertion.Assertion.{Assertion}
+-- The sessions of a connection: what each holds, and how one is started and pinned (keynoted's own; the calls are those of
+-- keynote(3)).
+use Rattle.std.specs.Prelude.{ℕ, ◌+◌, Bool, ◌==◌, not, nat_le, List, [], ◌∷◌, ◌++◌, length, map, filter, find, Option, Some, None, if◌then◌else◌}
+use Rattle.kn_base.specs.declared.limits.TheConstants.{SESSIONS}
+use Rattle.kn_env.specs.Attributes.{Attribute}
 use Rattle.kn_store.specs.declared.update.Update.{Update}
-use Rattle.kn_store.specs.History.{NumberedText, text_bytes}
+use Rattle.kn_store.specs.History.{NumberedText}
 use Rattle.kn_session.specs.declared.fault.SessionFault.{SessionFault}
 use Rattle.kn_session.specs.declared.fault.SessionFault.TheVariants as F
 
@@ -55,53 +49,6 @@ abbrev pub fault_in : ℕ → Option Session → (Session → Option SessionFaul
 fault_in s None fault = Some (F.Unknown s)
 fault_in s (Some session) fault = fault session
 
--- the bytes of a session's private assertions
-abbrev pub private_bytes : Session → ℕ
-private_bytes session = text_bytes session.privates
-
--- why an assertion of this text isn't added to a session
-abbrev pub private_fault : List ℕ → Assertion → Session → Option SessionFault
-private_fault text assertion session =
-    fault_if (bytes_eq assertion.authorizer policy) F.ByPolicy (
-    fault_if (nat_le PRIVATE_ASSERTIONS (length session.privates)) (F.Privates (length session.privates)) (
-    fault_if (nat_lt PRIVATE_BYTES (private_bytes session + length text)) (F.PrivateBytes (private_bytes session)) None))
-
--- a private assertion of this id is there
-abbrev pub has_private : ℕ → Session → Bool
-has_private k session = list_any (λ p. p.id == k) session.privates
-
-abbrev pub retract_fault : ℕ → Session → Option SessionFault
-retract_fault k session = fault_if (not (has_private k session)) (F.NoSuch k) None
-
-abbrev pub fault_of_attribute : Option EnvFault → Option SessionFault
-fault_of_attribute None = None
-fault_of_attribute (Some V.BadName) = Some F.Name
-fault_of_attribute (Some V.BadValue) = Some F.Value
-fault_of_attribute (Some (V.Full count)) = Some (F.Attributes count)
-fault_of_attribute (Some V.NoMemory) = Some F.NoMemory
-
-abbrev pub set_fault : List ℕ → List ℕ → Session → Option SessionFault
-set_fault name value session = fault_of_attribute (attribute_fault name value session.attributes)
-
-abbrev pub unset_fault : List ℕ → Session → Option SessionFault
-unset_fault name session = fault_if (not (has_attribute name session.attributes)) F.Absent None
-
--- a text that may name a requester: of 1 to 4,096 bytes, and not the policy's
-abbrev pub is_principal : List ℕ → Bool
-is_principal text = (nat_le 1 (length text) && nat_le (length text) PRINCIPAL_BYTES) && not (bytes_eq text policy)
-
--- the principal of this text is among the requesters, which are normal forms
-abbrev pub is_named : List (List ℕ) → List ℕ → Bool
-is_named requesters text = list_any (bytes_eq (normal_form text)) requesters
-
-abbrev pub auth_fault : List ℕ → Session → Option SessionFault
-auth_fault text session =
-    fault_if (not (is_principal text)) F.Principal (
-    fault_if (not (is_named session.requesters text) && nat_le REQUESTERS (length session.requesters)) (F.Requesters (length session.requesters)) None)
-
-abbrev pub unauth_fault : List ℕ → Session → Option SessionFault
-unauth_fault text session = fault_if (not (is_named session.requesters text)) F.Absent None
-
 -- Changes.
 
 -- a new session
@@ -114,25 +61,3 @@ with_started started sessions past = sessions ++ started_session (started + 1) p
 
 abbrev pub pin_at : List Update → Session → Session
 pin_at past x = record x { pinned = past }
-
-abbrev pub add_private : List ℕ → Session → Session
-add_private text x = record x { privates = x.privates ++ record { id = x.made + 1; text = text } ∷ []; made = x.made + 1 }
-
-abbrev pub take_private : ℕ → Session → Session
-take_private k x = record x { privates = filter (λ p. not (p.id == k)) x.privates }
-
-abbrev pub set_attribute : List ℕ → List ℕ → Session → Session
-set_attribute name value x = record x { attributes = with_attribute name value x.attributes }
-
-abbrev pub unset_attribute : List ℕ → Session → Session
-unset_attribute name x = record x { attributes = without_attribute name x.attributes }
-
--- a requester that is there keeps its place; another one comes last
-abbrev pub add_requester : List ℕ → Session → Session
-add_requester text x = if is_named x.requesters text then x else record x { requesters = x.requesters ++ normal_form text ∷ [] }
-
-abbrev pub take_requester : List ℕ → Session → Session
-take_requester text x = record x { requesters = filter (λ r. not (bytes_eq (normal_form text) r)) x.requesters }
-
-abbrev pub cleared : Session → Session
-cleared x = record x { attributes = []; requesters = [] }

@@ -1,4 +1,8 @@
 //! Why a call of the sessions is refused.
+ghost use Rattle.std.specs.Prelude.{◌≡◌};
+ghost use Rattle.kn_session.specs.Calls.{lacks_memory};
+
+use kn_assert::ReadFault;
 
 /// Why a call of the sessions is refused (keynoted's own). The limits are those of `kn_base::limits`.
 #[derive(Debug, Clone, Copy, PartialEq, Eq, Drop)]
@@ -29,4 +33,25 @@ pub enum SessionFault {
     Absent,
     /// There was no memory.
     NoMemory,
+}
+
+/// Why a call of one session is refused.
+#[derive(Debug, Clone, Copy, PartialEq, Eq, Drop)]
+pub enum CallFault {
+    /// The text of a private assertion has this fault.
+    Text { fault: ReadFault },
+    /// The session isn't open, or has this fault.
+    Session { fault: SessionFault },
+}
+
+impl CallFault {
+    /// Whether there was no memory.
+    pub fn lacks_memory(&self) -> bool
+        ensures { result ≡ lacks_memory self.now }
+    {
+        match self {
+            CallFault::Text { fault } => fault.number().is_none(),
+            CallFault::Session { fault } => matches!(fault, SessionFault::NoMemory),
+        }
+    }
 }

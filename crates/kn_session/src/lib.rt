@@ -4,12 +4,14 @@
 //! were. Numbers of sessions, and ids of private assertions within a session, are given once.
 #![tactic(auto)]
 
+mod call;
 mod fault;
 pub mod laws;
 mod session;
 mod sessions;
 mod view;
 
-pub use fault::SessionFault;
+pub use call::{Applied, Call};
+pub use fault::{CallFault, SessionFault};
 pub use sessions::Sessions;
 pub use view::{Private, View};

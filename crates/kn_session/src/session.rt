@@ -3,7 +3,8 @@ ghost use Rattle.std.specs.Prelude.{◌≡◌, ◌⊎◌, ◌<◌, ◌+◌, ◌^
 ghost use Rattle.std.specs.Arc.{arc_value};
 ghost use Rattle.kn_principal.specs.Principals.{normal_form};
 ghost use Rattle.kn_assert.specs.Reading.{assertion_of};
-ghost use Rattle.kn_session.specs.Sessions.{started_session, private_fault, retract_fault, set_fault, unset_fault, auth_fault, unauth_fault, fault_of_attribute, is_principal, is_named, pin_at, add_private, take_private, set_attribute, unset_attribute, add_requester, take_requester, cleared};
+ghost use Rattle.kn_session.specs.Sessions.{started_session, pin_at};
+ghost use Rattle.kn_session.specs.Calls.{private_fault, retract_fault, set_fault, unset_fault, auth_fault, unauth_fault, fault_of_attribute, is_principal, is_named, add_private, take_private, set_attribute, unset_attribute, add_requester, take_requester, cleared};
 ghost use Rattle.kn_session.specs.declared.fault.SessionFault.TheVariants as F;
 
 use crate::fault::SessionFault;

@@ -4,14 +4,18 @@ ghost use Rattle.std.specs.Option.{ForSome, IsSomeAnd};
 ghost use Rattle.std.specs.Arc.{arc_value};
 ghost use Rattle.kn_env.specs.Environment.{AreRequesters};
 ghost use Rattle.kn_assert.specs.Reading.{assertion_of};
-ghost use Rattle.kn_session.specs.Sessions.{Session, session_in, with_started, start_fault, private_fault, retract_fault, set_fault, unset_fault, auth_fault, unauth_fault, pin_at, add_private, take_private, set_attribute, unset_attribute, add_requester, take_requester, cleared};
+ghost use Rattle.kn_session.specs.Sessions.{Session, session_in, with_started, start_fault, pin_at};
+ghost use Rattle.kn_session.specs.Calls.{private_fault, retract_fault, set_fault, unset_fault, auth_fault, unauth_fault, add_private, take_private, set_attribute, unset_attribute, add_requester, take_requester, cleared};
+ghost use Rattle.kn_session.specs.Calls.{answer_done};
 ghost use Rattle.kn_session.specs.Placed.{IsOneAt};
 ghost use Rattle.kn_session.specs.declared.fault.SessionFault.{SessionFault};
 ghost use Rattle.kn_session.specs.declared.fault.SessionFault.TheVariants as F;
 
-use crate::fault::SessionFault;
+use crate::call::{Applied, Call};
+use crate::fault::{CallFault, SessionFault};
 use crate::session::OpenSession;
 use crate::view::View;
+use kn_assert::read;
 use kn_base::limits::SESSIONS;
 use kn_store::Snapshot;
 use kn_trees::Assertion;
@@ -41,6 +45,7 @@ impl Model for Sessions {
 }
 
 impl Sessions {
+    ghost use Rattle.kn_session.specs.Calls.{Assert, call_of, Accepts, Refuses};
     ghost use Rattle.kn_session.specs.Connection.{fault_at, with_open_session, with_closed};
     ghost use Rattle.kn_session.specs.Views.{session_of_view, AreReadPrivates, ArePrivates, AreNormalForms};
 
@@ -215,6 +220,44 @@ impl Sessions {
         session.unauth(principal)
     }
 
+    /// Answers a call of a session. An assertion is read once the session is found open.
+    pub fn apply(&mut self, alloc: Global, s: u32, call: Call<'_>) -> Result<Applied, CallFault>
+        requires few { ForSome (session_in self.old.sessions s) (λ x. x.made < 2 ^ 31) }
+        ensures ok { IfOk result (Accepts self.old self.new s (call_of call.entry)) }
+        ensures err { IfErr result (Refuses self.old self.new s (call_of call.entry)) }
+    {
+        match call {
+            Call::Close => answer_done(self.close(s)),
+            Call::Clear => answer_done(self.clear(s)),
+            Call::Assert { text } => self.assert_text(alloc, s, text),
+            Call::Retract { k } => answer_done(self.retract(s, k)),
+            Call::Set { name, value } => answer_done(self.set(s, name, value)),
+            Call::Unset { name } => answer_done(self.unset(s, name)),
+            Call::Auth { principal } => answer_done(self.auth(s, principal)),
+            Call::Unauth { principal } => answer_done(self.unauth(s, principal)),
+        }
+    }
+
+    // Reads a text and adds its assertion.
+    fn assert_text(&mut self, alloc: Global, s: u32, text: &[u8]) -> Result<Applied, CallFault>
+        requires few { ForSome (session_in self.old.sessions s) (λ x. x.made < 2 ^ 31) }
+        ensures ok { IfOk result (Accepts self.old self.new s (Assert text.now)) }
+        ensures err { IfErr result (Refuses self.old self.new s (Assert text.now)) }
+    {
+        match self.view(s) {
+            Ok(_) => {}
+            Err(fault) => return Err(CallFault::Session { fault }),
+        }
+        let assertion = match read(alloc, text) {
+            Ok(assertion) => assertion,
+            Err(fault) => return Err(CallFault::Text { fault }),
+        };
+        match self.add_private(s, text, assertion) {
+            Ok(k) => Ok(Applied::Added { k }),
+            Err(fault) => Err(CallFault::Session { fault }),
+        }
+    }
+
     /// What a session asks with. Takes no memory.
     pub fn view(&self, s: u32) -> Result<View<'_>, SessionFault>
         ensures session { IfOk result (λ view. session_in self.now.sessions s ≡ Some (session_of_view view)) }
@@ -247,6 +290,16 @@ impl Sessions {
         ensures { result ≡ self.now.started }
     {
         self.started
+    }
+}
+
+// The answer of a call that gives nothing.
+fn answer_done(called: Result<(), SessionFault>) -> Result<Applied, CallFault>
+    ensures { result ≡ answer_done called }
+{
+    match called {
+        Ok(()) => Ok(Applied::Done),
+        Err(fault) => Err(CallFault::Session { fault }),
     }
 }
 

@@ -2,7 +2,8 @@ use Rattle.std.proofs.Common.{◌≡◌, ℕ, false, List, [], ◌∷◌, ◌++�
 use Rattle.kn_principal.specs.Principals.{normal_form}
 use Rattle.kn_session.specs.declared.view.Private.{Private}
 use Rattle.kn_session.specs.contracts.session.OpenSession.{the_view}
-use Rattle.kn_session.specs.Sessions.{Session, auth_fault, is_named}
+use Rattle.kn_session.specs.Sessions.{Session}
+use Rattle.kn_session.specs.Calls.{auth_fault, is_named}
 use Rattle.kn_session.specs.Views.{IsKept}
 use Rattle.kn_session.proofs.Keeping.{may_enter, kept_entered}
 use Rattle.kn_session.proofs.session.OpenSession.enter.Goals as goal

@@ -1,7 +1,8 @@
 use Rattle.std.proofs.Common.{◌≡◌, ℕ, ◌+◌, List, [], ◌∷◌, ◌++◌, length, map, None, refl, sym, subst}
 use Rattle.kn_session.specs.declared.view.Private.{Private}
 use Rattle.kn_session.specs.contracts.session.OpenSession.{the_view}
-use Rattle.kn_session.specs.Sessions.{Session, private_fault}
+use Rattle.kn_session.specs.Sessions.{Session}
+use Rattle.kn_session.specs.Calls.{private_fault}
 use Rattle.kn_session.specs.Views.{numbered_text, IsReadPrivate, IsKept}
 use Rattle.kn_session.proofs.Keeping.{HasRoom, room_for_private, kept_added}
 use Rattle.kn_session.proofs.session.OpenSession.push_private.Goals as goal

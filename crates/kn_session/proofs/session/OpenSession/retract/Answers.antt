@@ -2,7 +2,8 @@ use Rattle.std.proofs.Common.{◌≡◌, ◌==◌, ◌-◌, List, map, position,
 use Rattle.kn_session.specs.declared.fault.SessionFault.TheVariants as F
 use Rattle.kn_session.specs.declared.view.Private.{Private}
 use Rattle.kn_session.specs.contracts.session.OpenSession.{the_view}
-use Rattle.kn_session.specs.Sessions.{Session, retract_fault, take_private}
+use Rattle.kn_session.specs.Sessions.{Session}
+use Rattle.kn_session.specs.Calls.{retract_fault, take_private}
 use Rattle.kn_session.specs.Views.{numbered_text, IsKept}
 use Rattle.kn_session.proofs.Keeping.{AreCounted, counted_at, kept_taken}
 use Rattle.kn_session.proofs.Taking.{IsTaken, taken_at, not_taken}

@@ -3,7 +3,8 @@ use Rattle.std.specs.Str.{bytes_eq}
 use Rattle.kn_principal.specs.Principals.{normal_form}
 use Rattle.kn_session.specs.declared.fault.SessionFault.TheVariants as F
 use Rattle.kn_session.specs.contracts.session.OpenSession.{the_view}
-use Rattle.kn_session.specs.Sessions.{Session, unauth_fault, take_requester}
+use Rattle.kn_session.specs.Sessions.{Session}
+use Rattle.kn_session.specs.Calls.{unauth_fault, take_requester}
 use Rattle.kn_session.specs.Views.{IsKept}
 use Rattle.kn_session.proofs.Keeping.{kept_left}
 use Rattle.kn_session.proofs.Taking.{IsLeft, left_at, not_left}

@@ -1,6 +1,6 @@
 use Rattle.std.proofs.Common.{◌≡◌, ◌⊎◌, Some, None, IfErr, OnOk, sym, subst}
 use Rattle.std.proofs.lemmas.Result.{on_ok_weaker}
-use Rattle.kn_session.specs.Sessions.{auth_fault, add_requester}
+use Rattle.kn_session.specs.Calls.{auth_fault, add_requester}
 use Rattle.kn_session.specs.declared.fault.SessionFault.TheVariants as F
 use Rattle.kn_session.proofs.Calls.{IsHere, fault_here, changed_here, numbers_here, number_of_either, number_of_requester}
 use Rattle.kn_session.proofs.sessions.Sessions.auth.Goals as goal

@@ -1,5 +1,6 @@
 use Rattle.std.proofs.Common.{None, ap}
-use Rattle.kn_session.specs.Sessions.{Session, cleared}
+use Rattle.kn_session.specs.Sessions.{Session}
+use Rattle.kn_session.specs.Calls.{cleared}
 use Rattle.kn_session.proofs.Calls.{IsHere, fault_here, changed_here, numbers_here}
 use Rattle.kn_session.proofs.sessions.Sessions.clear.Goals as goal
 

@@ -1,6 +1,6 @@
 use Rattle.std.proofs.Common.{◌≡◌, Some, None, IfErr, OnOk, refl, sym, subst}
 use Rattle.std.proofs.lemmas.Result.{on_ok_weaker}
-use Rattle.kn_session.specs.Sessions.{retract_fault, take_private}
+use Rattle.kn_session.specs.Calls.{retract_fault, take_private}
 use Rattle.kn_session.proofs.Calls.{IsHere, fault_here, changed_here, numbers_here, number_of_either}
 use Rattle.kn_session.proofs.sessions.Sessions.retract.Goals as goal
 

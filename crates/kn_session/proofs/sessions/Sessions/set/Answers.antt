@@ -1,6 +1,6 @@
 use Rattle.std.proofs.Common.{◌≡◌, ◌⊎◌, Some, None, IfErr, OnOk, refl, sym, subst}
 use Rattle.std.proofs.lemmas.Result.{on_ok_weaker}
-use Rattle.kn_session.specs.Sessions.{set_fault, set_attribute}
+use Rattle.kn_session.specs.Calls.{set_fault, set_attribute}
 use Rattle.kn_session.specs.declared.fault.SessionFault.TheVariants as F
 use Rattle.kn_session.proofs.Calls.{IsHere, fault_here, changed_here, numbers_here, number_of_either}
 use Rattle.kn_session.proofs.sessions.Sessions.set.Goals as goal

@@ -1,0 +1,78 @@
+-- Requests by shape (keynoted's own): what sort of thing each asks. All that the daemon says of requests it says by their shape.
+use Rattle.std.specs.Prelude.{ℕ, ◌≡◌, ◌≤◌, ⊤, true, Bool, false, List, length}
+use Rattle.kn_base.specs.declared.limits.TheConstants.{ASSERTION_BYTES}
+use Rattle.kn_session.specs.Calls.{Call, call_of, asserted}
+use Rattle.kn_session.specs.Calls as C
+use Rattle.kn_wire.specs.declared.fault.WireFault.{WireFault}
+use Rattle.kn_wire.specs.Digits.{bytes_of_digits}
+use Rattle.kn_wire.specs.Requests.{Request, Open, Close, Pin, Assert, Retract, Set, SetHex, Unset, Auth, Unauth, Clear, Query, Admin, Add, Drop, Bye, Faulty, are_digits}
+use Rattle.kn_daemon.specs.declared.shape.Shape.{Shape as Asked}
+use Rattle.kn_daemon.specs.declared.shape.Shape.TheVariants as S
+
+-- an update of the shared credentials
+pub data Updating : Type 0 where
+  AddText : List ℕ → Updating
+  DropId : ℕ → Updating
+
+-- a version that is taken as it stands at the place of the request: for a new session, or for an open one
+pub data Look : Type 0 where
+  ForNew : Look
+  ForOpen : ℕ → Look
+
+-- what concerns the connection itself
+pub data Control : Type 0 where
+  ShowSecret : List ℕ → Control
+  Leave : Control
+
+-- A call of one session; an update; a look at the history at the place; a question on a session, with the names of the compliance
+-- values; what concerns the connection; or a fault.
+pub data Shape : Type 0 where
+  Calls : ℕ → Call → Shape
+  Updates : Updating → Shape
+  Looks : Look → Shape
+  Asks : ℕ → List ℕ → Shape
+  Controls : Control → Shape
+  AtFault : WireFault → Shape
+
+abbrev pub shape_of : Request → Shape
+shape_of Open = Looks ForNew
+shape_of (Close s) = Calls s C.Close
+shape_of (Pin s) = Looks (ForOpen s)
+shape_of (Assert s text) = Calls s (C.Assert text)
+shape_of (Retract s k) = Calls s (C.Retract k)
+shape_of (Set s name value) = Calls s (C.Set name value)
+shape_of (SetHex s name digits) = Calls s (C.Set name (bytes_of_digits digits))
+shape_of (Unset s name) = Calls s (C.Unset name)
+shape_of (Auth s text) = Calls s (C.Auth text)
+shape_of (Unauth s text) = Calls s (C.Unauth text)
+shape_of (Clear s) = Calls s C.Clear
+shape_of (Query s names) = Asks s names
+shape_of (Admin digits) = Controls (ShowSecret (bytes_of_digits digits))
+shape_of (Add text) = Updates (AddText text)
+shape_of (Drop k) = Updates (DropId k)
+shape_of Bye = Controls Leave
+shape_of (Faulty fault) = AtFault fault
+
+-- what a shape in code stands for
+abbrev pub shape_in_code : Asked → Shape
+shape_in_code (S.Call s call) = Calls s (call_of call)
+shape_in_code (S.SetDigits s name digits) = Calls s (C.Set name.now (bytes_of_digits digits.now))
+shape_in_code S.Open = Looks ForNew
+shape_in_code (S.Pin s) = Looks (ForOpen s)
+shape_in_code (S.Add block) = Updates (AddText block.now)
+shape_in_code (S.Remove k) = Updates (DropId k)
+shape_in_code (S.Query s values) = Asks s values.now
+shape_in_code (S.Admin digits) = Controls (ShowSecret (bytes_of_digits digits.now))
+shape_in_code S.Bye = Controls Leave
+
+-- its parts are of their form: digits are hexadecimal digits, an even number of them, and no text is too long
+abbrev pub IsFormed : Asked → Type 0
+IsFormed (S.Call s call) = length (asserted (call_of call)) ≤ ASSERTION_BYTES
+IsFormed (S.SetDigits s name digits) = are_digits digits.now ≡ true
+IsFormed S.Open = ⊤
+IsFormed (S.Pin s) = ⊤
+IsFormed (S.Add block) = length block.now ≤ ASSERTION_BYTES
+IsFormed (S.Remove k) = ⊤
+IsFormed (S.Query s values) = ⊤
+IsFormed (S.Admin digits) = are_digits digits.now ≡ true
+IsFormed S.Bye = ⊤

@@ -1,0 +1,30 @@
+//! The calls of one session, as values.
+
+/// A call of one session. Its texts are borrowed.
+#[derive(Debug, Clone, Copy)]
+pub enum Call<'a> {
+    /// The session is closed.
+    Close,
+    /// All attributes and requesters go.
+    Clear,
+    /// An assertion that this session alone asks with, which has yet to be read.
+    Assert { text: &'a [u8] },
+    /// The private assertion of this id goes.
+    Retract { k: u32 },
+    /// An attribute gets this value.
+    Set { name: &'a [u8], value: &'a [u8] },
+    /// An attribute goes.
+    Unset { name: &'a [u8] },
+    /// A requester is entered.
+    Auth { principal: &'a [u8] },
+    /// A requester goes.
+    Unauth { principal: &'a [u8] },
+}
+
+/// What an accepted call gives.
+#[derive(Debug, Clone, Copy, PartialEq, Eq, Drop)]
+pub enum Applied {
+    Done,
+    /// The private assertion was added under this id.
+    Added { k: u32 },
+}
