@@ -15,7 +15,8 @@ use Rattle.kn_session.specs.declared.call.Applied.{Applied}
 use Rattle.kn_session.specs.declared.call.Applied.TheVariants as A
 use Rattle.kn_session.specs.Sessions.{Session, OpenSessions, session_in, fault_in, fault_if}
 use Rattle.kn_session.specs.Connection.{fault_at, with_open_session}
-use Rattle.kn_session.specs.Calls.{Call, Assert, private_fault, add_private, text_fault, call_fault, call_fault_in, call_answer, call_may_lack_memory, own_fault, lacks_memory, asserted, with_call, answer_done, Accepts, Refuses}
+use Rattle.kn_session.specs.Calls as C
+use Rattle.kn_session.specs.Calls.{Call, Assert, is_change, session_fault, call_change, IsDue, private_fault, add_private, text_fault, call_fault, call_fault_in, call_answer, call_may_lack_memory, own_fault, lacks_memory, asserted, with_call, answer_done, Accepts, Refuses}
 
 err-is : (read : Result Assertion ReadFault) (fault : ReadFault) → result_err read ≡ Some fault → read ≡ Err fault
 err-is (Ok assertion) fault e = absurd (cc (e))
@@ -35,9 +36,6 @@ fault-found : (s : ℕ) (call : Call) (f : Session → Option SessionFault) → 
     → call_fault_in s found call ≡ own_fault (fault_in s found f)
 fault-found s call f plain None = refl
 fault-found s call f plain (Some x) = plain.fault x
-
-no-fault : (fault : Option SessionFault) → fault ≡ None → own_fault fault ≡ None
-no-fault fault e = ap own_fault e
 
 module _ (a b : OpenSessions) (s : ℕ) (call : Call) (f : Session → Option SessionFault) (plain : IsPlain call f) where
   accepted : (found : Option Session) → session_in a.sessions s ≡ found → fault_in s found f ≡ None → b ≡ with_call a s call → Accepts a b s call A.Done
@@ -61,35 +59,47 @@ module _ (a b : OpenSessions) (s : ℕ) (call : Call) (f : Session → Option Se
       by (inl e) = inl (ap (λ (x : SessionFault). lacks_memory (T.Session x)) e)
       by (inr e) = inr (fault-found s call f plain (session_in a.sessions s) ∙ ap own_fault e)
 
-  err-of : (called : Result ⊤ SessionFault) → call_may_lack_memory call ≡ true
-      → IfErr called (λ fault. (fault ≡ F.NoMemory) ⊎ (fault_at a s f ≡ Some fault)) → OnErr called (b ≡ a) → IfErr (answer_done called) (Refuses a b s call)
-  err-of (Ok done) lacks why same = tt
-  err-of (Err fault) lacks why same = refused fault why (λ memory. lacks) same
-
-  -- where the call may find no memory
-  pub plain-err : (called : Result ⊤ SessionFault) (result : Result Applied CallFault) → result ≡ answer_done called → call_may_lack_memory call ≡ true
-      → IfErr called (λ fault. (fault ≡ F.NoMemory) ⊎ (fault_at a s f ≡ Some fault)) → OnErr called (b ≡ a) → IfErr result (Refuses a b s call)
-  plain-err called result is lacks why same = subst (λ (r : Result Applied CallFault). IfErr r (Refuses a b s call)) (sym is) (err-of called lacks why same)
-
-  free-of : (called : Result ⊤ SessionFault) → ((x : Session) → f x ≢ Some F.NoMemory)
-      → IfErr called (λ fault. fault_at a s f ≡ Some fault) → OnErr called (b ≡ a) → IfErr (answer_done called) (Refuses a b s call)
-  free-of (Ok done) never why same = tt
-  free-of (Err fault) never why same = refused fault (inr why) (λ memory. absurd (by fault (session_in a.sessions s) why memory)) same
+  pub plain-err : (called : Result ⊤ SessionFault) (result : Result Applied CallFault) → result ≡ answer_done called
+      → (call_may_lack_memory call ≡ false → (x : Session) → f x ≢ Some F.NoMemory)
+      → IfErr called (IsDue (call_may_lack_memory call) (fault_at a s f)) → OnErr called (b ≡ a) → IfErr result (Refuses a b s call)
+  plain-err called result is never why same = subst (λ (r : Result Applied CallFault). IfErr r (Refuses a b s call)) (sym is) (of called why same)
     where
-      by : (x : SessionFault) (found : Option Session) → fault_in s found f ≡ Some x → lacks_memory (T.Session x) ≡ true → ⊥
-      by F.NoMemory None e memory = absurd (cc (e))
-      by F.NoMemory (Some session) e memory = never session e
-      by x found e memory = absurd (cc (memory))
+      named : (x : SessionFault) (found : Option Session) → fault_in s found f ≡ Some x → ((y : Session) → f y ≢ Some F.NoMemory) → lacks_memory (T.Session x) ≡ true → ⊥
+      named F.NoMemory None e each memory = absurd (cc (e))
+      named F.NoMemory (Some session) e each memory = each session e
+      named x found e each memory = absurd (cc (memory))
 
-  -- where it takes none
-  pub free-err : (called : Result ⊤ SessionFault) (result : Result Applied CallFault) → result ≡ answer_done called → ((x : Session) → f x ≢ Some F.NoMemory)
-      → IfErr called (λ fault. fault_at a s f ≡ Some fault) → OnErr called (b ≡ a) → IfErr result (Refuses a b s call)
-  free-err called result is never why same = subst (λ (r : Result Applied CallFault). IfErr r (Refuses a b s call)) (sym is) (free-of called never why same)
+      by : (t : Bool) → call_may_lack_memory call ≡ t → (fault : SessionFault) → IsDue t (fault_at a s f) fault → b ≡ a → Refuses a b s call (T.Session fault)
+      by true lacks fault due same = refused fault due (λ memory. lacks) same
+      by false lacks fault due same = refused fault (inr due) (λ memory. absurd (named fault (session_in a.sessions s) due (never lacks) memory)) same
+
+      of : (r : Result ⊤ SessionFault) → IfErr r (IsDue (call_may_lack_memory call) (fault_at a s f)) → OnErr r (b ≡ a) → IfErr (answer_done r) (Refuses a b s call)
+      of (Ok done) why same = tt
+      of (Err fault) why same = by (call_may_lack_memory call) refl fault why same
+
+-- A call that changes a session that stays open.
+
+pub change-plain : (call : Call) → is_change call ≡ true → IsPlain call (session_fault call)
+change-plain C.Close is = absurd (cc (is))
+change-plain (C.Assert text) is = absurd (cc (is))
+change-plain call is = record { fault = λ x. refl; answer = λ x. refl }
+
+pub change-makes : (call : Call) → is_change call ≡ true → (a : OpenSessions) (s : ℕ) → with_open_session a s (call_change call) ≡ with_call a s call
+change-makes C.Close is a s = absurd (cc (is))
+change-makes call is a s = refl
 
 -- a fault that is named isn't want of memory
-pub names-fault : (b : Bool) (fault : SessionFault) → fault ≢ F.NoMemory → fault_if b fault None ≢ Some F.NoMemory
-names-fault true fault other e = other (cc)
-names-fault false fault other e = cc
+named-fault : (b : Bool) (fault : SessionFault) → fault ≢ F.NoMemory → fault_if b fault None ≢ Some F.NoMemory
+named-fault true fault other e = other (cc)
+named-fault false fault other e = absurd (cc (e))
+
+pub change-named : (call : Call) → call_may_lack_memory call ≡ false → (x : Session) → session_fault call x ≢ Some F.NoMemory
+change-named C.Close lacks x e = absurd (cc (e))
+change-named C.Clear lacks x e = absurd (cc (e))
+change-named (C.Assert text) lacks x e = absurd (cc (lacks))
+change-named (C.Set name value) lacks x e = absurd (cc (lacks))
+change-named (C.Auth text) lacks x e = absurd (cc (lacks))
+change-named call lacks x e = named-fault _ _ (λ same. absurd (cc (same))) e
 
 -- An assertion of a text.
 module _ (a b : OpenSessions) (s : ℕ) (text : List ℕ) where

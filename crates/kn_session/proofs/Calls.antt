@@ -1,5 +1,5 @@
 -- What a call on the session at a place makes of all sessions.
-use Rattle.std.proofs.Common.{◌≡◌, ℕ, ◌+◌, ◌<◌, ◌≤◌, Bool, true, false, cond, ◌==◌, List, [], ◌∷◌, ◌++◌, length, map, get_or, set, Option, Some, Result, Ok, Err, OnOk, OnErr, refl, sym, ap, ◌∙◌, subst, arith, length-append, nat_eq}
+use Rattle.std.proofs.Common.{◌≡◌, ℕ, ◌+◌, ◌<◌, ◌≤◌, Bool, true, false, cond, ◌==◌, List, [], ◌∷◌, ◌++◌, length, map, get_or, set, Option, Some, inr, Result, Ok, Err, OnOk, OnErr, refl, sym, ap, ◌∙◌, subst, arith, length-append, nat_eq}
 use Rattle.std.specs.List.{IsDistinct, remove}
 use Rattle.std.proofs.lemmas.List.{length-map}
 use Rattle.std.proofs.lemmas.List.Edits.{length-remove}
@@ -8,6 +8,8 @@ use Rattle.kn_principal.specs.Principals.{normal_form}
 use Rattle.kn_session.specs.declared.fault.SessionFault.{SessionFault}
 use Rattle.kn_session.specs.Sessions.{Session, OpenSessions, session_in, fault_in}
 use Rattle.kn_session.specs.Calls.{add_requester, is_named}
+use Rattle.kn_session.specs.Calls.{Call, call_change, IsDue}
+use Rattle.kn_session.specs.Calls as C
 use Rattle.kn_session.specs.Connection.{fault_at, with_open_session, AreNumbers, AreOpen}
 use Rattle.kn_session.specs.Placed.{IsOneAt}
 use Rattle.kn_env.proofs.Requesters.{AllByRecursion-push}
@@ -59,6 +61,15 @@ number_of_requester text x = by (is_named x.requesters text)
     by : (t : Bool) → (cond t x (record x { requesters = x.requesters ++ normal_form text ∷ [] })).number ≡ x.number
     by true = refl
     by false = refl
+
+pub number_of_change : (call : Call) (x : Session) → (call_change call x).number ≡ x.number
+number_of_change (C.Auth text) x = number_of_requester text x
+number_of_change call x = refl
+
+-- a fault that is due
+pub due-of : (b : Bool) (due : Option SessionFault) (fault : SessionFault) → due ≡ Some fault → IsDue b due fault
+due-of true due fault e = inr e
+due-of false due fault e = e
 
 -- no session was started
 pub numbers_none : AreNumbers 0 []

@@ -7,7 +7,7 @@ use Rattle.kn_store.specs.History.{NumberedText}
 use Rattle.kn_session.specs.declared.fault.SessionFault.TheVariants as F
 use Rattle.kn_session.specs.declared.view.Private.{Private}
 use Rattle.kn_session.specs.Sessions.{Session, fault_if}
-use Rattle.kn_session.specs.Calls.{retract_fault, unauth_fault, take_private, take_requester}
+use Rattle.kn_session.specs.Calls.{retract_fault, is_named, take_private, take_requester}
 use Rattle.kn_session.specs.Views.{numbered_text, ids_of, IsKept, AreNormalForms}
 use Rattle.kn_session.specs.Placed.{IsOneAt}
 use Rattle.kn_session.proofs.OneAt.{one_at, one_number, none_passes, some_passes}
@@ -59,7 +59,7 @@ not_taken k ps x same there =
 -- the requester at this place is the principal that the text names, and no other one
 pub record IsLeft (text : List ℕ) (i : ℕ) (x : Session) : Type 0 where
   pub within : i < length x.requesters
-  pub accepted : unauth_fault text x ≡ None
+  pub named : is_named x.requesters text ≡ true
   pub left : record x { requesters = remove x.requesters i } ≡ take_requester text x
 
 pub left_at : (text : List ℕ) (i : ℕ) (x : Session) → AreNormalForms x.requesters → position (bytes_eq (normal_form text)) x.requesters ≡ Some i → IsLeft text i x
@@ -67,9 +67,9 @@ left_at text i x forms there =
     let one : IsOneAt (bytes_eq (normal_form text)) x.requesters i = one_at (bytes_eq (normal_form text)) x.requesters i (one_name (normal_form text) x.requesters forms.different) there in
     record {
       within = one.within;
-      accepted = ap (λ (b : Bool). fault_if (not b) F.Absent None) (some_passes (bytes_eq (normal_form text)) x.requesters i there);
+      named = some_passes (bytes_eq (normal_form text)) x.requesters i there;
       left = ap (λ (rs : List (List ℕ)). record x { requesters = rs }) one.others;
     }
 
-pub not_left : (text : List ℕ) (x : Session) → position (bytes_eq (normal_form text)) x.requesters ≡ None → unauth_fault text x ≡ Some F.Absent
-not_left text x there = ap (λ (b : Bool). fault_if (not b) F.Absent None) (none_passes (bytes_eq (normal_form text)) x.requesters there)
+pub not_left : (text : List ℕ) (x : Session) → position (bytes_eq (normal_form text)) x.requesters ≡ None → is_named x.requesters text ≡ false
+not_left text x there = none_passes (bytes_eq (normal_form text)) x.requesters there

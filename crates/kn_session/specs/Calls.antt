@@ -129,43 +129,47 @@ text_fault (Err fault) next = Some (T.Text fault)
 abbrev pub own_fault : Option SessionFault → Option CallFault
 own_fault fault = option_map T.Session fault
 
+-- What refuses a call by the session alone. An assertion is judged once its text is read.
+abbrev pub session_fault : Call → Session → Option SessionFault
+session_fault Close session = None
+session_fault Clear session = None
+session_fault (Assert text) session = None
+session_fault (Retract k) session = retract_fault k session
+session_fault (Set name value) session = set_fault name value session
+session_fault (Unset name) session = unset_fault name session
+session_fault (Auth text) session = auth_fault text session
+session_fault (Unauth text) session = unauth_fault text session
+
 -- why a call of an open session is refused
 abbrev pub call_fault : Call → Session → Option CallFault
-call_fault Close session = None
-call_fault Clear session = None
 call_fault (Assert text) session = text_fault (reading_of text) (λ assertion. own_fault (private_fault text assertion session))
-call_fault (Retract k) session = own_fault (retract_fault k session)
-call_fault (Set name value) session = own_fault (set_fault name value session)
-call_fault (Unset name) session = own_fault (unset_fault name session)
-call_fault (Auth text) session = own_fault (auth_fault text session)
-call_fault (Unauth text) session = own_fault (unauth_fault text session)
+call_fault call session = own_fault (session_fault call session)
 
 -- and why it is refused of the session of this number, which comes first where that isn't open
 abbrev pub call_fault_in : ℕ → Option Session → Call → Option CallFault
 call_fault_in s None call = Some (T.Session (F.Unknown s))
 call_fault_in s (Some session) call = call_fault call session
 
+-- what an accepted call makes of its session, where that stays open
+abbrev pub call_change : Call → Session → Session
+call_change Close session = session
+call_change Clear session = cleared session
+call_change (Assert text) session = add_private text session
+call_change (Retract k) session = take_private k session
+call_change (Set name value) session = set_attribute name value session
+call_change (Unset name) session = unset_attribute name session
+call_change (Auth text) session = add_requester text session
+call_change (Unauth text) session = take_requester text session
+
 -- what an accepted call of the session of this number makes of those that are open
 abbrev pub after_call : List Session → ℕ → Call → List Session
 after_call sessions s Close = without_session sessions s
-after_call sessions s Clear = with_changed sessions s cleared
-after_call sessions s (Assert text) = with_changed sessions s (add_private text)
-after_call sessions s (Retract k) = with_changed sessions s (take_private k)
-after_call sessions s (Set name value) = with_changed sessions s (set_attribute name value)
-after_call sessions s (Unset name) = with_changed sessions s (unset_attribute name)
-after_call sessions s (Auth text) = with_changed sessions s (add_requester text)
-after_call sessions s (Unauth text) = with_changed sessions s (take_requester text)
+after_call sessions s call = with_changed sessions s (call_change call)
 
 -- what an accepted call gives: a private assertion's id, or nothing
 abbrev pub call_answer : Call → Session → Applied
-call_answer Close session = A.Done
-call_answer Clear session = A.Done
 call_answer (Assert text) session = A.Added (session.made + 1)
-call_answer (Retract k) session = A.Done
-call_answer (Set name value) session = A.Done
-call_answer (Unset name) session = A.Done
-call_answer (Auth text) session = A.Done
-call_answer (Unauth text) session = A.Done
+call_answer call session = A.Done
 
 -- the calls that may find no memory; then nothing has changed
 abbrev pub call_may_lack_memory : Call → Bool
@@ -217,3 +221,14 @@ pub record Refuses (old new : OpenSessions) (s : ℕ) (call : Call) (fault : Cal
 abbrev pub answer_done : Result ⊤ SessionFault → Result Applied CallFault
 answer_done (Ok done) = Ok A.Done
 answer_done (Err fault) = Err (T.Session fault)
+
+-- it changes a session that stays open, and gives nothing
+abbrev pub is_change : Call → Bool
+is_change Close = false
+is_change (Assert text) = false
+is_change call = true
+
+-- the fault that is due, or, where the call may find none, want of memory
+abbrev pub IsDue : Bool → Option SessionFault → SessionFault → Type 0
+IsDue true due fault = (fault ≡ F.NoMemory) ⊎ (due ≡ Some fault)
+IsDue false due fault = due ≡ Some fault

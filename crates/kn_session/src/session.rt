@@ -7,6 +7,7 @@ ghost use Rattle.kn_session.specs.Sessions.{started_session, pin_at};
 ghost use Rattle.kn_session.specs.Calls.{private_fault, retract_fault, set_fault, unset_fault, auth_fault, unauth_fault, fault_of_attribute, is_principal, is_named, add_private, take_private, set_attribute, unset_attribute, add_requester, take_requester, cleared};
 ghost use Rattle.kn_session.specs.declared.fault.SessionFault.TheVariants as F;
 
+use crate::call::Call;
 use crate::fault::SessionFault;
 use crate::view::{Private, View};
 use kn_base::limits::{PRINCIPAL_BYTES, PRIVATE_ASSERTIONS, PRIVATE_BYTES, REQUESTERS};
@@ -47,6 +48,7 @@ impl Model for OpenSession {
 }
 
 impl OpenSession {
+    ghost use Rattle.kn_session.specs.Calls.{call_of, is_change, session_fault, call_change, call_may_lack_memory, IsDue};
     ghost use Rattle.kn_session.specs.Views.{session_of_view, AreReadPrivates, IsSession};
 
     /// A session of this number, pinned to a version.
@@ -98,6 +100,26 @@ impl OpenSession {
     {
         self.attributes.clear();
         self.requesters = List::new(alloc);
+    }
+
+    /// Does a call that changes the session and gives nothing.
+    pub(crate) fn change(&mut self, alloc: Global, call: Call<'_>) -> Result<(), SessionFault>
+        requires { is_change (call_of call) ≡ true }
+        ensures accepted { OnOk result (session_fault (call_of call.entry) self.old ≡ None) }
+        ensures ok { OnOk result (self.new ≡ call_change (call_of call.entry) self.old) }
+        ensures err { OnErr result (self.new ≡ self.old) }
+        ensures fault { IfErr result (IsDue (call_may_lack_memory (call_of call.entry)) (session_fault (call_of call.entry) self.old)) }
+    {
+        match call {
+            Call::Close => unreachable!(),
+            Call::Assert { .. } => unreachable!(),
+            Call::Clear => Ok(self.clear(alloc)),
+            Call::Retract { k } => self.retract(k),
+            Call::Set { name, value } => self.set(name, value),
+            Call::Unset { name } => self.unset(name),
+            Call::Auth { principal } => self.auth(alloc, principal),
+            Call::Unauth { principal } => self.unauth(principal),
+        }
     }
 
     /// Adds an assertion that this session alone asks with, and gives its id.

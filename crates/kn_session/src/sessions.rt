@@ -1,5 +1,5 @@
 //! The open sessions of a connection.
-ghost use Rattle.std.specs.Prelude.{◌≡◌, ◌⊎◌, ◌↔◌, ◌<◌, ◌+◌, ◌==◌, ◌^◌, [], length, position, Some, None, Option, IsTrue, IfOk, IfErr, OnOk, OnErr};
+ghost use Rattle.std.specs.Prelude.{◌≡◌, ◌⊎◌, ◌↔◌, ◌<◌, ◌+◌, ◌==◌, ◌^◌, true, [], length, position, Some, None, Option, IsTrue, IfOk, IfErr, OnOk, OnErr};
 ghost use Rattle.std.specs.Option.{ForSome, IsSomeAnd};
 ghost use Rattle.std.specs.Arc.{arc_value};
 ghost use Rattle.kn_env.specs.Environment.{AreRequesters};
@@ -45,7 +45,7 @@ impl Model for Sessions {
 }
 
 impl Sessions {
-    ghost use Rattle.kn_session.specs.Calls.{Assert, call_of, Accepts, Refuses};
+    ghost use Rattle.kn_session.specs.Calls.{Assert, call_of, is_change, session_fault, call_change, call_may_lack_memory, IsDue, Accepts, Refuses};
     ghost use Rattle.kn_session.specs.Connection.{fault_at, with_open_session, with_closed};
     ghost use Rattle.kn_session.specs.Views.{session_of_view, AreReadPrivates, ArePrivates, AreNormalForms};
 
@@ -121,6 +121,24 @@ impl Sessions {
         Ok(())
     }
 
+    // Does a call that changes a session and gives nothing.
+    fn change(&mut self, s: u32, call: Call<'_>) -> Result<(), SessionFault>
+        requires { is_change (call_of call) ≡ true }
+        ensures accepted { OnOk result (fault_at self.old s (session_fault (call_of call.entry)) ≡ None) }
+        ensures ok { OnOk result (self.new ≡ with_open_session self.old s (call_change (call_of call.entry))) }
+        ensures err { OnErr result (self.new ≡ self.old) }
+        ensures fault { IfErr result (IsDue (call_may_lack_memory (call_of call.entry)) (fault_at self.old s (session_fault (call_of call.entry)))) }
+    {
+        match self.place(s) {
+            Ok(i) => {
+                let alloc = self.alloc;
+                let session = &mut self.sessions[i];
+                session.change(alloc, call)
+            }
+            Err(fault) => Err(fault),
+        }
+    }
+
     /// Takes all attributes and all requesters of a session away; its private assertions and its version stay. Takes no
     /// memory.
     pub fn clear(&mut self, s: u32) -> Result<(), SessionFault>
@@ -129,11 +147,7 @@ impl Sessions {
         ensures err { OnErr result (self.new ≡ self.old) }
         ensures fault { IfErr result (λ fault. fault_at self.old s (λ x. None) ≡ Some fault) }
     {
-        let i = self.place(s)?;
-        let alloc = self.alloc;
-        let session = &mut self.sessions[i];
-        session.clear(alloc);
-        Ok(())
+        self.change(s, Call::Clear)
     }
 
     /// Adds an assertion that this session alone asks with, and gives its id: how many were ever added to the session,
@@ -165,9 +179,7 @@ impl Sessions {
         ensures err { OnErr result (self.new ≡ self.old) }
         ensures fault { IfErr result (λ fault. fault_at self.old s (retract_fault id) ≡ Some fault) }
     {
-        let i = self.place(s)?;
-        let session = &mut self.sessions[i];
-        session.retract(id)
+        self.change(s, Call::Retract { k: id })
     }
 
     /// Gives an attribute of a session this value. A name that is there keeps its place, and a new one comes last.
@@ -177,9 +189,7 @@ impl Sessions {
         ensures err { OnErr result (self.new ≡ self.old) }
         ensures fault { IfErr result (λ fault. (fault ≡ F.NoMemory) ⊎ (fault_at self.old s (set_fault name.now value.now) ≡ Some fault)) }
     {
-        let i = self.place(s)?;
-        let session = &mut self.sessions[i];
-        session.set(name, value)
+        self.change(s, Call::Set { name, value })
     }
 
     /// Takes an attribute away from a session. Takes no memory.
@@ -189,9 +199,7 @@ impl Sessions {
         ensures err { OnErr result (self.new ≡ self.old) }
         ensures fault { IfErr result (λ fault. fault_at self.old s (unset_fault name.now) ≡ Some fault) }
     {
-        let i = self.place(s)?;
-        let session = &mut self.sessions[i];
-        session.unset(name)
+        self.change(s, Call::Unset { name })
     }
 
     /// Enters a requester of a session by the principal's normal form. One that is there keeps its place, and another one
@@ -202,10 +210,7 @@ impl Sessions {
         ensures err { OnErr result (self.new ≡ self.old) }
         ensures fault { IfErr result (λ fault. (fault ≡ F.NoMemory) ⊎ (fault_at self.old s (auth_fault principal.now) ≡ Some fault)) }
     {
-        let i = self.place(s)?;
-        let alloc = self.alloc;
-        let session = &mut self.sessions[i];
-        session.auth(alloc, principal)
+        self.change(s, Call::Auth { principal })
     }
 
     /// Takes a requester away from a session, who is found by the principal's normal form. Takes no memory.
@@ -215,9 +220,7 @@ impl Sessions {
         ensures err { OnErr result (self.new ≡ self.old) }
         ensures fault { IfErr result (λ fault. fault_at self.old s (unauth_fault principal.now) ≡ Some fault) }
     {
-        let i = self.place(s)?;
-        let session = &mut self.sessions[i];
-        session.unauth(principal)
+        self.change(s, Call::Unauth { principal })
     }
 
     /// Answers a call of a session. An assertion is read once the session is found open.
@@ -228,13 +231,8 @@ impl Sessions {
     {
         match call {
             Call::Close => answer_done(self.close(s)),
-            Call::Clear => answer_done(self.clear(s)),
             Call::Assert { text } => self.assert_text(alloc, s, text),
-            Call::Retract { k } => answer_done(self.retract(s, k)),
-            Call::Set { name, value } => answer_done(self.set(s, name, value)),
-            Call::Unset { name } => answer_done(self.unset(s, name)),
-            Call::Auth { principal } => answer_done(self.auth(s, principal)),
-            Call::Unauth { principal } => answer_done(self.unauth(s, principal)),
+            _ => answer_done(self.change(s, call)),
         }
     }
 

@@ -1,9 +1,9 @@
-use Rattle.std.proofs.Common.{◌≡◌, ℕ, List, position, Some, None, sym, ap, ◌∙◌, subst}
+use Rattle.std.proofs.Common.{◌≡◌, ℕ, Bool, not, List, position, Some, None, sym, ap, ◌∙◌, subst}
 use Rattle.std.specs.Str.{bytes_eq}
 use Rattle.kn_principal.specs.Principals.{normal_form}
 use Rattle.kn_session.specs.declared.fault.SessionFault.TheVariants as F
 use Rattle.kn_session.specs.contracts.session.OpenSession.{the_view}
-use Rattle.kn_session.specs.Sessions.{Session}
+use Rattle.kn_session.specs.Sessions.{Session, fault_if}
 use Rattle.kn_session.specs.Calls.{unauth_fault, take_requester}
 use Rattle.kn_session.specs.Views.{IsKept}
 use Rattle.kn_session.proofs.Keeping.{kept_left}
@@ -16,7 +16,7 @@ returns-in_default-clause-fault c =
     let x : Session = the_view c.self.inside in
     let there : position (bytes_eq (normal_form text)) x.requesters ≡ None =
     ap (position (bytes_eq (normal_form text))) (sym c.as_slice.ensures) ∙ sym c.place_of_principal.ensures ∙ c.in_default.is in
-    subst (λ (y : Session). unauth_fault text y ≡ Some F.Absent) c.self.view_is (not_left text x there)
+    subst (λ (y : Session). unauth_fault text y ≡ Some F.Absent) c.self.view_is (ap (λ (b : Bool). fault_if (not b) F.Absent None) (not_left text x there))
 
 pub invariant_of-self : goal.invariant_of-self
 invariant_of-self c =
@@ -35,7 +35,7 @@ returns-clause-accepted c =
     let there : position (bytes_eq (normal_form text)) x.requesters ≡ Some c.in-Some.i =
     ap (position (bytes_eq (normal_form text))) (sym c.as_slice.ensures) ∙ sym c.place_of_principal.ensures ∙ c.in-Some.is in
     let l : IsLeft text c.in-Some.i x = left_at text c.in-Some.i x c.self.invariant.session.forms there in
-    subst (λ (y : Session). unauth_fault text y ≡ None) c.self.view_is l.accepted
+    subst (λ (y : Session). unauth_fault text y ≡ None) c.self.view_is (ap (λ (b : Bool). fault_if (not b) F.Absent None) l.named)
 
 pub returns-clause-ok : goal.returns-clause-ok
 returns-clause-ok c =
