@@ -1,19 +1,18 @@
 -- What is held of a stream, and its next request.
-use Rattle.std.proofs.Common.{◌≡◌, ◌≤◌, ◌<◌, ◌+◌, ◌-◌, ℕ, Bool, true, false, Option, Some, None, option_map, is_some, List, [], ◌++◌, length, take, drop, refl, sym, ap, ◌∙◌, ⊎_elim, take_all, zero-add, ◌==◌, arith, nat_lt, ltb-true, ltb-false, length-drop, append_assoc, drop-drop, append-nil, subst}
+use Rattle.std.proofs.Common.{◌≡◌, ◌≤◌, ◌<◌, ◌+◌, ◌-◌, ℕ, Bool, true, false, Option, Some, None, option_map, is_some, List, [], ◌++◌, length, take, drop, refl, sym, ap, ◌∙◌, ⊎_elim, ◌==◌, arith, nat_lt, ltb-true, ltb-false, length-append, length-drop, append_assoc, drop-drop, append-nil, subst}
 use Rattle.std.specs.Prelude.{if◌then◌else◌, slice_get}
 use Rattle.std.proofs.lemmas.Option.{slice_get_cases}
-use Rattle.std.proofs.Math.Seq.{take-paste}
-use Rattle.std.specs.List.{list_any, after_first, before_first, copy_within}
+use Rattle.std.proofs.lemmas.List.{drop-append-le, drop-take, take-append-drop, take-take}
+use Rattle.std.specs.List.{list_any, after_first, before_first}
 use Rattle.kn_wire.specs.declared.fault.WireFault.{WireFault}
 use Rattle.kn_wire.specs.declared.fault.WireFault.TheVariants.{Long, Block}
-use Rattle.kn_wire.specs.declared.part.Part.{Part}
-use Rattle.kn_wire.specs.Lines.{with_block}
-use Rattle.kn_wire.specs.Parts.{part_of}
-use Rattle.kn_wire.specs.Firsts.{HasNoneBelow, SpendsParts}
-use Rattle.kn_wire.specs.Feeds.{SpendsNext}
+use Rattle.kn_wire.specs.declared.cursor.Cursor.{Cursor}
+use Rattle.kn_wire.specs.declared.cursor.Stage.TheVariants as S
+use Rattle.kn_wire.specs.Cursors.{IsSound, held_at, held_by}
+use Rattle.kn_wire.specs.Firsts.{HasNoneBelow}
 use Rattle.kn_wire.specs.Feeding.{Held, Bytes, InLong, Shut, next_of, pushed, held_after}
 use Rattle.kn_wire.specs.Requests.{Request, Line, Whole, Blocked, Faulty, first_of, first_of_line, first_of_block, line_of, line_length, without_return, is_newline}
-use Rattle.kn_wire.proofs.KeptLines.{IsKept, IsKeptLine, kept-line}
+use Rattle.kn_wire.proofs.Firsts.{after_first_of}
 use Rattle.kn_wire.proofs.Growing.{no_request, line-first, long-first, line_within, ended-longer, open-longer, open-length, ended-length, spent}
 
 -- there is no next request where there is no first one
@@ -24,53 +23,6 @@ none_next text none = by (first_of text) none
     by None none = refl
     by (Some first) none = cc
 
-after_first_of : (text : List ℕ) (request : Request) (left : List ℕ) → first_of text ≡ Some (request, left) → next_of (Bytes text) ≡ Some (request, held_after text request left)
-after_first_of text request left e = ap (option_map (spent text)) e
-
-kept_request : (line : Line) (block : List ℕ) → IsKeptLine line → IsKept (with_block line block)
-kept_request (Whole request) block kept = kept
-kept_request (Blocked n request) block kept = kept block
-
--- the next request is that of a line and its block
-line_next : (text line block left : List ℕ) → first_of text ≡ Some (with_block (line_of line) block, left) → next_of (Bytes text) ≡ Some (with_block (line_of line) block, Bytes left)
-line_next text line block left e =
-    after_first_of text (with_block (line_of line) block) left e
-    ∙ ap (λ h. Some (with_block (line_of line) block, h)) (kept_request (line_of line) block (kept-line line) text left)
-
--- a part of what is left of a text is one of the text
-pub part_behind : (part : Part) (from : ℕ) (buffer : List ℕ) → part_of (record { start = from + part.start; len = part.len }) buffer ≡ part_of part (drop from buffer)
-part_behind part from buffer = ap (take part.len) (sym (drop-drop part.start from buffer))
-
-spends_next : (line block : Part) (from bytes : ℕ) (buffer : List ℕ) → from ≤ length buffer → SpendsParts (drop from buffer) line block bytes
-    → SpendsNext (Bytes (drop from buffer)) (record { start = from + line.start; len = line.len }) (record { start = from + block.start; len = block.len }) buffer (Bytes (drop (from + bytes) buffer))
-spends_next line block from bytes buffer within spends =
-    let size = length-drop from buffer in
-    let line_in = spends.line_within in
-    let block_in = spends.block_within in
-    record {
-      next =
-          line_next (drop from buffer) (part_of line (drop from buffer)) (part_of block (drop from buffer)) (drop bytes (drop from buffer)) spends.request
-          ∙ ap (λ l. Some (with_block (line_of l) (part_of block (drop from buffer)), Bytes (drop bytes (drop from buffer)))) (sym (part_behind line from buffer))
-          ∙ ap (λ b. Some (with_block (line_of (part_of (record { start = from + line.start; len = line.len }) buffer)) b, Bytes (drop bytes (drop from buffer)))) (sym (part_behind block from buffer))
-          ∙ ap (λ t. Some (with_block (line_of (part_of (record { start = from + line.start; len = line.len }) buffer)) (part_of (record { start = from + block.start; len = block.len }) buffer), Bytes t)) (drop-drop bytes from buffer);
-      line_within = omega arith;
-      block_within = omega arith;
-      block_short = spends.block_short;
-    }
-
-same_part : (part : Part) (start len : ℕ) → part.start ≡ start → part.len ≡ len → record { start = start; len = len } ≡ part
-same_part part start len is_start is_len = sym (ap (λ n. record { start = n; len = part.len }) is_start ∙ ap (λ n. record { start = start; len = n }) is_len)
-
--- the next request of a buffer's bytes is that of these parts
-pub parts_next : (line block line' block' : Part) (from bytes from' : ℕ) (buffer : List ℕ) → from ≤ length buffer → SpendsParts (drop from buffer) line block bytes
-    → line'.start ≡ from + line.start → line'.len ≡ line.len → block'.start ≡ from + block.start → block'.len ≡ block.len → from' ≡ from + bytes
-    → SpendsNext (Bytes (drop from buffer)) line' block' buffer (Bytes (drop from' buffer))
-parts_next line block line' block' from bytes from' buffer within spends line_start line_len block_start block_len spent =
-    subst (λ (l : Part). SpendsNext (Bytes (drop from buffer)) l block' buffer (Bytes (drop from' buffer))) (same_part line' (from + line.start) line.len line_start line_len)
-    (subst (λ (b : Part). SpendsNext (Bytes (drop from buffer)) (record { start = from + line.start; len = line.len }) b buffer (Bytes (drop from' buffer))) (same_part block' (from + block.start) block.len block_start block_len)
-    (subst (λ (n : ℕ). SpendsNext (Bytes (drop from buffer)) (record { start = from + line.start; len = line.len }) (record { start = from + block.start; len = block.len }) buffer (Bytes (drop n buffer))) (sym spent)
-    (spends_next line block from bytes buffer within spends)))
-
 -- fewer bytes than are needed hold no request
 pub fewer_next : (needed : ℕ) (text : List ℕ) → HasNoneBelow needed text → length text < needed → next_of (Bytes text) ≡ None
 fewer_next needed text none fewer =
@@ -78,10 +30,6 @@ fewer_next needed text none fewer =
 
 abbrev pub with_fault : WireFault → Held → Option (Request × Held)
 with_fault fault held = Some (Faulty fault, held)
-
--- what is left of what was left
-pub left_text : (from bytes from' : ℕ) (items items' : List ℕ) → from' ≡ from + bytes → items' ≡ items → drop bytes (drop from items) ≡ drop from' items'
-left_text from bytes from' items items' place same = drop-drop bytes from items ∙ ap (λ n. drop n items) (sym place) ∙ ap (drop from') (sym same)
 
 -- a long line whose newline is there
 pub long_next : (text : List ℕ) (n : ℕ) → n ≡ line_length text → 8192 < n → n < length text → next_of (Bytes text) ≡ Some (Faulty Long, Bytes (drop (n + 1) text))
@@ -102,10 +50,6 @@ long_unended_next text n ends long all =
     by : (t : Bool) → list_any is_newline text ≡ t → with_fault Long (held_after text (Faulty Long) (after_first is_newline text)) ≡ with_fault Long InLong
     by true any = let within = ended-length text any in absurd (omega arith)
     by false any = ap (λ t. with_fault Long (if t then Bytes (after_first is_newline text) else InLong)) any
-
--- a block that is refused
-pub unended_next : (text : List ℕ) (n : ℕ) → first_of text ≡ Some (Faulty (Block n), []) → next_of (Bytes text) ≡ Some (Faulty (Block n), Shut n)
-unended_next text n e = after_first_of text (Faulty (Block n)) [] e
 
 -- A piece is added.
 
@@ -189,12 +133,64 @@ skips_line piece end ends within = by (list_any is_newline piece) refl
     by true any = ap (λ k. Bytes (drop (k + 1) piece)) ends ∙ sym (ap (λ t. if t then Bytes (after_first is_newline piece) else InLong) any)
     by false any = let all = open-length piece any in absurd (omega arith)
 
--- what is left of a buffer moves to its front
-pub front_moves : (buffer : List ℕ) (from held len : ℕ) → held + from ≡ length buffer → len ≡ length buffer → take held (copy_within buffer from len 0) ≡ drop from buffer
-front_moves buffer from held len size all =
-    let left = length-drop from buffer in
-    let count : len - from ≡ held = omega arith in
-    ap (λ n. take held (take 0 buffer ++ take n (drop from buffer) ++ drop (0 + n) buffer)) count
-    ∙ ap (λ n. take n (take 0 buffer ++ take held (drop from buffer) ++ drop (0 + held) buffer)) (sym (zero-add held))
-    ∙ take-paste buffer 0 (drop from buffer) held (omega arith) (omega arith)
-    ∙ take_all held (drop from buffer) (omega arith)
+-- The bytes that came.
+
+pub take_more : (items : List ℕ) (end bytes : ℕ) → take (end + bytes) items ≡ take end items ++ take bytes (drop end items)
+take_more items end bytes =
+    sym (take-append-drop end (take (end + bytes) items))
+    ∙ ap (λ t. t ++ drop end (take (end + bytes) items)) (take-take end (end + bytes) items (omega arith))
+    ∙ ap (λ t. take end items ++ t) (drop-take end bytes items)
+
+-- what is behind a place, of the bytes that came and those that are added
+pub drop_more : (items : List ℕ) (end at bytes : ℕ) → drop (end + at) (take (end + bytes) items) ≡ drop at (take bytes (drop end items))
+drop_more items end at bytes = sym (drop-drop at end (take (end + bytes) items)) ∙ ap (drop at) (drop-take end bytes items)
+
+-- a cursor that looked for nothing yet
+pub fresh_sound : (cursor : Cursor) (bytes : List ℕ) → cursor.from ≤ length bytes → cursor.searched ≡ 0 → cursor.needed ≡ 0 → IsSound cursor bytes
+fresh_sound cursor bytes within clean needed =
+    record {
+      within = within;
+      clean = omega arith;
+      none_below = λ more fewer. absurd (omega arith);
+    }
+
+pub sound_longer : (cursor : Cursor) (bytes more : List ℕ) → IsSound cursor bytes → IsSound cursor (bytes ++ more)
+sound_longer cursor bytes more sound =
+    let behind : drop cursor.from (bytes ++ more) ≡ drop cursor.from bytes ++ more = drop-append-le cursor.from bytes more sound.within in
+    let within = sound.within in
+    let size = length-append bytes more in
+    record {
+      within = omega arith;
+      clean = subst (λ (t : List ℕ). cursor.searched ≤ line_length t) (sym behind) (clean_longer (drop cursor.from bytes) more cursor.searched sound.clean);
+      none_below = subst (λ (t : List ℕ). HasNoneBelow cursor.needed t) (sym behind) (none_longer cursor.needed (drop cursor.from bytes) more sound.none_below);
+    }
+
+pub held_longer : (cursor : Cursor) (bytes more : List ℕ) → cursor.stage ≡ S.Reading → cursor.from ≤ length bytes → held_at cursor (bytes ++ more) ≡ pushed (held_at cursor bytes) more
+held_longer cursor bytes more reading within =
+    ap (λ stage. held_by stage (drop cursor.from (bytes ++ more))) reading
+    ∙ ap Bytes (drop-append-le cursor.from bytes more within)
+    ∙ ap (λ stage. pushed (held_by stage (drop cursor.from bytes)) more) (sym reading)
+
+-- nothing is next before so many bytes came
+pub fewer_held : (cursor : Cursor) (bytes : List ℕ) (needed : ℕ) → cursor.stage ≡ S.Reading → HasNoneBelow needed (drop cursor.from bytes) → length (drop cursor.from bytes) < needed → next_of (held_at cursor bytes) ≡ None
+fewer_held cursor bytes needed reading none fewer = ap (λ stage. next_of (held_by stage (drop cursor.from bytes))) reading ∙ fewer_next needed (drop cursor.from bytes) none fewer
+
+-- a long line is spent, with its newline or what is there of it
+pub long_held : (cursor new : Cursor) (bytes text : List ℕ) (n : ℕ) → cursor.stage ≡ S.Reading → text ≡ drop cursor.from bytes → n ≡ line_length text → 8192 < n
+    → (n < length text → new ≡ record cursor { from = cursor.from + (n + 1); searched = 0; needed = 0 })
+    → (length text ≤ n → new ≡ record { from = cursor.from + length text; searched = 0; needed = 0; stage = S.Skipping })
+    → next_of (held_at cursor bytes) ≡ Some (Faulty Long, held_at new bytes)
+long_held cursor new bytes text n reading behind ends long here underway =
+    ap (λ stage. next_of (held_by stage (drop cursor.from bytes))) reading ∙ ap (λ t. next_of (Bytes t)) (sym behind) ∙ by (nat_lt n (length text)) refl
+  where
+    by : (t : Bool) → nat_lt n (length text) ≡ t → next_of (Bytes text) ≡ Some (Faulty Long, held_at new bytes)
+    by true is =
+        let within = ltb-true n (length text) is in
+        long_next text n ends long within
+        ∙ ap (λ t. with_fault Long (Bytes (drop (n + 1) t))) behind
+        ∙ ap (λ t. with_fault Long (Bytes t)) (drop-drop (n + 1) cursor.from bytes)
+        ∙ ap (λ stage. with_fault Long (held_by stage (drop (cursor.from + (n + 1)) bytes))) (sym reading)
+        ∙ ap (λ k. with_fault Long (held_at k bytes)) (sym (here within))
+    by false is =
+        let all = ltb-false n (length text) is in
+        long_unended_next text n ends long all ∙ ap (λ k. with_fault Long (held_at k bytes)) (sym (underway all))

@@ -1,17 +1,31 @@
 -- The first request of a text, as far as it is there.
-use Rattle.std.proofs.Common.{◌≡◌, ◌≢◌, ◌≤◌, ◌<◌, ◌+◌, ℕ, false, Option, Some, None, is_some, List, [], ◌∷◌, ◌++◌, length, get_or, slice_get, take, drop, refl, sym, ap, ◌∙◌, arith, lt-ltb, le-ltb, eq-eqb, ne_eqb, length-append, length-drop, append-nil, drop-drop}
+use Rattle.std.proofs.Common.{◌≡◌, ◌≢◌, ◌≤◌, ◌<◌, ◌+◌, ℕ, false, Option, Some, None, option_map, is_some, List, [], ◌∷◌, ◌++◌, length, get_or, slice_get, take, drop, refl, sym, ap, subst, ◌∙◌, arith, lt-ltb, le-ltb, eq-eqb, ne_eqb, length-append, length-drop, length-take, append-nil, drop-drop}
 use Rattle.std.specs.Prelude.{if◌then◌else◌}
-use Rattle.std.proofs.lemmas.List.{take-append-le, take-take, length-take, get_or-drop}
+use Rattle.std.proofs.lemmas.List.{take-append-le, take-take, get_or-drop}
 use Rattle.std.proofs.lemmas.Option.{slice_get_past, slice_get-get_or}
 use Rattle.kn_wire.specs.declared.fault.WireFault.TheVariants.{Block}
-use Rattle.kn_wire.specs.Lines.{with_block, block_length}
-use Rattle.kn_wire.specs.Firsts.{HasNoneBelow, SpendsParts, WaitsFor, NamesBlock}
-use Rattle.kn_wire.specs.Requests.{Line, Whole, Blocked, Faulty, first_of, first_of_line, first_of_block, line_of, line_length, without_return}
-use Rattle.kn_wire.proofs.Growing.{line-first, none-first, ended-longer}
+use Rattle.kn_wire.specs.declared.head.Head.{Head}
+use Rattle.kn_wire.specs.Feeding.{Held, Bytes, Shut, next_of, held_after}
+use Rattle.kn_wire.specs.Firsts.{HasNoneBelow, SpendsLine, SpendsBlock, WaitsFor, NamesBlock}
+use Rattle.kn_wire.specs.Lines.{blocked_of, with_block}
+use Rattle.kn_wire.specs.Requests.{Request, Line, Whole, Blocked, Faulty, first_of, first_of_line, first_of_block, line_of, line_length, without_return}
+use Rattle.kn_wire.proofs.Growing.{line-first, none-first, ended-longer, same_first, spent}
+use Rattle.kn_wire.proofs.KeptLines.{IsKept, IsKeptLine, kept-line}
 use Rattle.kn_wire.proofs.Splits.{bare_front, bare_short}
 
 none_some : {X : Type 0} (o : Option X) → o ≡ None → is_some o ≡ false
 none_some o e = ap is_some e
+
+pub after_first_of : (text : List ℕ) (request : Request) (left : List ℕ) → first_of text ≡ Some (request, left) → next_of (Bytes text) ≡ Some (request, held_after text request left)
+after_first_of text request left e = ap (option_map (spent text)) e
+
+-- a first request that leaves what follows it is the next one
+kept_next : (text : List ℕ) (request : Request) (left : List ℕ) → first_of text ≡ Some (request, left) → IsKept request → next_of (Bytes text) ≡ Some (request, Bytes left)
+kept_next text request left e kept = after_first_of text request left e ∙ ap (λ h. Some (request, h)) (kept text left)
+
+-- a block that is refused
+unended_next : (text : List ℕ) (n : ℕ) → first_of text ≡ Some (Faulty (Block n), []) → next_of (Bytes text) ≡ Some (Faulty (Block n), Shut n)
+unended_next text n e = after_first_of text (Faulty (Block n)) [] e
 
 -- the line that so many bytes of a text and their newline spell
 abbrev line_at : List ℕ → ℕ → Line
@@ -36,56 +50,69 @@ waits_for_newline text end ends short all =
 
 -- A line that names no block.
 
-no_block : (line : Line) (block rest : List ℕ) → block_length line ≡ None → first_of_line line rest ≡ Some (with_block line block, rest)
-no_block (Whole request) block rest none = refl
-no_block (Blocked n request) block rest none = cc
+no_block : (line : Line) → blocked_of line ≡ None → (request : Request) × (line ≡ Whole request)
+no_block (Whole request) none = (request, refl)
+no_block (Blocked n request) none = cc
 
 -- so many bytes are the line without its carriage return
-pub bare_part : (text : List ℕ) (end : ℕ) → end ≤ length text → take (length (without_return (take end text))) text ≡ without_return (take end text)
+bare_part : (text : List ℕ) (end : ℕ) → end ≤ length text → take (length (without_return (take end text))) text ≡ without_return (take end text)
 bare_part text end within =
     let short = bare_short (take end text) in
     let size = length-take end text in
     sym (take-take (length (without_return (take end text))) end text (omega arith)) ∙ bare_front (take end text)
 
-pub spends_line : (text : List ℕ) (line end : ℕ) → end ≡ line_length text → end ≤ 8192 → end < length text
-    → without_return (take end text) ≡ take line text → line ≤ end → block_length (line_of (take line text)) ≡ None
-    → SpendsParts text (record { start = 0; len = line }) (record { start = 0; len = 0 }) (end + 1)
-spends_line text line end ends short within bare line_within none =
-    record {
-      request = at_line text end ends short within ∙ ap (λ l. first_of_line (line_of l) (drop (end + 1) text)) bare ∙ no_block (line_of (take line text)) [] (drop (end + 1) text) none;
-      bytes_within = omega arith;
-      line_within = omega arith;
-      block_within = omega arith;
-      block_short = omega arith;
-    }
+pub spends_line : (text line : List ℕ) (end : ℕ) → end ≡ line_length text → end ≤ 8192 → end < length text → line ≡ without_return (take end text) → blocked_of (line_of line) ≡ None
+    → SpendsLine (Bytes text) text (record { start = 0; len = length line }) (Bytes (drop (end + 1) text)) × (end + 1 ≤ length text)
+spends_line text line end ends short within bare none =
+    let size = length-take end text in
+    let bare_size = bare_short (take end text) in
+    let same : length line ≡ length (without_return (take end text)) = ap length bare in
+    let front : take (length line) text ≡ line = ap (λ k. take k text) same ∙ bare_part text end (omega arith) ∙ sym bare in
+    let found : (request : Request) × (line_of line ≡ Whole request) = no_block (line_of line) none in
+    let kept : IsKept found.0 = subst IsKeptLine found.1 (kept-line line) in
+    let first : first_of text ≡ Some (found.0, drop (end + 1) text) =
+    at_line text end ends short within
+    ∙ ap (λ l. first_of_line (line_of l) (drop (end + 1) text)) (sym bare)
+    ∙ ap (λ l. first_of_line l (drop (end + 1) text)) found.1 in
+    (record {
+      request = found.0;
+      names = ap line_of front ∙ found.1;
+      next = kept_next text found.0 (drop (end + 1) text) first kept;
+      within = omega arith;
+    }, omega arith)
 
 -- A line that names a block.
 
-block_line : (text : List ℕ) (line end n : ℕ) → NamesBlock text line end n → first_of text ≡ first_of_line (line_of (take line text)) (drop (end + 1) text)
-block_line text line end n names =
-    at_line text end names.ends names.short names.within ∙ ap (λ l. first_of_line (line_of l) (drop (end + 1) text)) names.bare
+named : (line : Line) (n : ℕ) (request : List ℕ → Request) → Some (Blocked n request) ≡ blocked_of line → line ≡ Blocked n request
+named (Whole request') n request e = cc
+named (Blocked n' request') n request e = same_first (Blocked n' request') (Blocked n request) (sym e)
 
-same_length : (m n : ℕ) → Some m ≡ Some n → m ≡ n
-same_length m n e = cc
+pub names_block : (text line : List ℕ) (end n : ℕ) (request : List ℕ → Request) → end ≡ line_length text → end ≤ 8192 → end < length text → line ≡ without_return (take end text)
+    → Some (Blocked n request) ≡ blocked_of (line_of line) → NamesBlock text end n request
+names_block text line end n request ends short within bare names =
+    record {
+      ends = ends;
+      short = short;
+      within = within;
+      names = ap line_of (sym bare) ∙ named (line_of line) n request names;
+    }
 
-above : (line : Line) (n : ℕ) (rest : List ℕ) → block_length line ≡ Some n → 16384 < n → first_of_line line rest ≡ Some (Faulty (Block n), [])
-above (Whole request) n rest names large = cc
-above (Blocked m request) n rest names large =
-    let same = same_length m n names in
-    ap (λ t. if t then Some (Faulty (Block m), []) else first_of_block m request rest (slice_get rest m)) (lt-ltb 16384 m (omega arith))
-    ∙ ap (λ k. Some (Faulty (Block k), [])) same
+-- the request of the block is that of the text
+block_line : (text : List ℕ) (end n : ℕ) (request : List ℕ → Request) → NamesBlock text end n request → first_of text ≡ first_of_line (Blocked n request) (drop (end + 1) text)
+block_line text end n request names =
+    at_line text end names.ends names.short names.within ∙ ap (λ l. first_of_line l (drop (end + 1) text)) names.names
+
+above : (n : ℕ) (request : List ℕ → Request) (rest : List ℕ) → 16384 < n → first_of_line (Blocked n request) rest ≡ Some (Faulty (Block n), [])
+above n request rest large =
+    ap (λ t. if t then Some (Faulty (Block n), []) else first_of_block n request rest (slice_get rest n)) (lt-ltb 16384 n large)
 
 -- the request of a block that isn't too large, by the byte behind it
-within_limit : (line : Line) (n : ℕ) (rest : List ℕ) → block_length line ≡ Some n → n ≤ 16384
-    → first_of_line line rest ≡ first_of_block n (with_block line) rest (slice_get rest n)
-within_limit (Whole request) n rest names small = cc
-within_limit (Blocked m request) n rest names small =
-    let same = same_length m n names in
-    ap (λ t. if t then Some (Faulty (Block m), []) else first_of_block m request rest (slice_get rest m)) (le-ltb 16384 m (omega arith))
-    ∙ ap (λ k. first_of_block k request rest (slice_get rest k)) same
+within_limit : (n : ℕ) (request : List ℕ → Request) (rest : List ℕ) → n ≤ 16384 → first_of_line (Blocked n request) rest ≡ first_of_block n request rest (slice_get rest n)
+within_limit n request rest small =
+    ap (λ t. if t then Some (Faulty (Block n), []) else first_of_block n request rest (slice_get rest n)) (le-ltb 16384 n small)
 
-pub waits_for_block : (text : List ℕ) (line end n : ℕ) → NamesBlock text line end n → n ≤ 16384 → length text ≤ end + 1 + n → WaitsFor text end (end + 1 + n + 1)
-waits_for_block text line end n names small fewer =
+pub waits_for_block : (text : List ℕ) (end n : ℕ) (request : List ℕ → Request) → NamesBlock text end n request → n ≤ 16384 → length text ≤ end + 1 + n → WaitsFor text end (end + 1 + n + 1)
+waits_for_block text end n request names small fewer =
     let ends = names.ends in
     record { clean = omega arith; fewer = omega arith; none = none }
   where
@@ -100,14 +127,14 @@ waits_for_block text line end n names small fewer =
         none_some (first_of (text ++ more)) (
         at_line (text ++ more) end same names.short (omega arith)
         ∙ ap (λ l. first_of_line (line_of (without_return l)) (drop (end + 1) (text ++ more))) front
-        ∙ ap (λ l. first_of_line (line_of l) (drop (end + 1) (text ++ more))) names.bare
-        ∙ within_limit (line_of (take line text)) n (drop (end + 1) (text ++ more)) names.names small
-        ∙ ap (first_of_block n (with_block (line_of (take line text))) (drop (end + 1) (text ++ more))) (slice_get_past (drop (end + 1) (text ++ more)) n (omega arith))
+        ∙ ap (λ l. first_of_line l (drop (end + 1) (text ++ more))) names.names
+        ∙ within_limit n request (drop (end + 1) (text ++ more)) small
+        ∙ ap (first_of_block n request (drop (end + 1) (text ++ more))) (slice_get_past (drop (end + 1) (text ++ more)) n (omega arith))
         )
 
-pub unended_above : (text : List ℕ) (line end n : ℕ) → NamesBlock text line end n → 16384 < n → first_of text ≡ Some (Faulty (Block n), [])
-unended_above text line end n names large =
-    block_line text line end n names ∙ above (line_of (take line text)) n (drop (end + 1) text) names.names large
+pub unended_above : (text : List ℕ) (end n : ℕ) (request : List ℕ → Request) → NamesBlock text end n request → 16384 < n → next_of (Bytes text) ≡ Some (Faulty (Block n), Shut n)
+unended_above text end n request names large =
+    unended_next text n (block_line text end n request names ∙ above n request (drop (end + 1) text) large)
 
 -- the byte behind a block
 byte_behind : (text : List ℕ) (end n : ℕ) → end + 1 + n < length text → slice_get (drop (end + 1) text) n ≡ Some (get_or text (end + 1 + n) 0)
@@ -115,60 +142,35 @@ byte_behind text end n within =
     let size = length-drop (end + 1) text in
     slice_get-get_or (drop (end + 1) text) n 0 (omega arith) ∙ ap Some (get_or-drop (end + 1) text n 0)
 
-block_byte : (text : List ℕ) (line end n : ℕ) → NamesBlock text line end n → n ≤ 16384 → end + 1 + n < length text
-    → first_of text ≡ first_of_block n (with_block (line_of (take line text))) (drop (end + 1) text) (Some (get_or text (end + 1 + n) 0))
-block_byte text line end n names small within =
-    block_line text line end n names
-    ∙ within_limit (line_of (take line text)) n (drop (end + 1) text) names.names small
-    ∙ ap (first_of_block n (with_block (line_of (take line text))) (drop (end + 1) text)) (byte_behind text end n within)
+block_byte : (text : List ℕ) (end n : ℕ) (request : List ℕ → Request) → NamesBlock text end n request → n ≤ 16384 → end + 1 + n < length text
+    → first_of text ≡ first_of_block n request (drop (end + 1) text) (Some (get_or text (end + 1 + n) 0))
+block_byte text end n request names small within =
+    block_line text end n request names
+    ∙ within_limit n request (drop (end + 1) text) small
+    ∙ ap (first_of_block n request (drop (end + 1) text)) (byte_behind text end n within)
 
-pub unended_byte : (text : List ℕ) (line end n : ℕ) → NamesBlock text line end n → n ≤ 16384 → end + 1 + n < length text → get_or text (end + 1 + n) 0 ≢ 10
-    → first_of text ≡ Some (Faulty (Block n), [])
-unended_byte text line end n names small within other =
-    block_byte text line end n names small within
-    ∙ ap (λ t. if t then Some (with_block (line_of (take line text)) (take n (drop (end + 1) text)), drop (n + 1) (drop (end + 1) text)) else Some (Faulty (Block n), []))
+pub unended_byte : (text : List ℕ) (end n : ℕ) (request : List ℕ → Request) → NamesBlock text end n request → n ≤ 16384 → end + 1 + n < length text → get_or text (end + 1 + n) 0 ≢ 10
+    → next_of (Bytes text) ≡ Some (Faulty (Block n), Shut n)
+unended_byte text end n request names small within other =
+    unended_next text n (
+    block_byte text end n request names small within
+    ∙ ap (λ t. if t then Some (request (take n (drop (end + 1) text)), drop (n + 1) (drop (end + 1) text)) else Some (Faulty (Block n), []))
     (ne_eqb (get_or text (end + 1 + n) 0) 10 other)
+    )
 
-pub spends_block : (text : List ℕ) (line end n : ℕ) → NamesBlock text line end n → n ≤ 16384 → end + 1 + n < length text → get_or text (end + 1 + n) 0 ≡ 10
-    → SpendsParts text (record { start = 0; len = line }) (record { start = end + 1; len = n }) (end + 1 + n + 1)
-spends_block text line end n names small within here =
-    let line_within = names.line_within in
+pub spends_block : (text : List ℕ) (end n : ℕ) (head : Head) → NamesBlock text end n (with_block head) → n ≤ 16384 → end + 1 + n < length text → get_or text (end + 1 + n) 0 ≡ 10
+    → SpendsBlock (Bytes text) text head (record { start = end + 1; len = n }) (Bytes (drop (end + 1 + n + 1) text)) × (end + 1 + n + 1 ≤ length text)
+spends_block text end n head names small within here =
+    let request = with_block head in
+    let block = take n (drop (end + 1) text) in
     let place : end + 1 + (n + 1) ≡ end + 1 + n + 1 = omega arith in
-    record {
-      request =
-          block_byte text line end n names small within
-          ∙ ap (λ t. if t then Some (with_block (line_of (take line text)) (take n (drop (end + 1) text)), drop (n + 1) (drop (end + 1) text)) else Some (Faulty (Block n), []))
-          (eq-eqb (get_or text (end + 1 + n) 0) 10 here)
-          ∙ ap (λ left. Some (with_block (line_of (take line text)) (take n (drop (end + 1) text)), left)) (drop-drop (n + 1) (end + 1) text ∙ ap (λ k. drop k text) place);
-      bytes_within = omega arith;
-      line_within = omega arith;
-      block_within = omega arith;
-      block_short = omega arith;
-    }
-
--- a line of a text that was read
-
-pub names_block : (text line : List ℕ) (end n : ℕ) → end ≡ line_length text → end ≤ 8192 → end < length text → line ≡ without_return (take end text)
-    → block_length (line_of line) ≡ Some n → NamesBlock text (length line) end n
-names_block text line end n ends short within bare names =
-    let size = length-take end text in
-    let bare_size = bare_short (take end text) in
-    let same : length line ≡ length (without_return (take end text)) = ap length bare in
-    let front : without_return (take end text) ≡ take (length line) text = sym (ap (λ k. take k text) same ∙ bare_part text end (omega arith)) in
-    record {
-      ends = ends;
-      short = short;
-      within = within;
-      bare = front;
-      line_within = omega arith;
-      names = ap (λ l. block_length (line_of l)) (sym front ∙ sym bare) ∙ names;
-    }
-
-pub names_none : (text line : List ℕ) (end : ℕ) → end ≡ line_length text → end ≤ 8192 → end < length text → line ≡ without_return (take end text)
-    → block_length (line_of line) ≡ None → SpendsParts text (record { start = 0; len = length line }) (record { start = 0; len = 0 }) (end + 1)
-names_none text line end ends short within bare none =
-    let size = length-take end text in
-    let bare_size = bare_short (take end text) in
-    let same : length line ≡ length (without_return (take end text)) = ap length bare in
-    let front : without_return (take end text) ≡ take (length line) text = sym (ap (λ k. take k text) same ∙ bare_part text end (omega arith)) in
-    spends_line text (length line) end ends short within front (omega arith) (ap (λ l. block_length (line_of l)) (sym front ∙ sym bare) ∙ none)
+    let kept : IsKept (request block) = subst IsKeptLine names.names (kept-line (without_return (take end text))) block in
+    let first : first_of text ≡ Some (request block, drop (end + 1 + n + 1) text) =
+    block_byte text end n request names small within
+    ∙ ap (λ t. if t then Some (request block, drop (n + 1) (drop (end + 1) text)) else Some (Faulty (Block n), [])) (eq-eqb (get_or text (end + 1 + n) 0) 10 here)
+    ∙ ap (λ left. Some (request block, left)) (drop-drop (n + 1) (end + 1) text ∙ ap (λ k. drop k text) place) in
+    (record {
+      next = kept_next text (request block) (drop (end + 1 + n + 1) text) first kept;
+      within = omega arith;
+      short = omega arith;
+    }, omega arith)

@@ -7,5 +7,6 @@ pub mod KeptLines
 pub mod Growing
 pub mod Pieces
 pub mod Splits
+pub mod Heads
 pub mod Firsts
 pub mod Feeds

@@ -1,11 +1,14 @@
 -- The parts of a request that a line names are of their form, if its block isn't too long.
-use Rattle.std.proofs.Common.{◌≡◌, ◌≤◌, ℕ, List, length, sym, subst}
+use Rattle.std.proofs.Common.{◌≡◌, ◌≤◌, ℕ, List, length, Result, Ok, Err, sym, subst}
+use Rattle.std.specs.Prelude.{IfOk}
+use Rattle.kn_wire.specs.declared.fault.WireFault.{WireFault}
+use Rattle.kn_wire.specs.declared.request.Request.{Request}
 use Rattle.kn_wire.specs.Digits.{IsWellFormed}
-use Rattle.kn_wire.specs.Lines.{with_block}
-use Rattle.kn_wire.specs.Requests.{Request, Line, Whole, Blocked, line_of}
+use Rattle.kn_wire.specs.Requests.{Line, Whole, line_of}
+use Rattle.kn_wire.specs.Wired.{request_of, request_or_fault}
 use Rattle.kn_wire.proofs.LineRequests.{OfEach, OfLine, of-line}
 
-abbrev IsShort : List ℕ → Type 0
+abbrev pub IsShort : List ℕ → Type 0
 IsShort block = length block ≤ 16384
 
 each_form : OfEach IsShort IsWellFormed
@@ -31,9 +34,14 @@ each_form =
       of_command = tt;
     }
 
-form_with_block : (line : Line) (block : List ℕ) → OfLine IsShort IsWellFormed line → IsShort block → IsWellFormed (with_block line block)
-form_with_block (Whole request) block each short = each
-form_with_block (Blocked n request) block each short = each block short
+-- the request that a line names is of its form, with each block that isn't too long
+abbrev pub OfForm : Line → Type 0
+OfForm line = OfLine IsShort IsWellFormed line
 
-pub has_form : (text block : List ℕ) (request : Request) → length block ≤ 16384 → request ≡ with_block (line_of text) block → IsWellFormed request
-has_form text block request short e = subst IsWellFormed (sym e) (form_with_block (line_of text) block (of-line IsShort IsWellFormed each_form text) short)
+pub form-line : (line : List ℕ) → OfForm (line_of line)
+form-line line = of-line IsShort IsWellFormed each_form line
+
+-- and so is what is answered of it
+pub form_answer : (result : Result Request WireFault) (line : List ℕ) → Whole (request_or_fault result) ≡ line_of line → IfOk result (λ request. IsWellFormed (request_of request))
+form_answer (Ok request) line e = subst OfForm (sym e) (form-line line)
+form_answer (Err fault) line e = tt

@@ -7,4 +7,6 @@ pub mod Wired
 pub mod Lines
 pub mod Parts
 pub mod Firsts
+pub mod Cursors
+pub mod Filling
 pub mod Feeds

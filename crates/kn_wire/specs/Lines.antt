@@ -2,13 +2,12 @@
 use Rattle.std.specs.Prelude.{ℕ, List, Option, Some, None, option_map, option_and_then, if◌then◌else◌}
 use Rattle.std.specs.List.{before_first, after_first}
 use Rattle.kn_base.specs.Decimal.{decimal_of}
-use Rattle.kn_wire.specs.declared.line.Line.{Line}
-use Rattle.kn_wire.specs.declared.line.Line.TheVariants as L
+use Rattle.kn_wire.specs.declared.head.Head.{Head}
+use Rattle.kn_wire.specs.declared.head.Head.TheVariants as H
 use Rattle.kn_wire.specs.declared.word.Word.{Word}
 use Rattle.kn_wire.specs.declared.word.Word.TheVariants as W
 use Rattle.kn_wire.specs.Requests as D
 use Rattle.kn_wire.specs.Requests.{is_space, behind_space, is_word}
-use Rattle.kn_wire.specs.Wired.{request_of}
 
 -- the command word of a word
 abbrev pub command_of : Word → D.Word
@@ -29,22 +28,28 @@ command_of W.Add = D.ADD
 command_of W.Remove = D.DROP
 command_of W.Bye = D.BYE
 
--- what a line names
-abbrev pub meaning_of : Line → D.Line
-meaning_of (L.Whole request) = D.Whole (request_of request)
-meaning_of (L.Assert s n) = D.Blocked n (D.Assert s)
-meaning_of (L.Add n) = D.Blocked n D.Add
-meaning_of (L.Faulty fault) = D.Whole (D.Faulty fault)
+-- the request of a head and its block
+abbrev pub with_block : Head → List ℕ → D.Request
+with_block (H.Assert s) block = D.Assert s block
+with_block H.Add block = D.Add block
 
--- the request of a line, whose block is this one where it names a block
-abbrev pub with_block : D.Line → List ℕ → D.Request
-with_block (D.Whole request) block = request
-with_block (D.Blocked n request) block = request block
+-- the line of a head whose block has so many bytes
+abbrev pub line_of_head : Head × ℕ → D.Line
+line_of_head (head, n) = D.Blocked n (with_block head)
 
--- how many bytes the block has that a line names
-abbrev pub block_length : D.Line → Option ℕ
-block_length (D.Whole request) = None
-block_length (D.Blocked n request) = Some n
+-- the line, if it names a block
+abbrev pub blocked_of : D.Line → Option D.Line
+blocked_of (D.Whole request) = None
+blocked_of (D.Blocked n request) = Some (D.Blocked n request)
+
+-- the request that a line names without a block
+abbrev pub whole_of : D.Line → Option D.Request
+whole_of (D.Whole request) = Some request
+whole_of (D.Blocked n request) = None
+
+-- the request that a command word and what follows it spell without a block
+abbrev pub request_of_word : D.Word → Option (List ℕ) → Option D.Request
+request_of_word word rest = option_and_then whole_of (D.line_of_word word rest)
 
 -- a number and a space, and what follows
 abbrev pub number_and_rest : List ℕ → Option (ℕ × List ℕ)

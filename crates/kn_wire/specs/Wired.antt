@@ -1,4 +1,6 @@
 -- What requests in code stand for.
+use Rattle.std.specs.Prelude.{Result, Ok, Err}
+use Rattle.kn_wire.specs.declared.fault.WireFault.{WireFault}
 use Rattle.kn_wire.specs.declared.request.Request.{Request}
 use Rattle.kn_wire.specs.declared.request.Request.TheVariants as Q
 use Rattle.kn_wire.specs.Requests as D
@@ -21,3 +23,8 @@ request_of (Q.Admin digits) = D.Admin digits.now
 request_of (Q.Add block) = D.Add block.now
 request_of (Q.Remove k) = D.Drop k
 request_of Q.Bye = D.Bye
+
+-- the request, or the fault
+abbrev pub request_or_fault : Result Request WireFault → D.Request
+request_or_fault (Ok request) = request_of request
+request_or_fault (Err fault) = D.Faulty fault

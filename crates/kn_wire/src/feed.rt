@@ -1,18 +1,19 @@
 //! Requests from bytes that come in pieces.
-ghost use Rattle.std.specs.Prelude.{◌≡◌, ◌+◌, ◌<◌, ◌≤◌, ◌++◌, ℕ, List, false, length, drop, vec_len, vec_capacity, is_some};
-ghost use Rattle.kn_base.specs.declared.limits.TheConstants.{ASSERTION_BYTES};
+ghost use Rattle.std.specs.Prelude.{◌≡◌, ◌≤◌, take, vec_len};
 ghost use Rattle.kn_wire.specs.declared.feed.TheConstants.{BUFFER_BYTES};
-ghost use Rattle.kn_wire.specs.Requests.{first_of, line_length};
+ghost use Rattle.kn_wire.specs.Cursors.{IsSound};
 
-use crate::buffer::{append, drop_front};
+use crate::buffer::{copy_behind, move_front, read_behind};
+use crate::cursor::{Advanced, Cursor, Stage};
 use crate::fault::WireFault;
-use crate::first::{First, read_first};
-use crate::line::{Line, read_line};
+use crate::head::Head;
+use crate::line::read_line;
 use crate::part::Part;
 use crate::request::Request;
 use crate::split::place_of;
 use kn_base::NoMemory;
 use kn_base::limits::{ASSERTION_BYTES, LINE_BYTES};
+use kn_outside::{Failed, Link};
 use std::alloc::Global;
 
 /// The most bytes of a piece.
@@ -20,27 +21,6 @@ pub const PIECE_BYTES: usize = 4_096;
 
 /// A line with its newline, a block, and a piece.
 const BUFFER_BYTES: usize = LINE_BYTES + 1 + ASSERTION_BYTES + PIECE_BYTES;
-
-/// Where a feed stands in its stream.
-#[derive(Debug, Clone, Copy, PartialEq, Eq, Drop)]
-pub(crate) enum Stage {
-    /// Within a request, or before one.
-    Reading,
-    /// Within a long line that was answered before its newline came.
-    Skipping,
-    /// Behind a block of `n` bytes that was refused.
-    Refusing { n: usize },
-}
-
-/// What became of the bytes held.
-#[derive(Debug, Clone, Copy, PartialEq, Eq, Drop)]
-pub(crate) enum Advanced {
-    /// There is no whole request.
-    Nothing,
-    /// This line was spent, and this block behind it.
-    Spent { line: Part, block: Part },
-    Refused(WireFault),
-}
 
 /// The bytes that came and belong to no answered request, in one buffer for good.
 ///
@@ -50,63 +30,71 @@ pub(crate) enum Advanced {
 #[derive(Drop)]
 pub struct Feed {
     buf: Vec<u8>,
-    /// How many bytes of the buffer were spent.
-    from: usize,
-    /// So many of the bytes held have no newline among them.
-    searched: usize,
-    /// Fewer bytes than these hold no request.
-    needed: usize,
-    stage: Stage,
-    ghost within: { from ≤ vec_len buf },
-    ghost short: { vec_len buf ≤ BUFFER_BYTES },
-    ghost room: { BUFFER_BYTES ≤ vec_capacity buf },
-    ghost clean: { searched ≤ line_length (drop from buf.items) },
-    ghost none_below: { (more : List ℕ) → length (drop from buf.items ++ more) < needed → is_some (first_of (drop from buf.items ++ more)) ≡ false },
+    /// So many bytes of the buffer came; what lies behind them is of no account.
+    end: usize,
+    cursor: Cursor,
+    ghost full: { vec_len buf ≡ BUFFER_BYTES },
+    ghost within: { end ≤ BUFFER_BYTES },
+    ghost sound: { IsSound cursor (take end buf.items) },
 }
 
 impl Feed {
-    ghost use Rattle.std.specs.Prelude.{◌≡◌, ◌+◌, ◌<◌, ◌≤◌, ◌++◌, ⊤, length, drop, vec_len, Some, None, [], IfOk, IfSome};
+    ghost use Rattle.std.specs.Prelude.{◌≡◌, ◌+◌, ◌<◌, ◌≤◌, ◌++◌, ⊤, [], length, take, drop, None, IfOk, IfSome, OnErr};
     ghost use Rattle.std.specs.Borrow.{sem, follows_so};
-    ghost use Rattle.kn_wire.specs.Digits.{IsWellFormed};
-    ghost use Rattle.kn_wire.specs.Wired.{request_of};
-    ghost use mathlib.Core.Option.{none};
-    ghost use Rattle.kn_wire.specs.Feeding.{Bytes, Shut, InLong, pushed, next_of, held_bytes};
-    ghost use Rattle.kn_wire.specs.Requests.{line_of, line_length, Faulty};
-    ghost use Rattle.kn_wire.specs.declared.fault.WireFault.TheVariants as F;
-    ghost use Rattle.kn_wire.specs.Lines.{with_block};
+    ghost use Rattle.kn_outside.specs.Reading.{Reads, Fails};
+    ghost use Rattle.kn_wire.specs.Cursors.{Advances, held_at};
+    ghost use Rattle.kn_wire.specs.Lines.{blocked_of, with_block};
     ghost use Rattle.kn_wire.specs.Parts.{part_of};
-    ghost use Rattle.kn_wire.specs.Feeds.{held, IsAnswer, Advances, request_of_line};
+    ghost use Rattle.kn_wire.specs.Requests as D;
+    ghost use Rattle.kn_wire.specs.Requests.{line_of};
+    ghost use Rattle.kn_wire.specs.Digits.{IsWellFormed};
+    ghost use Rattle.kn_wire.specs.Wired.{request_of, request_or_fault};
+    ghost use mathlib.Core.Option.{none};
+    ghost use Rattle.kn_wire.specs.Feeding.{Bytes, pushed, next_of, held_bytes, is_shut};
+    ghost use Rattle.kn_wire.specs.Filling.{IsFilled};
+    ghost use Rattle.kn_wire.specs.Feeds.{held, IsAnswer};
     ghost use Rattle.kn_wire.specs.contracts.feed.Feed.{the_row};
-    ghost use Rattle.kn_wire.specs.declared.feed.Stage.TheVariants as S;
+    ghost use Rattle.kn_wire.specs.declared.cursor.Stage.TheVariants as S;
 
     /// A feed that holds nothing. Only this call takes memory.
     #[tactic(auto, unfolding(crate::specs::Feeds::held))]
     pub fn new(alloc: Global) -> Result<Feed, NoMemory>
         ensures { IfOk result (λ feed. held feed ≡ Bytes []) }
     {
-        match Vec::with_capacity(alloc, BUFFER_BYTES) {
+        match vec![in alloc; 0; BUFFER_BYTES] {
             Ok(buf) => Ok(Feed {
                 buf,
-                from: 0,
-                searched: 0,
-                needed: 0,
-                stage: Stage::Reading,
+                end: 0,
+                cursor: Cursor::start(Stage::Reading),
             }),
             Err(_) => Err(NoMemory),
         }
     }
 
     /// Adds a piece behind the bytes held, once `next` has answered None.
-    #[tactic(auto, unfolding(crate::specs::Feeds::held))]
     pub fn push(&mut self, piece: &[u8])
         requires short { length piece.now ≤ PIECE_BYTES }
         requires none { next_of (held self.old) ≡ None }
         ensures { held self.new ≡ pushed (held self.old) piece.now }
     {
-        match self.stage {
-            Stage::Reading => self.keep(piece),
-            Stage::Skipping => self.skip(piece),
-            Stage::Refusing { .. } => unreachable!(),
+        self.make_room();
+        copy_behind(&mut self.buf, self.end, piece);
+        self.admit(piece.len());
+    }
+
+    /// Reads the next bytes of a link behind the bytes held, as a piece, once `next` has answered None, and tells how many.
+    /// There are none only at the end of the input.
+    pub fn fill<L: Link>(&mut self, link: &mut L) -> Result<usize, Failed>
+        requires none { next_of (held self.old) ≡ None }
+        ensures { IsFilled (held self.old) (held self.new) (L.seen link.old) (L.seen link.new) result }
+    {
+        self.make_room();
+        match read_behind(&mut self.buf, self.end, link) {
+            Ok(bytes) => {
+                self.admit(bytes);
+                Ok(bytes)
+            }
+            Err(Failed) => Err(Failed),
         }
     }
 
@@ -118,10 +106,11 @@ impl Feed {
     {
         match self.advance() {
             Advanced::Nothing => Ok(None),
-            Advanced::Spent { line, block } => match self.read_spent(line, block) {
+            Advanced::Line(line) => match self.read_spent(line) {
                 Ok(request) => Ok(Some(request)),
                 Err(fault) => Err(fault),
             },
+            Advanced::Blocked { head, block } => Ok(Some(self.complete(head, block))),
             Advanced::Refused(fault) => Err(fault),
         }
     }
@@ -131,143 +120,97 @@ impl Feed {
     pub fn held(&self) -> u32
         ensures { result ≡ length (held_bytes (held self.now)) }
     {
-        match self.stage {
-            Stage::Reading => (self.buf.len() - self.from) as u32,
+        match self.cursor.stage {
+            Stage::Reading => (self.end - self.cursor.from) as u32,
             Stage::Skipping => 0,
             Stage::Refusing { .. } => 0,
         }
     }
 
-    /// The bytes that weren't spent.
-    fn text(&self) -> &[u8]
-        ensures { result.now ≡ drop self.now.from self.now.buf.items }
+    /// The bytes that came.
+    fn bytes(&self) -> &[u8]
+        ensures { result.now ≡ take self.now.end self.now.buf.items }
     {
-        self.buf.as_slice().split_at(self.from).1
+        self.buf.as_slice().split_at(self.end).0
     }
 
     /// Spends the next request.
     #[tactic(auto, unfolding(crate::specs::Feeds::held))]
     fn advance(&mut self) -> Advanced
-        ensures { Advances (held self.old) result self.new.buf.items (held self.new) }
+        ensures { Advances (held self.old) result (take self.new.end self.new.buf.items) (held self.new) }
     {
-        match self.stage {
-            Stage::Reading => self.advance_reading(),
-            Stage::Skipping => Advanced::Nothing,
-            Stage::Refusing { n } => Advanced::Refused(WireFault::Block { n }),
-        }
+        self.cursor
+            .advance(self.buf.as_slice().split_at(self.end).0)
     }
 
-    /// Spends the first request of the bytes held.
-    #[tactic(auto, using(crate::proofs::Feeds::none_next, crate::proofs::Feeds::parts_next, crate::proofs::Feeds::unended_next), unfolding(crate::specs::Feeds::held))]
-    fn advance_reading(&mut self) -> Advanced
-        requires { self.old.stage ≡ S.Reading }
-        ensures { Advances (held self.old) result self.new.buf.items (held self.new) }
-    {
-        let held = self.buf.len() - self.from;
-        if held < self.needed {
-            return Advanced::Nothing;
-        }
-        match read_first(self.text(), self.searched) {
-            First::Waits { searched, needed } => {
-                self.searched = searched;
-                self.needed = needed;
-                Advanced::Nothing
-            }
-            First::Spends { line, block, bytes } => {
-                let start = self.from;
-                self.spend(bytes);
-                Advanced::Spent {
-                    line: line.behind(start),
-                    block: block.behind(start),
-                }
-            }
-            First::Long { bytes } => {
-                self.spend_long(bytes);
-                Advanced::Refused(WireFault::Long)
-            }
-            First::Unended { n } => {
-                self.spend(held);
-                self.stage = Stage::Refusing { n };
-                Advanced::Refused(WireFault::Block { n })
-            }
-        }
-    }
-
-    /// Spends so many of the bytes held.
-    fn spend(&mut self, bytes: usize)
-        requires { self.old.from + bytes ≤ vec_len self.old.buf }
-        ensures from { self.new.from ≡ self.old.from + bytes }
-        ensures buf { self.new.buf ≡ self.old.buf }
-        ensures stage { self.new.stage ≡ self.old.stage }
-    {
-        self.from += bytes;
-        self.searched = 0;
-        self.needed = 0;
-    }
-
-    /// Spends a long line of so many bytes with its newline, or what is there of it.
-    fn spend_long(&mut self, bytes: usize)
-        requires stage { self.old.stage ≡ S.Reading }
-        requires line { bytes ≡ line_length (drop self.old.from self.old.buf.items) }
-        requires long { LINE_BYTES < bytes }
-        ensures { next_of (held self.old) ≡ Some (Faulty F.Long, held self.new) }
-    {
-        let held = self.buf.len() - self.from;
-        if bytes < held {
-            self.spend(bytes + 1);
-        } else {
-            self.spend(held);
-            self.stage = Stage::Skipping;
-        }
-    }
-
-    /// What a line that was spent asks, with its block.
-    fn read_spent(&self, line: Part, block: Part) -> Result<Request<'_>, WireFault>
-        requires line { line.start + line.len ≤ vec_len self.now.buf }
-        requires block { block.start + block.len ≤ vec_len self.now.buf }
-        requires short { block.len ≤ ASSERTION_BYTES }
+    /// What a line that was spent asks.
+    fn read_spent(&self, line: Part) -> Result<Request<'_>, WireFault>
+        requires within { line.start + line.len ≤ length (take self.now.end self.now.buf.items) }
+        requires whole { blocked_of (line_of (part_of line (take self.now.end self.now.buf.items))) ≡ None }
         ensures form { IfOk result (λ request. IsWellFormed (request_of request)) }
-        ensures request { request_of_line result ≡ with_block (line_of (part_of line self.now.buf.items)) (part_of block self.now.buf.items) }
+        ensures request { D.Whole (request_or_fault result) ≡ line_of (part_of line (take self.now.end self.now.buf.items)) }
     {
-        let text = self.buf.as_slice();
-        let block = block.of(text);
-        match read_line(line.of(text)) {
-            Line::Whole(request) => Ok(request),
-            Line::Assert { s, .. } => Ok(Request::Assert { s, block }),
-            Line::Add { .. } => Ok(Request::Add { block }),
-            Line::Faulty(fault) => Err(fault),
+        read_line(line.of(self.bytes()))
+    }
+
+    /// The request of a head and a block that were spent.
+    fn complete(&self, head: Head, block: Part) -> Request<'_>
+        requires within { block.start + block.len ≤ length (take self.now.end self.now.buf.items) }
+        requires short { block.len ≤ ASSERTION_BYTES }
+        ensures form { IsWellFormed (request_of result) }
+        ensures request { request_of result ≡ with_block head (part_of block (take self.now.end self.now.buf.items)) }
+    {
+        head.with_block(block.of(self.bytes()))
+    }
+
+    /// Moves the bytes held to the front of the buffer, so that a piece fits behind them.
+    #[tactic(auto, unfolding(crate::specs::Feeds::held))]
+    fn make_room(&mut self)
+        requires none { next_of (held self.old) ≡ None }
+        ensures held { held self.new ≡ held self.old }
+        ensures room { self.new.end + PIECE_BYTES ≤ BUFFER_BYTES }
+    {
+        match self.cursor.stage {
+            Stage::Reading => {
+                self.end = move_front(&mut self.buf, self.cursor.from, self.end);
+                self.cursor.from = 0;
+            }
+            Stage::Skipping => {
+                self.end = 0;
+                self.cursor = Cursor::start(Stage::Skipping);
+            }
+            Stage::Refusing { .. } => unreachable!(),
         }
     }
 
-    /// Adds a piece behind the bytes held, which move to the front of the buffer.
+    /// Takes so many bytes of the buffer, behind those that came, as a piece that came. Of a long line they are dropped
+    /// through their first newline.
     #[tactic(auto, unfolding(crate::specs::Feeds::held))]
-    fn keep(&mut self, piece: &[u8])
-        requires short { length piece.now ≤ PIECE_BYTES }
-        requires stage { self.old.stage ≡ S.Reading }
+    fn admit(&mut self, bytes: usize)
+        requires room { self.old.end + bytes ≤ BUFFER_BYTES }
         requires none { next_of (held self.old) ≡ None }
-        ensures { held self.new ≡ pushed (held self.old) piece.now }
+        ensures { held self.new ≡ pushed (held self.old) (take bytes (drop self.old.end self.old.buf.items)) }
     {
-        drop_front(&mut self.buf, self.from);
-        self.from = 0;
-        append(&mut self.buf, piece);
+        match self.cursor.stage {
+            Stage::Reading => self.end += bytes,
+            Stage::Skipping => self.admit_skipping(bytes),
+            Stage::Refusing { .. } => unreachable!(),
+        }
     }
 
-    /// Drops a piece of a long line through its first newline, and keeps the rest.
-    #[tactic(auto, using(crate::proofs::Feeds::skips_all, crate::proofs::Feeds::skips_line), unfolding(crate::specs::Feeds::held))]
-    fn skip(&mut self, piece: &[u8])
-        requires short { length piece.now ≤ PIECE_BYTES }
-        requires stage { self.old.stage ≡ S.Skipping }
-        ensures { held self.new ≡ pushed (held self.old) piece.now }
+    #[tactic(auto, unfolding(crate::specs::Feeds::held))]
+    fn admit_skipping(&mut self, bytes: usize)
+        requires room { self.old.end + bytes ≤ BUFFER_BYTES }
+        requires stage { self.old.cursor.stage ≡ S.Skipping }
+        ensures { held self.new ≡ pushed (held self.old) (take bytes (drop self.old.end self.old.buf.items)) }
     {
-        let end = place_of(b'\n', piece, 0);
-        if end == piece.len() {
+        let piece = self.buf.as_slice().split_at(self.end).1.split_at(bytes).0;
+        let line = place_of(b'\n', piece, 0);
+        if line == bytes {
             return;
         }
-        self.buf.clear();
-        self.from = 0;
-        self.searched = 0;
-        self.needed = 0;
-        self.stage = Stage::Reading;
-        append(&mut self.buf, piece.split_at(end + 1).1);
+        self.cursor = Cursor::start(Stage::Reading);
+        self.cursor.from = self.end + line + 1;
+        self.end += bytes;
     }
 }

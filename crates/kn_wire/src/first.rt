@@ -1,9 +1,10 @@
 //! The first request of a text.
 ghost use Rattle.std.specs.Prelude.{◌≡◌, ◌+◌, ◌<◌, ◌≤◌, length};
+ghost use Rattle.kn_wire.specs.Lines.{with_block};
 ghost use Rattle.kn_wire.specs.Requests.{line_length};
 ghost use Rattle.kn_wire.specs.Firsts.{IsFirst, NamesBlock};
 
-use crate::line::read_line;
+use crate::head::{Head, read_head};
 use crate::part::Part;
 use crate::split::{place_of, without_return};
 use kn_base::limits::{ASSERTION_BYTES, LINE_BYTES};
@@ -16,21 +17,18 @@ pub(crate) enum First {
         searched: usize,
         needed: usize,
     },
-    /// A line without its carriage return, and its block, which is empty where the line names none. So many bytes are
-    /// spent.
-    Spends {
-        line: Part,
+    /// A line that names no block, without its carriage return. So many bytes are spent.
+    Line { line: Part, bytes: usize },
+    /// A request with its block. So many bytes are spent.
+    Blocked {
+        head: Head,
         block: Part,
         bytes: usize,
     },
     /// A long line of so many bytes, with a newline behind them or not.
-    Long {
-        bytes: usize,
-    },
+    Long { bytes: usize },
     /// A block of `n` bytes is above the limit, or no newline follows it.
-    Unended {
-        n: usize,
-    },
+    Unended { n: usize },
 }
 
 /// The first request of a text, if no newline stands among its first bytes that were searched.
@@ -49,23 +47,21 @@ pub(crate) fn read_first(text: &[u8], searched: usize) -> First
         };
     }
     let line = without_return(text.split_at(end).0);
-    match read_line(line).block_len() {
-        Some(n) => read_block(text, line.len(), end, n),
-        None => First::Spends {
+    match read_head(line) {
+        Some((head, n)) => read_block(text, end, head, n),
+        None => First::Line {
             line: Part {
                 start: 0,
                 len: line.len(),
             },
-            block: Part { start: 0, len: 0 },
             bytes: end + 1,
         },
     }
 }
 
-/// The first request of a text whose line, which so many bytes without its carriage return and ends there, names a
-/// block of `n` bytes.
-fn read_block(text: &[u8], line: usize, end: usize, n: usize) -> First
-    requires { NamesBlock text.now line end n }
+/// The first request of a text whose first line ends there and names a block of `n` bytes.
+fn read_block(text: &[u8], end: usize, head: Head, n: usize) -> First
+    requires { NamesBlock text.now end n (with_block head) }
     ensures { IsFirst text.now result }
 {
     let start = end + 1;
@@ -81,11 +77,8 @@ fn read_block(text: &[u8], line: usize, end: usize, n: usize) -> First
     if text[start + n] != b'\n' {
         return First::Unended { n };
     }
-    First::Spends {
-        line: Part {
-            start: 0,
-            len: line,
-        },
+    First::Blocked {
+        head,
         block: Part { start, len: n },
         bytes: start + n + 1,
     }

@@ -5,11 +5,13 @@
 #![tactic(auto)]
 
 mod buffer;
+mod cursor;
 mod digits;
 mod fault;
 mod feed;
 mod first;
 pub mod laws;
+mod head;
 mod line;
 mod part;
 mod request;

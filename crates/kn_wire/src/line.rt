@@ -1,62 +1,36 @@
-//! What one line asks.
+//! What a line asks that names no block.
 ghost use Rattle.std.specs.Prelude.{◌≡◌, not, option_map, Some, None};
 ghost use Rattle.std.specs.List.{list_all};
-ghost use Rattle.kn_wire.specs.Lines.{command_of, meaning_of, name_and_rest, number_and_rest};
+ghost use Rattle.kn_wire.specs.Lines.{blocked_of, command_of, name_and_rest, request_of_word};
 ghost use Rattle.kn_wire.specs.Requests as D;
-ghost use Rattle.kn_wire.specs.Requests.{line_of, line_of_word, number_after, is_space, is_word, are_digits};
+ghost use Rattle.kn_wire.specs.Requests.{line_of, number_after, is_space, is_word, are_digits};
+ghost use Rattle.kn_wire.specs.Wired.{request_of, request_or_fault};
 
 use crate::digits::are_digits;
 use crate::fault::WireFault;
 use crate::request::Request;
-use crate::split::split_word;
+use crate::split::{split_number, split_word};
 use crate::word::Word;
 use kn_base::decimal;
 
-/// What a line names.
-#[derive(Debug, Clone, Copy)]
-pub(crate) enum Line<'a> {
-    Whole(Request<'a>),
-    /// ASSERT, which a block of `n` bytes completes.
-    Assert { s: u32, n: usize },
-    /// ADD, which a block of `n` bytes completes.
-    Add { n: usize },
-    Faulty(WireFault),
-}
-
-impl Line<'_> {
-    ghost use Rattle.std.specs.Prelude.{◌≡◌};
-    ghost use Rattle.kn_wire.specs.Lines.{block_length, meaning_of};
-
-    /// How many bytes the block has that the line names.
-    pub(crate) fn block_len(&self) -> Option<usize>
-        ensures { result ≡ block_length (meaning_of self.now) }
-    {
-        match self {
-            Line::Whole(_) => None,
-            Line::Assert { n, .. } => Some(*n),
-            Line::Add { n } => Some(*n),
-            Line::Faulty(_) => None,
-        }
-    }
-}
-
-/// What a line names whose newline, and a carriage return before it, were taken away.
-pub(crate) fn read_line(line: &[u8]) -> Line<'_>
-    ensures { meaning_of result ≡ line_of line.now }
+/// The request of a line whose newline, and a carriage return before it, were taken away. It names no block.
+pub(crate) fn read_line(line: &[u8]) -> Result<Request<'_>, WireFault>
+    requires { blocked_of (line_of line.now) ≡ None }
+    ensures { D.Whole (request_or_fault result) ≡ line_of line.now }
 {
     let (word, rest) = split_word(line);
     let Some(word) = Word::of(word) else {
-        return Line::Faulty(WireFault::Command);
+        return Err(WireFault::Command);
     };
     match read_rest(word, rest) {
-        Some(line) => line,
-        None => Line::Faulty(WireFault::Syntax),
+        Some(request) => Ok(request),
+        None => Err(WireFault::Syntax),
     }
 }
 
-/// The line that a command word and what follows its space spell; None where the line is malformed.
-fn read_rest(word: Word, rest: Option<&[u8]>) -> Option<Line<'_>>
-    ensures { option_map meaning_of result ≡ line_of_word (command_of word) (option_map (λ text. text.now) rest.entry) }
+/// The request that a command word and what follows its space spell; None where they spell none without a block.
+fn read_rest(word: Word, rest: Option<&[u8]>) -> Option<Request<'_>>
+    ensures { option_map request_of result ≡ request_of_word (command_of word) (option_map (λ text. text.now) rest.entry) }
 {
     match rest {
         Some(rest) => read_behind(word, rest),
@@ -64,26 +38,25 @@ fn read_rest(word: Word, rest: Option<&[u8]>) -> Option<Line<'_>>
     }
 }
 
-/// The line that is a command word alone.
-fn read_alone<'a>(word: Word) -> Option<Line<'a>>
-    ensures { option_map meaning_of result ≡ line_of_word (command_of word) None }
+/// The request that is a command word alone.
+fn read_alone<'a>(word: Word) -> Option<Request<'a>>
+    ensures { option_map request_of result ≡ request_of_word (command_of word) None }
 {
     match word {
-        Word::Open => Some(Line::Whole(Request::Start)),
-        Word::Bye => Some(Line::Whole(Request::Bye)),
+        Word::Open => Some(Request::Start),
+        Word::Bye => Some(Request::Bye),
         _ => None,
     }
 }
 
-/// The line of a command word, a space and this text.
-fn read_behind(word: Word, text: &[u8]) -> Option<Line<'_>>
-    ensures { option_map meaning_of result ≡ line_of_word (command_of word) (Some text.now) }
+/// The request of a command word, a space and this text.
+fn read_behind(word: Word, text: &[u8]) -> Option<Request<'_>>
+    ensures { option_map request_of result ≡ request_of_word (command_of word) (Some text.now) }
 {
     match word {
-        Word::Open | Word::Bye => None,
+        Word::Open | Word::Bye | Word::Assert | Word::Add => None,
         Word::Close => read_close(text),
         Word::Pin => read_pin(text),
-        Word::Assert => read_assert(text),
         Word::Retract => read_retract(text),
         Word::Set => read_set(text),
         Word::SetHex => read_set_hex(text),
@@ -93,129 +66,103 @@ fn read_behind(word: Word, text: &[u8]) -> Option<Line<'_>>
         Word::Clear => read_clear(text),
         Word::Query => read_query(text),
         Word::Admin => read_admin(text),
-        Word::Add => read_add(text),
         Word::Remove => read_remove(text),
     }
 }
 
-fn read_close(text: &[u8]) -> Option<Line<'_>>
-    ensures { option_map meaning_of result ≡ line_of_word D.CLOSE (Some text.now) }
+fn read_close(text: &[u8]) -> Option<Request<'_>>
+    ensures { option_map request_of result ≡ request_of_word D.CLOSE (Some text.now) }
 {
     let s = decimal(text)?;
-    Some(Line::Whole(Request::Close { s }))
+    Some(Request::Close { s })
 }
 
-fn read_pin(text: &[u8]) -> Option<Line<'_>>
-    ensures { option_map meaning_of result ≡ line_of_word D.PIN (Some text.now) }
+fn read_pin(text: &[u8]) -> Option<Request<'_>>
+    ensures { option_map request_of result ≡ request_of_word D.PIN (Some text.now) }
 {
     let s = decimal(text)?;
-    Some(Line::Whole(Request::Pin { s }))
+    Some(Request::Pin { s })
 }
 
-fn read_clear(text: &[u8]) -> Option<Line<'_>>
-    ensures { option_map meaning_of result ≡ line_of_word D.CLEAR (Some text.now) }
+fn read_clear(text: &[u8]) -> Option<Request<'_>>
+    ensures { option_map request_of result ≡ request_of_word D.CLEAR (Some text.now) }
 {
     let s = decimal(text)?;
-    Some(Line::Whole(Request::Clear { s }))
+    Some(Request::Clear { s })
 }
 
-fn read_add(text: &[u8]) -> Option<Line<'_>>
-    ensures { option_map meaning_of result ≡ line_of_word D.ADD (Some text.now) }
-{
-    let n = decimal(text)?;
-    Some(Line::Add { n: n as usize })
-}
-
-fn read_remove(text: &[u8]) -> Option<Line<'_>>
-    ensures { option_map meaning_of result ≡ line_of_word D.DROP (Some text.now) }
+fn read_remove(text: &[u8]) -> Option<Request<'_>>
+    ensures { option_map request_of result ≡ request_of_word D.DROP (Some text.now) }
 {
     let k = number_behind(b'a', text)?;
-    Some(Line::Whole(Request::Remove { k }))
+    Some(Request::Remove { k })
 }
 
-fn read_admin(text: &[u8]) -> Option<Line<'_>>
-    ensures { option_map meaning_of result ≡ line_of_word D.ADMIN (Some text.now) }
+fn read_admin(text: &[u8]) -> Option<Request<'_>>
+    ensures { option_map request_of result ≡ request_of_word D.ADMIN (Some text.now) }
 {
     if text.is_empty() || !are_digits(text) {
         return None;
     }
-    Some(Line::Whole(Request::Admin { digits: text }))
+    Some(Request::Admin { digits: text })
 }
 
-fn read_assert(text: &[u8]) -> Option<Line<'_>>
-    ensures { option_map meaning_of result ≡ line_of_word D.ASSERT (Some text.now) }
-{
-    let (s, rest) = split_number(text)?;
-    let n = decimal(rest)?;
-    Some(Line::Assert { s, n: n as usize })
-}
-
-fn read_retract(text: &[u8]) -> Option<Line<'_>>
-    ensures { option_map meaning_of result ≡ line_of_word D.RETRACT (Some text.now) }
+fn read_retract(text: &[u8]) -> Option<Request<'_>>
+    ensures { option_map request_of result ≡ request_of_word D.RETRACT (Some text.now) }
 {
     let (s, rest) = split_number(text)?;
     let k = number_behind(b'p', rest)?;
-    Some(Line::Whole(Request::Retract { s, k }))
+    Some(Request::Retract { s, k })
 }
 
-fn read_set(text: &[u8]) -> Option<Line<'_>>
-    ensures { option_map meaning_of result ≡ line_of_word D.SET (Some text.now) }
+fn read_set(text: &[u8]) -> Option<Request<'_>>
+    ensures { option_map request_of result ≡ request_of_word D.SET (Some text.now) }
 {
     let (s, rest) = split_number(text)?;
     let (name, value) = split_name(rest)?;
-    Some(Line::Whole(Request::Set { s, name, value }))
+    Some(Request::Set { s, name, value })
 }
 
-fn read_set_hex(text: &[u8]) -> Option<Line<'_>>
-    ensures { option_map meaning_of result ≡ line_of_word D.SETX (Some text.now) }
+fn read_set_hex(text: &[u8]) -> Option<Request<'_>>
+    ensures { option_map request_of result ≡ request_of_word D.SETX (Some text.now) }
 {
     let (s, rest) = split_number(text)?;
     let (name, digits) = split_name(rest)?;
     if !are_digits(digits) {
         return None;
     }
-    Some(Line::Whole(Request::SetHex { s, name, digits }))
+    Some(Request::SetHex { s, name, digits })
 }
 
-fn read_unset(text: &[u8]) -> Option<Line<'_>>
-    ensures { option_map meaning_of result ≡ line_of_word D.UNSET (Some text.now) }
+fn read_unset(text: &[u8]) -> Option<Request<'_>>
+    ensures { option_map request_of result ≡ request_of_word D.UNSET (Some text.now) }
 {
     let (s, name) = split_number(text)?;
     if !is_word(name) {
         return None;
     }
-    Some(Line::Whole(Request::Unset { s, name }))
+    Some(Request::Unset { s, name })
 }
 
-fn read_auth(text: &[u8]) -> Option<Line<'_>>
-    ensures { option_map meaning_of result ≡ line_of_word D.AUTH (Some text.now) }
+fn read_auth(text: &[u8]) -> Option<Request<'_>>
+    ensures { option_map request_of result ≡ request_of_word D.AUTH (Some text.now) }
 {
     let (s, principal) = split_number(text)?;
-    Some(Line::Whole(Request::Auth { s, principal }))
+    Some(Request::Auth { s, principal })
 }
 
-fn read_unauth(text: &[u8]) -> Option<Line<'_>>
-    ensures { option_map meaning_of result ≡ line_of_word D.UNAUTH (Some text.now) }
+fn read_unauth(text: &[u8]) -> Option<Request<'_>>
+    ensures { option_map request_of result ≡ request_of_word D.UNAUTH (Some text.now) }
 {
     let (s, principal) = split_number(text)?;
-    Some(Line::Whole(Request::Unauth { s, principal }))
+    Some(Request::Unauth { s, principal })
 }
 
-fn read_query(text: &[u8]) -> Option<Line<'_>>
-    ensures { option_map meaning_of result ≡ line_of_word D.QUERY (Some text.now) }
+fn read_query(text: &[u8]) -> Option<Request<'_>>
+    ensures { option_map request_of result ≡ request_of_word D.QUERY (Some text.now) }
 {
     let (s, values) = split_number(text)?;
-    Some(Line::Whole(Request::Query { s, values }))
-}
-
-/// The number before the first space, and what follows the space.
-fn split_number(text: &[u8]) -> Option<(u32, &[u8])>
-    ensures { option_map (λ parts. (parts.0, parts.1.now)) result ≡ number_and_rest text.now }
-{
-    let (word, rest) = split_word(text);
-    let rest = rest?;
-    let number = decimal(word)?;
-    Some((number, rest))
+    Some(Request::Query { s, values })
 }
 
 /// The word before the first space, and what follows the space, nothing without one; None where the word is empty.

@@ -1,7 +1,10 @@
 //! Cutting texts at a byte.
 ghost use Rattle.std.specs.Prelude.{◌≡◌, ◌≤◌, ◌==◌, length, option_map};
 ghost use Rattle.std.specs.List.{before_first, position_or_len};
+ghost use Rattle.kn_wire.specs.Lines.{number_and_rest};
 ghost use Rattle.kn_wire.specs.Requests.{behind_space, is_space, without_return};
+
+use kn_base::decimal;
 
 /// The place of the first byte `wanted`, or the length of the text where there is none, if it isn't among the first
 /// `searched` bytes.
@@ -40,4 +43,14 @@ pub(crate) fn without_return(line: &[u8]) -> &[u8]
         Some(bare) => bare,
         None => line,
     }
+}
+
+/// The number before the first space, and what follows the space.
+pub(crate) fn split_number(text: &[u8]) -> Option<(u32, &[u8])>
+    ensures { option_map (λ parts. (parts.0, parts.1.now)) result ≡ number_and_rest text.now }
+{
+    let (word, rest) = split_word(text);
+    let rest = rest?;
+    let number = decimal(word)?;
+    Some((number, rest))
 }

@@ -1,7 +1,5 @@
-use Rattle.std.proofs.Common.{[], ap, arith}
-use Rattle.kn_wire.specs.Lines.{with_block}
-use Rattle.kn_wire.proofs.LineDigits.{has_form}
+use Rattle.kn_wire.proofs.LineDigits.{form_answer}
 use Rattle.kn_wire.proofs.feed.Feed.read_spent.Goals as goal
 
-pub returns-in-Whole-clause-form : goal.returns-in-Whole-clause-form
-returns-in-Whole-clause-form c = has_form c.of.result.now [] _ (omega arith) (ap (λ line. with_block line []) c.in-Whole.ensures)
+pub returns-clause-form : goal.returns-clause-form
+returns-clause-form c = form_answer c.read_line.result c.of.result.now c.read_line.ensures

@@ -1,0 +1,60 @@
+//! The line of a request that a block completes.
+ghost use Rattle.std.specs.Prelude.{◌≡◌, option_map, Some};
+ghost use Rattle.kn_wire.specs.Lines.{blocked_of, line_of_head};
+ghost use Rattle.kn_wire.specs.Requests as D;
+ghost use Rattle.kn_wire.specs.Requests.{line_of, line_of_word};
+
+use crate::request::Request;
+use crate::split::split_number;
+use kn_base::decimal;
+
+/// A request whose block is still to come.
+#[derive(Debug, Clone, Copy, PartialEq, Eq, Drop)]
+pub(crate) enum Head {
+    Assert { s: u32 },
+    Add,
+}
+
+impl Head {
+    ghost use Rattle.std.specs.Prelude.{◌≡◌};
+    ghost use Rattle.kn_wire.specs.Lines.{with_block};
+    ghost use Rattle.kn_wire.specs.Wired.{request_of};
+
+    /// The request with its block.
+    pub(crate) fn with_block(self, block: &[u8]) -> Request<'_>
+        ensures { request_of result ≡ with_block self block.now }
+    {
+        match self {
+            Head::Assert { s } => Request::Assert { s, block },
+            Head::Add => Request::Add { block },
+        }
+    }
+}
+
+/// What a line names, and how many bytes its block has; None where it names no block.
+pub(crate) fn read_head(line: &[u8]) -> Option<(Head, usize)>
+    ensures { option_map line_of_head result ≡ blocked_of (line_of line.now) }
+{
+    if let Some(text) = line.strip_prefix(b"ADD ") {
+        return read_add(text);
+    }
+    if let Some(text) = line.strip_prefix(b"ASSERT ") {
+        return read_assert(text);
+    }
+    None
+}
+
+fn read_add(text: &[u8]) -> Option<(Head, usize)>
+    ensures { option_map line_of_head result ≡ line_of_word D.ADD (Some text.now) }
+{
+    let n = decimal(text)?;
+    Some((Head::Add, n as usize))
+}
+
+fn read_assert(text: &[u8]) -> Option<(Head, usize)>
+    ensures { option_map line_of_head result ≡ line_of_word D.ASSERT (Some text.now) }
+{
+    let (s, rest) = split_number(text)?;
+    let n = decimal(rest)?;
+    Some((Head::Assert { s }, n as usize))
+}
