@@ -6,7 +6,7 @@ ghost use Rattle.kn_serve.specs.Serving.{Fills, IsInputEnd};
 
 use kn_daemon::ended::Ended;
 use kn_outside::{Failed, Link};
-use kn_wire::{Feed, PIECE_BYTES};
+use kn_wire::Feed;
 
 /// What became of a read.
 #[derive(Drop)]
@@ -21,13 +21,9 @@ pub(crate) fn read_more<L: Link>(feed: &mut Feed, link: &mut L) -> Fill
     requires { next_of (held feed.old) ≡ None }
     ensures { Fills (held feed.old) (held feed.new) (L.seen link.old) (L.seen link.new) result }
 {
-    let mut buffer = [0u8; PIECE_BYTES];
-    match link.read(&mut buffer) {
+    match feed.fill(link) {
         Ok(0) => Fill::End,
-        Ok(n) => {
-            feed.push(buffer.split_at(n).0);
-            Fill::More
-        }
+        Ok(_) => Fill::More,
         Err(Failed) => Fill::Failed,
     }
 }
