@@ -73,13 +73,15 @@ spends_line text line end ends short within bare none =
     let first : first_of text ≡ Some (found.0, drop (end + 1) text) =
     at_line text end ends short within
     ∙ ap (λ l. first_of_line (line_of l) (drop (end + 1) text)) (sym bare)
-    ∙ ap (λ l. first_of_line l (drop (end + 1) text)) found.1 in
-    (record {
-      request = found.0;
-      names = ap line_of front ∙ found.1;
-      next = kept_next text found.0 (drop (end + 1) text) first kept;
-      within = omega arith;
-    }, omega arith)
+    ∙ ap (λ l. first_of_line l (drop (end + 1) text)) found.1 in (
+      record {
+        request = found.0;
+        names = ap line_of front ∙ found.1;
+        next = kept_next text found.0 (drop (end + 1) text) first kept;
+        within = omega arith;
+      },
+      omega arith,
+    )
 
 -- A line that names a block.
 
@@ -168,9 +170,11 @@ spends_block text end n head names small within here =
     let first : first_of text ≡ Some (request block, drop (end + 1 + n + 1) text) =
     block_byte text end n request names small within
     ∙ ap (λ t. if t then Some (request block, drop (n + 1) (drop (end + 1) text)) else Some (Faulty (Block n), [])) (eq-eqb (get_or text (end + 1 + n) 0) 10 here)
-    ∙ ap (λ left. Some (request block, left)) (drop-drop (n + 1) (end + 1) text ∙ ap (λ k. drop k text) place) in
-    (record {
-      next = kept_next text (request block) (drop (end + 1 + n + 1) text) first kept;
-      within = omega arith;
-      short = omega arith;
-    }, omega arith)
+    ∙ ap (λ left. Some (request block, left)) (drop-drop (n + 1) (end + 1) text ∙ ap (λ k. drop k text) place) in (
+      record {
+        next = kept_next text (request block) (drop (end + 1 + n + 1) text) first kept;
+        within = omega arith;
+        short = omega arith;
+      },
+      omega arith,
+    )

@@ -142,9 +142,10 @@ pub names_none : (line : List ℕ) → ((rest : List ℕ) → line ≢ codes "AD
 names_none line no_add no_assert = by (word_of (before_first is_space line)) (behind_space line) refl refl
   where
     other : (word : Word) (rest : List ℕ) → word_of (before_first is_space line) ≡ Some word → behind_space line ≡ Some rest → IsOther word
-    other word rest is behind =
-        ( (λ e. no_add rest (split_line line rest behind ∙ ap (λ (w : List ℕ). w ++ 32 ∷ rest) (spells (before_first is_space line) ADD (is ∙ ap Some e))))
-        , (λ e. no_assert rest (split_line line rest behind ∙ ap (λ (w : List ℕ). w ++ 32 ∷ rest) (spells (before_first is_space line) ASSERT (is ∙ ap Some e)))) )
+    other word rest is behind = (
+      (λ e. no_add rest (split_line line rest behind ∙ ap (λ (w : List ℕ). w ++ 32 ∷ rest) (spells (before_first is_space line) ADD (is ∙ ap Some e)))),
+      (λ e. no_assert rest (split_line line rest behind ∙ ap (λ (w : List ℕ). w ++ 32 ∷ rest) (spells (before_first is_space line) ASSERT (is ∙ ap Some e)))),
+    )
 
     alone : (word : Word) → AllWhole (line_of_word word None)
     alone OPEN = refl

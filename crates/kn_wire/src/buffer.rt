@@ -2,8 +2,8 @@
 ghost use Rattle.std.specs.Prelude.{◌≡◌, ◌+◌, ◌≤◌, [], length, take, drop, vec_len, IfOk, IfSome, OnErr};
 ghost use Rattle.kn_outside.specs.Reading.{Reads, Fails};
 
-use kn_outside::{Failed, Link};
 use crate::feed::PIECE_BYTES;
+use kn_outside::{Failed, Link};
 
 /// Moves the bytes from a place to another to the front, and tells how many they are.
 pub(crate) fn move_front(buffer: &mut Vec<u8>, from: usize, end: usize) -> usize
@@ -30,7 +30,11 @@ pub(crate) fn copy_behind(buffer: &mut Vec<u8>, end: usize, bytes: &[u8])
 }
 
 /// Reads the next bytes of a link behind those that came, and tells how many.
-pub(crate) fn read_behind<L: Link>(buffer: &mut Vec<u8>, end: usize, link: &mut L) -> Result<usize, Failed>
+pub(crate) fn read_behind<L: Link>(
+    buffer: &mut Vec<u8>,
+    end: usize,
+    link: &mut L,
+) -> Result<usize, Failed>
     requires { end + PIECE_BYTES ≤ vec_len buffer.old }
     ensures front { take end buffer.new.items ≡ take end buffer.old.items }
     ensures len { vec_len buffer.new ≡ vec_len buffer.old }

@@ -18,7 +18,10 @@ pub(crate) enum First {
         needed: usize,
     },
     /// A line that names no block, without its carriage return. So many bytes are spent.
-    Line { line: Part, bytes: usize },
+    Line {
+        line: Part,
+        bytes: usize,
+    },
     /// A request with its block. So many bytes are spent.
     Blocked {
         head: Head,
@@ -26,9 +29,13 @@ pub(crate) enum First {
         bytes: usize,
     },
     /// A long line of so many bytes, with a newline behind them or not.
-    Long { bytes: usize },
+    Long {
+        bytes: usize,
+    },
     /// A block of `n` bytes is above the limit, or no newline follows it.
-    Unended { n: usize },
+    Unended {
+        n: usize,
+    },
 }
 
 /// The first request of a text, if no newline stands among its first bytes that were searched.
