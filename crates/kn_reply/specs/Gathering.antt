@@ -9,9 +9,9 @@ abbrev pub GatheredBy : Bool → List ℕ → List ℕ → LinkSeen → LinkSeen
 GatheredBy false pending text first seen = (written : List ℕ) × (text ≡ written ++ pending) × Prints true written first seen
 GatheredBy true pending text first seen = Prints false text first seen
 
-unfoldable pub Gathered : List ℕ → LinkSeen → Printer → LinkSeen → Type 0
+unfoldable pub Gathered : {n : ℕ} → List ℕ → LinkSeen → Printer n → LinkSeen → Type 0
 Gathered text first printer seen = GatheredBy printer.failed printer.pending.items text first seen
 
 -- these bytes were put behind what was put before
-abbrev pub Puts : List ℕ → Printer → LinkSeen → Printer → LinkSeen → Type 0
+abbrev pub Puts : {n : ℕ} → List ℕ → Printer n → LinkSeen → Printer n → LinkSeen → Type 0
 Puts bytes old old_seen new new_seen = (text : List ℕ) (first : LinkSeen) → Gathered text first old old_seen → Gathered (text ++ bytes) first new new_seen

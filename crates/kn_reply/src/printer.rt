@@ -4,24 +4,22 @@ ghost use Rattle.std.specs.Prelude.{◌≡◌, [], true, false};
 use arrayvec::ArrayVec;
 use kn_outside::{Failed, Sink, write_all};
 
-/// How many bytes are gathered before they are written.
-const GATHERED_BYTES: usize = 1_024;
-
-/// A text on its way to a sink: what was put and isn't written yet. After a write has failed it takes nothing more.
+/// A text on its way to a sink: what was put and isn't written yet, at most `N` bytes. After a write has failed it takes
+/// nothing more.
 #[derive(Drop)]
-pub(crate) struct Printer {
-    pending: ArrayVec<u8, GATHERED_BYTES>,
+pub(crate) struct Printer<const N: usize> {
+    pending: ArrayVec<u8, N>,
     failed: bool,
 }
 
-impl Printer {
+impl<const N: usize> Printer<N> {
     ghost use Rattle.std.specs.Prelude.{◌≡◌, ℕ, List, [], true, false};
     ghost use Rattle.kn_outside.specs.Seen.{LinkSeen};
     ghost use Rattle.kn_outside.specs.Printing.{Prints, is_whole};
     ghost use Rattle.kn_reply.specs.Gathering.{Gathered, Puts};
 
     /// A printer to which nothing was put.
-    pub(crate) fn new() -> Printer
+    pub(crate) fn new() -> Printer<N>
         ensures { (seen : LinkSeen) → Gathered [] seen result seen }
     {
         Printer {
@@ -43,7 +41,7 @@ impl Printer {
 
     /// Writes what is left, and tells whether all that was put is written.
     pub(crate) fn finish<O: Sink>(mut self, out: &mut O) -> Result<(), Failed>
-        ensures { (text : List ℕ) (first : LinkSeen) → Gathered text first self (O.seen out.old) → Prints (is_whole result) text first (O.seen out.new) }
+        ensures { (text : List ℕ) (first : LinkSeen) → Gathered text first self.entry (O.seen out.old) → Prints (is_whole result) text first (O.seen out.new) }
     {
         self.flush(out);
         if self.failed { Err(Failed) } else { Ok(()) }

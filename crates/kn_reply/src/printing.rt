@@ -1,8 +1,10 @@
 //! Replies as text (keynoted's own line protocol).
 ghost use Rattle.std.specs.Prelude.{◌≡◌, ◌+◌, ◌/◌, ◌%◌, ◌++◌, ◌∷◌, [], length, codes, decimal, flat_map};
+ghost use Rattle.std.specs.List.{list_all};
 ghost use Rattle.kn_outside.specs.Printing.{Prints, is_whole};
 ghost use Rattle.kn_proof.specs.Texts.{id_text, quoted_byte, row_text, value_text};
 ghost use Rattle.kn_reply.specs.Gathering.{Puts};
+ghost use Rattle.kn_reply.specs.Plain.{is_plain};
 ghost use Rattle.kn_reply.specs.Replies.{refusal_text, reply_text, word_text};
 ghost use Rattle.kn_reply.specs.Replies.{reply_of};
 
@@ -14,18 +16,47 @@ use kn_base::List;
 use kn_outside::{Failed, Sink};
 use kn_proof::{Id, NamedRow};
 
+/// How many bytes are gathered of a reply that gives a value, before they are written.
+const LONG_BYTES: usize = 1_024;
+
+/// How many are of each other reply, of which all fits. They are cleared for each reply, so they are few.
+const SHORT_BYTES: usize = 64;
+
 /// Writes a reply's text. Small parts of it are gathered into few writes.
 ///
 /// `Failed` says that a write failed. A front of the text was then written, and not all.
 pub fn print<O: Sink>(reply: &Reply<'_>, out: &mut O) -> Result<(), Failed>
     ensures { Prints (is_whole result) (reply_text (reply_of reply.now)) (O.seen out.old) (O.seen out.new) }
 {
-    let mut printer = Printer::new();
+    match reply {
+        Reply::Value { .. } => print_long(reply, out),
+        Reply::Ok
+        | Reply::Started { .. }
+        | Reply::Number { .. }
+        | Reply::Private { .. }
+        | Reply::Added { .. }
+        | Reply::No(_)
+        | Reply::NoMemory => print_short(reply, out),
+    }
+}
+
+fn print_long<O: Sink>(reply: &Reply<'_>, out: &mut O) -> Result<(), Failed>
+    ensures { Prints (is_whole result) (reply_text (reply_of reply.now)) (O.seen out.old) (O.seen out.new) }
+{
+    let mut printer: Printer<LONG_BYTES> = Printer::new();
     put_reply(&mut printer, out, reply);
     printer.finish(out)
 }
 
-fn put_reply<O: Sink>(printer: &mut Printer, out: &mut O, reply: &Reply<'_>)
+fn print_short<O: Sink>(reply: &Reply<'_>, out: &mut O) -> Result<(), Failed>
+    ensures { Prints (is_whole result) (reply_text (reply_of reply.now)) (O.seen out.old) (O.seen out.new) }
+{
+    let mut printer: Printer<SHORT_BYTES> = Printer::new();
+    put_reply(&mut printer, out, reply);
+    printer.finish(out)
+}
+
+fn put_reply<const N: usize, O: Sink>(printer: &mut Printer<N>, out: &mut O, reply: &Reply<'_>)
     ensures { Puts (reply_text (reply_of reply.now)) printer.old (O.seen out.old) printer.new (O.seen out.new) }
 {
     match reply {
@@ -45,7 +76,7 @@ fn put_reply<O: Sink>(printer: &mut Printer, out: &mut O, reply: &Reply<'_>)
     }
 }
 
-fn put_number<O: Sink>(printer: &mut Printer, out: &mut O, number: u32)
+fn put_number<const N: usize, O: Sink>(printer: &mut Printer<N>, out: &mut O, number: u32)
     ensures { Puts (decimal number) printer.old (O.seen out.old) printer.new (O.seen out.new) }
 {
     let mut buffer = Buffer::new();
@@ -53,7 +84,12 @@ fn put_number<O: Sink>(printer: &mut Printer, out: &mut O, number: u32)
 }
 
 /// A line with a number at its end.
-fn put_one<O: Sink>(printer: &mut Printer, out: &mut O, front: &[u8], number: u32)
+fn put_one<const N: usize, O: Sink>(
+    printer: &mut Printer<N>,
+    out: &mut O,
+    front: &[u8],
+    number: u32,
+)
     ensures { Puts (front.now ++ decimal number ++ 10 ∷ []) printer.old (O.seen out.old) printer.new (O.seen out.new) }
 {
     printer.put(out, front);
@@ -62,7 +98,13 @@ fn put_one<O: Sink>(printer: &mut Printer, out: &mut O, front: &[u8], number: u3
 }
 
 /// A line with two numbers at its end.
-fn put_two<O: Sink>(printer: &mut Printer, out: &mut O, front: &[u8], number: u32, last: u32)
+fn put_two<const N: usize, O: Sink>(
+    printer: &mut Printer<N>,
+    out: &mut O,
+    front: &[u8],
+    number: u32,
+    last: u32,
+)
     ensures { Puts (front.now ++ decimal number ++ 32 ∷ decimal last ++ 10 ∷ []) printer.old (O.seen out.old) printer.new (O.seen out.new) }
 {
     printer.put(out, front);
@@ -72,7 +114,7 @@ fn put_two<O: Sink>(printer: &mut Printer, out: &mut O, front: &[u8], number: u3
     printer.put(out, b"\n");
 }
 
-fn put_no<O: Sink>(printer: &mut Printer, out: &mut O, refusal: Refusal)
+fn put_no<const N: usize, O: Sink>(printer: &mut Printer<N>, out: &mut O, refusal: Refusal)
     ensures { Puts (codes "NO " ++ refusal_text refusal ++ 10 ∷ []) printer.old (O.seen out.old) printer.new (O.seen out.new) }
 {
     printer.put(out, b"NO ");
@@ -80,7 +122,7 @@ fn put_no<O: Sink>(printer: &mut Printer, out: &mut O, refusal: Refusal)
     printer.put(out, b"\n");
 }
 
-fn put_refusal<O: Sink>(printer: &mut Printer, out: &mut O, refusal: Refusal)
+fn put_refusal<const N: usize, O: Sink>(printer: &mut Printer<N>, out: &mut O, refusal: Refusal)
     ensures { Puts (refusal_text refusal) printer.old (O.seen out.old) printer.new (O.seen out.new) }
 {
     match refusal {
@@ -102,7 +144,7 @@ fn put_refusal<O: Sink>(printer: &mut Printer, out: &mut O, refusal: Refusal)
     }
 }
 
-fn put_read<O: Sink>(printer: &mut Printer, out: &mut O, fault: u8, place: u32)
+fn put_read<const N: usize, O: Sink>(printer: &mut Printer<N>, out: &mut O, fault: u8, place: u32)
     ensures { Puts (codes "5 read " ++ decimal fault ++ 32 ∷ decimal place) printer.old (O.seen out.old) printer.new (O.seen out.new) }
 {
     printer.put(out, b"5 read ");
@@ -111,14 +153,19 @@ fn put_read<O: Sink>(printer: &mut Printer, out: &mut O, fault: u8, place: u32)
     put_number(printer, out, place);
 }
 
-fn put_auth<O: Sink>(printer: &mut Printer, out: &mut O, fault: u8)
+fn put_auth<const N: usize, O: Sink>(printer: &mut Printer<N>, out: &mut O, fault: u8)
     ensures { Puts (codes "7 auth " ++ decimal fault) printer.old (O.seen out.old) printer.new (O.seen out.new) }
 {
     printer.put(out, b"7 auth ");
     put_number(printer, out, u32::from(fault));
 }
 
-fn put_limit<O: Sink>(printer: &mut Printer, out: &mut O, word: LimitWord, count: u32)
+fn put_limit<const N: usize, O: Sink>(
+    printer: &mut Printer<N>,
+    out: &mut O,
+    word: LimitWord,
+    count: u32,
+)
     ensures { Puts (codes "13 limit " ++ word_text word ++ 32 ∷ decimal count) printer.old (O.seen out.old) printer.new (O.seen out.new) }
 {
     printer.put(out, b"13 limit ");
@@ -128,8 +175,8 @@ fn put_limit<O: Sink>(printer: &mut Printer, out: &mut O, word: LimitWord, count
 }
 
 /// The reply that gives a compliance value, with its rows.
-fn put_value<O: Sink>(
-    printer: &mut Printer,
+fn put_value<const N: usize, O: Sink>(
+    printer: &mut Printer<N>,
     out: &mut O,
     index: u8,
     name: &[u8],
@@ -148,7 +195,7 @@ fn put_value<O: Sink>(
     printer.put(out, b"END\n");
 }
 
-fn put_rows<O: Sink>(printer: &mut Printer, out: &mut O, rows: &List<NamedRow>)
+fn put_rows<const N: usize, O: Sink>(printer: &mut Printer<N>, out: &mut O, rows: &List<NamedRow>)
     ensures { Puts (flat_map row_text rows.now) printer.old (O.seen out.old) printer.new (O.seen out.new) }
 {
     for row in rows.as_slice() {
@@ -156,7 +203,7 @@ fn put_rows<O: Sink>(printer: &mut Printer, out: &mut O, rows: &List<NamedRow>)
     }
 }
 
-fn put_row<O: Sink>(printer: &mut Printer, out: &mut O, row: &NamedRow)
+fn put_row<const N: usize, O: Sink>(printer: &mut Printer<N>, out: &mut O, row: &NamedRow)
     ensures { Puts (row_text row.now) printer.old (O.seen out.old) printer.new (O.seen out.new) }
 {
     printer.put(out, b"ROW ");
@@ -168,7 +215,7 @@ fn put_row<O: Sink>(printer: &mut Printer, out: &mut O, row: &NamedRow)
     printer.put(out, b"\"\n");
 }
 
-fn put_id<O: Sink>(printer: &mut Printer, out: &mut O, id: Id)
+fn put_id<const N: usize, O: Sink>(printer: &mut Printer<N>, out: &mut O, id: Id)
     ensures { Puts (id_text id) printer.old (O.seen out.old) printer.new (O.seen out.new) }
 {
     match id {
@@ -178,24 +225,46 @@ fn put_id<O: Sink>(printer: &mut Printer, out: &mut O, id: Id)
 }
 
 /// A number behind a letter.
-fn put_lettered<O: Sink>(printer: &mut Printer, out: &mut O, letter: &[u8], number: u32)
+fn put_lettered<const N: usize, O: Sink>(
+    printer: &mut Printer<N>,
+    out: &mut O,
+    letter: &[u8],
+    number: u32,
+)
     ensures { Puts (letter.now ++ decimal number) printer.old (O.seen out.old) printer.new (O.seen out.new) }
 {
     printer.put(out, letter);
     put_number(printer, out, number);
 }
 
-/// A principal as it stands between quotes.
-fn put_quoted<O: Sink>(printer: &mut Printer, out: &mut O, principal: &[u8])
+/// A principal as it stands between quotes. One that needs no escapes is put at once.
+fn put_quoted<const N: usize, O: Sink>(printer: &mut Printer<N>, out: &mut O, principal: &[u8])
     ensures { Puts (flat_map quoted_byte principal.now) printer.old (O.seen out.old) printer.new (O.seen out.new) }
 {
+    if are_plain(principal) {
+        printer.put(out, principal);
+        return;
+    }
     for byte in principal {
         put_quoted_byte(printer, out, *byte);
     }
 }
 
+/// Whether all bytes stand for themselves between quotes.
+fn are_plain(text: &[u8]) -> bool
+    ensures { result ≡ list_all is_plain text.now }
+{
+    text.iter().all(|byte| is_plain(*byte))
+}
+
+fn is_plain(byte: u8) -> bool
+    ensures { result ≡ is_plain byte }
+{
+    byte != b'"' && byte != b'\\' && 32 <= byte && byte <= 126
+}
+
 /// One byte of a principal: quotes and backslashes behind a backslash, and what isn't printed in octal.
-fn put_quoted_byte<O: Sink>(printer: &mut Printer, out: &mut O, byte: u8)
+fn put_quoted_byte<const N: usize, O: Sink>(printer: &mut Printer<N>, out: &mut O, byte: u8)
     ensures { Puts (quoted_byte byte) printer.old (O.seen out.old) printer.new (O.seen out.new) }
 {
     if byte == b'"' || byte == b'\\' {

@@ -16,7 +16,7 @@ returns-in-Ok g c = λ text first before.
     let same : c.gather.new.self ≡ printer = c.gather.ensures.full c.if-gather.false in
     let begun : GatheredBy false [] text first old =
     subst (λ (items : List ℕ). GatheredBy false items text first old) empty (subst (λ (failed : Bool). GatheredBy failed printer.pending.items text first old) going before) in
-    subst (λ (p : Printer). GatheredBy p.failed p.pending.items (text ++ bytes) first new) (sym same)
+    subst (λ (p : Printer g.row.N). GatheredBy p.failed p.pending.items (text ++ bytes) first new) (sym same)
     (subst (λ (failed : Bool). GatheredBy failed printer.pending.items (text ++ bytes) first new) (sym going)
     (subst (λ (items : List ℕ). GatheredBy false items (text ++ bytes) first new) (sym empty) (gathered_direct bytes text first old new begun c.in-Ok.ensures)))
 

@@ -1,4 +1,4 @@
-use Rattle.kn_reply.proofs.printing.print.Goals as goal
+use Rattle.kn_reply.proofs.printing.print_long.Goals as goal
 
 pub returns : goal.returns
 returns g c =
