@@ -1,5 +1,5 @@
 -- What is held of a stream, and its next request.
-use Rattle.std.proofs.Common.{◌≡◌, ◌≤◌, ◌<◌, ◌+◌, ◌-◌, ℕ, Bool, true, false, Option, Some, None, option_map, is_some, List, [], ◌++◌, length, take, drop, refl, sym, ap, ◌∙◌, ⊎_elim, ◌==◌, arith, nat_lt, ltb-true, ltb-false, length-append, length-drop, append_assoc, drop-drop, append-nil, subst}
+use Rattle.std.proofs.Common.{◌≡◌, ◌≤◌, ◌<◌, ◌+◌, ℕ, Bool, true, false, Option, Some, None, option_map, is_some, List, [], ◌++◌, length, take, drop, refl, sym, ap, ◌∙◌, ⊎_elim, ◌==◌, arith, nat_lt, ltb-true, ltb-false, length-append, length-drop, append_assoc, drop-drop, append-nil, subst}
 use Rattle.std.specs.Prelude.{if◌then◌else◌, slice_get}
 use Rattle.std.proofs.lemmas.Option.{slice_get_cases}
 use Rattle.std.proofs.lemmas.List.{drop-append-le, drop-take, take-append-drop, take-take}
@@ -10,7 +10,7 @@ use Rattle.kn_wire.specs.declared.cursor.Cursor.{Cursor}
 use Rattle.kn_wire.specs.declared.cursor.Stage.TheVariants as S
 use Rattle.kn_wire.specs.Cursors.{IsSound, held_at, held_by}
 use Rattle.kn_wire.specs.Firsts.{HasNoneBelow}
-use Rattle.kn_wire.specs.Feeding.{Held, Bytes, InLong, Shut, next_of, pushed, held_after}
+use Rattle.kn_wire.specs.Feeding.{Held, Bytes, InLong, next_of, pushed, held_after}
 use Rattle.kn_wire.specs.Requests.{Request, Line, Whole, Blocked, Faulty, first_of, first_of_line, first_of_block, line_of, line_length, without_return, is_newline}
 use Rattle.kn_wire.proofs.Firsts.{after_first_of}
 use Rattle.kn_wire.proofs.Growing.{no_request, line-first, long-first, line_within, ended-longer, open-longer, open-length, ended-length, spent}

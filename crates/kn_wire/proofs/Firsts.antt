@@ -5,12 +5,12 @@ use Rattle.std.proofs.lemmas.List.{take-append-le, take-take, get_or-drop}
 use Rattle.std.proofs.lemmas.Option.{slice_get_past, slice_get-get_or}
 use Rattle.kn_wire.specs.declared.fault.WireFault.TheVariants.{Block}
 use Rattle.kn_wire.specs.declared.head.Head.{Head}
-use Rattle.kn_wire.specs.Feeding.{Held, Bytes, Shut, next_of, held_after}
+use Rattle.kn_wire.specs.Feeding.{Bytes, Shut, next_of, held_after}
 use Rattle.kn_wire.specs.Firsts.{HasNoneBelow, SpendsLine, SpendsBlock, WaitsFor, NamesBlock}
 use Rattle.kn_wire.specs.Lines.{blocked_of, with_block}
 use Rattle.kn_wire.specs.Requests.{Request, Line, Whole, Blocked, Faulty, first_of, first_of_line, first_of_block, line_of, line_length, without_return}
 use Rattle.kn_wire.proofs.Growing.{line-first, none-first, ended-longer, same_first, spent}
-use Rattle.kn_wire.proofs.KeptLines.{IsKept, IsKeptLine, kept-line}
+use Rattle.kn_wire.proofs.LineFits.{IsKept, IsKeptLine, kept-line}
 use Rattle.kn_wire.proofs.Splits.{bare_front, bare_short}
 
 none_some : {X : Type 0} (o : Option X) → o ≡ None → is_some o ≡ false

@@ -9,7 +9,7 @@ use Rattle.std.proofs.lemmas.Grind.{common_steps}
 use Rattle.kn_wire.specs.declared.fault.WireFault.TheVariants.{Long, Block}
 use Rattle.kn_wire.specs.Requests.{Request, Line, Takes, Whole, Blocked, Faulty, first_of, first_of_line, first_of_block, line_of, line_length, without_return, is_newline}
 use Rattle.kn_wire.specs.Feeding.{Held, Bytes, InLong, Shut, held_bytes, pushed, held_after, next_of, is_shut}
-use Rattle.kn_wire.proofs.KeptLines.{IsKeptLine, kept-line}
+use Rattle.kn_wire.proofs.LineFits.{IsKeptLine, kept-line}
 
 pub no_request : {X : Type 0} (first : X) → None ≡ Some first → ⊥
 no_request first e = cc

@@ -1,9 +1,7 @@
 pub mod Lines
 pub mod LineLengths
 pub mod Readings
-pub mod LineRequests
-pub mod LineDigits
-pub mod KeptLines
+pub mod LineFits
 pub mod Growing
 pub mod Pieces
 pub mod Splits

@@ -1,7 +1,7 @@
 -- Bytes by hexadecimal digits of either case (keynoted's own).
 use Rattle.std.specs.Prelude.{ℕ, ◌≡◌, ◌≤◌, length, true, ⊤, ◌+◌, ◌-◌, ◌*◌, nat_le, List, [], ◌∷◌, if◌then◌else◌}
 use Rattle.kn_base.specs.declared.limits.TheConstants.{ASSERTION_BYTES}
-use Rattle.kn_wire.specs.Requests.{Request, Open, Close, Pin, Assert, Retract, Set, SetHex, Unset, Auth, Unauth, Clear, Query, Admin, Add, Drop, Bye, Faulty, are_digits}
+use Rattle.kn_wire.specs.Requests.{Request, Assert, SetHex, Admin, Add, are_digits}
 
 -- the value of a digit
 abbrev pub digit_value : ℕ → ℕ
@@ -13,22 +13,11 @@ bytes_of_digits [] = []
 bytes_of_digits (digit ∷ []) = []
 bytes_of_digits (high ∷ low ∷ digits) = (digit_value high * 16 + digit_value low) ∷ bytes_of_digits digits
 
--- the parts of a request are of their form: its digits are hexadecimal digits, an even number of them, and its block isn't too long
+-- the parts of a request are of their form: its digits are hexadecimal digits, an even number of them, and its block isn't
+-- too long; no other request has digits or a block
 abbrev pub IsWellFormed : Request → Type 0
-IsWellFormed Open = ⊤
-IsWellFormed (Close s) = ⊤
-IsWellFormed (Pin s) = ⊤
 IsWellFormed (Assert s block) = length block ≤ ASSERTION_BYTES
-IsWellFormed (Retract s k) = ⊤
-IsWellFormed (Set s name value) = ⊤
 IsWellFormed (SetHex s name digits) = are_digits digits ≡ true
-IsWellFormed (Unset s name) = ⊤
-IsWellFormed (Auth s principal) = ⊤
-IsWellFormed (Unauth s principal) = ⊤
-IsWellFormed (Clear s) = ⊤
-IsWellFormed (Query s names) = ⊤
 IsWellFormed (Admin digits) = are_digits digits ≡ true
 IsWellFormed (Add block) = length block ≤ ASSERTION_BYTES
-IsWellFormed (Drop k) = ⊤
-IsWellFormed Bye = ⊤
-IsWellFormed (Faulty fault) = ⊤
+IsWellFormed request = ⊤

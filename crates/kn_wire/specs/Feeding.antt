@@ -3,7 +3,7 @@ use Rattle.std.specs.Prelude.{ℕ, Bool, true, false, List, [], ◌++◌, Option
 use Rattle.std.specs.List.{list_any, after_first}
 use Rattle.kn_wire.specs.declared.fault.WireFault.{WireFault}
 use Rattle.kn_wire.specs.declared.fault.WireFault.TheVariants as F
-use Rattle.kn_wire.specs.Requests.{Request, Open, Close, Pin, Assert, Retract, Set, SetHex, Unset, Auth, Unauth, Clear, Query, Admin, Add, Drop, Bye, Faulty, first_of, is_newline}
+use Rattle.kn_wire.specs.Requests.{Request, Faulty, first_of, is_newline}
 
 -- Bytes that belong to no answered request; or a long line that was answered before its newline came; or nothing for good,
 -- since a block of n bytes was refused.
@@ -37,25 +37,10 @@ held_after_fault text F.Command left = Bytes left
 held_after_fault text F.Long left = if list_any is_newline text then Bytes left else InLong
 held_after_fault text (F.Block n) left = Shut n
 
--- what is held after this was the first request of a text, and this was left
+-- what is held after this was the first request of a text, and this was left; only a fault may drop some of it
 abbrev pub held_after : List ℕ → Request → List ℕ → Held
-held_after text Open left = Bytes left
-held_after text (Close s) left = Bytes left
-held_after text (Pin s) left = Bytes left
-held_after text (Assert s block) left = Bytes left
-held_after text (Retract s k) left = Bytes left
-held_after text (Set s name value) left = Bytes left
-held_after text (SetHex s name digits) left = Bytes left
-held_after text (Unset s name) left = Bytes left
-held_after text (Auth s principal) left = Bytes left
-held_after text (Unauth s principal) left = Bytes left
-held_after text (Clear s) left = Bytes left
-held_after text (Query s names) left = Bytes left
-held_after text (Admin digits) left = Bytes left
-held_after text (Add block) left = Bytes left
-held_after text (Drop k) left = Bytes left
-held_after text Bye left = Bytes left
 held_after text (Faulty fault) left = held_after_fault text fault left
+held_after text request left = Bytes left
 
 -- the next request, and what is then held; a refused block is answered again
 abbrev pub next_of : Held → Option (Request × Held)

@@ -1,5 +1,5 @@
 -- What a feed holds, and what it answers.
-use Rattle.std.specs.Prelude.{◌≡◌, List, take, Option, Some, None, Result, Ok, Err}
+use Rattle.std.specs.Prelude.{◌≡◌, take, Option, Some, None, Result, Ok, Err}
 use Rattle.kn_wire.specs.declared.fault.WireFault.{WireFault}
 use Rattle.kn_wire.specs.declared.feed.Feed.{Feed}
 use Rattle.kn_wire.specs.declared.request.Request.{Request}

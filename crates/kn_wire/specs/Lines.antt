@@ -5,28 +5,8 @@ use Rattle.kn_base.specs.Decimal.{decimal_of}
 use Rattle.kn_wire.specs.declared.head.Head.{Head}
 use Rattle.kn_wire.specs.declared.head.Head.TheVariants as H
 use Rattle.kn_wire.specs.declared.word.Word.{Word}
-use Rattle.kn_wire.specs.declared.word.Word.TheVariants as W
 use Rattle.kn_wire.specs.Requests as D
 use Rattle.kn_wire.specs.Requests.{is_space, behind_space, is_word}
-
--- the command word of a word
-abbrev pub command_of : Word → D.Word
-command_of W.Open = D.OPEN
-command_of W.Close = D.CLOSE
-command_of W.Pin = D.PIN
-command_of W.Assert = D.ASSERT
-command_of W.Retract = D.RETRACT
-command_of W.Set = D.SET
-command_of W.SetHex = D.SETX
-command_of W.Unset = D.UNSET
-command_of W.Auth = D.AUTH
-command_of W.Unauth = D.UNAUTH
-command_of W.Clear = D.CLEAR
-command_of W.Query = D.QUERY
-command_of W.Admin = D.ADMIN
-command_of W.Add = D.ADD
-command_of W.Remove = D.DROP
-command_of W.Bye = D.BYE
 
 -- the request of a head and its block
 abbrev pub with_block : Head → List ℕ → D.Request
@@ -48,7 +28,7 @@ whole_of (D.Whole request) = Some request
 whole_of (D.Blocked n request) = None
 
 -- the request that a command word and what follows it spell without a block
-abbrev pub request_of_word : D.Word → Option (List ℕ) → Option D.Request
+abbrev pub request_of_word : Word → Option (List ℕ) → Option D.Request
 request_of_word word rest = option_and_then whole_of (D.line_of_word word rest)
 
 -- a number and a space, and what follows

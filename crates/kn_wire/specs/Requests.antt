@@ -6,6 +6,8 @@ use Rattle.kn_base.specs.Decimal.{decimal_of}
 use Rattle.kn_base.specs.declared.limits.TheConstants.{ASSERTION_BYTES, LINE_BYTES}
 use Rattle.kn_wire.specs.declared.fault.WireFault.{WireFault}
 use Rattle.kn_wire.specs.declared.fault.WireFault.TheVariants.{Syntax, Command, Long, Block}
+use Rattle.kn_wire.specs.declared.word.Word.{Word}
+use Rattle.kn_wire.specs.declared.word.Word.TheVariants as W
 
 -- what a line, or a line and its block, asks; or a fault
 pub data Request : Type 0 where
@@ -27,28 +29,25 @@ pub data Request : Type 0 where
   Bye : Request
   Faulty : WireFault → Request
 
--- the command words
-pub data Word : Type 0 where
-  OPEN CLOSE PIN ASSERT RETRACT SET SETX UNSET AUTH UNAUTH CLEAR QUERY ADMIN ADD DROP BYE : Word
-
+-- the command word that a text is
 abbrev pub word_of : List ℕ → Option Word
 word_of text =
-    if bytes_eq text (codes "OPEN") then Some OPEN
-    else if bytes_eq text (codes "CLOSE") then Some CLOSE
-    else if bytes_eq text (codes "PIN") then Some PIN
-    else if bytes_eq text (codes "ASSERT") then Some ASSERT
-    else if bytes_eq text (codes "RETRACT") then Some RETRACT
-    else if bytes_eq text (codes "SET") then Some SET
-    else if bytes_eq text (codes "SETX") then Some SETX
-    else if bytes_eq text (codes "UNSET") then Some UNSET
-    else if bytes_eq text (codes "AUTH") then Some AUTH
-    else if bytes_eq text (codes "UNAUTH") then Some UNAUTH
-    else if bytes_eq text (codes "CLEAR") then Some CLEAR
-    else if bytes_eq text (codes "QUERY") then Some QUERY
-    else if bytes_eq text (codes "ADMIN") then Some ADMIN
-    else if bytes_eq text (codes "ADD") then Some ADD
-    else if bytes_eq text (codes "DROP") then Some DROP
-    else if bytes_eq text (codes "BYE") then Some BYE
+    if bytes_eq text (codes "OPEN") then Some W.Open
+    else if bytes_eq text (codes "CLOSE") then Some W.Close
+    else if bytes_eq text (codes "PIN") then Some W.Pin
+    else if bytes_eq text (codes "ASSERT") then Some W.Assert
+    else if bytes_eq text (codes "RETRACT") then Some W.Retract
+    else if bytes_eq text (codes "SET") then Some W.Set
+    else if bytes_eq text (codes "SETX") then Some W.SetHex
+    else if bytes_eq text (codes "UNSET") then Some W.Unset
+    else if bytes_eq text (codes "AUTH") then Some W.Auth
+    else if bytes_eq text (codes "UNAUTH") then Some W.Unauth
+    else if bytes_eq text (codes "CLEAR") then Some W.Clear
+    else if bytes_eq text (codes "QUERY") then Some W.Query
+    else if bytes_eq text (codes "ADMIN") then Some W.Admin
+    else if bytes_eq text (codes "ADD") then Some W.Add
+    else if bytes_eq text (codes "DROP") then Some W.Remove
+    else if bytes_eq text (codes "BYE") then Some W.Bye
     else None
 
 -- what a line names: a whole request, or one that a block of so many bytes completes
@@ -96,22 +95,22 @@ when b r = if b then Some (Whole r) else None
 
 -- the line that a command word and what follows it spell; nothing follows a word alone
 abbrev pub line_of_word : Word → Option (List ℕ) → Option Line
-line_of_word OPEN rest = when (not (is_some rest)) Open
-line_of_word BYE rest = when (not (is_some rest)) Bye
-line_of_word CLOSE rest = option_and_then (λ text. option_map (λ s. Whole (Close s)) (decimal_of text)) rest
-line_of_word PIN rest = option_and_then (λ text. option_map (λ s. Whole (Pin s)) (decimal_of text)) rest
-line_of_word CLEAR rest = option_and_then (λ text. option_map (λ s. Whole (Clear s)) (decimal_of text)) rest
-line_of_word ASSERT rest = option_and_then (λ text. with_number text (λ s more. option_map (λ n. Blocked n (Assert s)) (decimal_of more))) rest
-line_of_word RETRACT rest = option_and_then (λ text. with_number text (λ s more. option_map (λ k. Whole (Retract s k)) (number_after 112 more))) rest
-line_of_word SET rest = option_and_then (λ text. with_number text (λ s more. when (is_word (before_first is_space more)) (Set s (before_first is_space more) (after_first is_space more)))) rest
-line_of_word SETX rest = option_and_then (λ text. with_number text (λ s more. when (is_word (before_first is_space more) && are_digits (after_first is_space more)) (SetHex s (before_first is_space more) (after_first is_space more)))) rest
-line_of_word UNSET rest = option_and_then (λ text. with_number text (λ s more. when (is_word more) (Unset s more))) rest
-line_of_word AUTH rest = option_and_then (λ text. with_number text (λ s more. Some (Whole (Auth s more)))) rest
-line_of_word UNAUTH rest = option_and_then (λ text. with_number text (λ s more. Some (Whole (Unauth s more)))) rest
-line_of_word QUERY rest = option_and_then (λ text. with_number text (λ s more. Some (Whole (Query s more)))) rest
-line_of_word ADMIN rest = option_and_then (λ text. when (nat_lt 0 (length text) && are_digits text) (Admin text)) rest
-line_of_word ADD rest = option_and_then (λ text. option_map (λ n. Blocked n Add) (decimal_of text)) rest
-line_of_word DROP rest = option_and_then (λ text. option_map (λ k. Whole (Drop k)) (number_after 97 text)) rest
+line_of_word W.Open rest = when (not (is_some rest)) Open
+line_of_word W.Bye rest = when (not (is_some rest)) Bye
+line_of_word W.Close rest = option_and_then (λ text. option_map (λ s. Whole (Close s)) (decimal_of text)) rest
+line_of_word W.Pin rest = option_and_then (λ text. option_map (λ s. Whole (Pin s)) (decimal_of text)) rest
+line_of_word W.Clear rest = option_and_then (λ text. option_map (λ s. Whole (Clear s)) (decimal_of text)) rest
+line_of_word W.Assert rest = option_and_then (λ text. with_number text (λ s more. option_map (λ n. Blocked n (Assert s)) (decimal_of more))) rest
+line_of_word W.Retract rest = option_and_then (λ text. with_number text (λ s more. option_map (λ k. Whole (Retract s k)) (number_after 112 more))) rest
+line_of_word W.Set rest = option_and_then (λ text. with_number text (λ s more. when (is_word (before_first is_space more)) (Set s (before_first is_space more) (after_first is_space more)))) rest
+line_of_word W.SetHex rest = option_and_then (λ text. with_number text (λ s more. when (is_word (before_first is_space more) && are_digits (after_first is_space more)) (SetHex s (before_first is_space more) (after_first is_space more)))) rest
+line_of_word W.Unset rest = option_and_then (λ text. with_number text (λ s more. when (is_word more) (Unset s more))) rest
+line_of_word W.Auth rest = option_and_then (λ text. with_number text (λ s more. Some (Whole (Auth s more)))) rest
+line_of_word W.Unauth rest = option_and_then (λ text. with_number text (λ s more. Some (Whole (Unauth s more)))) rest
+line_of_word W.Query rest = option_and_then (λ text. with_number text (λ s more. Some (Whole (Query s more)))) rest
+line_of_word W.Admin rest = option_and_then (λ text. when (nat_lt 0 (length text) && are_digits text) (Admin text)) rest
+line_of_word W.Add rest = option_and_then (λ text. option_map (λ n. Blocked n Add) (decimal_of text)) rest
+line_of_word W.Remove rest = option_and_then (λ text. option_map (λ k. Whole (Drop k)) (number_after 97 text)) rest
 
 -- a line that is not of the form of its command
 abbrev pub or_malformed : Option Line → Line

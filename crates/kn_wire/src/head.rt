@@ -1,11 +1,11 @@
 //! The line of a request that a block completes.
 ghost use Rattle.std.specs.Prelude.{◌≡◌, option_map, Some};
 ghost use Rattle.kn_wire.specs.Lines.{blocked_of, line_of_head};
-ghost use Rattle.kn_wire.specs.Requests as D;
 ghost use Rattle.kn_wire.specs.Requests.{line_of, line_of_word};
 
 use crate::request::Request;
 use crate::split::split_number;
+use crate::word::Word;
 use kn_base::decimal;
 
 /// A request whose block is still to come.
@@ -45,14 +45,14 @@ pub(crate) fn read_head(line: &[u8]) -> Option<(Head, usize)>
 }
 
 fn read_add(text: &[u8]) -> Option<(Head, usize)>
-    ensures { option_map line_of_head result ≡ line_of_word D.ADD (Some text.now) }
+    ensures { option_map line_of_head result ≡ line_of_word Word.Add (Some text.now) }
 {
     let n = decimal(text)?;
     Some((Head::Add, n as usize))
 }
 
 fn read_assert(text: &[u8]) -> Option<(Head, usize)>
-    ensures { option_map line_of_head result ≡ line_of_word D.ASSERT (Some text.now) }
+    ensures { option_map line_of_head result ≡ line_of_word Word.Assert (Some text.now) }
 {
     let (s, rest) = split_number(text)?;
     let n = decimal(rest)?;

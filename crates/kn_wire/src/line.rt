@@ -1,7 +1,7 @@
 //! What a line asks that names no block.
 ghost use Rattle.std.specs.Prelude.{◌≡◌, not, option_map, Some, None};
 ghost use Rattle.std.specs.List.{list_all};
-ghost use Rattle.kn_wire.specs.Lines.{blocked_of, command_of, name_and_rest, request_of_word};
+ghost use Rattle.kn_wire.specs.Lines.{blocked_of, name_and_rest, request_of_word};
 ghost use Rattle.kn_wire.specs.Requests as D;
 ghost use Rattle.kn_wire.specs.Requests.{line_of, number_after, is_space, is_word, are_digits};
 ghost use Rattle.kn_wire.specs.Wired.{request_of, request_or_fault};
@@ -30,7 +30,7 @@ pub(crate) fn read_line(line: &[u8]) -> Result<Request<'_>, WireFault>
 
 /// The request that a command word and what follows its space spell; None where they spell none without a block.
 fn read_rest(word: Word, rest: Option<&[u8]>) -> Option<Request<'_>>
-    ensures { option_map request_of result ≡ request_of_word (command_of word) (option_map (λ text. text.now) rest.entry) }
+    ensures { option_map request_of result ≡ request_of_word word (option_map (λ text. text.now) rest.entry) }
 {
     match rest {
         Some(rest) => read_behind(word, rest),
@@ -40,7 +40,7 @@ fn read_rest(word: Word, rest: Option<&[u8]>) -> Option<Request<'_>>
 
 /// The request that is a command word alone.
 fn read_alone<'a>(word: Word) -> Option<Request<'a>>
-    ensures { option_map request_of result ≡ request_of_word (command_of word) None }
+    ensures { option_map request_of result ≡ request_of_word word None }
 {
     match word {
         Word::Open => Some(Request::Start),
@@ -51,7 +51,7 @@ fn read_alone<'a>(word: Word) -> Option<Request<'a>>
 
 /// The request of a command word, a space and this text.
 fn read_behind(word: Word, text: &[u8]) -> Option<Request<'_>>
-    ensures { option_map request_of result ≡ request_of_word (command_of word) (Some text.now) }
+    ensures { option_map request_of result ≡ request_of_word word (Some text.now) }
 {
     match word {
         Word::Open | Word::Bye | Word::Assert | Word::Add => None,
@@ -71,35 +71,35 @@ fn read_behind(word: Word, text: &[u8]) -> Option<Request<'_>>
 }
 
 fn read_close(text: &[u8]) -> Option<Request<'_>>
-    ensures { option_map request_of result ≡ request_of_word D.CLOSE (Some text.now) }
+    ensures { option_map request_of result ≡ request_of_word Word.Close (Some text.now) }
 {
     let s = decimal(text)?;
     Some(Request::Close { s })
 }
 
 fn read_pin(text: &[u8]) -> Option<Request<'_>>
-    ensures { option_map request_of result ≡ request_of_word D.PIN (Some text.now) }
+    ensures { option_map request_of result ≡ request_of_word Word.Pin (Some text.now) }
 {
     let s = decimal(text)?;
     Some(Request::Pin { s })
 }
 
 fn read_clear(text: &[u8]) -> Option<Request<'_>>
-    ensures { option_map request_of result ≡ request_of_word D.CLEAR (Some text.now) }
+    ensures { option_map request_of result ≡ request_of_word Word.Clear (Some text.now) }
 {
     let s = decimal(text)?;
     Some(Request::Clear { s })
 }
 
 fn read_remove(text: &[u8]) -> Option<Request<'_>>
-    ensures { option_map request_of result ≡ request_of_word D.DROP (Some text.now) }
+    ensures { option_map request_of result ≡ request_of_word Word.Remove (Some text.now) }
 {
     let k = number_behind(b'a', text)?;
     Some(Request::Remove { k })
 }
 
 fn read_admin(text: &[u8]) -> Option<Request<'_>>
-    ensures { option_map request_of result ≡ request_of_word D.ADMIN (Some text.now) }
+    ensures { option_map request_of result ≡ request_of_word Word.Admin (Some text.now) }
 {
     if text.is_empty() || !are_digits(text) {
         return None;
@@ -108,7 +108,7 @@ fn read_admin(text: &[u8]) -> Option<Request<'_>>
 }
 
 fn read_retract(text: &[u8]) -> Option<Request<'_>>
-    ensures { option_map request_of result ≡ request_of_word D.RETRACT (Some text.now) }
+    ensures { option_map request_of result ≡ request_of_word Word.Retract (Some text.now) }
 {
     let (s, rest) = split_number(text)?;
     let k = number_behind(b'p', rest)?;
@@ -116,7 +116,7 @@ fn read_retract(text: &[u8]) -> Option<Request<'_>>
 }
 
 fn read_set(text: &[u8]) -> Option<Request<'_>>
-    ensures { option_map request_of result ≡ request_of_word D.SET (Some text.now) }
+    ensures { option_map request_of result ≡ request_of_word Word.Set (Some text.now) }
 {
     let (s, rest) = split_number(text)?;
     let (name, value) = split_name(rest)?;
@@ -124,7 +124,7 @@ fn read_set(text: &[u8]) -> Option<Request<'_>>
 }
 
 fn read_set_hex(text: &[u8]) -> Option<Request<'_>>
-    ensures { option_map request_of result ≡ request_of_word D.SETX (Some text.now) }
+    ensures { option_map request_of result ≡ request_of_word Word.SetHex (Some text.now) }
 {
     let (s, rest) = split_number(text)?;
     let (name, digits) = split_name(rest)?;
@@ -135,7 +135,7 @@ fn read_set_hex(text: &[u8]) -> Option<Request<'_>>
 }
 
 fn read_unset(text: &[u8]) -> Option<Request<'_>>
-    ensures { option_map request_of result ≡ request_of_word D.UNSET (Some text.now) }
+    ensures { option_map request_of result ≡ request_of_word Word.Unset (Some text.now) }
 {
     let (s, name) = split_number(text)?;
     if !is_word(name) {
@@ -145,21 +145,21 @@ fn read_unset(text: &[u8]) -> Option<Request<'_>>
 }
 
 fn read_auth(text: &[u8]) -> Option<Request<'_>>
-    ensures { option_map request_of result ≡ request_of_word D.AUTH (Some text.now) }
+    ensures { option_map request_of result ≡ request_of_word Word.Auth (Some text.now) }
 {
     let (s, principal) = split_number(text)?;
     Some(Request::Auth { s, principal })
 }
 
 fn read_unauth(text: &[u8]) -> Option<Request<'_>>
-    ensures { option_map request_of result ≡ request_of_word D.UNAUTH (Some text.now) }
+    ensures { option_map request_of result ≡ request_of_word Word.Unauth (Some text.now) }
 {
     let (s, principal) = split_number(text)?;
     Some(Request::Unauth { s, principal })
 }
 
 fn read_query(text: &[u8]) -> Option<Request<'_>>
-    ensures { option_map request_of result ≡ request_of_word D.QUERY (Some text.now) }
+    ensures { option_map request_of result ≡ request_of_word Word.Query (Some text.now) }
 {
     let (s, values) = split_number(text)?;
     Some(Request::Query { s, values })

@@ -22,13 +22,12 @@ pub(crate) enum Word {
 }
 
 impl Word {
-    ghost use Rattle.std.specs.Prelude.{◌≡◌, option_map};
-    ghost use Rattle.kn_wire.specs.Lines.{command_of};
+    ghost use Rattle.std.specs.Prelude.{◌≡◌};
     ghost use Rattle.kn_wire.specs.Requests.{word_of};
 
     /// The command that a text spells; None where it spells none.
     pub(crate) fn of(text: &[u8]) -> Option<Word>
-        ensures { option_map command_of result ≡ word_of text.now }
+        ensures { result ≡ word_of text.now }
     {
         if text == b"OPEN".as_slice() {
             Some(Word::Open)

@@ -1,4 +1,4 @@
-use Rattle.std.proofs.Common.{◌≡◌, ◌≢◌, ◌∙◌, ◌++◌, ℕ, List, codes}
+use Rattle.std.proofs.Common.{◌≡◌, ◌∙◌, ◌++◌, codes}
 use Rattle.std.proofs.lemmas.Bool.Decides.{Decides-eqb}
 use Rattle.std.proofs.lemmas.Slice.Eq.{strip_prefix_is}
 use Rattle.kn_wire.proofs.Heads.{names_add, names_assert, names_none}

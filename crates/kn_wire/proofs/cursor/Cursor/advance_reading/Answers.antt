@@ -1,5 +1,4 @@
-use Rattle.std.proofs.Common.{◌≡◌, ◌<◌, refl, ap, sym, ◌∙◌, subst, drop, length, length-drop, ℕ, List, arith}
-use Rattle.kn_wire.specs.Cursors.{held_at}
+use Rattle.std.proofs.Common.{◌<◌, refl, subst, drop, length, ℕ, List}
 use Rattle.kn_wire.specs.Firsts.{WaitsFor}
 use Rattle.kn_wire.proofs.Feeds.{fewer_held, long_held}
 use Rattle.kn_wire.proofs.cursor.Cursor.advance_reading.Goals as goal

@@ -1,6 +1,5 @@
-use Rattle.std.proofs.Common.{◌≡◌, ◌∙◌, ◌+◌, ap, sym, subst, take, drop, List, ℕ, arith}
+use Rattle.std.proofs.Common.{◌∙◌, ap, sym, subst, take, drop, List, ℕ}
 use Rattle.kn_wire.specs.Cursors.{held_at, IsSound}
-use Rattle.kn_wire.specs.Feeding.{pushed}
 use Rattle.kn_wire.specs.Feeds.{held}
 use Rattle.kn_wire.proofs.Feeds.{take_more, sound_longer, held_longer}
 use Rattle.kn_wire.proofs.feed.Feed.admit.Goals as goal

@@ -1,4 +1,4 @@
-use Rattle.std.proofs.Common.{◌≡◌, ◌∙◌, ◌+◌, ap, sym, take, drop, List, ℕ, arith}
+use Rattle.std.proofs.Common.{◌≡◌, ◌∙◌, ◌+◌, ap, sym, take, drop, arith}
 use Rattle.kn_wire.specs.Cursors.{held_by}
 use Rattle.kn_wire.specs.Feeding.{Bytes, InLong, pushed}
 use Rattle.kn_wire.specs.Feeds.{held}

@@ -1,4 +1,4 @@
-use Rattle.std.proofs.Common.{◌≡◌, ◌∙◌, ap, sym, take, drop, length, length-drop, length-take, None, arith}
+use Rattle.std.proofs.Common.{◌≡◌, ◌∙◌, ap, sym, take, drop, length-drop, length-take, None, arith}
 use Rattle.kn_wire.specs.Cursors.{held_by}
 use Rattle.kn_wire.specs.Feeding.{Bytes, next_of}
 use Rattle.kn_wire.specs.Feeds.{held}

@@ -1,4 +1,4 @@
-use Rattle.std.proofs.Common.{◌≡◌, ◌∙◌, ap, take, List, ℕ}
+use Rattle.std.proofs.Common.{◌≡◌, ◌∙◌, ap, take}
 use Rattle.kn_wire.specs.Cursors.{held_at}
 use Rattle.kn_wire.specs.Feeding.{Held, pushed, next_of}
 use Rattle.kn_wire.specs.Feeds.{held}

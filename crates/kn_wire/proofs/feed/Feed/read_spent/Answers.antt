@@ -1,4 +1,4 @@
-use Rattle.kn_wire.proofs.LineDigits.{form_answer}
+use Rattle.kn_wire.proofs.LineFits.{form_answer}
 use Rattle.kn_wire.proofs.feed.Feed.read_spent.Goals as goal
 
 pub returns-clause-form : goal.returns-clause-form

@@ -1,0 +1,139 @@
+-- What holds of each line that a command word and what follows it spell.
+use Rattle.std.proofs.Common.{◌≡◌, ◌≢◌, ◌≤◌, ℕ, Bool, true, false, ◌&&◌, nat_lt, ◌⊎◌, inl, inr, List, length, refl, sym, subst, Option, Some, None, Result, Ok, Err, option_and_then, option_map, is_some, not}
+use Rattle.std.specs.Prelude.{⊤, IfOk}
+use Rattle.std.specs.List.{before_first, after_first}
+use Rattle.kn_base.specs.Decimal.{decimal_of}
+use Rattle.kn_wire.specs.declared.fault.WireFault.{WireFault}
+use Rattle.kn_wire.specs.declared.fault.WireFault.TheVariants.{Syntax, Command}
+use Rattle.kn_wire.specs.declared.request.Request.{Request as Wired}
+use Rattle.kn_wire.specs.declared.word.Word.{Word}
+use Rattle.kn_wire.specs.declared.word.Word.TheVariants as W
+use Rattle.kn_wire.specs.Digits.{IsWellFormed}
+use Rattle.kn_wire.specs.Feeding.{Bytes, held_after}
+use Rattle.kn_wire.specs.Lines.{blocked_of}
+use Rattle.kn_wire.specs.Requests.{Request, Open, Close, Pin, Assert, Retract, Set, SetHex, Unset, Auth, Unauth, Clear, Query, Admin, Add, Drop, Bye, Faulty, Line, Whole, Blocked, word_of, behind_space, with_number, number_after, is_space, is_word, are_digits, when, line_of_word, or_malformed, line_of_command, line_of}
+use Rattle.kn_wire.specs.Wired.{request_of, request_or_fault}
+
+-- what this request leaves is held
+abbrev pub IsKept : Request → Type 0
+IsKept request = (text left : List ℕ) → held_after text request left ≡ Bytes left
+
+abbrev pub IsKeptLine : Line → Type 0
+IsKeptLine (Whole request) = IsKept request
+IsKeptLine (Blocked n request) = (block : List ℕ) → IsKept (request block)
+
+-- the request is of its form, with each block that isn't too long
+abbrev pub OfForm : Line → Type 0
+OfForm (Whole request) = IsWellFormed request
+OfForm (Blocked n request) = (block : List ℕ) → length block ≤ 16384 → IsWellFormed (request block)
+
+-- no block is named by these: nothing follows the word, or it is neither ADD nor ASSERT
+abbrev pub NamesNone : Option Word → Option (List ℕ) → Type 0
+NamesNone word rest = (rest ≡ None) ⊎ ((word ≢ Some W.Add) × (word ≢ Some W.Assert))
+
+pub record Fits (word : Option Word) (rest : Option (List ℕ)) (line : Line) : Type 0 where
+  pub kept : IsKeptLine line
+  pub form : OfForm line
+  pub whole : NamesNone word rest → None ≡ blocked_of line
+
+whole-fits : (word : Option Word) (rest : Option (List ℕ)) (request : Request) → IsKept request → IsWellFormed request → Fits word rest (Whole request)
+whole-fits word rest request kept form = record { kept = kept; form = form; whole = λ names. refl }
+
+blocked-fits : (word : Word) (text : List ℕ) (n : ℕ) (request : List ℕ → Request) → (((word ≢ W.Add) × (word ≢ W.Assert)) → None ≡ Some (Blocked n request))
+    → ((block : List ℕ) → IsKept (request block)) → ((block : List ℕ) → length block ≤ 16384 → IsWellFormed (request block)) → Fits (Some word) (Some text) (Blocked n request)
+blocked-fits word text n request never kept form = record { kept = kept; form = form; whole = whole }
+  where
+    differ : (other : Word) → (Some word ≢ Some other) → word ≢ other
+    differ other d e = d (subst (λ w. Some word ≡ Some w) e refl)
+
+    whole : NamesNone (Some word) (Some text) → None ≡ Some (Blocked n request)
+    whole (inl none) = cc
+    whole (inr other) = never (differ W.Add other.0, differ W.Assert other.1)
+
+-- where it holds of each line that may be there, it holds of the one that is
+
+abbrev OfSome : (Line → Type 0) → Option Line → Type 0
+OfSome P None = ⊤
+OfSome P (Some line) = P line
+
+of-and_then : (P : Line → Type 0) {A : Type 0} (o : Option A) (f : A → Option Line) → ((a : A) → OfSome P (f a)) → OfSome P (option_and_then f o)
+of-and_then P None f each = tt
+of-and_then P (Some a) f each = each a
+
+of-map : (P : Line → Type 0) {A : Type 0} (o : Option A) (f : A → Line) → ((a : A) → P (f a)) → OfSome P (option_map f o)
+of-map P None f each = tt
+of-map P (Some a) f each = each a
+
+of-when : (P : Line → Type 0) (b : Bool) (request : Request) → (b ≡ true → P (Whole request)) → OfSome P (when b request)
+of-when P true request each = each refl
+of-when P false request each = tt
+
+of-number : (P : Line → Type 0) (text : List ℕ) (f : ℕ → List ℕ → Option Line) → ((n : ℕ) (rest : List ℕ) → OfSome P (f n rest)) → OfSome P (with_number text f)
+of-number P text f each =
+    of-and_then P (behind_space text) (λ rest. option_and_then (λ n. f n rest) (decimal_of (before_first is_space text)))
+    (λ rest. of-and_then P (decimal_of (before_first is_space text)) (λ n. f n rest) (λ n. each n rest))
+
+second : (a b : Bool) → (a && b) ≡ true → b ≡ true
+second true b e = e
+second false b e = cc
+
+abbrev Spelled : Word → Option (List ℕ) → Type 0
+Spelled word rest = OfSome (Fits (Some word) rest) (line_of_word word rest)
+
+-- a request that leaves what follows it, and has no part of a form
+simple : (word : Word) (rest : Option (List ℕ)) (request : Request) → IsKept request → IsWellFormed request → Fits (Some word) rest (Whole request)
+simple word rest = whole-fits (Some word) rest
+
+spelled : (word : Word) (rest : Option (List ℕ)) → Spelled word rest
+spelled W.Open rest = of-when _ (not (is_some rest)) Open (λ alone. simple W.Open rest Open (λ t l. refl) tt)
+spelled W.Bye rest = of-when _ (not (is_some rest)) Bye (λ alone. simple W.Bye rest Bye (λ t l. refl) tt)
+spelled W.Close rest = of-and_then (Fits (Some W.Close) rest) rest _ (λ text. of-map _ (decimal_of text) (λ s. Whole (Close s)) (λ s. simple W.Close rest (Close s) (λ t l. refl) tt))
+spelled W.Pin rest = of-and_then (Fits (Some W.Pin) rest) rest _ (λ text. of-map _ (decimal_of text) (λ s. Whole (Pin s)) (λ s. simple W.Pin rest (Pin s) (λ t l. refl) tt))
+spelled W.Clear rest = of-and_then (Fits (Some W.Clear) rest) rest _ (λ text. of-map _ (decimal_of text) (λ s. Whole (Clear s)) (λ s. simple W.Clear rest (Clear s) (λ t l. refl) tt))
+spelled W.Remove rest = of-and_then (Fits (Some W.Remove) rest) rest _ (λ text. of-map _ (number_after 97 text) (λ k. Whole (Drop k)) (λ k. simple W.Remove rest (Drop k) (λ t l. refl) tt))
+spelled W.Retract rest =
+    of-and_then (Fits (Some W.Retract) rest) rest _ (λ text. of-number _ text _ (λ s more. of-map _ (number_after 112 more) (λ k. Whole (Retract s k)) (λ k. simple W.Retract rest (Retract s k) (λ t l. refl) tt)))
+spelled W.Auth rest = of-and_then (Fits (Some W.Auth) rest) rest _ (λ text. of-number _ text _ (λ s more. simple W.Auth rest (Auth s more) (λ t l. refl) tt))
+spelled W.Unauth rest = of-and_then (Fits (Some W.Unauth) rest) rest _ (λ text. of-number _ text _ (λ s more. simple W.Unauth rest (Unauth s more) (λ t l. refl) tt))
+spelled W.Query rest = of-and_then (Fits (Some W.Query) rest) rest _ (λ text. of-number _ text _ (λ s more. simple W.Query rest (Query s more) (λ t l. refl) tt))
+spelled W.Unset rest = of-and_then (Fits (Some W.Unset) rest) rest _ (λ text. of-number _ text _ (λ s more. of-when _ (is_word more) (Unset s more) (λ word. simple W.Unset rest (Unset s more) (λ t l. refl) tt)))
+spelled W.Set rest =
+    of-and_then (Fits (Some W.Set) rest) rest _ (λ text. of-number _ text _ (λ s more. of-when _ (is_word (before_first is_space more)) (Set s (before_first is_space more) (after_first is_space more))
+    (λ word. simple W.Set rest (Set s (before_first is_space more) (after_first is_space more)) (λ t l. refl) tt)))
+spelled W.SetHex rest =
+    of-and_then (Fits (Some W.SetHex) rest) rest _ (λ text. of-number _ text _ (λ s more.
+    of-when _ (is_word (before_first is_space more) && are_digits (after_first is_space more)) (SetHex s (before_first is_space more) (after_first is_space more))
+    (λ both. simple W.SetHex rest (SetHex s (before_first is_space more) (after_first is_space more)) (λ t l. refl) (second (is_word (before_first is_space more)) (are_digits (after_first is_space more)) both))))
+spelled W.Admin rest =
+    of-and_then (Fits (Some W.Admin) rest) rest _ (λ text. of-when (Fits (Some W.Admin) rest) (nat_lt 0 (length text) && are_digits text) (Admin text)
+    (λ both. simple W.Admin rest (Admin text) (λ t l. refl) (second (nat_lt 0 (length text)) (are_digits text) both)))
+spelled W.Add None = tt
+spelled W.Add (Some text) = of-map _ (decimal_of text) (λ n. Blocked n Add) (λ n. blocked-fits W.Add text n Add (λ other. absurd (other.0 refl)) (λ block t l. refl) (λ block short. short))
+spelled W.Assert None = tt
+spelled W.Assert (Some text) =
+    of-number (Fits (Some W.Assert) (Some text)) text _ (λ s more. of-map _ (decimal_of more) (λ n. Blocked n (Assert s))
+    (λ n. blocked-fits W.Assert text n (Assert s) (λ other. absurd (other.1 refl)) (λ block t l. refl) (λ block short. short)))
+
+malformed : (word : Option Word) (rest : Option (List ℕ)) (o : Option Line) → OfSome (Fits word rest) o → Fits word rest (or_malformed o)
+malformed word rest None some = whole-fits word rest (Faulty Syntax) (λ t l. refl) tt
+malformed word rest (Some line) some = some
+
+command-fits : (word : Option Word) (rest : Option (List ℕ)) → Fits word rest (line_of_command word rest)
+command-fits None rest = whole-fits None rest (Faulty Command) (λ t l. refl) tt
+command-fits (Some word) rest = malformed (Some word) rest (line_of_word word rest) (spelled word rest)
+
+line-fits : (text : List ℕ) → Fits (word_of (before_first is_space text)) (behind_space text) (line_of text)
+line-fits text = command-fits (word_of (before_first is_space text)) (behind_space text)
+
+-- What the proofs above take of it.
+
+pub kept-line : (text : List ℕ) → IsKeptLine (line_of text)
+kept-line text = (line-fits text).kept
+
+pub whole-line : (text : List ℕ) → NamesNone (word_of (before_first is_space text)) (behind_space text) → None ≡ blocked_of (line_of text)
+whole-line text = (line-fits text).whole
+
+-- what is answered of a line that names no block is of its form
+pub form_answer : (result : Result Wired WireFault) (line : List ℕ) → Whole (request_or_fault result) ≡ line_of line → IfOk result (λ request. IsWellFormed (request_of request))
+form_answer (Ok request) line e = subst OfForm (sym e) (line-fits line).form
+form_answer (Err fault) line e = tt
