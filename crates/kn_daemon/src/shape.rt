@@ -12,7 +12,10 @@ use kn_wire::Request;
 #[derive(Debug, Clone, Copy)]
 pub enum Shape<'a> {
     /// A call of session `s`.
-    Call { s: u32, call: Call<'a> },
+    Call {
+        s: u32,
+        call: Call<'a>,
+    },
     /// The call that sets an attribute, whose value has yet to be decoded.
     SetDigits {
         s: u32,
@@ -22,15 +25,26 @@ pub enum Shape<'a> {
     /// A new session is pinned to the newest version.
     Open,
     /// Session `s` is pinned to the newest version.
-    Pin { s: u32 },
+    Pin {
+        s: u32,
+    },
     /// An update that adds the credential of a text.
-    Add { block: &'a [u8] },
+    Add {
+        block: &'a [u8],
+    },
     /// An update that removes the credential of an id.
-    Remove { k: u32 },
+    Remove {
+        k: u32,
+    },
     /// A question on session `s`.
-    Query { s: u32, values: &'a [u8] },
+    Query {
+        s: u32,
+        values: &'a [u8],
+    },
     /// The administrators' secret is shown.
-    Admin { digits: &'a [u8] },
+    Admin {
+        digits: &'a [u8],
+    },
     Bye,
 }
 
@@ -42,16 +56,40 @@ pub fn shape_of(request: Request<'_>) -> Shape<'_>
 {
     match request {
         Request::Start => Shape::Open,
-        Request::Close { s } => Shape::Call { s, call: Call::Close },
+        Request::Close { s } => Shape::Call {
+            s,
+            call: Call::Close,
+        },
         Request::Pin { s } => Shape::Pin { s },
-        Request::Assert { s, block } => Shape::Call { s, call: Call::Assert { text: block } },
-        Request::Retract { s, k } => Shape::Call { s, call: Call::Retract { k } },
-        Request::Set { s, name, value } => Shape::Call { s, call: Call::Set { name, value } },
+        Request::Assert { s, block } => Shape::Call {
+            s,
+            call: Call::Assert { text: block },
+        },
+        Request::Retract { s, k } => Shape::Call {
+            s,
+            call: Call::Retract { k },
+        },
+        Request::Set { s, name, value } => Shape::Call {
+            s,
+            call: Call::Set { name, value },
+        },
         Request::SetHex { s, name, digits } => Shape::SetDigits { s, name, digits },
-        Request::Unset { s, name } => Shape::Call { s, call: Call::Unset { name } },
-        Request::Auth { s, principal } => Shape::Call { s, call: Call::Auth { principal } },
-        Request::Unauth { s, principal } => Shape::Call { s, call: Call::Unauth { principal } },
-        Request::Clear { s } => Shape::Call { s, call: Call::Clear },
+        Request::Unset { s, name } => Shape::Call {
+            s,
+            call: Call::Unset { name },
+        },
+        Request::Auth { s, principal } => Shape::Call {
+            s,
+            call: Call::Auth { principal },
+        },
+        Request::Unauth { s, principal } => Shape::Call {
+            s,
+            call: Call::Unauth { principal },
+        },
+        Request::Clear { s } => Shape::Call {
+            s,
+            call: Call::Clear,
+        },
         Request::Query { s, values } => Shape::Query { s, values },
         Request::Admin { digits } => Shape::Admin { digits },
         Request::Add { block } => Shape::Add { block },

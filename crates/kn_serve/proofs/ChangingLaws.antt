@@ -21,55 +21,55 @@ use Rattle.kn_store.specs.History.{all_changes, refusal_of_text, refusal_of_id, 
 use Rattle.kn_reply.specs.declared.refusal.Refusal.{Refusal}
 use Rattle.kn_reply.specs.declared.refusal.Refusal.TheVariants as R
 use Rattle.kn_reply.specs.declared.refusal.LimitWord.TheVariants as W
-use Rattle.kn_wire.specs.Requests.{Request, Add, Drop}
+use Rattle.kn_daemon.specs.Shapes.{Shape, Updates, AddText, DropId}
 use Rattle.kn_reply.specs.Replies.{Number, Added, No, NoMemory, reply_text}
-use Rattle.kn_daemon.specs.Daemon.{Grounds, State, own_refusal, placed_refusal, refusal_of_store}
-use Rattle.kn_registry.specs.Passes.{PassSeen, Looks, Adds, Removes, IsRefused, RefusesText, RefusesId}
-use Rattle.kn_serve.specs.Handling.{Handles, Tells, refusal_of_read, refused_reply}
-use Rattle.kn_serve.proofs.HandlingLaws.{handled_by, looked_handled, stayed_handled, told_refused, told_memory, refused_updates_nothing}
+use Rattle.kn_daemon.specs.Daemon.{Grounds, State, own_refusal, placed_refusal, refusal_of_text as refusal_of_fault_text, refusal_of_store}
+use Rattle.kn_registry.specs.Passes.{PassSeen, Looks as PassLooks, Adds, Removes, IsRefused, RefusesText, RefusesId}
+use Rattle.kn_serve.specs.Handling.{Handles, Tells, refused_reply}
+use Rattle.kn_serve.proofs.HandlingLaws.{handled_by, looked_handled, stayed_handled, unrefused, told_refused, told_memory}
 
 -- the text was added
 pub added_handled : (g : Grounds) (v w : PassSeen) (old : State) (text : List ℕ) (id version : ℕ) (whole : Bool) (l l' : LinkSeen) →
-    Adds v w text id version → own_refusal g old (Add text) ≡ None → Prints whole (reply_text (Added id version)) l l' → Handles g v w old old (Add text) whole l l'
+    Adds v w text id version → own_refusal g old (Updates (AddText text)) ≡ None → Prints whole (reply_text (Added id version)) l l' → Handles g v w old old (Updates (AddText text)) whole l l'
 added_handled g v w old text id version whole l l' a own prints =
-    handled_by g v w old old (Add text) (Added id version) whole l l' a.more (addition_by v.number text id ∷ []) (length w.seen ∷ []) a.moves refl
+    handled_by g v w old old (Updates (AddText text)) (Added id version) whole l l' a.more (addition_by v.number text id ∷ []) (length w.seen ∷ []) a.moves refl
     (record {
       accepted = own;
       answered = (id, record { before = a.before; ends = a.ends; accepted = a.follows }, ap (λ (n : ℕ). Added id n) a.at);
       next = refl;
-    }) refl prints
+    }) refl (unrefused (own_refusal g old (Updates (AddText text))) own) prints
 
 -- the id was removed
 pub removed_handled : (g : Grounds) (v w : PassSeen) (old : State) (id version : ℕ) (whole : Bool) (l l' : LinkSeen) →
-    Removes v w id version → own_refusal g old (Drop id) ≡ None → Prints whole (reply_text (Number version)) l l' → Handles g v w old old (Drop id) whole l l'
+    Removes v w id version → own_refusal g old (Updates (DropId id)) ≡ None → Prints whole (reply_text (Number version)) l l' → Handles g v w old old (Updates (DropId id)) whole l l'
 removed_handled g v w old id version whole l l' a own prints =
-    handled_by g v w old old (Drop id) (Number version) whole l l' a.more (removal_by v.number id ∷ []) (length w.seen ∷ []) a.moves refl
+    handled_by g v w old old (Updates (DropId id)) (Number version) whole l l' a.more (removal_by v.number id ∷ []) (length w.seen ∷ []) a.moves refl
     (record {
       accepted = own;
       answered = (record { before = a.before; ends = a.ends; accepted = a.follows }, ap (λ (n : ℕ). Number n) a.at);
       next = refl;
-    }) refl prints
+    }) refl (unrefused (own_refusal g old (Updates (DropId id))) own) prints
 
 -- the history refused the change
-refused_handled : (g : Grounds) (v w : PassSeen) (old : State) (request : Request) (refusal : Refusal) (whole : Bool) (l l' : LinkSeen) →
-    Looks v w → own_refusal g old request ≡ None → placed_refusal w.seen request ≡ Some refusal → Prints whole (reply_text (No refusal)) l l' →
-    Handles g v w old old request whole l l'
-refused_handled g v w old request refusal whole l l' looks own placed prints =
-    looked_handled g v w old old request (No refusal) whole l l' looks (refused_updates_nothing v.number request refusal)
-    (ap (λ (o : Option Refusal). option_or o (placed_refusal w.seen request)) own ∙ placed, refl) prints
+refused_handled : (g : Grounds) (v w : PassSeen) (old : State) (shape : Shape) (refusal : Refusal) (whole : Bool) (l l' : LinkSeen) →
+    PassLooks v w → own_refusal g old shape ≡ None → placed_refusal w.seen shape ≡ Some refusal → Prints whole (reply_text (No refusal)) l l' →
+    Handles g v w old old shape whole l l'
+refused_handled g v w old shape refusal whole l l' looks own placed prints =
+    looked_handled g v w old old shape (No refusal) whole l l' looks own refl
+    (ap (λ (o : Option Refusal). option_or o (placed_refusal w.seen shape)) own ∙ placed, refl) prints
 
 -- the text wasn't added
 pub unadded_handled : (g : Grounds) (v w : PassSeen) (old : State) (text : List ℕ) (fault : StoreFault) (refusal : Option Refusal) (whole : Bool) (l l' : LinkSeen) →
-    RefusesText v w text fault → own_refusal g old (Add text) ≡ None → refusal ≡ refusal_of_store fault → Prints whole (reply_text (refused_reply refusal)) l l' → Handles g v w old old (Add text) whole l l'
+    RefusesText v w text fault → own_refusal g old (Updates (AddText text)) ≡ None → refusal ≡ refusal_of_store fault → Prints whole (reply_text (refused_reply refusal)) l l' → Handles g v w old old (Updates (AddText text)) whole l l'
 unadded_handled g v w old text fault refusal whole l l' refuses own told prints =
     by_fault fault refuses (subst (λ (o : Option Refusal). Prints whole (reply_text (refused_reply o)) l l') told prints)
   where
     placed : (f : StoreFault) (r : Refusal) → refusal_of_store f ≡ Some r → IsRefused (refusal_of_text (all_changes w.seen) text) f v w → Prints whole (reply_text (No r)) l l' →
-        Handles g v w old old (Add text) whole l l'
-    placed f r is why p = refused_handled g v w old (Add text) r whole l l' why.looks own (rw why.refusal_is is) p
+        Handles g v w old old (Updates (AddText text)) whole l l'
+    placed f r is why p = refused_handled g v w old (Updates (AddText text)) r whole l l' why.looks own (rw why.refusal_is is) p
 
-    by_fault : (f : StoreFault) → RefusesText v w text f → Prints whole (reply_text (refused_reply (refusal_of_store f))) l l' → Handles g v w old old (Add text) whole l l'
-    by_fault S.NoMemory stays p = stayed_handled g v w old old (Add text) NoMemory whole l l' stays refl refl (refl, refl) p
+    by_fault : (f : StoreFault) → RefusesText v w text f → Prints whole (reply_text (refused_reply (refusal_of_store f))) l l' → Handles g v w old old (Updates (AddText text)) whole l l'
+    by_fault S.NoMemory stays p = stayed_handled g v w old old (Updates (AddText text)) NoMemory whole l l' stays own refl refl (refl, refl) p
     by_fault (S.Unknown other) r p = placed (S.Unknown other) R.Unknown refl r p
     by_fault (S.LiveFull count) r p = placed (S.LiveFull count) (R.Limit W.Live count) refl r p
     by_fault (S.BytesFull bytes) r p = placed (S.BytesFull bytes) (R.Limit W.LiveBytes bytes) refl r p
@@ -78,16 +78,16 @@ unadded_handled g v w old text fault refusal whole l l' refuses own told prints 
 
 -- the id wasn't removed
 pub unremoved_handled : (g : Grounds) (v w : PassSeen) (old : State) (id : ℕ) (fault : StoreFault) (refusal : Option Refusal) (whole : Bool) (l l' : LinkSeen) →
-    RefusesId v w id fault → own_refusal g old (Drop id) ≡ None → refusal ≡ refusal_of_store fault → Prints whole (reply_text (refused_reply refusal)) l l' → Handles g v w old old (Drop id) whole l l'
+    RefusesId v w id fault → own_refusal g old (Updates (DropId id)) ≡ None → refusal ≡ refusal_of_store fault → Prints whole (reply_text (refused_reply refusal)) l l' → Handles g v w old old (Updates (DropId id)) whole l l'
 unremoved_handled g v w old id fault refusal whole l l' refuses own told prints =
     by_fault fault refuses (subst (λ (o : Option Refusal). Prints whole (reply_text (refused_reply o)) l l') told prints)
   where
     placed : (f : StoreFault) (r : Refusal) → refusal_of_store f ≡ Some r → IsRefused (refusal_of_id (all_changes w.seen) id) f v w → Prints whole (reply_text (No r)) l l' →
-        Handles g v w old old (Drop id) whole l l'
-    placed f r is why p = refused_handled g v w old (Drop id) r whole l l' why.looks own (rw why.refusal_is is) p
+        Handles g v w old old (Updates (DropId id)) whole l l'
+    placed f r is why p = refused_handled g v w old (Updates (DropId id)) r whole l l' why.looks own (rw why.refusal_is is) p
 
-    by_fault : (f : StoreFault) → RefusesId v w id f → Prints whole (reply_text (refused_reply (refusal_of_store f))) l l' → Handles g v w old old (Drop id) whole l l'
-    by_fault S.NoMemory stays p = stayed_handled g v w old old (Drop id) NoMemory whole l l' stays refl refl (refl, refl) p
+    by_fault : (f : StoreFault) → RefusesId v w id f → Prints whole (reply_text (refused_reply (refusal_of_store f))) l l' → Handles g v w old old (Updates (DropId id)) whole l l'
+    by_fault S.NoMemory stays p = stayed_handled g v w old old (Updates (DropId id)) NoMemory whole l l' stays own refl refl (refl, refl) p
     by_fault (S.Unknown other) r p = placed (S.Unknown other) R.Unknown refl r p
     by_fault (S.LiveFull count) r p = placed (S.LiveFull count) (R.Limit W.Live count) refl r p
     by_fault (S.BytesFull bytes) r p = placed (S.BytesFull bytes) (R.Limit W.LiveBytes bytes) refl r p
@@ -95,13 +95,13 @@ unremoved_handled g v w old id fault refusal whole l l' refuses own told prints 
     by_fault (S.LogFull bytes) r p = placed (S.LogFull bytes) (R.Limit W.LogBytes bytes) refl r p
 
 -- the secret wasn't shown
-pub add_unshown : (g : Grounds) (old : State) (text : List ℕ) (whole : Bool) (l l' : LinkSeen) → old.is_admin ≡ false → Prints whole (reply_text (No R.Admin)) l l' → Tells g old old (Add text) whole l l'
-add_unshown g old text whole l l' out prints = told_refused g old (Add text) R.Admin whole l l' (rw out refl) refl prints
+pub add_unshown : (g : Grounds) (old : State) (text : List ℕ) (whole : Bool) (l l' : LinkSeen) → old.is_admin ≡ false → Prints whole (reply_text (No R.Admin)) l l' → Tells g old old (Updates (AddText text)) whole l l'
+add_unshown g old text whole l l' out prints = told_refused g old (Updates (AddText text)) R.Admin whole l l' (rw out refl) refl prints
 
-pub drop_unshown : (g : Grounds) (old : State) (id : ℕ) (whole : Bool) (l l' : LinkSeen) → old.is_admin ≡ false → Prints whole (reply_text (No R.Admin)) l l' → Tells g old old (Drop id) whole l l'
-drop_unshown g old id whole l l' out prints = told_refused g old (Drop id) R.Admin whole l l' (rw out refl) refl prints
+pub drop_unshown : (g : Grounds) (old : State) (id : ℕ) (whole : Bool) (l l' : LinkSeen) → old.is_admin ≡ false → Prints whole (reply_text (No R.Admin)) l l' → Tells g old old (Updates (DropId id)) whole l l'
+drop_unshown g old id whole l l' out prints = told_refused g old (Updates (DropId id)) R.Admin whole l l' (rw out refl) refl prints
 
-pub drop_shown : (g : Grounds) (old : State) (id : ℕ) → old.is_admin ≡ true → own_refusal g old (Drop id) ≡ None
+pub drop_shown : (g : Grounds) (old : State) (id : ℕ) → old.is_admin ≡ true → own_refusal g old (Updates (DropId id)) ≡ None
 drop_shown g old id admin = rw admin refl
 
 fault_reading : (read : Result Assertion ReadFault) (fault : ReadFault) → result_err read ≡ Some fault → read ≡ Err fault
@@ -114,23 +114,23 @@ reading_is (Err fault) a e = absurd (none-some _ e)
 
 -- the text has a fault, or there was no memory to read it
 pub add_unread : (g : Grounds) (old : State) (text : List ℕ) (fault : ReadFault) (refusal : Option Refusal) (whole : Bool) (l l' : LinkSeen) → old.is_admin ≡ true →
-    (fault ≡ RF.NoMemory) ⊎ (fault_of text ≡ Some fault) → refusal ≡ refusal_of_read fault → Prints whole (reply_text (refused_reply refusal)) l l' → Tells g old old (Add text) whole l l'
+    (fault ≡ RF.NoMemory) ⊎ (fault_of text ≡ Some fault) → refusal ≡ refusal_of_fault_text fault → Prints whole (reply_text (refused_reply refusal)) l l' → Tells g old old (Updates (AddText text)) whole l l'
 add_unread g old text fault refusal whole l l' admin (inl none) told prints =
-    told_memory g old (Add text) whole l l' refl (subst (λ (o : Option Refusal). Prints whole (reply_text (refused_reply o)) l l') (told ∙ ap refusal_of_read none) prints)
+    told_memory g old (Updates (AddText text)) whole l l' refl (subst (λ (o : Option Refusal). Prints whole (reply_text (refused_reply o)) l l') (told ∙ ap refusal_of_fault_text none) prints)
 add_unread g old text fault refusal whole l l' admin (inr faulty) told prints = by_number (fault_number fault) refl
   where
     reading : reading_of text ≡ Err fault
     reading = fault_reading (reading_of text) fault faulty
 
-    by_number : (n : Option ℕ) → fault_number fault ≡ n → Tells g old old (Add text) whole l l'
+    by_number : (n : Option ℕ) → fault_number fault ≡ n → Tells g old old (Updates (AddText text)) whole l l'
     by_number None e =
-        let is : refusal_of_read fault ≡ None = rw e refl in
+        let is : refusal_of_fault_text fault ≡ None = rw e refl in
         let said : refusal ≡ None = told ∙ is in
-        told_memory g old (Add text) whole l l' refl (subst (λ (o : Option Refusal). Prints whole (reply_text (refused_reply o)) l l') said prints)
+        told_memory g old (Updates (AddText text)) whole l l' refl (subst (λ (o : Option Refusal). Prints whole (reply_text (refused_reply o)) l l') said prints)
     by_number (Some n) e =
-        let is : refusal_of_read fault ≡ Some (R.Read n (fault_place fault)) = rw e refl in
+        let is : refusal_of_fault_text fault ≡ Some (R.Read n (fault_place fault)) = rw e refl in
         let said : refusal ≡ Some (R.Read n (fault_place fault)) = told ∙ is in
-        told_refused g old (Add text) (R.Read n (fault_place fault)) whole l l' (rw admin (rw reading (rw e refl))) refl
+        told_refused g old (Updates (AddText text)) (R.Read n (fault_place fault)) whole l l' (rw admin (rw reading (rw e refl))) refl
         (subst (λ (o : Option Refusal). Prints whole (reply_text (refused_reply o)) l l') said prints)
 
 number_positive : (fault : AuthFault) → 0 < number_of fault
@@ -142,27 +142,27 @@ number_positive NotListed = omega arith
 
 -- the authenticator refused the text
 pub add_unadmitted : (g : Grounds) (old : State) (text : List ℕ) (a : Assertion) (verdict : List ℕ → Assertion → ℕ) (fault : AuthFault) (number : ℕ) (whole : Bool) (l l' : LinkSeen) → g.verdict ≡ verdict →
-    old.is_admin ≡ true → assertion_of text ≡ Some a → number ≡ number_of fault → number_of fault ≡ verdict text a → Prints whole (reply_text (No (R.Auth number))) l l' → Tells g old old (Add text) whole l l'
+    old.is_admin ≡ true → assertion_of text ≡ Some a → number ≡ number_of fault → number_of fault ≡ verdict text a → Prints whole (reply_text (No (R.Auth number))) l l' → Tells g old old (Updates (AddText text)) whole l l'
 add_unadmitted g old text a verdict fault number whole l l' grounds admin reads is judged prints =
     let judged' : number_of fault ≡ g.verdict text a = judged ∙ sym (ap (λ (f : List ℕ → Assertion → ℕ). f text a) grounds) in
     let same : number ≡ g.verdict text a = is ∙ judged' in
     let above : 0 < g.verdict text a = subst (λ (n : ℕ). 0 < n) judged' (number_positive fault) in
     let reading : reading_of text ≡ Ok a = reading_is (reading_of text) a reads in
     let other : (g.verdict text a == 0) ≡ false = grind (arith, nat_tests, above) in
-    told_refused g old (Add text) (R.Auth (g.verdict text a)) whole l l' (rw admin (rw reading (rw other refl))) refl
+    told_refused g old (Updates (AddText text)) (R.Auth (g.verdict text a)) whole l l' (rw admin (rw reading (rw other refl))) refl
     (subst (λ (n : ℕ). Prints whole (reply_text (No (R.Auth n))) l l') same prints)
 
 -- the text was admitted
-add_admitted : (g : Grounds) (old : State) (text : List ℕ) (a : Assertion) → old.is_admin ≡ true → assertion_of text ≡ Some a → 0 ≡ g.verdict text a → own_refusal g old (Add text) ≡ None
+add_admitted : (g : Grounds) (old : State) (text : List ℕ) (a : Assertion) → old.is_admin ≡ true → assertion_of text ≡ Some a → 0 ≡ g.verdict text a → own_refusal g old (Updates (AddText text)) ≡ None
 add_admitted g old text a admin reads judged =
     let reading : reading_of text ≡ Ok a = reading_is (reading_of text) a reads in
     rw admin (rw reading (rw (← judged) refl))
 
 -- what was admitted is the text that was asked for
 pub added_as : (g : Grounds) (v w : PassSeen) (old : State) (text ready : List ℕ) (a : Assertion) (verdict : List ℕ → Assertion → ℕ) (whole : Bool) (l l' : LinkSeen) → g.verdict ≡ verdict →
-    old.is_admin ≡ true → assertion_of text ≡ Some a → 0 ≡ verdict text a → ready ≡ text → (own_refusal g old (Add ready) ≡ None → Handles g v w old old (Add ready) whole l l') →
-    Handles g v w old old (Add text) whole l l'
+    old.is_admin ≡ true → assertion_of text ≡ Some a → 0 ≡ verdict text a → ready ≡ text → (own_refusal g old (Updates (AddText ready)) ≡ None → Handles g v w old old (Updates (AddText ready)) whole l l') →
+    Handles g v w old old (Updates (AddText text)) whole l l'
 added_as g v w old text ready a verdict whole l l' grounds admin reads judged same handled =
     let judged' : 0 ≡ g.verdict text a = judged ∙ sym (ap (λ (f : List ℕ → Assertion → ℕ). f text a) grounds) in
-    subst (λ (x : List ℕ). Handles g v w old old (Add x) whole l l') same
-    (handled (subst (λ (x : List ℕ). own_refusal g old (Add x) ≡ None) (sym same) (add_admitted g old text a admin reads judged')))
+    subst (λ (x : List ℕ). Handles g v w old old (Updates (AddText x)) whole l l') same
+    (handled (subst (λ (x : List ℕ). own_refusal g old (Updates (AddText x)) ≡ None) (sym same) (add_admitted g old text a admin reads judged')))

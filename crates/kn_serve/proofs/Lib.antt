@@ -1,6 +1,6 @@
 pub mod HandlingLaws
-pub mod SessionLaws
-pub mod AssertingLaws
+pub mod CallingLaws
+pub mod AdmittingLaws
 pub mod GainsLaws
 pub mod StepLaws
 pub mod ServingLaws

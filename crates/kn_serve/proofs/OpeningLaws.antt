@@ -1,5 +1,5 @@
 -- Opening a session, and pinning one to the newest version.
-use Rattle.std.proofs.Common.{◌≡◌, ℕ, ◌+◌, ◌≤◌, Bool, true, List, length, refl, sym, ap, arith, Some, None, subst}
+use Rattle.std.proofs.Common.{◌≡◌, ℕ, ◌+◌, ◌≤◌, ◌<◌, Bool, true, false, List, length, refl, sym, ap, arith, Some, None, subst}
 use Rattle.std.specs.Prelude.{nat_le}
 use Rattle.std.proofs.lemmas.Bool.Decides.{nat_tests}
 use Rattle.kn_base.specs.declared.limits.TheConstants.{SESSIONS}
@@ -7,69 +7,74 @@ use Rattle.kn_store.specs.declared.update.Update.{Update}
 use Rattle.kn_outside.specs.Seen.{LinkSeen}
 use Rattle.kn_outside.specs.Printing.{Prints}
 use Rattle.kn_session.specs.declared.fault.SessionFault.{SessionFault}
-use Rattle.kn_session.specs.Sessions.{OpenSessions, session_in, start_fault, fault_in, with_started, pin_at}
+use Rattle.kn_session.specs.Sessions.{Session, OpenSessions, session_in, start_fault, fault_in, with_started, pin_at}
 use Rattle.kn_session.specs.Connection.{with_open_session}
 use Rattle.kn_reply.specs.declared.refusal.Refusal.TheVariants as R
 use Rattle.kn_reply.specs.declared.refusal.LimitWord.TheVariants as W
-use Rattle.kn_wire.specs.Requests.{Open, Pin}
+use Rattle.kn_daemon.specs.Shapes.{Looks, ForNew, ForOpen}
 use Rattle.kn_reply.specs.Replies.{Started, Number, No, NoMemory, reply_text}
-use Rattle.kn_daemon.specs.Daemon.{Grounds, State, session_of, refusal_by}
-use Rattle.kn_registry.specs.Passes.{PassSeen, Looks, Stays}
+use Rattle.kn_daemon.specs.Daemon.{Grounds, State, session_of, own_refusal, refusal_by}
+use Rattle.kn_registry.specs.Passes.{PassSeen, Looks as PassLooks, Stays}
 use Rattle.kn_serve.specs.Handling.{Handles, Tells}
 use Rattle.kn_serve.proofs.HandlingLaws.{told_refused, looked_handled, stayed_handled}
-use Rattle.kn_serve.proofs.SessionLaws.{state_with}
-use Rattle.kn_serve.proofs.AssertingLaws.{none_found}
+use Rattle.kn_serve.proofs.CallingLaws.{state_with, none_found}
 
 -- there are as many sessions as there may be
 pub open_full : (g : Grounds) (old : State) (count : ℕ) (whole : Bool) (l l' : LinkSeen) → count ≡ length old.sessions → SESSIONS ≤ count →
-    Prints whole (reply_text (No (R.Limit W.Sessions count))) l l' → Tells g old old Open whole l l'
+    Prints whole (reply_text (No (R.Limit W.Sessions count))) l l' → Tells g old old (Looks ForNew) whole l l'
 open_full g old count whole l l' same full prints =
     let test : nat_le SESSIONS (length old.sessions) ≡ true = grind (arith, nat_tests, same, full) in
-    told_refused g old Open (R.Limit W.Sessions (length old.sessions)) whole l l' (rw test refl) refl
+    told_refused g old (Looks ForNew) (R.Limit W.Sessions (length old.sessions)) whole l l' (rw test refl) refl
     (subst (λ (n : ℕ). Prints whole (reply_text (No (R.Limit W.Sessions n))) l l') same prints)
 
+-- there are fewer
+open_room : (g : Grounds) (old : State) (count : ℕ) → count ≡ length old.sessions → count < SESSIONS → own_refusal g old (Looks ForNew) ≡ None
+open_room g old count same few =
+    let test : nat_le SESSIONS (length old.sessions) ≡ false = grind (arith, nat_tests, same, few) in
+    rw test refl
+
 -- there was no memory for the version
-pub open_unpinned : (g : Grounds) (v w : PassSeen) (old : State) (whole : Bool) (l l' : LinkSeen) → Stays v w → Prints whole (reply_text NoMemory) l l' → Handles g v w old old Open whole l l'
-open_unpinned g v w old whole l l' stays prints = stayed_handled g v w old old Open NoMemory whole l l' stays refl refl (refl, refl) prints
+pub open_unpinned : (g : Grounds) (v w : PassSeen) (old : State) (count : ℕ) (whole : Bool) (l l' : LinkSeen) → count ≡ length old.sessions → count < SESSIONS → Stays v w → Prints whole (reply_text NoMemory) l l' → Handles g v w old old (Looks ForNew) whole l l'
+open_unpinned g v w old count whole l l' same few stays prints = stayed_handled g v w old old (Looks ForNew) NoMemory whole l l' stays (open_room g old count same few) refl refl (refl, refl) prints
 
 -- there was no memory for the session
-pub open_unstarted : (g : Grounds) (v w : PassSeen) (a b : OpenSessions) (is_admin : Bool) (whole : Bool) (l l' : LinkSeen) → Looks v w → b ≡ a → Prints whole (reply_text NoMemory) l l' →
-    Handles g v w (state_with a is_admin) (state_with b is_admin) Open whole l l'
-open_unstarted g v w a b is_admin whole l l' looks same prints =
-    subst (λ (x : OpenSessions). Handles g v w (state_with a is_admin) (state_with x is_admin) Open whole l l') (sym same)
-    (looked_handled g v w (state_with a is_admin) (state_with a is_admin) Open NoMemory whole l l' looks refl (refl, refl) prints)
+pub open_unstarted : (g : Grounds) (v w : PassSeen) (a b : OpenSessions) (is_admin : Bool) (count : ℕ) (whole : Bool) (l l' : LinkSeen) → count ≡ length a.sessions → count < SESSIONS → PassLooks v w → b ≡ a → Prints whole (reply_text NoMemory) l l' →
+    Handles g v w (state_with a is_admin) (state_with b is_admin) (Looks ForNew) whole l l'
+open_unstarted g v w a b is_admin count whole l l' size few looks same prints =
+    subst (λ (x : OpenSessions). Handles g v w (state_with a is_admin) (state_with x is_admin) (Looks ForNew) whole l l') (sym same)
+    (looked_handled g v w (state_with a is_admin) (state_with a is_admin) (Looks ForNew) NoMemory whole l l' looks (open_room g (state_with a is_admin) count size few) refl (refl, refl) prints)
 
 -- the session was started
 pub open_started : (g : Grounds) (v w : PassSeen) (a b : OpenSessions) (is_admin : Bool) (s version : ℕ) (made : List Update) (whole : Bool) (l l' : LinkSeen) →
-    Looks v w → made ≡ w.seen → version ≡ length made → start_fault a.sessions ≡ None → s ≡ a.started + 1 →
+    PassLooks v w → made ≡ w.seen → version ≡ length made → start_fault a.sessions ≡ None → s ≡ a.started + 1 →
     b ≡ record { started = a.started + 1; sessions = with_started a.started a.sessions made } → Prints whole (reply_text (Started s version)) l l' →
-    Handles g v w (state_with a is_admin) (state_with b is_admin) Open whole l l'
+    Handles g v w (state_with a is_admin) (state_with b is_admin) (Looks ForNew) whole l l'
 open_started g v w a b is_admin s version made whole l l' looks seen at accepted number after prints =
     let after' : b ≡ record { started = a.started + 1; sessions = with_started a.started a.sessions w.seen } =
     subst (λ (m : List Update). b ≡ record { started = a.started + 1; sessions = with_started a.started a.sessions m }) seen after in
     let told : Started s version ≡ Started (a.started + 1) (length w.seen) = rw (number, at, seen) refl in
-    subst (λ (x : OpenSessions). Handles g v w (state_with a is_admin) (state_with x is_admin) Open whole l l') (sym after')
-    (looked_handled g v w (state_with a is_admin) (state_with (record { started = a.started + 1; sessions = with_started a.started a.sessions w.seen }) is_admin) Open (Started s version) whole l l' looks refl
+    subst (λ (x : OpenSessions). Handles g v w (state_with a is_admin) (state_with x is_admin) (Looks ForNew) whole l l') (sym after')
+    (looked_handled g v w (state_with a is_admin) (state_with (record { started = a.started + 1; sessions = with_started a.started a.sessions w.seen }) is_admin) (Looks ForNew) (Started s version) whole l l' looks (ap refusal_by accepted) refl
     (record { accepted = ap refusal_by accepted; answered = told; next = refl }) prints)
 
 -- the session isn't open
 pub pin_unknown : (g : Grounds) (old : State) (s : ℕ) (fault : SessionFault) (whole : Bool) (l l' : LinkSeen) → fault_in s (session_of old s) (λ x. None) ≡ Some fault →
-    Prints whole (reply_text (No R.Session)) l l' → Tells g old old (Pin s) whole l l'
+    Prints whole (reply_text (No R.Session)) l l' → Tells g old old (Looks (ForOpen s)) whole l l'
 pin_unknown g old s fault whole l l' why prints =
     let none : session_of old s ≡ None = none_found s (session_of old s) fault why in
-    told_refused g old (Pin s) R.Session whole l l' (rw none refl) refl prints
+    told_refused g old (Looks (ForOpen s)) R.Session whole l l' (rw none refl) refl prints
 
 -- there was no memory for the version
-pub pin_memory : (g : Grounds) (v w : PassSeen) (old : State) (s : ℕ) (whole : Bool) (l l' : LinkSeen) → Stays v w → Prints whole (reply_text NoMemory) l l' → Handles g v w old old (Pin s) whole l l'
-pin_memory g v w old s whole l l' stays prints = stayed_handled g v w old old (Pin s) NoMemory whole l l' stays refl refl (refl, refl) prints
+pub pin_memory : (g : Grounds) (v w : PassSeen) (old : State) (s : ℕ) (session : Session) (whole : Bool) (l l' : LinkSeen) → session_of old s ≡ Some session → Stays v w → Prints whole (reply_text NoMemory) l l' → Handles g v w old old (Looks (ForOpen s)) whole l l'
+pin_memory g v w old s session whole l l' found stays prints = stayed_handled g v w old old (Looks (ForOpen s)) NoMemory whole l l' stays (rw found refl) refl refl (refl, refl) prints
 
 -- the session was pinned
 pub pin_done : (g : Grounds) (v w : PassSeen) (a b : OpenSessions) (is_admin : Bool) (s version : ℕ) (made : List Update) (whole : Bool) (l l' : LinkSeen) →
-    Looks v w → made ≡ w.seen → version ≡ length made → fault_in s (session_in a.sessions s) (λ x. None) ≡ None → b ≡ with_open_session a s (pin_at made) → Prints whole (reply_text (Number version)) l l' →
-    Handles g v w (state_with a is_admin) (state_with b is_admin) (Pin s) whole l l'
+    PassLooks v w → made ≡ w.seen → version ≡ length made → fault_in s (session_in a.sessions s) (λ x. None) ≡ None → b ≡ with_open_session a s (pin_at made) → Prints whole (reply_text (Number version)) l l' →
+    Handles g v w (state_with a is_admin) (state_with b is_admin) (Looks (ForOpen s)) whole l l'
 pin_done g v w a b is_admin s version made whole l l' looks seen at accepted after prints =
     let after' : b ≡ with_open_session a s (pin_at w.seen) = subst (λ (m : List Update). b ≡ with_open_session a s (pin_at m)) seen after in
     let told : Number version ≡ Number (length w.seen) = rw (at, seen) refl in
-    subst (λ (x : OpenSessions). Handles g v w (state_with a is_admin) (state_with x is_admin) (Pin s) whole l l') (sym after')
-    (looked_handled g v w (state_with a is_admin) (state_with (with_open_session a s (pin_at w.seen)) is_admin) (Pin s) (Number version) whole l l' looks refl
+    subst (λ (x : OpenSessions). Handles g v w (state_with a is_admin) (state_with x is_admin) (Looks (ForOpen s)) whole l l') (sym after')
+    (looked_handled g v w (state_with a is_admin) (state_with (with_open_session a s (pin_at w.seen)) is_admin) (Looks (ForOpen s)) (Number version) whole l l' looks (ap refusal_by accepted) refl
     (record { accepted = ap refusal_by accepted; answered = told; next = refl }) prints)

@@ -15,34 +15,34 @@ use Rattle.kn_reply.specs.declared.refusal.Refusal.{Refusal}
 use Rattle.kn_reply.specs.declared.refusal.Refusal.TheVariants as R
 use Rattle.kn_meaning.specs.Equations.{IsPolicyLevel}
 use Rattle.kn_meaning.specs.Proofs.{IsProof}
-use Rattle.kn_wire.specs.Requests.{Query}
+use Rattle.kn_daemon.specs.Shapes.{Asks}
 use Rattle.kn_reply.specs.Replies.{Value, No, reply_text}
 use Rattle.kn_daemon.specs.Daemon.{Grounds, State, session_of, equations_of}
 use Rattle.kn_serve.specs.Handling.{Tells, refusal_of_values, refused_reply}
 use Rattle.kn_serve.proofs.HandlingLaws.{told_refused, told_memory, told_done}
-use Rattle.kn_serve.proofs.AssertingLaws.{none_found}
+use Rattle.kn_serve.proofs.CallingLaws.{none_found}
 
 -- no such session is open
 pub query_unknown : (g : Grounds) (old : State) (s : ℕ) (names : List ℕ) (fault : SessionFault) (whole : Bool) (l l' : LinkSeen) → fault_in s (session_of old s) (λ x. None) ≡ Some fault →
-    Prints whole (reply_text (No R.Session)) l l' → Tells g old old (Query s names) whole l l'
+    Prints whole (reply_text (No R.Session)) l l' → Tells g old old (Asks s names) whole l l'
 query_unknown g old s names fault whole l l' why prints =
     let none : session_of old s ≡ None = none_found s (session_of old s) fault why in
-    told_refused g old (Query s names) R.Session whole l l' (rw none refl) refl prints
+    told_refused g old (Asks s names) R.Session whole l l' (rw none refl) refl prints
 
 -- the names are no values
 query_unnamed : (g : Grounds) (old : State) (s : ℕ) (names : List ℕ) (session : Session) (whole : Bool) (l l' : LinkSeen) → session_of old s ≡ Some session → values_of names ≡ None →
-    Prints whole (reply_text (No R.Values)) l l' → Tells g old old (Query s names) whole l l'
-query_unnamed g old s names session whole l l' there none prints = told_refused g old (Query s names) R.Values whole l l' (rw there (rw none refl)) refl prints
+    Prints whole (reply_text (No R.Values)) l l' → Tells g old old (Asks s names) whole l l'
+query_unnamed g old s names session whole l l' there none prints = told_refused g old (Asks s names) R.Values whole l l' (rw there (rw none refl)) refl prints
 
 pub query_faulty : (g : Grounds) (old : State) (s : ℕ) (names : List ℕ) (session : Session) (fault : ValuesFault) (refusal : Option Refusal) (whole : Bool) (l l' : LinkSeen) → session_of old s ≡ Some session →
-    (fault ≡ V.NoMemory) ⊎ (values_fault names ≡ Some fault) → refusal ≡ refusal_of_values fault → Prints whole (reply_text (refused_reply refusal)) l l' → Tells g old old (Query s names) whole l l'
+    (fault ≡ V.NoMemory) ⊎ (values_fault names ≡ Some fault) → refusal ≡ refusal_of_values fault → Prints whole (reply_text (refused_reply refusal)) l l' → Tells g old old (Asks s names) whole l l'
 query_faulty g old s names session fault refusal whole l l' there why told prints = by_fault fault why (subst (λ (o : Option Refusal). Prints whole (reply_text (refused_reply o)) l l') told prints)
   where
     none : (f : ValuesFault) → values_fault names ≡ Some f → values_of names ≡ None
     none f e = rw e refl
 
-    by_fault : (f : ValuesFault) → (f ≡ V.NoMemory) ⊎ (values_fault names ≡ Some f) → Prints whole (reply_text (refused_reply (refusal_of_values f))) l l' → Tells g old old (Query s names) whole l l'
-    by_fault V.NoMemory w p = told_memory g old (Query s names) whole l l' refl p
+    by_fault : (f : ValuesFault) → (f ≡ V.NoMemory) ⊎ (values_fault names ≡ Some f) → Prints whole (reply_text (refused_reply (refusal_of_values f))) l l' → Tells g old old (Asks s names) whole l l'
+    by_fault V.NoMemory w p = told_memory g old (Asks s names) whole l l' refl p
     by_fault (V.Count n) (inr e) p = query_unnamed g old s names session whole l l' there (none (V.Count n) e) p
     by_fault (V.BadName i) (inr e) p = query_unnamed g old s names session whole l l' there (none (V.BadName i) e) p
     by_fault (V.Twice i) (inr e) p = query_unnamed g old s names session whole l l' there (none (V.Twice i) e) p
@@ -58,10 +58,10 @@ got-index (y ∷ xs) (suc n) x d e = got-index xs n x d e
 -- the query is answered
 pub query_answered : (g : Grounds) (old : State) (s : ℕ) (names : List ℕ) (session : Session) (values : List (List ℕ)) (level version : ℕ) (name : List ℕ) (rows : List NamedRow) (whole : Bool) (l l' : LinkSeen) →
     session_of old s ≡ Some session → values_of names ≡ Some values → IsProof (equations_of session values) rows level → IsPolicyLevel (equations_of session values) level →
-    slice_get values level ≡ Some name → version ≡ length session.pinned → Prints whole (reply_text (Value level name version rows)) l l' → Tells g old old (Query s names) whole l l'
+    slice_get values level ≡ Some name → version ≡ length session.pinned → Prints whole (reply_text (Value level name version rows)) l l' → Tells g old old (Asks s names) whole l l'
 query_answered g old s names session values level version name rows whole l l' there named proved least got at prints =
     let called : slice_index_or values level [] ≡ name = got-index values level name [] got in
-    told_done g old old (Query s names) (Value level name version rows) whole l l' refl (rw there (rw named refl))
+    told_done g old old (Asks s names) (Value level name version rows) whole l l' refl (rw there (rw named refl))
     (λ caller past. record {
       session = session;
       values = values;

@@ -12,6 +12,7 @@ use Rattle.kn_reply.specs.Replies.{reply_text}
 use Rattle.kn_wire.specs.Feeding.{Held, Bytes, held_bytes, pushed, next_of}
 use Rattle.kn_daemon.specs.declared.ended.Ended.{Ended}
 use Rattle.kn_daemon.specs.declared.ended.Ended.TheVariants as E
+use Rattle.kn_daemon.specs.Shapes.{shape_of}
 use Rattle.kn_daemon.specs.Daemon.{Grounds, State, first_state}
 use Rattle.kn_daemon.specs.Served.{IsServed, is_bye, is_block}
 use Rattle.kn_daemon.specs.Underway.{IsUnderway, IsReplied}
@@ -36,9 +37,9 @@ serving_room law g u v l l' now h answered s few = (answered, omega arith, law g
 
 -- what was replied is told by the number that the pass had at first
 replied-at-first : (g : Grounds) (u v w : PassSeen) (l l' l'' : LinkSeen) (old new : State) (h : Held) (answered : ℕ) (request : Request) (whole : Bool) →
-    Serving g u v l l' old h answered → (d : Handles g v w old new request whole l' l'') → IsReplied g u.number v.seen d.more d.entries old request d.reply new
+    Serving g u v l l' old h answered → (d : Handles g v w old new (shape_of request) whole l' l'') → IsReplied g u.number v.seen d.more d.entries old (shape_of request) d.reply new
 replied-at-first g u v w l l' l'' old new h answered request whole s d =
-    subst (λ (k : ℕ). IsReplied g k v.seen d.more d.entries old request d.reply new) s.gains.moves.number d.replied
+    subst (λ (k : ℕ). IsReplied g k v.seen d.more d.entries old (shape_of request) d.reply new) s.gains.moves.number d.replied
 
 -- one more request that doesn't end the connection
 pub serving_answers : AnswersOne → (g : Grounds) (u v w : PassSeen) (l l' l'' : LinkSeen) (old new : State) (h h' : Held) (answered : ℕ) (request : Request) →

@@ -1,20 +1,18 @@
 -- One request of a connection answered (keynoted's own).
-use Rattle.std.specs.Prelude.{ℕ, ◌≡◌, ◌<◌, ◌^◌, ⊤, Bool, true, false, List, Option, Some, None, option_to_list, option_map, Result, Ok, Err}
-use Rattle.kn_fields.specs.declared.fault.ReadFault.{ReadFault}
-use Rattle.kn_fields.specs.Numbers.{fault_number, fault_place}
+use Rattle.std.specs.Prelude.{ℕ, ◌≡◌, ◌<◌, ◌^◌, Bool, true, false, List, Option, Some, None, option_to_list}
 use Rattle.kn_env.specs.declared.values.ValuesFault.{ValuesFault}
 use Rattle.kn_env.specs.declared.values.ValuesFault.TheVariants as V
 use Rattle.kn_outside.specs.Seen.{LinkSeen}
 use Rattle.kn_outside.specs.Printing.{Prints}
 use Rattle.kn_store.specs.declared.update.Update.{Update}
-use Rattle.kn_session.specs.declared.fault.SessionFault.{SessionFault}
 use Rattle.kn_wire.specs.declared.fault.WireFault.TheVariants as F
 use Rattle.kn_reply.specs.declared.refusal.Refusal.{Refusal}
 use Rattle.kn_reply.specs.declared.refusal.Refusal.TheVariants as R
 use Rattle.kn_wire.specs.Requests.{Request, Bye, Faulty}
-use Rattle.kn_reply.specs.Replies.{Reply, Done, No, NoMemory, reply_text}
+use Rattle.kn_reply.specs.Replies.{Reply, No, NoMemory, reply_text}
 use Rattle.kn_wire.specs.Feeding.{Held, next_of}
-use Rattle.kn_daemon.specs.Daemon.{Grounds, State, Permits, refusal_of_session}
+use Rattle.kn_daemon.specs.Shapes.{Shape, shape_of}
+use Rattle.kn_daemon.specs.Daemon.{Grounds, State, Permits, own_refusal}
 use Rattle.kn_daemon.specs.Linearized.{update_by, is_placed}
 use Rattle.kn_daemon.specs.Served.{is_bye, is_block}
 use Rattle.kn_daemon.specs.Underway.{IsReplied, IsSmall}
@@ -31,27 +29,29 @@ state_of c = record { started = c.sessions.started; sessions = c.sessions.sessio
 abbrev pub HasRoom : State → Type 0
 HasRoom state = (n : ℕ) × (n < 2 ^ 31) × IsSmall n state
 
--- The request was answered: what the pass saw meanwhile, and a reply that is permitted then, which was printed whole or in part.
-pub record Handles (g : Grounds) (v w : PassSeen) (old new : State) (request : Request) (whole : Bool) (l l' : LinkSeen) : Type 0 where
+-- A request of this shape was answered: what the pass saw meanwhile, and a reply that is permitted then, which was printed whole or
+-- in part. The pass didn't move where the state alone refuses.
+pub record Handles (g : Grounds) (v w : PassSeen) (old new : State) (shape : Shape) (whole : Bool) (l l' : LinkSeen) : Type 0 where
   pub reply : Reply
   pub more : List Update
   pub entries : List ℕ
-  pub moves : Moves v w more (option_to_list (update_by v.number request reply)) entries
-  pub replied : IsReplied g v.number v.seen more entries old request reply new
+  pub moves : Moves v w more (option_to_list (update_by v.number shape reply)) entries
+  pub replied : IsReplied g v.number v.seen more entries old shape reply new
+  pub still : (refusal : Refusal) → own_refusal g old shape ≡ Some refusal → w ≡ v
   pub prints : Prints whole (reply_text reply) l l'
 
--- The request was answered by the state alone: a reply that is permitted wherever it stands, which was printed whole or in part.
-pub record Tells (g : Grounds) (old new : State) (request : Request) (whole : Bool) (l l' : LinkSeen) : Type 0 where
+-- A request of this shape was answered by the state alone: a reply that is permitted wherever it stands, which was printed whole or in part.
+pub record Tells (g : Grounds) (old new : State) (shape : Shape) (whole : Bool) (l l' : LinkSeen) : Type 0 where
   pub reply : Reply
-  pub permitted : (caller : ℕ) (past : List Update) → Permits g caller past old request reply new
-  pub no_update : (caller : ℕ) → update_by caller request reply ≡ None
-  pub unplaced : is_placed request reply ≡ false
+  pub permitted : (caller : ℕ) (past : List Update) → Permits g caller past old shape reply new
+  pub no_update : (caller : ℕ) → update_by caller shape reply ≡ None
+  pub unplaced : is_placed shape reply ≡ false
   pub prints : Prints whole (reply_text reply) l l'
 
 -- the next request was spent and answered
 pub record TakesNext (g : Grounds) (v w : PassSeen) (old new : State) (h h' : Held) (request : Request) (whole : Bool) (l l' : LinkSeen) : Type 0 where
   pub next : next_of h ≡ Some (request, h')
-  pub handled : Handles g v w old new request whole l l'
+  pub handled : Handles g v w old new (shape_of request) whole l l'
 
 -- the next request, if there is one, was spent and answered
 abbrev pub MakesStep : Grounds → PassSeen → PassSeen → State → State → Held → Held → LinkSeen → LinkSeen → Step → Type 0
@@ -60,10 +60,6 @@ MakesStep g v w old new h h' l l' Answered = (request : Request) × TakesNext g 
 MakesStep g v w old new h h' l l' SaidBye = TakesNext g v w old new h h' Bye true l l'
 MakesStep g v w old new h h' l l' (Blocked n) = TakesNext g v w old new h h' (Faulty (F.Block n)) true l l'
 MakesStep g v w old new h h' l l' WriteFailed = (request : Request) × TakesNext g v w old new h h' request false l l'
-
--- the refusal that a fault of a text is told by; want of memory is none
-abbrev pub refusal_of_read : ReadFault → Option Refusal
-refusal_of_read fault = option_map (λ number. R.Read number (fault_place fault)) (fault_number fault)
 
 -- the refusal of names that are no compliance values; want of memory is none
 abbrev pub refusal_of_values : ValuesFault → Option Refusal
@@ -76,8 +72,3 @@ refusal_of_values V.NoMemory = None
 abbrev pub refused_reply : Option Refusal → Reply
 refused_reply None = NoMemory
 refused_reply (Some refusal) = No refusal
-
--- the reply to a request that a call of the sessions answered so
-abbrev pub reply_of_call : Result ⊤ SessionFault → Reply
-reply_of_call (Ok done) = Done
-reply_of_call (Err fault) = refused_reply (refusal_of_session fault)

@@ -1,5 +1,5 @@
 -- A connection served, as its call shows it (keynoted's own).
-use Rattle.std.specs.Prelude.{ℕ, ◌≡◌, ◌≤◌, ◌<◌, ◌⊎◌, Bool, true, false, List, [], length, Option, Some, None, ◌==◌}
+use Rattle.std.specs.Prelude.{ℕ, ◌≡◌, ◌≢◌, ◌≤◌, ◌<◌, ◌⊎◌, Bool, true, false, List, [], length, Option, Some, None, ◌==◌}
 use Rattle.std.specs.List.{list_any, last_or}
 use Rattle.kn_base.specs.declared.limits.TheConstants.{REQUESTS}
 use Rattle.kn_outside.specs.Seen.{LinkSeen}
@@ -23,9 +23,9 @@ abbrev pub is_over : Option (List ℕ) → Bool
 is_over None = true
 is_over (Some left) = length left == 0
 
--- more bytes were read and are held, or a read failed, or the input has ended
+-- more bytes were read, one at least, and are held, or a read failed, or the input has ended
 abbrev pub Fills : Held → Held → LinkSeen → LinkSeen → Fill → Type 0
-Fills h h' l l' More = (piece : List ℕ) × (h' ≡ pushed h piece) × Reads piece l l'
+Fills h h' l l' More = (piece : List ℕ) × (h' ≡ pushed h piece) × Reads piece l l' × (piece ≢ [])
 Fills h h' l l' Failed = (h' ≡ h) × Fails l l' × (l.faults ≤ l'.faults)
 Fills h h' l l' End = (h' ≡ h) × Reads [] l l' × (is_over l'.left ≡ true)
 

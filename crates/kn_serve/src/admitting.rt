@@ -1,7 +1,8 @@
 //! Showing the administrators' secret.
 ghost use Rattle.std.specs.Prelude.{◌≡◌};
 ghost use Rattle.kn_outside.specs.Printing.{is_whole};
-ghost use Rattle.kn_wire.specs.Requests as Q;
+ghost use Rattle.kn_wire.specs.Digits.{bytes_of_digits};
+ghost use Rattle.kn_daemon.specs.Shapes.{Controls, ShowSecret};
 ghost use Rattle.kn_daemon.specs.Daemon.{Grounds};
 ghost use Rattle.kn_serve.specs.Handling.{state_of, Tells};
 
@@ -17,7 +18,7 @@ pub(crate) fn show_secret<L: Link>(
     digits: &[u8],
     link: &mut L,
 ) -> Result<(), Failed>
-    ensures told { (g : Grounds) → g.secret ≡ secret.now → Tells g (state_of connection.old) (state_of connection.new) (Q.Admin digits.now) (is_whole result) (L.seen link.old) (L.seen link.new) }
+    ensures told { (g : Grounds) → g.secret ≡ secret.now → Tells g (state_of connection.old) (state_of connection.new) (Controls (ShowSecret (bytes_of_digits digits.now))) (is_whole result) (L.seen link.old) (L.seen link.new) }
 {
     if secret.is_empty() || !are_digits_of(digits, secret) {
         return print(&Reply::No(Refusal::Admin), link);

@@ -2,17 +2,18 @@
 ghost use Rattle.std.specs.Prelude.{◌≡◌, ◌≤◌, length, None};
 ghost use Rattle.kn_base.specs.declared.limits.TheConstants.{ASSERTION_BYTES};
 ghost use Rattle.kn_outside.specs.Printing.{is_whole};
-ghost use Rattle.kn_wire.specs.Requests as Q;
 ghost use Rattle.kn_registry.specs.Passes.{IsReady};
+ghost use Rattle.kn_daemon.specs.Shapes.{Updates, AddText, DropId};
 ghost use Rattle.kn_daemon.specs.Daemon.{Grounds, State, own_refusal};
 ghost use Rattle.kn_serve.specs.Handling.{state_of, Handles};
 
+use crate::config::DaemonConfig;
 use crate::connection::Connection;
-use crate::refusals::{print_refusal, refusal_of_read, refusal_of_store};
+use crate::refusals::{print_refusal, refusal_of_store, refusal_of_text};
 use kn_assert::read;
 use kn_auth::Authenticator;
 use kn_base::NoMemory;
-use kn_outside::{Failed, Link};
+use kn_outside::{Failed, Gate, Link};
 use kn_registry::{Pass, Registry};
 use kn_reply::{Refusal, Reply, print};
 use kn_store::Ready;
@@ -20,29 +21,28 @@ use std::alloc::Global;
 use std::sync::Wait;
 
 /// Answers ADD.
-pub(crate) fn add<R: Wait, A: Authenticator, L: Link>(
+pub(crate) fn add<R: Wait, A: Authenticator, L: Link, G: Gate>(
     rt: &R,
     alloc: Global,
-    reg: &Registry,
+    config: &DaemonConfig<'_, A, G>,
     pass: &mut Pass,
-    auth: &A,
     connection: &Connection,
     block: &[u8],
     link: &mut L,
 ) -> Result<(), Failed>
-    requires ready { IsReady reg.now pass.old }
+    requires ready { IsReady config.now.registry.now pass.old }
     requires short { length block.now ≤ ASSERTION_BYTES }
-    ensures ready { IsReady reg.now pass.new }
-    ensures handled { (g : Grounds) → g.verdict ≡ A.verdict auth.now → Handles g pass.old pass.new (state_of connection.now) (state_of connection.now) (Q.Add block.now) (is_whole result) (L.seen link.old) (L.seen link.new) }
+    ensures ready { IsReady config.now.registry.now pass.new }
+    ensures handled { (g : Grounds) → g.verdict ≡ A.verdict config.now.authenticator.now → Handles g pass.old pass.new (state_of connection.now) (state_of connection.now) (Updates (AddText block.now)) (is_whole result) (L.seen link.old) (L.seen link.new) }
 {
     if !connection.is_admin {
         return print(&Reply::No(Refusal::Admin), link);
     }
     let assertion = match read(alloc, block) {
         Ok(assertion) => assertion,
-        Err(fault) => return print_refusal(refusal_of_read(&fault), link),
+        Err(fault) => return print_refusal(refusal_of_text(&fault), link),
     };
-    match auth.admit(block, &assertion) {
+    match config.authenticator.admit(block, &assertion) {
         Ok(()) => {}
         Err(fault) => {
             let fault = fault.number();
@@ -50,7 +50,7 @@ pub(crate) fn add<R: Wait, A: Authenticator, L: Link>(
         }
     }
     match Ready::of(alloc, block, assertion) {
-        Ok(ready) => add_ready(rt, reg, pass, ready, link),
+        Ok(ready) => add_ready(rt, config.registry, pass, ready, link),
         Err(NoMemory) => print(&Reply::NoMemory, link),
     }
 }
@@ -65,7 +65,7 @@ fn add_ready<R: Wait, L: Link>(
 ) -> Result<(), Failed>
     requires ready { IsReady reg.now pass.old }
     ensures ready { IsReady reg.now pass.new }
-    ensures handled { (g : Grounds) (old : State) → own_refusal g old (Q.Add ready) ≡ None → Handles g pass.old pass.new old old (Q.Add ready) (is_whole result) (L.seen link.old) (L.seen link.new) }
+    ensures handled { (g : Grounds) (old : State) → own_refusal g old (Updates (AddText ready)) ≡ None → Handles g pass.old pass.new old old (Updates (AddText ready)) (is_whole result) (L.seen link.old) (L.seen link.new) }
 {
     match reg.add(rt, pass, ready) {
         Ok((k, version)) => print(&Reply::Added { k, version }, link),
@@ -84,7 +84,7 @@ pub(crate) fn remove<R: Wait, L: Link>(
 ) -> Result<(), Failed>
     requires ready { IsReady reg.now pass.old }
     ensures ready { IsReady reg.now pass.new }
-    ensures handled { (g : Grounds) → Handles g pass.old pass.new (state_of connection.now) (state_of connection.now) (Q.Drop k) (is_whole result) (L.seen link.old) (L.seen link.new) }
+    ensures handled { (g : Grounds) → Handles g pass.old pass.new (state_of connection.now) (state_of connection.now) (Updates (DropId k)) (is_whole result) (L.seen link.old) (L.seen link.new) }
 {
     if !connection.is_admin {
         return print(&Reply::No(Refusal::Admin), link);

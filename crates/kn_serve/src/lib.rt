@@ -5,15 +5,15 @@
 
 mod admitting;
 mod answering;
-mod asserting;
+mod calling;
 mod changing;
+mod config;
 mod connection;
 mod filling;
 mod opening;
 mod querying;
 mod refusals;
 mod serving;
-mod setting;
 mod step;
 
 pub use kn_daemon::ended::Ended;

@@ -1,12 +1,11 @@
-//! Opening a session, closing it, and pinning it to the newest version.
+//! Opening a session, and pinning one to the newest version.
 ghost use Rattle.kn_outside.specs.Printing.{is_whole};
-ghost use Rattle.kn_wire.specs.Requests as Q;
 ghost use Rattle.kn_registry.specs.Passes.{IsReady};
+ghost use Rattle.kn_daemon.specs.Shapes.{Looks, ForNew, ForOpen};
 ghost use Rattle.kn_daemon.specs.Daemon.{Grounds};
-ghost use Rattle.kn_serve.specs.Handling.{state_of, HasRoom, Handles, Tells};
+ghost use Rattle.kn_serve.specs.Handling.{state_of, HasRoom, Handles};
 
 use crate::connection::Connection;
-use crate::refusals::print_call;
 use kn_base::NoMemory;
 use kn_base::limits::SESSIONS;
 use kn_outside::{Failed, Link};
@@ -25,7 +24,7 @@ pub(crate) fn open<R: Wait, L: Link>(
     requires ready { IsReady reg.now pass.old }
     requires room { HasRoom (state_of connection.old) }
     ensures ready { IsReady reg.now pass.new }
-    ensures handled { (g : Grounds) → Handles g pass.old pass.new (state_of connection.old) (state_of connection.new) Q.Open (is_whole result) (L.seen link.old) (L.seen link.new) }
+    ensures handled { (g : Grounds) → Handles g pass.old pass.new (state_of connection.old) (state_of connection.new) (Looks ForNew) (is_whole result) (L.seen link.old) (L.seen link.new) }
 {
     let count = connection.sessions.len();
     if count >= SESSIONS {
@@ -54,7 +53,7 @@ pub(crate) fn pin<R: Wait, L: Link>(
 ) -> Result<(), Failed>
     requires ready { IsReady reg.now pass.old }
     ensures ready { IsReady reg.now pass.new }
-    ensures handled { (g : Grounds) → Handles g pass.old pass.new (state_of connection.old) (state_of connection.new) (Q.Pin s) (is_whole result) (L.seen link.old) (L.seen link.new) }
+    ensures handled { (g : Grounds) → Handles g pass.old pass.new (state_of connection.old) (state_of connection.new) (Looks (ForOpen s)) (is_whole result) (L.seen link.old) (L.seen link.new) }
 {
     match connection.sessions.view(s) {
         Ok(_) => {}
@@ -69,16 +68,4 @@ pub(crate) fn pin<R: Wait, L: Link>(
         Ok(()) => print(&Reply::Number { version }, link),
         Err(_) => unreachable!(),
     }
-}
-
-/// Answers CLOSE.
-pub(crate) fn close<L: Link>(
-    connection: &mut Connection,
-    s: u32,
-    link: &mut L,
-) -> Result<(), Failed>
-    ensures told { (g : Grounds) → Tells g (state_of connection.old) (state_of connection.new) (Q.Close s) (is_whole result) (L.seen link.old) (L.seen link.new) }
-{
-    let called = connection.sessions.close(s);
-    print_call(called, link)
 }

@@ -1,6 +1,6 @@
 //! Asking with a session.
 ghost use Rattle.kn_outside.specs.Printing.{is_whole};
-ghost use Rattle.kn_wire.specs.Requests as Q;
+ghost use Rattle.kn_daemon.specs.Shapes.{Asks};
 ghost use Rattle.kn_daemon.specs.Daemon.{Grounds};
 ghost use Rattle.kn_serve.specs.Handling.{state_of, Tells};
 
@@ -21,7 +21,7 @@ pub(crate) fn query<L: Link>(
     names: &[u8],
     link: &mut L,
 ) -> Result<(), Failed>
-    ensures told { (g : Grounds) → Tells g (state_of connection.now) (state_of connection.now) (Q.Query s names.now) (is_whole result) (L.seen link.old) (L.seen link.new) }
+    ensures told { (g : Grounds) → Tells g (state_of connection.now) (state_of connection.now) (Asks s names.now) (is_whole result) (L.seen link.old) (L.seen link.new) }
 {
     let view = match connection.sessions.view(s) {
         Ok(view) => view,

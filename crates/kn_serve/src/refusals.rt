@@ -3,14 +3,15 @@ ghost use Rattle.std.specs.Prelude.{◌≡◌, ◌<◌, ◌^◌};
 ghost use Rattle.kn_fields.specs.Numbers.{fault_place};
 ghost use Rattle.kn_outside.specs.Printing.{Prints, is_whole};
 ghost use Rattle.kn_reply.specs.Replies.{reply_text};
-ghost use Rattle.kn_daemon.specs.Daemon.{refusal_of_fault, refusal_of_session, refusal_of_store};
-ghost use Rattle.kn_serve.specs.Handling.{refusal_of_read, refusal_of_values, refused_reply, reply_of_call};
+ghost use Rattle.kn_session.specs.Calls.{place_of_fault};
+ghost use Rattle.kn_daemon.specs.Daemon.{refusal_of_fault, refusal_of_text, refusal_of_session, refusal_of_call, refusal_of_store, reply_of_call};
+ghost use Rattle.kn_serve.specs.Handling.{refusal_of_values, refused_reply};
 
 use kn_assert::ReadFault;
 use kn_env::ValuesFault;
 use kn_outside::{Failed, Link};
 use kn_reply::{LimitWord, Refusal, Reply, print};
-use kn_session::SessionFault;
+use kn_session::{Applied, CallFault, SessionFault};
 use kn_store::StoreFault;
 use kn_wire::WireFault;
 
@@ -27,9 +28,9 @@ pub(crate) fn refusal_of_fault(fault: WireFault) -> Refusal
 }
 
 /// The refusal of a text with this fault; None for want of memory.
-pub(crate) fn refusal_of_read(fault: &ReadFault) -> Option<Refusal>
+pub(crate) fn refusal_of_text(fault: &ReadFault) -> Option<Refusal>
     requires { fault_place fault.now < 2 ^ 32 }
-    ensures { result ≡ refusal_of_read fault.now }
+    ensures { result ≡ refusal_of_text fault.now }
 {
     let place = fault.place() as u32;
     match fault.number() {
@@ -64,8 +65,19 @@ pub(crate) fn refusal_of_store(fault: StoreFault) -> Option<Refusal>
     }
 }
 
-/// The refusal of a call of the sessions; None for want of memory.
-pub(crate) fn refusal_of_session(fault: SessionFault) -> Option<Refusal>
+/// The refusal of a call of a session; None for want of memory.
+pub(crate) fn refusal_of_call(fault: &CallFault) -> Option<Refusal>
+    requires { place_of_fault fault.now < 2 ^ 32 }
+    ensures { result ≡ refusal_of_call fault.now }
+{
+    match fault {
+        CallFault::Text { fault } => refusal_of_text(fault),
+        CallFault::Session { fault } => refusal_of_session(*fault),
+    }
+}
+
+/// The refusal that a fault of the sessions is; None for want of memory.
+fn refusal_of_session(fault: SessionFault) -> Option<Refusal>
     ensures { result ≡ refusal_of_session fault }
 {
     match fault {
@@ -101,15 +113,12 @@ pub(crate) fn print_refusal<L: Link>(refusal: Option<Refusal>, link: &mut L) -> 
     }
 }
 
-/// Prints the reply to a request that a call of the sessions answered so.
-pub(crate) fn print_call<L: Link>(
-    called: Result<(), SessionFault>,
-    link: &mut L,
-) -> Result<(), Failed>
-    ensures prints { Prints (is_whole result) (reply_text (reply_of_call called)) (L.seen link.old) (L.seen link.new) }
+/// Prints what an accepted call of a session gave.
+pub(crate) fn print_applied<L: Link>(applied: Applied, link: &mut L) -> Result<(), Failed>
+    ensures prints { Prints (is_whole result) (reply_text (reply_of_call applied)) (L.seen link.old) (L.seen link.new) }
 {
-    match called {
-        Ok(()) => print(&Reply::Ok, link),
-        Err(fault) => print_refusal(refusal_of_session(fault), link),
+    match applied {
+        Applied::Done => print(&Reply::Ok, link),
+        Applied::Added { k } => print(&Reply::Private { k }, link),
     }
 }

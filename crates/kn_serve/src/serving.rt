@@ -3,6 +3,7 @@ ghost use Rattle.std.specs.Prelude.{◌≡◌, ◌⊎◌, IfSome};
 ghost use Rattle.kn_registry.specs.Passes.{IsReady};
 ghost use Rattle.kn_serve.specs.Serving.{Serves, IsOrderly, IsFaultless};
 
+use crate::config::DaemonConfig;
 use crate::connection::Connection;
 use crate::filling::{Fill, end_of, read_more};
 use crate::step::{Step, answer_next};
@@ -38,22 +39,25 @@ pub fn serve_connection<R: Wait, A: Authenticator, L: Link, G: Gate>(
     // Where the link tells an input that is in order, and no call of it fails, all is answered if there is memory.
     ensures complete { IfSome (L.seen link.old).left (λ input. IsOrderly input → IsFaultless (L.seen link.old) (L.seen link.new) → (result ≡ Ended.Done) ⊎ (result ≡ Ended.Memory)) }
 {
-    serve_requests(rt, alloc, reg, pass, auth, secret, link, gate)
+    let config = DaemonConfig {
+        registry: reg,
+        authenticator: auth,
+        secret,
+        gate,
+    };
+    serve_requests(rt, alloc, &config, pass, link)
 }
 
 fn serve_requests<R: Wait, A: Authenticator, L: Link, G: Gate>(
     rt: &R,
     alloc: Global,
-    reg: &Registry,
+    config: &DaemonConfig<'_, A, G>,
     pass: &mut Pass,
-    auth: &A,
-    secret: &[u8],
     link: &mut L,
-    gate: &G,
 ) -> Ended
-    requires ready { IsReady reg.now pass.old }
-    ensures ready { IsReady reg.now pass.new }
-    ensures serves { Serves (record { secret = secret.now; verdict = A.verdict auth.now }) pass.old pass.new (L.seen link.old) (L.seen link.new) result }
+    requires ready { IsReady config.now.registry.now pass.old }
+    ensures ready { IsReady config.now.registry.now pass.new }
+    ensures serves { Serves (record { secret = config.now.secret.now; verdict = A.verdict config.now.authenticator.now }) pass.old pass.new (L.seen link.old) (L.seen link.new) result }
 {
     laws::serving_begins();
     laws::serving_takes();
@@ -71,14 +75,11 @@ fn serve_requests<R: Wait, A: Authenticator, L: Link, G: Gate>(
         match answer_next(
             rt,
             alloc,
-            reg,
+            config,
             pass,
-            auth,
-            secret,
             &mut connection,
             &mut feed,
             link,
-            gate,
             answered + 1,
         ) {
             Step::Answered => {

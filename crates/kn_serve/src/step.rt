@@ -8,10 +8,11 @@ ghost use Rattle.kn_registry.specs.Passes.{IsReady};
 ghost use Rattle.kn_serve.specs.Handling.{state_of, HasRoom, MakesStep};
 
 use crate::answering::{answer, refuse};
+use crate::config::DaemonConfig;
 use crate::connection::Connection;
 use kn_auth::Authenticator;
 use kn_outside::{Failed, Gate, Link};
-use kn_registry::{Pass, Registry};
+use kn_registry::Pass;
 use kn_wire::{Feed, Request, WireFault};
 use std::alloc::Global;
 use std::sync::Wait;
@@ -31,29 +32,24 @@ pub(crate) enum Step {
 pub(crate) fn answer_next<R: Wait, A: Authenticator, L: Link, G: Gate>(
     rt: &R,
     alloc: Global,
-    reg: &Registry,
+    config: &DaemonConfig<'_, A, G>,
     pass: &mut Pass,
-    auth: &A,
-    secret: &[u8],
     connection: &mut Connection,
     feed: &mut Feed,
     link: &mut L,
-    gate: &G,
     place: u32,
 ) -> Step
-    requires ready { IsReady reg.now pass.old }
+    requires ready { IsReady config.now.registry.now pass.old }
     requires room { HasRoom (state_of connection.old) }
-    ensures ready { IsReady reg.now pass.new }
-    ensures stepped { MakesStep (record { secret = secret.now; verdict = A.verdict auth.now }) pass.old pass.new (state_of connection.old) (state_of connection.new) (held feed.old) (held feed.new) (L.seen link.old) (L.seen link.new) result }
+    ensures ready { IsReady config.now.registry.now pass.new }
+    ensures stepped { MakesStep (record { secret = config.now.secret.now; verdict = A.verdict config.now.authenticator.now }) pass.old pass.new (state_of connection.old) (state_of connection.new) (held feed.old) (held feed.new) (L.seen link.old) (L.seen link.new) result }
 {
     match feed.next() {
         Ok(None) => Step::Dry,
         Ok(Some(request)) => {
             let is_bye = says_bye(&request);
-            gate.before_reply(rt, pass.number(), place);
-            match answer(
-                rt, alloc, reg, pass, auth, secret, connection, request, link,
-            ) {
+            config.gate.before_reply(rt, pass.number(), place);
+            match answer(rt, alloc, config, pass, connection, request, link) {
                 Ok(()) => if is_bye {
                     Step::SaidBye
                 } else {
@@ -63,7 +59,7 @@ pub(crate) fn answer_next<R: Wait, A: Authenticator, L: Link, G: Gate>(
             }
         }
         Err(fault) => {
-            gate.before_reply(rt, pass.number(), place);
+            config.gate.before_reply(rt, pass.number(), place);
             match refuse(fault, link) {
                 Ok(()) => match fault {
                     WireFault::Block { n } => Step::Blocked { n },
@@ -80,22 +76,5 @@ fn says_bye(request: &Request<'_>) -> bool
     ensures others { result ≡ false → is_bye (request_of request.now) ≡ false }
     ensures no_block { is_block (request_of request.now) ≡ false }
 {
-    match request {
-        Request::Bye => true,
-        Request::Start
-        | Request::Close { .. }
-        | Request::Pin { .. }
-        | Request::Assert { .. }
-        | Request::Retract { .. }
-        | Request::Set { .. }
-        | Request::SetHex { .. }
-        | Request::Unset { .. }
-        | Request::Auth { .. }
-        | Request::Unauth { .. }
-        | Request::Clear { .. }
-        | Request::Query { .. }
-        | Request::Admin { .. }
-        | Request::Add { .. }
-        | Request::Remove { .. } => false,
-    }
+    matches!(request, Request::Bye)
 }

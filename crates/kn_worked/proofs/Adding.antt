@@ -11,6 +11,7 @@ use Rattle.kn_meaning.specs.Equations.{Equations, IsPolicyLevel}
 use Rattle.kn_meaning.specs.Proofs.{IsProof}
 use Rattle.kn_wire.specs.Requests.{Open, Admin, Auth, Add, Query, Pin}
 use Rattle.kn_reply.specs.Replies.{Done, Started, Added, Value, Number}
+use Rattle.kn_daemon.specs.Shapes.{shape_of}
 use Rattle.kn_daemon.specs.Daemon.{Grounds, State, first_state, changed, refusal_of_reading, refusal_of_verdict}
 use Rattle.kn_worked.specs.Texts.{credential_text, credential_assertion}
 use Rattle.kn_worked.specs.Connections.{policy_history, longer_history, BobIsAnswered}
@@ -18,16 +19,16 @@ use Rattle.kn_worked.proofs.Readings.{credential_reading}
 use Rattle.kn_worked.proofs.Levels.{two_values, policy_row, alice_row, bob_level, bob_proof, bob_session, bob_question, longer_level, longer_proof, later_session, later_question, policy_valid}
 
 after_open : State
-after_open = changed policy_history first_state Open
+after_open = changed policy_history first_state (shape_of Open)
 
 after_admin : State
-after_admin = changed policy_history after_open (Admin (codes "733363726574"))
+after_admin = changed policy_history after_open (shape_of (Admin (codes "733363726574")))
 
 after_auth : State
-after_auth = changed policy_history after_admin (Auth 1 (codes "bob"))
+after_auth = changed policy_history after_admin (shape_of (Auth 1 (codes "bob")))
 
 after_pin : ℕ → State
-after_pin caller = changed (longer_history caller) after_auth (Pin 1)
+after_pin caller = changed (longer_history caller) after_auth (shape_of (Pin 1))
 
 credential_valid : is_some (result_ok (reading_of credential_text)) ≡ true
 credential_valid = ap (λ (r : Result Assertion ReadFault). is_some (result_ok r)) credential_reading

@@ -5,15 +5,16 @@ use Rattle.kn_meaning.specs.Equations.{Equations, IsPolicyLevel}
 use Rattle.kn_meaning.specs.Proofs.{IsProof}
 use Rattle.kn_wire.specs.Requests.{Open, Auth, Query}
 use Rattle.kn_reply.specs.Replies.{Done, Started, Value}
+use Rattle.kn_daemon.specs.Shapes.{shape_of}
 use Rattle.kn_daemon.specs.Daemon.{State, first_state, changed}
 use Rattle.kn_worked.specs.Connections.{policy_history, AliceIsAnswered}
 use Rattle.kn_worked.proofs.Levels.{two_values, policy_row, alice_level, alice_proof, alice_session, alice_question, policy_valid}
 
 abbrev pub after_open : State
-after_open = changed policy_history first_state Open
+after_open = changed policy_history first_state (shape_of Open)
 
 abbrev pub after_auth : State
-after_auth = changed policy_history after_open (Auth 1 (codes "alice"))
+after_auth = changed policy_history after_open (shape_of (Auth 1 (codes "alice")))
 
 pub alice_is_answered : AliceIsAnswered
 unfolding digits

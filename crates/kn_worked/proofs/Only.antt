@@ -15,6 +15,7 @@ use Rattle.kn_session.specs.Sessions.{Session}
 use Rattle.kn_wire.specs.Requests.{Request, Open, Auth, Query, Bye, Takes, first_of}
 use Rattle.kn_reply.specs.Replies.{Reply, Done, Started, Number, PrivateAdded, Added, Value, No, NoMemory, reply_text}
 use Rattle.kn_daemon.specs.declared.ended.Ended.TheVariants as E
+use Rattle.kn_daemon.specs.Shapes.{shape_of}
 use Rattle.kn_daemon.specs.Daemon as D
 use Rattle.kn_daemon.specs.Daemon.{Grounds, State, first_state, Permits}
 use Rattle.kn_daemon.specs.Linearized.{Exchange, Along, InOrder, IsBehind, update_by, requests_in, texts_in}
@@ -63,7 +64,7 @@ only_row (row ∷ second ∷ rest) p =
     absurd (true_false fresh)
 
 module _ (g : Grounds) (caller : ℕ) where
-  opened : (reply : Reply) (mid : State) → is_no_memory reply ≡ false → Permits g caller policy_history first_state Open reply mid → (reply ≡ Started 1 1) × (mid ≡ after_open)
+  opened : (reply : Reply) (mid : State) → is_no_memory reply ≡ false → Permits g caller policy_history first_state (shape_of Open) reply mid → (reply ≡ Started 1 1) × (mid ≡ after_open)
   opened Done mid some p = absurd (cc p.answered)
   opened (Started s version) mid some p = (p.answered, p.next)
   opened (Number version) mid some p = absurd (cc p.answered)
@@ -73,7 +74,7 @@ module _ (g : Grounds) (caller : ℕ) where
   opened (No refusal) mid some p = absurd (some_none p.0)
   opened NoMemory mid some p = absurd (cc some)
 
-  authed : (reply : Reply) (mid : State) → is_no_memory reply ≡ false → Permits g caller policy_history after_open (Auth 1 (codes "alice")) reply mid → (reply ≡ Done) × (mid ≡ after_auth)
+  authed : (reply : Reply) (mid : State) → is_no_memory reply ≡ false → Permits g caller policy_history after_open (shape_of (Auth 1 (codes "alice"))) reply mid → (reply ≡ Done) × (mid ≡ after_auth)
   authed Done mid some p = (refl, p.next)
   authed (Started s version) mid some p = absurd (cc p.answered)
   authed (Number version) mid some p = absurd (cc p.answered)
@@ -86,7 +87,7 @@ module _ (g : Grounds) (caller : ℕ) where
   abbrev told : Reply
   told = Value 1 (codes "yes") 1 (policy_row ∷ [])
 
-  queried : (reply : Reply) (mid : State) → is_no_memory reply ≡ false → Permits g caller policy_history after_auth (Query 1 (codes "no,yes")) reply mid → reply ≡ told
+  queried : (reply : Reply) (mid : State) → is_no_memory reply ≡ false → Permits g caller policy_history after_auth (shape_of (Query 1 (codes "no,yes"))) reply mid → reply ≡ told
   queried Done mid some p = absurd (cc p.answered.answer.told)
   queried (Started s version) mid some p = absurd (cc p.answered.answer.told)
   queried (Number version) mid some p = absurd (cc p.answered.answer.told)
@@ -155,15 +156,15 @@ requests_are (a ∷ b ∷ c ∷ rs) rest takes end =
     by (r ∷ more) none x y z = absurd (none_left r more rest none)
 
 -- a request that makes no update stands no earlier than the one before it
-no_earlier : (caller low place : ℕ) (request known : Request) (reply : Reply) → request ≡ known → update_by caller known reply ≡ None → IsBehind (update_by caller request reply) low place → low ≤ place
+no_earlier : (caller low place : ℕ) (request known : Request) (reply : Reply) → request ≡ known → update_by caller (shape_of known) reply ≡ None → IsBehind (update_by caller (shape_of request) reply) low place → low ≤ place
 no_earlier caller low place request known reply is none behind =
-    subst (λ (o : Option Update). IsBehind o low place) none (subst (λ (r : Request). IsBehind (update_by caller r reply) low place) is behind)
+    subst (λ (o : Option Update). IsBehind o low place) none (subst (λ (r : Request). IsBehind (update_by caller (shape_of r) reply) low place) is behind)
 
 -- a reply at the only place
 at_place : (g : Grounds) (caller place : ℕ) (old mid : State) (request known : Request) (reply : Reply) → place ≡ 1 → request ≡ known →
-    Permits g caller (take place policy_history) old request reply mid → Permits g caller policy_history old known reply mid
+    Permits g caller (take place policy_history) old (shape_of request) reply mid → Permits g caller policy_history old (shape_of known) reply mid
 at_place g caller place old mid request known reply one is p =
-    subst (λ (r : Request). Permits g caller policy_history old r reply mid) is (subst (λ (n : ℕ). Permits g caller (take n policy_history) old request reply mid) one p)
+    subst (λ (r : Request). Permits g caller policy_history old (shape_of r) reply mid) is (subst (λ (n : ℕ). Permits g caller (take n policy_history) old (shape_of request) reply mid) one p)
 
 first_false : (a b : Bool) → (a || b) ≡ false → a ≡ false
 first_false true b e = cc e
@@ -194,10 +195,10 @@ three_replies g caller start end written (a ∷ b ∷ c ∷ []) last low high ar
     let nc = first_false (is_no_memory c.reply) _ (second_false (is_no_memory b.reply) _ rest) in
     let first = opened g caller a.reply along.0 na (at_place g caller a.place first_state along.0 a.request Open a.reply (omega (arith, low, high, oa, ob, oc, od)) x along.1) in
     let second = authed g caller b.reply along.2.0 nb
-    (subst (λ (s : State). Permits g caller policy_history s (Auth 1 (codes "alice")) b.reply along.2.0) first.1
+    (subst (λ (s : State). Permits g caller policy_history s (shape_of (Auth 1 (codes "alice"))) b.reply along.2.0) first.1
     (at_place g caller b.place along.0 along.2.0 b.request (Auth 1 (codes "alice")) b.reply (omega (arith, low, high, oa, ob, oc, od)) y along.2.1)) in
     let third = queried g caller c.reply along.2.2.0 nc
-    (subst (λ (s : State). Permits g caller policy_history s (Query 1 (codes "no,yes")) c.reply along.2.2.0) second.1
+    (subst (λ (s : State). Permits g caller policy_history s (shape_of (Query 1 (codes "no,yes"))) c.reply along.2.2.0) second.1
     (at_place g caller c.place along.2.0 along.2.2.0 c.request (Query 1 (codes "no,yes")) c.reply (omega (arith, low, high, oa, ob, oc, od)) z along.2.2.1)) in
     bytes ∙ ap (λ (r : Reply). reply_text r ++ (reply_text b.reply ++ (reply_text c.reply ++ []))) first.0 ∙ ap (λ (r : Reply). reply_text (Started 1 1) ++ (reply_text r ++ (reply_text c.reply ++ []))) second.0
     ∙ ap (λ (r : Reply). reply_text (Started 1 1) ++ (reply_text Done ++ (reply_text r ++ []))) third

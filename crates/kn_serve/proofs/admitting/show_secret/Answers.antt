@@ -3,7 +3,7 @@ use Rattle.std.specs.Str.{bytes_eq}
 use Rattle.kn_wire.specs.Digits.{bytes_of_digits}
 use Rattle.kn_daemon.specs.Daemon.{is_secret}
 use Rattle.kn_serve.specs.Handling.{state_of}
-use Rattle.kn_serve.proofs.AssertingLaws.{admin_refused, admin_done, secret_right, secret_wrong}
+use Rattle.kn_serve.proofs.AdmittingLaws.{admin_refused, admin_done, secret_right, secret_wrong}
 use Rattle.kn_serve.proofs.admitting.show_secret.Goals as goal
 use Rattle.kn_serve.proofs.admitting.show_secret.Goals.{then-is_empty-via-then-is_empty, then-is_empty-via-else-is_empty+then-not-are_digits_of}
 

@@ -9,7 +9,7 @@ returns-then-not-connection-clause-handled g c = λ g' e. told_handled _ _ _ _ _
 
 pub returns-in-Err-clause-handled : goal.returns-in-Err-clause-handled
 returns-in-Err-clause-handled g c = λ g' e. told_handled _ _ _ _ _ _ _ _
-    (add_unread g' (state_of c.args.connection.now) _ _ _ _ _ _ c.if-not-connection.false c.in-Err.ensures.err c.refusal_of_read.ensures c.print_refusal.ensures.prints)
+    (add_unread g' (state_of c.args.connection.now) _ _ _ _ _ _ c.if-not-connection.false c.in-Err.ensures.err c.refusal_of_text.ensures c.print_refusal.ensures.prints)
 
 pub returns-in-Err-admit-clause-handled : goal.returns-in-Err-admit-clause-handled
 returns-in-Err-admit-clause-handled g c = λ g' e. told_handled _ _ _ _ _ _ _ _

@@ -10,7 +10,7 @@ pub returns-in-Err-clause-handled : goal.returns-in-Err-clause-handled
 returns-in-Err-clause-handled g c = λ g'. told_handled _ _ _ _ _ _ _ _ (pin_unknown g' (state_of c.args.connection.now) _ _ _ _ _ c.in-Err.ensures.fault c.print.ensures)
 
 pub returns-in-Err-pin-clause-handled : goal.returns-in-Err-pin-clause-handled
-returns-in-Err-pin-clause-handled g c = λ g'. pin_memory g' _ _ (state_of c.args.connection.now) _ _ _ _ c.in-Err-pin.ensures.refused c.print-in-Err-pin.ensures
+returns-in-Err-pin-clause-handled g c = λ g'. pin_memory g' _ _ (state_of c.args.connection.now) _ _ _ _ _ c.in-Ok.ensures.session c.in-Err-pin.ensures.refused c.print-in-Err-pin.ensures
 
 pub returns-clause-handled : goal.returns-clause-handled
 returns-clause-handled g c = λ g'. pin_done g' _ _ c.args.connection.now.sessions c.repin.new.self c.args.connection.now.is_admin _ _ (arc_value c.in-Ok-pin.snapshot) _ _ _

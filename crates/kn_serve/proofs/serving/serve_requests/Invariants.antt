@@ -8,10 +8,10 @@ use Rattle.kn_serve.proofs.serving.serve_requests.Given as goal
 
 abbrev pub invariant-requests : goal.invariant-requests
 invariant-requests g l =
-    IsReady l.fn.reg l.pass
+    IsReady l.fn.config.registry.now l.pass
     × (l.answered < REQUESTS)
     × Serving
-    (record { secret = l.fn.secret; verdict = g.A.Authenticator.verdict l.fn.auth })
+    (record { secret = l.fn.config.secret.now; verdict = g.A.Authenticator.verdict l.fn.config.authenticator.now })
     l.fn.pass
     l.pass
     (g.L.Sink.seen l.fn.link)

@@ -1,0 +1,59 @@
+//! The calls of a session.
+ghost use Rattle.std.specs.Prelude.{◌≡◌, ◌≤◌, length, true};
+ghost use Rattle.kn_base.specs.declared.limits.TheConstants.{ASSERTION_BYTES};
+ghost use Rattle.kn_outside.specs.Printing.{is_whole};
+ghost use Rattle.kn_session.specs.Calls.{Set, call_of, asserted};
+ghost use Rattle.kn_wire.specs.Digits.{bytes_of_digits};
+ghost use Rattle.kn_wire.specs.Requests.{are_digits};
+ghost use Rattle.kn_daemon.specs.Shapes.{Calls};
+ghost use Rattle.kn_daemon.specs.Daemon.{Grounds};
+ghost use Rattle.kn_serve.specs.Handling.{state_of, HasRoom, Tells};
+
+use crate::connection::Connection;
+use crate::refusals::{print_applied, print_refusal, refusal_of_call};
+use kn_base::NoMemory;
+use kn_outside::{Failed, Link};
+use kn_reply::{Reply, print};
+use kn_session::Call;
+use kn_wire::decode_digits;
+use std::alloc::Global;
+
+/// Answers a call of a session.
+pub(crate) fn call<L: Link>(
+    alloc: Global,
+    connection: &mut Connection,
+    s: u32,
+    call: Call<'_>,
+    link: &mut L,
+) -> Result<(), Failed>
+    requires room { HasRoom (state_of connection.old) }
+    requires short { length (asserted (call_of call)) ≤ ASSERTION_BYTES }
+    ensures told { (g : Grounds) → Tells g (state_of connection.old) (state_of connection.new) (Calls s (call_of call.entry)) (is_whole result) (L.seen link.old) (L.seen link.new) }
+{
+    match connection.sessions.apply(alloc, s, call) {
+        Ok(applied) => print_applied(applied, link),
+        Err(fault) => print_refusal(refusal_of_call(&fault), link),
+    }
+}
+
+/// Answers the call that sets an attribute to the bytes of digits.
+pub(crate) fn set_digits<L: Link>(
+    alloc: Global,
+    connection: &mut Connection,
+    s: u32,
+    name: &[u8],
+    digits: &[u8],
+    link: &mut L,
+) -> Result<(), Failed>
+    requires room { HasRoom (state_of connection.old) }
+    requires digits { are_digits digits.now ≡ true }
+    ensures told { (g : Grounds) → Tells g (state_of connection.old) (state_of connection.new) (Calls s (Set name.now (bytes_of_digits digits.now))) (is_whole result) (L.seen link.old) (L.seen link.new) }
+{
+    match decode_digits(alloc, digits) {
+        Ok(bytes) => {
+            let value = bytes.as_slice();
+            call(alloc, connection, s, Call::Set { name, value }, link)
+        }
+        Err(NoMemory) => print(&Reply::NoMemory, link),
+    }
+}
