@@ -1,5 +1,5 @@
 -- Climbing from a node: each gate that has all it needs is marked next.
-use Rattle.std.proofs.Common.{◌≡◌, ◌≢◌, ℕ, suc, ◌+◌, ◌-◌, ◌<◌, ◌≤◌, ◌^◌, Bool, true, false, nat_eq, min, List, [], ◌∷◌, ◌++◌, length, slice_index, slice_index_or, slice_set, sym, ap, ◌∙◌, subst, inl, inr, arith}
+use Rattle.std.proofs.Common.{◌≡◌, ◌≢◌, ℕ, suc, ◌+◌, ◌-◌, ◌<◌, ◌≤◌, ◌^◌, Bool, true, false, nat_eq, min, List, length, slice_index, slice_index_or, slice_set, sym, ap, ◌∙◌, subst, inl, inr, arith}
 use Rattle.std.proofs.lemmas.Bool.{cases_lt, cases_eq, false≢true}
 use Rattle.std.proofs.lemmas.Bool.Decides.{nat_tests}
 use Rattle.std.proofs.lemmas.List.{get_or-set_same, get_or-set_other, length-set}
@@ -10,10 +10,10 @@ use Rattle.kn_system.specs.declared.links.Up.TheVariants.{Node, Row}
 use Rattle.kn_system.specs.declared.rows.Piece.{Piece}
 use Rattle.kn_system.specs.declared.rows.Piece.TheVariants.{Who, Gate}
 use Rattle.kn_system.specs.Counts.{IsWithin}
-use Rattle.kn_system.specs.Equations.{SystemEquations, IsSystem, node_total, row_at}
+use Rattle.kn_system.specs.Equations.{SystemEquations, IsSystem, node_total}
 use Rattle.kn_system.specs.Nodes.{sort_of, ups_of_rows}
-use Rattle.kn_settle.specs.Counters.{AreWaiting, FitsBelow, IsClimbed, IsCounted, IsPending, bucket_at, is_marked, piece_at, trues}
-use Rattle.kn_settle.proofs.Counted.{AddsUnder, adds-under, counted-full, counted-on, counted-on_row, counted-short, trues-le, trues-set, waits-node, waits-row}
+use Rattle.kn_settle.specs.Counters.{AreWaiting, FitsBelow, IsClimbed, IsCounted, IsPending, is_marked, piece_at, trues}
+use Rattle.kn_settle.proofs.Counted.{AddsUnder, adds-under, counted-full, counted-on, counted-short, trues-le, trues-set, waits-node}
 use Rattle.kn_settle.proofs.Formed.{length-ups, up-fits}
 
 pub within-more : (n k old new : ℕ) → n ≤ k → IsWithin n old new → IsWithin k old new
@@ -61,7 +61,7 @@ starts s v node counts buckets up old new e tick = λ levels marks p leaf pendin
     )
 
 -- the node itself is marked, and that is all
-ends : (s : SystemEquations) (v : ℕ) (levels : List ℕ) (marks : List Bool) (node : ℕ) (m : List Bool) (j : ℕ) (counts : List ℕ) (buckets : List (List ℕ)) (old mid new : ℕ) → IsClimbing s v levels marks node m j counts buckets old mid
+pub ends : (s : SystemEquations) (v : ℕ) (levels : List ℕ) (marks : List Bool) (node : ℕ) (m : List Bool) (j : ℕ) (counts : List ℕ) (buckets : List (List ℕ)) (old mid new : ℕ) → IsClimbing s v levels marks node m j counts buckets old mid
     → IsWithin (2 + (trues m - trues marks)) old new → IsClimbed s marks (slice_set m j true) node old new
 ends s v levels marks node m j counts buckets old mid new h w =
     let inside : j < length m = omega (arith, h.pending.inside, h.pending.counts_but.marks_fit) in
@@ -73,20 +73,6 @@ ends s v levels marks node m j counts buckets old mid new h w =
       most = omega (arith, trues-le (slice_set m j true), length-set m j true, h.pending.counts_but.marks_fit);
       ticks = within-more (2 + (trues m - trues marks)) (1 + (trues (slice_set m j true) - trues marks)) old new (omega (arith, one, h.more)) w;
     }
-
--- a row is put into its bucket
-pub ends_at_row : (s : SystemEquations) (v node row : ℕ) (counts now_counts : List ℕ) (buckets now_buckets next : List (List ℕ)) (old new : ℕ) → IsSystem s → v < s.levels → row < length s.rows
-    → GoesOn s v node counts buckets (Row row) now_counts now_buckets old new → (levels : List ℕ) (marks : List Bool) (p : ℕ) → piece_at s node ≡ Who p → IsPending s marks counts node → AreWaiting s v levels marks buckets
-    → (after : List Bool) × IsClimbed s marks after node old new × IsCounted s after now_counts (node_total s.rows)
-    × AreWaiting s v levels after (slice_set now_buckets (min v (row_at s.rows row).ceiling) (bucket_at now_buckets (min v (row_at s.rows row).ceiling) ++ row ∷ []))
-ends_at_row s v node row counts now_counts buckets now_buckets next old new is low within h levels marks p leaf pending waits =
-    let (m, j, e, on) = h levels marks p leaf pending waits in
-    let adds : AddsUnder s m j (Row row) = adds-under s m now_counts j (Row 0) (Row row) (length-ups s is) on.pending (sym e) in (
-      slice_set m j true,
-      ends s v levels marks node m j now_counts now_buckets old new new on (within-more (1 + (trues m - trues marks)) (2 + (trues m - trues marks)) old new (omega arith) on.ticks),
-      counted-on_row s m now_counts j row on.pending adds,
-      waits-row s v levels m now_buckets j row low within adds on.waits,
-    )
 
 -- what a gate that was read says of its count
 pub record IsCountStep (counts next : List ℕ) (g need : ℕ) (result : Bool) : Type 0 where

@@ -186,16 +186,16 @@ waits-node s v levels m buckets j g a h = record {
 pub bucket-same : (buckets : List (List ℕ)) (w : ℕ) (row : List ℕ) → w < length buckets → bucket_at (slice_set buckets w row) w ≡ row
 bucket-same buckets w row l = get_or-set_same buckets w row [] l
 
-in-pushed : (bucket : List ℕ) (i r x : ℕ) → slice_get bucket i ≡ Some r → slice_get (bucket ++ x ∷ []) i ≡ Some r
+pub in-pushed : (bucket : List ℕ) (i r x : ℕ) → slice_get bucket i ≡ Some r → slice_get (bucket ++ x ∷ []) i ≡ Some r
 in-pushed [] i r x e = absurd (cc)
 in-pushed (y ∷ bucket) zero r x e = e
 in-pushed (y ∷ bucket) (suc i) r x e = in-pushed bucket i r x e
 
-pushed-is : (bucket : List ℕ) (x : ℕ) → slice_get (bucket ++ x ∷ []) (length bucket) ≡ Some x
+pub pushed-is : (bucket : List ℕ) (x : ℕ) → slice_get (bucket ++ x ∷ []) (length bucket) ≡ Some x
 pushed-is [] x = refl
 pushed-is (y ∷ bucket) x = pushed-is bucket x
 
-in-or-last : (bucket : List ℕ) (i r x : ℕ) → slice_get (bucket ++ x ∷ []) i ≡ Some r → (slice_get bucket i ≡ Some r) ⊎ (r ≡ x)
+pub in-or-last : (bucket : List ℕ) (i r x : ℕ) → slice_get (bucket ++ x ∷ []) i ≡ Some r → (slice_get bucket i ≡ Some r) ⊎ (r ≡ x)
 in-or-last [] zero r x e = inr (sym (ap from e))
   where
     from : Option ℕ → ℕ

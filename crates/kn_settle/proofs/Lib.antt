@@ -5,6 +5,13 @@ pub mod Marked
 pub mod Formed
 pub mod Counted
 pub mod Climbed
+pub mod Put
 pub mod Used
+pub mod Visiting
 pub mod Levelled
 pub mod Reached
+pub mod Bounded
+pub mod Trailed
+pub mod Queried
+pub mod Begun
+pub mod Flagged

@@ -17,7 +17,7 @@ use Rattle.kn_settle.specs.Counters.{is_node, one_if, under, trues}
 abbrev pub bits : ℕ → List ℕ → List Bool
 bits v xs = map (λ x. nat_le v x) xs
 
-reaching-bits : (v n : ℕ) (xs : List ℕ) → trues (take n (bits v xs)) ≡ reaching v (take n xs)
+pub reaching-bits : (v n : ℕ) (xs : List ℕ) → trues (take n (bits v xs)) ≡ reaching v (take n xs)
 reaching-bits v zero xs = refl
 reaching-bits v (suc n) [] = refl
 reaching-bits v (suc n) (x ∷ xs) = ap (λ m. one_if (nat_le v x) + m) (reaching-bits v n xs)
@@ -28,7 +28,7 @@ drop-bits v (suc n) [] = refl
 drop-bits v (suc n) (x ∷ xs) = drop-bits v n xs
 
 -- a threshold reaches v where enough do
-threshold-bit : (top k v : ℕ) (xs : List ℕ) → 0 < v → v ≤ top → nat_le k (reaching v xs) ≡ nat_le v (threshold top k xs)
+pub threshold-bit : (top k v : ℕ) (xs : List ℕ) → 0 < v → v ≤ top → nat_le k (reaching v xs) ≡ nat_le v (threshold top k xs)
 threshold-bit top k v xs some low =
     elim (cases_lt (reaching v xs) k) [
       | inl few ↦
@@ -39,7 +39,7 @@ threshold-bit top k v xs some low =
       | inr enough ↦ let reached : v ≤ threshold top k xs = threshold-ge top k v xs low (omega arith) in grind (arith, nat_tests)
     ]
 
-under-parts : (t : Up → Bool) (n : ℕ) (x : Up) (us : List Up) (bs : List Bool) (b : Bool) → t x ≡ b → under t bs (replicate n x ++ us) ≡ cond b (trues (take n bs)) 0 + under t (drop n bs) us
+pub under-parts : (t : Up → Bool) (n : ℕ) (x : Up) (us : List Up) (bs : List Bool) (b : Bool) → t x ≡ b → under t bs (replicate n x ++ us) ≡ cond b (trues (take n bs)) 0 + under t (drop n bs) us
 under-parts t zero x us bs true e = omega arith
 under-parts t zero x us bs false e = omega arith
 under-parts t (suc n) x us [] true e = refl
@@ -66,7 +66,7 @@ old-none i g (u ∷ us) (m ∷ ms) h l =
     let here : cond (is_node g u) (one_if m) 0 ≡ 0 = ap (λ b. cond b (one_if m) 0) (h.0 g l) in
     omega (arith, rest, here)
 
-old-suc : (i : ℕ) (us : List Up) → AreOld i us → AreOld (suc i) us
+pub old-suc : (i : ℕ) (us : List Up) → AreOld i us → AreOld (suc i) us
 old-suc i [] h = tt
 old-suc i (u ∷ us) h = ((λ g l. h.0 g (omega arith)), old-suc i us h.1)
 

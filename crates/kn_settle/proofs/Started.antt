@@ -1,8 +1,8 @@
 -- What settling begins with: nothing is marked, and then the requesters have the top level.
-use Rattle.std.proofs.Common.{◌≡◌, ℕ, zero, suc, ◌+◌, ◌-◌, ◌*◌, ◌<◌, ◌≤◌, Bool, true, false, cond, nat_lt, nat_le, Option, None, Some, List, [], ◌∷◌, length, replicate, get_or, slice_get, slice_index, slice_index_or, slice_set, refl, sym, ap, ◌∙◌, subst, inl, inr, arith}
-use Rattle.std.proofs.lemmas.Bool.{cases_lt, cases_eq, false≢true}
+use Rattle.std.proofs.Common.{◌≡◌, ℕ, zero, suc, ◌+◌, ◌-◌, ◌*◌, ◌≤◌, Bool, true, false, cond, nat_lt, nat_le, Option, None, Some, List, [], ◌∷◌, length, replicate, get_or, slice_get, slice_index, refl, sym, ap, ◌∙◌, subst, inl, inr, arith}
+use Rattle.std.proofs.lemmas.Bool.{cases_lt, false≢true}
 use Rattle.std.proofs.lemmas.Bool.Decides.{nat_tests}
-use Rattle.std.proofs.lemmas.List.{ext_get_or, get_or-map, get_or-replicate, get_or-set_same, get_or-set_other, get_or_past, length-replicate, length-set}
+use Rattle.std.proofs.lemmas.List.{get_or-replicate, get_or_past, length-replicate}
 use Rattle.kn_system.specs.declared.links.Up.{Up}
 use Rattle.kn_system.specs.declared.rows.Piece.{Piece}
 use Rattle.kn_system.specs.declared.rows.Piece.TheVariants.{Who, Gate}
@@ -15,7 +15,6 @@ use Rattle.kn_system.specs.Least.{at_first, least_levels}
 use Rattle.kn_system.specs.Nodes.{pieces_of, row_ups, ups_of_rows}
 use Rattle.kn_system.specs.Proofs.{levels_after, IsProof}
 use Rattle.kn_system.specs.Settled.{IsSettled, unsettled}
-use Rattle.kn_system.proofs.Proven.{size-at_first}
 use Rattle.kn_settle.specs.Counters.{AreWaiting, IsCounted, IsCounting, IsUsed, is_node, is_row, most_ticks, one_if, trues, under}
 use Rattle.kn_settle.proofs.Climbed.{within-more}
 use Rattle.kn_settle.proofs.Formed.{system-forms}
@@ -98,51 +97,6 @@ counting-start s v is = record {
       same-everywhere (node_total s.rows) i false ∙ sym no;
   waits = waits-none s v (replicate (length s.requesters) 0);
 }
-
--- the requesters among the first principals have the top level, and nobody else has one
-pub record AreReached (s : SystemEquations) (levels : List ℕ) (n : ℕ) : Type 0 where
-  pub size : length levels ≡ length s.requesters
-  pub done : (p : ℕ) → p < n → slice_index levels p ≡ slice_index (at_first s) p
-  pub others : (p : ℕ) → n ≤ p → slice_index levels p ≡ 0
-
-pub reached-none : (s : SystemEquations) (levels : List ℕ) → levels ≡ replicate (length s.requesters) 0 → AreReached s levels 0
-reached-none s levels e = record {
-  size = ap length e ∙ length-replicate (length s.requesters) 0;
-  done = λ p l. absurd (omega (arith, l));
-  others = λ p l. ap (λ ls. slice_index ls p) e ∙ same-everywhere (length s.requesters) p 0;
-}
-
--- the level of a principal at first
-first-read : (s : SystemEquations) (p : ℕ) (requester : Bool) → p < length s.requesters → requester ≡ slice_index_or s.requesters p false → slice_index (at_first s) p ≡ cond requester (s.levels - 1) 0
-first-read s p requester within e = get_or-map (λ b. cond b (s.levels - 1) 0) s.requesters p false 0 within ∙ ap (λ b. cond b (s.levels - 1) 0) (sym e)
-
-pub reached-requester : (s : SystemEquations) (levels next : List ℕ) (p top : ℕ) → p < length s.requesters → true ≡ slice_index_or s.requesters p false → top ≡ s.levels - 1 → next ≡ slice_set levels p top → AreReached s levels p → AreReached s next (p + 1)
-reached-requester s levels next p top within yes_now high e h =
-    let inside : p < length levels = omega (arith, h.size, within) in
-    record {
-      size = ap length e ∙ length-set levels p top ∙ h.size;
-      done = λ q l.
-          elim (cases_eq q p) [
-            | inl same ↦ ap (slice_index next) same ∙ ap (λ ls. slice_index ls p) e ∙ get_or-set_same levels p top 0 inside ∙ high ∙ sym (first-read s p true within yes_now) ∙ ap (slice_index (at_first s)) (sym same)
-            | inr differs ↦ ap (λ ls. slice_index ls q) e ∙ get_or-set_other levels p q top 0 differs ∙ h.done q (omega (arith, l, differs))
-          ];
-      others = λ q l. ap (λ ls. slice_index ls q) e ∙ get_or-set_other levels p q top 0 (λ same. absurd (omega (arith, same, l))) ∙ h.others q (omega (arith, l));
-    }
-
-pub reached-other : (s : SystemEquations) (levels : List ℕ) (p : ℕ) → p < length s.requesters → false ≡ slice_index_or s.requesters p false → AreReached s levels p → AreReached s levels (p + 1)
-reached-other s levels p within stranger h = record {
-  size = h.size;
-  done = λ q l.
-      elim (cases_eq q p) [
-        | inl same ↦ ap (slice_index levels) same ∙ h.others p (omega arith) ∙ sym (first-read s p false within stranger) ∙ ap (slice_index (at_first s)) (sym same)
-        | inr differs ↦ h.done q (omega (arith, l, differs))
-      ];
-  others = λ q l. h.others q (omega (arith, l));
-}
-
--- in the end these are the levels at first
-pub reached-all : (s : SystemEquations) (levels : List ℕ) (n : ℕ) → length s.requesters ≤ n → AreReached s levels n → levels ≡ at_first s
-reached-all s levels n all h = ext_get_or 0 levels (at_first s) (h.size ∙ sym (size-at_first s)) (λ p l. h.done p (omega (arith, l, all, h.size)))
 
 -- all steps are no more than the most
 pub used-most : (s : SystemEquations) (marks : List Bool) (levels : List ℕ) (old new : ℕ) → IsUsed s marks levels old new → IsWithin (most_ticks s) old new

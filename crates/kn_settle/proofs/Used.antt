@@ -1,5 +1,5 @@
 -- The uses of a principal, one after another: which are marked while it is visited.
-use Rattle.std.proofs.Common.{◌≡◌, ◌≢◌, ℕ, zero, suc, ◌+◌, ◌-◌, ◌*◌, ◌<◌, ◌≤◌, ◌^◌, Bool, true, false, cond, eqb, nat_lt, min, Option, None, Some, List, [], ◌∷◌, length, take, get_or, slice_get, slice_index, refl, sym, ap, ◌∙◌, subst, inl, inr, arith}
+use Rattle.std.proofs.Common.{◌≡◌, ◌≢◌, ℕ, zero, suc, ◌+◌, ◌-◌, ◌*◌, ◌<◌, ◌≤◌, Bool, true, false, cond, eqb, nat_lt, Option, None, Some, List, [], ◌∷◌, length, take, get_or, slice_get, slice_index, refl, sym, ap, ◌∙◌, subst, inl, inr, arith}
 use Rattle.std.proofs.lemmas.Bool.{cases_lt, cases_eq, false≢true}
 use Rattle.std.proofs.lemmas.Bool.Decides.{nat_tests}
 use Rattle.std.proofs.lemmas.List.{get_or_past}
@@ -9,9 +9,7 @@ use Rattle.kn_system.specs.Counts.{IsWithin}
 use Rattle.kn_system.specs.Equations.{SystemEquations, node_total}
 use Rattle.kn_system.specs.Nodes.{pieces_of, uses_from, uses_of}
 use Rattle.kn_system.proofs.KeptRows.{length-pieces_of}
-use Rattle.kn_settle.specs.Counters.{AreVisited, AreWaiting, AreWhole, IsClimbed, IsCounted, IsCounting, IsPending, IsVisit, is_marked, piece_at, rank, trues}
-use Rattle.kn_settle.proofs.Climbed.{within-further, within-more, within-tick}
-use Rattle.kn_settle.proofs.Counted.{trues-le}
+use Rattle.kn_settle.specs.Counters.{AreVisited, AreWaiting, AreWhole, IsClimbed, IsCounted, IsPending, is_marked, piece_at, rank, trues}
 
 -- where a principal stands, there is a use
 use-found-from : (p i m : ℕ) (ps : List Piece) → m < length ps → get_or ps m (Who 0) ≡ Who p → slice_get (uses_from p i ps) (length (uses_from p i (take m ps))) ≡ Some (i + m)
@@ -212,78 +210,6 @@ pub record IsVisiting (s : SystemEquations) (v p k : ℕ) (levels : List ℕ) (m
   pub waits : AreWaiting s v levels m buckets
   pub more : trues marks ≤ trues m
   pub ticks : IsWithin (3 * (trues m - trues marks)) old new
-
-abbrev pub Visits : SystemEquations → ℕ → ℕ → ℕ → List ℕ → List (List ℕ) → List ℕ → List (List ℕ) → ℕ → ℕ → Type 0
-Visits s v p k counts buckets now_counts now_buckets old new =
-    (levels : List ℕ) (marks : List Bool) → 0 < slice_index levels p → IsCounted s marks counts (node_total s.rows) → AreVisited s p 0 levels marks → AreWaiting s v levels marks buckets
-    → (m : List Bool) × IsVisiting s v p k levels marks m now_counts now_buckets old new
-
-pub visits-start : (s : SystemEquations) (v p : ℕ) (counts : List ℕ) (buckets : List (List ℕ)) (now : ℕ) → Visits s v p 0 counts buckets counts buckets now now
-visits-start s v p counts buckets now = λ levels marks some counted visited waits.
-    (marks, record { counted = counted; visited = visited; waits = waits; more = omega arith; ticks = λ fits. (omega arith, omega arith) })
-
-pub visits-end : (s : SystemEquations) (v p k : ℕ) (counts now_counts : List ℕ) (buckets now_buckets : List (List ℕ)) (old mid new : ℕ) → Visits s v p k counts buckets now_counts now_buckets old mid → new ≡ min (mid + 1) (2 ^ 64 - 1)
-    → slice_get (uses_of p (pieces_of s.rows)) k ≡ None → (levels : List ℕ) (marks : List Bool) → 0 < slice_index levels p → IsCounted s marks counts (node_total s.rows) → AreVisited s p 0 levels marks → AreWaiting s v levels marks buckets
-    → (after : List Bool) × IsVisit s marks after old new × IsCounting s v levels after now_counts now_buckets
-visits-end s v p k counts now_counts buckets now_buckets old mid new h tick none levels marks some counted visited waits =
-    let (m, on) = h levels marks some counted visited waits in (
-      m,
-      record {
-        more = on.more;
-        most = omega (arith, trues-le m, on.counted.marks_fit);
-        ticks = within-more (3 * (trues m - trues marks) + 1) (1 + 3 * (trues m - trues marks)) old new (omega arith) (within-tick (3 * (trues m - trues marks)) old mid new on.ticks tick);
-      },
-      record { counted = on.counted; whole = visited-all s p k levels m some none on.visited; waits = on.waits },
-    )
-
--- what a climb from the next use says
-abbrev pub ClimbSays : SystemEquations → ℕ → ℕ → List ℕ → List (List ℕ) → List ℕ → List (List ℕ) → ℕ → ℕ → Type 0
-ClimbSays s v node counts buckets next_counts next_buckets old new =
-    (levels : List ℕ) (marks : List Bool) (p : ℕ) → piece_at s node ≡ Who p → IsPending s marks counts node → AreWaiting s v levels marks buckets
-    → (after : List Bool) × IsClimbed s marks after node old new × (IsCounted s after next_counts (node_total s.rows) × AreWaiting s v levels after next_buckets)
-
-three_each : (a b c : ℕ) → a ≤ b → b < c → 3 * (b - a) + 1 + (1 + (c - b)) ≤ 3 * (c - a)
-three_each a b c l h = omega (arith, l, h)
-
-pub visits-next : (s : SystemEquations) (v p k node : ℕ) (counts now_counts next_counts : List ℕ) (buckets now_buckets next_buckets : List (List ℕ)) (old mid used new : ℕ) → slice_get (uses_of p (pieces_of s.rows)) k ≡ Some node
-    → Visits s v p k counts buckets now_counts now_buckets old mid → used ≡ min (mid + 1) (2 ^ 64 - 1) → ClimbSays s v node now_counts now_buckets next_counts next_buckets used new
-    → Visits s v p (k + 1) counts buckets next_counts next_buckets old new
-visits-next s v p k node counts now_counts next_counts buckets now_buckets next_buckets old mid used new found h tick climb = λ levels marks some counted visited waits.
-    let (m, on) = h levels marks some counted visited waits in
-    let use_k : IsUse s p k node = use_read s p k node found in
-    let (after, climbed, (counted_after, waits_after)) = climb levels m p use_k.leaf (visit-pending s p k node levels m now_counts use_k on.counted on.visited) on.waits in (
-      after,
-      record {
-        counted = counted_after;
-        visited = visited-next s p k node used new levels m after use_k found on.visited climbed;
-        waits = waits_after;
-        more = omega (arith, on.more, climbed.more);
-        ticks = within-more (3 * (trues m - trues marks) + 1 + (1 + (trues after - trues m))) (3 * (trues after - trues marks)) old new (three_each (trues marks) (trues m) (trues after) on.more climbed.more)
-            (within-further (3 * (trues m - trues marks) + 1) (1 + (trues after - trues m)) old used new (within-tick (3 * (trues m - trues marks)) old mid used on.ticks tick) climbed.ticks);
-      },
-    )
-
--- a climb that wanted memory, too
-abbrev pub ClimbBreaks : SystemEquations → ℕ → ℕ → List ℕ → List (List ℕ) → ℕ → ℕ → Type 0
-ClimbBreaks s v node counts buckets old new =
-    (levels : List ℕ) (marks : List Bool) (p : ℕ) → piece_at s node ≡ Who p → IsPending s marks counts node → AreWaiting s v levels marks buckets → (after : List Bool) × IsClimbed s marks after node old new × Unit {0}
-
-pub visits-break : (s : SystemEquations) (v p k node : ℕ) (counts now_counts : List ℕ) (buckets now_buckets : List (List ℕ)) (old mid used new : ℕ) → slice_get (uses_of p (pieces_of s.rows)) k ≡ Some node
-    → Visits s v p k counts buckets now_counts now_buckets old mid → used ≡ min (mid + 1) (2 ^ 64 - 1) → ClimbBreaks s v node now_counts now_buckets used new
-    → (levels : List ℕ) (marks : List Bool) → 0 < slice_index levels p → IsCounted s marks counts (node_total s.rows) → AreVisited s p 0 levels marks → AreWaiting s v levels marks buckets → (after : List Bool) × IsVisit s marks after old new × Unit {0}
-visits-break s v p k node counts now_counts buckets now_buckets old mid used new found h tick climb levels marks some counted visited waits =
-    let (m, on) = h levels marks some counted visited waits in
-    let use_k : IsUse s p k node = use_read s p k node found in
-    let (after, climbed, none) = climb levels m p use_k.leaf (visit-pending s p k node levels m now_counts use_k on.counted on.visited) on.waits in (
-      after,
-      record {
-        more = omega (arith, on.more, climbed.more);
-        most = climbed.most;
-        ticks = within-more (3 * (trues m - trues marks) + 1 + (1 + (trues after - trues m))) (1 + 3 * (trues after - trues marks)) old new (omega (arith, three_each (trues marks) (trues m) (trues after) on.more climbed.more))
-            (within-further (3 * (trues m - trues marks) + 1) (1 + (trues after - trues m)) old used new (within-tick (3 * (trues m - trues marks)) old mid used on.ticks tick) climbed.ticks);
-      },
-      tt,
-    )
 
 pub none_of : (r : Option ℕ) → ((x : ℕ) → r ≡ Some x → ⊥) → r ≡ None
 none_of None h = refl

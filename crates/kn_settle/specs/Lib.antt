@@ -1,1 +1,5 @@
 pub mod Counters
+pub mod QuerySystem
+pub mod Begun
+pub mod Blank
+pub mod Reach

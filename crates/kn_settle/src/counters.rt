@@ -1,73 +1,99 @@
-//! What the gates of a system have counted, and which rows wait for their level.
-ghost use Rattle.std.specs.Prelude.{◌≡◌, ◌≢◌, ◌<◌, ◌≤◌, ◌+◌, ◌++◌, ◌∷◌, [], ℕ, Bool, List as ListOf, nat_eq, false, length, min, replicate, IfOk, OnOk, slice_index, slice_set};
+//! What the gates of a base have counted, and which rows wait for their level.
+ghost use Rattle.std.specs.Prelude.{◌≡◌, ◌≢◌, ◌<◌, ◌≤◌, ◌+◌, ◌++◌, ◌∷◌, [], ℕ, Bool, List as ListOf, nat_eq, false, length, min, replicate, IfOk, OnOk, OnErr, slice_index, slice_set};
 ghost use Rattle.kn_settle.specs.Counters.{AreLonger, AreVisited, AreWaiting, IsClimbed, IsCounted, IsCounting, IsPending, IsVisit, bucket_at, piece_at};
+ghost use Rattle.kn_settle.specs.Blank.{AreTrailed};
+ghost use Rattle.kn_settle.specs.Reach.{IsPut};
+ghost use Rattle.kn_system.specs.Counts.{IsWithin};
 ghost use Rattle.kn_system.specs.declared.links.NodeSort.TheVariants.{Gate};
 ghost use Rattle.kn_system.specs.declared.rows.Piece.TheVariants.{Who};
 ghost use Rattle.kn_system.specs.Equations.{IsSystem, node_total, row_at};
 
+use crate::ceilings::Ceilings;
+use crate::levels::Levels;
+use crate::query_system::QuerySystem;
 use kn_base::{List, NoMemory, Steps};
-use kn_system::{NodeSort, System, Up};
-use std::alloc::Global;
+use kn_system::{NodeSort, Up};
 
-/// For each gate, by its node, how many of its parts are marked, up to its need; and for each level the rows that
-/// give it to their authorizers, in the order in which they came.
+/// For each gate, by its node, how many of its parts are marked, up to its need; which gates have counted any; and for
+/// each level the rows that give it to their authorizers, in the order in which they came.
 #[derive(Debug, Drop)]
 pub(crate) struct Counters {
     pub(crate) counts: Vec<u32>,
+    pub(crate) trail: List<u32>,
     pub(crate) buckets: Vec<List<u32>>,
 }
 
 impl Counters {
-    /// Nothing is counted yet, and no row waits.
-    pub(crate) fn start<L>(alloc: Global, system: &System<L>) -> Result<Counters, NoMemory>
-        ensures counts { IfOk result (λ counters. counters.counts.items ≡ replicate (node_total system.now.rows) 0) }
-        ensures buckets { IfOk result (λ counters. counters.buckets.items ≡ replicate system.now.levels []) }
-    {
-        let counts = match vec![in alloc; 0; system.nodes() as usize] {
-            Ok(counts) => counts,
-            Err(_) => return Err(NoMemory),
-        };
-        let mut buckets = Vec::new(alloc);
-        for _level in 0..system.levels() {
-            match buckets.push(List::new(alloc)) {
-                Ok(()) => {}
-                Err(_) => return Err(NoMemory),
-            }
-        }
-        Ok(Counters { counts, buckets })
-    }
-
     // Counts one more part of a gate, unless it has as many as it needs. The answer is whether it has so many now.
-    fn count(&mut self, gate: u32, need: u32) -> bool
+    fn count(&mut self, gate: u32, need: u32) -> Result<bool, NoMemory>
         requires in_range { gate < length self.old.counts.items }
-        ensures full { need ≤ slice_index self.old.counts.items gate → result ≡ false }
+        ensures full { need ≤ slice_index self.old.counts.items gate → IfOk result (λ full. full ≡ false) }
         ensures kept { need ≤ slice_index self.old.counts.items gate → self.new.counts.items ≡ self.old.counts.items }
         ensures more { slice_index self.old.counts.items gate < need
-            → self.new.counts.items ≡ slice_set self.old.counts.items gate (slice_index self.old.counts.items gate + 1) }
-        ensures fulfilled { slice_index self.old.counts.items gate < need → result ≡ nat_eq (slice_index self.old.counts.items gate + 1) need }
+            → OnOk result (self.new.counts.items
+            ≡ slice_set self.old.counts.items gate (slice_index self.old.counts.items gate + 1)) }
+        ensures fulfilled { slice_index self.old.counts.items gate < need
+            → IfOk result (λ full. full ≡ nat_eq (slice_index self.old.counts.items gate + 1) need) }
         ensures size { length self.new.counts.items ≡ length self.old.counts.items }
+        ensures trailed { AreTrailed self.old.counts.items self.old.trail
+            → AreTrailed self.new.counts.items self.new.trail }
         ensures buckets { self.new.buckets.items ≡ self.old.buckets.items }
     {
         let count = self.counts[gate as usize];
         if count >= need {
-            return false;
+            return Ok(false);
         }
-        self.counts[gate as usize] = count + 1;
-        count + 1 == need
+        self.raise(gate, count)?;
+        Ok(count + 1 == need)
     }
 
-    // Puts a row into the bucket of the level, or of its ceiling, if lower.
-    fn put_row<L>(&mut self, system: &System<L>, row: u32, value: u8) -> Result<(), NoMemory>
+    // Counts one more part of a gate that has counted so many.
+    fn raise(&mut self, gate: u32, count: u32) -> Result<(), NoMemory>
+        requires in_range { gate < length self.old.counts.items }
+        requires count { count ≡ slice_index self.old.counts.items gate }
+        requires room { count < 4294967295 }
+        ensures ok { OnOk result (self.new.counts.items ≡ slice_set self.old.counts.items gate (count + 1)) }
+        ensures err { OnErr result (self.new.counts.items ≡ self.old.counts.items) }
+        ensures trailed { AreTrailed self.old.counts.items self.old.trail
+            → AreTrailed self.new.counts.items self.new.trail }
+        ensures buckets { self.new.buckets.items ≡ self.old.buckets.items }
+    {
+        if count == 0 {
+            match self.trail.push(gate) {
+                Ok(()) => {}
+                Err(_) => return Err(NoMemory),
+            }
+        }
+        self.counts[gate as usize] = count + 1;
+        Ok(())
+    }
+
+    // Puts a row into the bucket of the level, or of its ceiling, if lower, unless its authorizer has a level already.
+    // Only then is its ceiling query_system for.
+    fn put_row<L, C: Ceilings<L>>(
+        &mut self,
+        system: &QuerySystem<L, C>,
+        row: u32,
+        value: u8,
+        levels: &Levels,
+        steps: &mut Steps<L>,
+    ) -> Result<(), NoMemory>
         requires in_range { row < length system.now.rows }
         requires buckets { length self.old.buckets.items ≡ system.now.levels }
         requires level { value < system.now.levels }
-        ensures ok { OnOk result (self.new.buckets.items
-            ≡ slice_set self.old.buckets.items (min value (row_at system.now.rows row).ceiling)
-            (bucket_at self.old.buckets.items (min value (row_at system.now.rows row).ceiling) ++ row ∷ [])) }
+        requires one_each { length levels.now.values.items ≡ length system.now.requesters }
+        ensures ok { OnOk result (IsPut system.now value levels.now.values.items row self.old.buckets.items
+            self.new.buckets.items) }
         ensures size { length self.new.buckets.items ≡ length self.old.buckets.items }
         ensures counts { self.new.counts.items ≡ self.old.counts.items }
+        ensures trail { self.new.trail ≡ self.old.trail }
+        ensures ticks { IsWithin 1 steps.old steps.new }
     {
-        let level = value.min(system.ceiling(row));
+        if levels.values[system.authorizer(row) as usize] > 0 {
+            return Ok(());
+        }
+        let ceiling = system.ceiling(row, steps)?;
+        let level = value.min(ceiling);
         match self.buckets[level as usize].push(row) {
             Ok(()) => Ok(()),
             Err(_) => Err(NoMemory),
@@ -75,12 +101,14 @@ impl Counters {
     }
 
     // Marks a node, and each gate above it that has all it needs by it. A row whose formula is marked so is put
-    // into its bucket. At most two steps for the node, and one for each gate that is marked.
-    fn climb<L>(
+    // into its bucket. At most two steps for the node, of which one is for a ceiling, and one for each gate that is
+    // marked.
+    fn climb<L, C: Ceilings<L>>(
         &mut self,
-        system: &System<L>,
+        system: &QuerySystem<L, C>,
         node: u32,
         value: u8,
+        levels: &Levels,
         steps: &mut Steps<L>,
     ) -> Result<(), NoMemory>
         requires well_formed { IsSystem system.now }
@@ -88,40 +116,51 @@ impl Counters {
         requires counts { length self.old.counts.items ≡ node_total system.now.rows }
         requires buckets { length self.old.buckets.items ≡ system.now.levels }
         requires level { value < system.now.levels }
-        ensures climbs { (levels : ListOf ℕ) (marks : ListOf Bool) (p : ℕ) → piece_at system.now node ≡ Who p → IsPending system.now marks self.old.counts.items node
-            → AreWaiting system.now value levels marks self.old.buckets.items
+        requires one_each { length levels.now.values.items ≡ length system.now.requesters }
+        ensures climbs { (marks : ListOf Bool) (p : ℕ) → piece_at system.now node ≡ Who p
+            → IsPending system.now marks self.old.counts.items node
+            → AreWaiting system.now value levels.now.values.items marks self.old.buckets.items
             → (after : ListOf Bool) × IsClimbed system.now marks after node steps.old steps.new
-            × OnOk result (IsCounted system.now after self.new.counts.items (node_total system.now.rows) × AreWaiting system.now value levels after self.new.buckets.items) }
+            × OnOk result (IsCounted system.now after self.new.counts.items (node_total system.now.rows)
+            × AreWaiting system.now value levels.now.values.items after self.new.buckets.items) }
         ensures longer { OnOk result (AreLonger self.old.buckets.items self.new.buckets.items) }
         ensures counts { length self.new.counts.items ≡ length self.old.counts.items }
         ensures buckets { length self.new.buckets.items ≡ length self.old.buckets.items }
+        ensures trailed { AreTrailed self.old.counts.items self.old.trail
+            → AreTrailed self.new.counts.items self.new.trail }
     {
         let mut up = system.node(node, steps).up;
         loop {
             match up {
                 Up::Row(row) => {
-                    return match self.put_row(system, row, value) {
+                    return match self.put_row(system, row, value, levels, steps) {
                         Ok(()) => Ok(()),
                         Err(NoMemory) => Err(NoMemory),
                     };
                 }
                 Up::Node(gate) => {
                     let above = system.node(gate, steps);
-                    if !self.count(gate, need_of(above.sort)) {
-                        return Ok(());
+                    match self.count(gate, need_of(above.sort)) {
+                        Ok(full) => {
+                            if !full {
+                                return Ok(());
+                            }
+                            up = above.up;
+                        }
+                        Err(NoMemory) => return Err(NoMemory),
                     }
-                    up = above.up;
                 }
             }
         }
     }
 
     /// Marks all uses of a principal that has got the level.
-    pub(crate) fn visit<L>(
+    pub(crate) fn visit<L, C: Ceilings<L>>(
         &mut self,
-        system: &System<L>,
+        system: &QuerySystem<L, C>,
         principal: u32,
         value: u8,
+        levels: &Levels,
         steps: &mut Steps<L>,
     ) -> Result<(), NoMemory>
         requires well_formed { IsSystem system.now }
@@ -129,23 +168,64 @@ impl Counters {
         requires counts { length self.old.counts.items ≡ node_total system.now.rows }
         requires buckets { length self.old.buckets.items ≡ system.now.levels }
         requires level { value < system.now.levels }
-        ensures visits { (levels : ListOf ℕ) (marks : ListOf Bool) → 0 < slice_index levels principal → IsCounted system.now marks self.old.counts.items (node_total system.now.rows)
-            → AreVisited system.now principal 0 levels marks → AreWaiting system.now value levels marks self.old.buckets.items
+        requires one_each { length levels.now.values.items ≡ length system.now.requesters }
+        ensures visits { (marks : ListOf Bool) → 0 < slice_index levels.now.values.items principal
+            → IsCounted system.now marks self.old.counts.items (node_total system.now.rows)
+            → AreVisited system.now principal 0 levels.now.values.items marks
+            → AreWaiting system.now value levels.now.values.items marks self.old.buckets.items
             → (after : ListOf Bool) × IsVisit system.now marks after steps.old steps.new
-            × OnOk result (IsCounting system.now value levels after self.new.counts.items self.new.buckets.items) }
+            × OnOk result (IsCounting system.now value levels.now.values.items after self.new.counts.items
+            self.new.buckets.items) }
         ensures longer { OnOk result (AreLonger self.old.buckets.items self.new.buckets.items) }
         ensures counts { length self.new.counts.items ≡ length self.old.counts.items }
         ensures buckets { length self.new.buckets.items ≡ length self.old.buckets.items }
+        ensures trailed { AreTrailed self.old.counts.items self.old.trail
+            → AreTrailed self.new.counts.items self.new.trail }
     {
         let mut k = 0;
         while let Some(node) = system.uses(principal, k, steps) {
-            match self.climb(system, node, value, steps) {
+            match self.climb(system, node, value, levels, steps) {
                 Ok(()) => k += 1,
                 Err(NoMemory) => return Err(NoMemory),
             }
         }
         Ok(())
     }
+
+    /// Takes all counts back, from those gates alone that have counted, and empties the buckets.
+    pub(crate) fn clear(&mut self)
+        requires trailed { AreTrailed self.old.counts.items self.old.trail }
+        ensures counts { self.new.counts.items ≡ replicate (length self.old.counts.items) 0 }
+        ensures trail { self.new.trail ≡ [] }
+        ensures buckets { self.new.buckets.items ≡ replicate (length self.old.buckets.items) [] }
+    {
+        clear_counts(&mut self.counts, &mut self.trail);
+        clear_buckets(&mut self.buckets);
+    }
+}
+
+fn clear_counts(counts: &mut Vec<u32>, trail: &mut List<u32>)
+    requires trailed { AreTrailed counts.old.items trail.old }
+    ensures counts { counts.new.items ≡ replicate (length counts.old.items) 0 }
+    ensures trail { trail.new ≡ [] }
+{
+    while let Some(gate) = trail.pop() {
+        counts[gate as usize] = 0;
+    }
+}
+
+fn clear_buckets(buckets: &mut Vec<List<u32>>)
+    ensures { buckets.new.items ≡ replicate (length buckets.old.items) [] }
+{
+    for level in 0..buckets.len() {
+        empty(&mut buckets[level]);
+    }
+}
+
+fn empty(bucket: &mut List<u32>)
+    ensures { bucket.new ≡ [] }
+{
+    while let Some(_row) = bucket.pop() {}
 }
 
 // What a gate needs.

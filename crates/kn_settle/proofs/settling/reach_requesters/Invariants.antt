@@ -1,13 +1,16 @@
-use Rattle.std.proofs.Common.{◌≡◌, length}
-use Rattle.kn_system.specs.Equations.{node_total}
+use Rattle.std.proofs.Common.{◌≡◌, length, take}
 use Rattle.kn_settle.proofs.Emptied.{Continues}
-use Rattle.kn_settle.proofs.Started.{AreReached}
+use Rattle.kn_settle.specs.Blank.{AreTrailed}
+use Rattle.kn_settle.specs.Begun.{AreBegun}
 use Rattle.kn_settle.proofs.settling.reach_requesters.Given as goal
 
-abbrev pub invariant-loop-principal : goal.invariant-loop-principal
-invariant-loop-principal g l = record {
-  reached : AreReached l.system l.levels l.principal;
-  counts : length l.counters.counts.items ≡ node_total l.system.rows;
-  buckets : length l.counters.buckets.items ≡ l.system.levels;
-  continues : Continues l.system l.top l.initial.levels l.initial.counters.counts.items l.initial.counters.buckets.items l.initial.steps l.levels l.counters.counts.items l.counters.buckets.items l.steps;
+abbrev pub invariant-loop-place : goal.invariant-loop-place
+invariant-loop-place g l = record {
+  begun : AreBegun l.system l.levels.values.items (take l.place l.requesters);
+  one_each : length l.levels.values.items ≡ length l.initial.levels.values.items;
+  counts : length l.counters.counts.items ≡ length l.initial.counters.counts.items;
+  buckets : length l.counters.buckets.items ≡ length l.initial.counters.buckets.items;
+  reached : AreTrailed l.initial.levels.values.items l.initial.levels.trail → AreTrailed l.levels.values.items l.levels.trail;
+  counted : AreTrailed l.initial.counters.counts.items l.initial.counters.trail → AreTrailed l.counters.counts.items l.counters.trail;
+  continues : Continues l.system l.top l.initial.levels.values.items l.initial.counters.counts.items l.initial.counters.buckets.items l.initial.steps l.levels.values.items l.counters.counts.items l.counters.buckets.items l.steps;
 }

@@ -3,7 +3,8 @@ use Rattle.kn_system.specs.Equations.{SystemEquations}
 use Rattle.kn_system.specs.Nodes.{pieces_of, uses_of}
 use Rattle.kn_system.proofs.KeptRows.{length-pieces_of}
 use Rattle.kn_settle.proofs.Counted.{longer-trans}
-use Rattle.kn_settle.proofs.Used.{IsUse, use_read, length-uses, none_of, visits-next, visits-break, visits-end}
+use Rattle.kn_settle.proofs.Used.{IsUse, use_read, length-uses, none_of}
+use Rattle.kn_settle.proofs.Visiting.{goes_on_at, breaks_at, ends_at}
 use Rattle.kn_settle.proofs.counters.Counters.visit.Goals as goal
 
 pub climb-requires-clause-in_range : goal.climb-requires-clause-in_range
@@ -29,18 +30,19 @@ loop-node-preserved g c =
       counts = c.in-Ok.ensures.counts ∙ c.loop-node.invariant.counts;
       buckets = c.in-Ok.ensures.buckets ∙ c.loop-node.invariant.buckets;
       longer = longer-trans c.args.self.now.buckets.items c.loop-node.self.buckets.items c.climb.new.self.buckets.items c.loop-node.invariant.longer c.in-Ok.ensures.longer;
-      visiting = visits-next s c.args.value c.args.principal c.loop-node.k c.in-Some.node c.args.self.now.counts.items c.loop-node.self.counts.items c.climb.new.self.counts.items c.args.self.now.buckets.items c.loop-node.self.buckets.items c.climb.new.self.buckets.items
+      trailed = λ h. c.in-Ok.ensures.trailed (c.loop-node.invariant.trailed h);
+      visiting = goes_on_at s c.args.value c.args.principal c.loop-node.k c.in-Some.node c.args.levels.now.values.items c.args.self.now.counts.items c.loop-node.self.counts.items c.climb.new.self.counts.items c.args.self.now.buckets.items c.loop-node.self.buckets.items c.climb.new.self.buckets.items
           c.args.steps.now c.loop-node.steps c.uses.new.steps c.climb.new.steps (sym c.uses.ensures.exact ∙ c.in-Some.is) c.loop-node.invariant.visiting c.uses.ensures.ticks c.in-Ok.ensures.climbs;
     }
 
 pub returns-in-Err-clause-visits : goal.returns-in-Err-clause-visits
 returns-in-Err-clause-visits g c =
     let s : SystemEquations = c.args.system.now in
-    visits-break s c.args.value c.args.principal c.loop-node.k c.in-Some.node c.args.self.now.counts.items c.loop-node.self.counts.items c.args.self.now.buckets.items c.loop-node.self.buckets.items
+    breaks_at s c.args.value c.args.principal c.loop-node.k c.in-Some.node c.args.levels.now.values.items c.args.self.now.counts.items c.loop-node.self.counts.items c.args.self.now.buckets.items c.loop-node.self.buckets.items
     c.args.steps.now c.loop-node.steps c.uses.new.steps c.climb.new.steps (sym c.uses.ensures.exact ∙ c.in-Some.is) c.loop-node.invariant.visiting c.uses.ensures.ticks c.in-Err.ensures.climbs
 
 pub returns-clause-visits : goal.returns-clause-visits
-returns-clause-visits g c = λ levels marks some counted visited waits.
+returns-clause-visits g c =
     let s : SystemEquations = c.args.system.now in
-    visits-end s c.args.value c.args.principal c.loop-node.k c.args.self.now.counts.items c.loop-node.self.counts.items c.args.self.now.buckets.items c.loop-node.self.buckets.items
-    c.args.steps.now c.loop-node.steps c.uses.new.steps c.loop-node.invariant.visiting c.uses.ensures.ticks (sym c.uses.ensures.exact ∙ none_of c.uses.result c.in_default.not-Some) levels marks some counted visited waits
+    ends_at s c.args.value c.args.principal c.loop-node.k c.args.levels.now.values.items c.args.self.now.counts.items c.loop-node.self.counts.items c.args.self.now.buckets.items c.loop-node.self.buckets.items
+    c.args.steps.now c.loop-node.steps c.uses.new.steps c.loop-node.invariant.visiting c.uses.ensures.ticks (sym c.uses.ensures.exact ∙ none_of c.uses.result c.in_default.not-Some)

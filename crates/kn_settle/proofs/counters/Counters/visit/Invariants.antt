@@ -1,7 +1,8 @@
 use Rattle.std.proofs.Common.{◌≡◌, ◌-◌, length}
 use Rattle.kn_system.specs.Nodes.{pieces_of, uses_of}
 use Rattle.kn_settle.specs.Counters.{AreLonger}
-use Rattle.kn_settle.proofs.Used.{Visits}
+use Rattle.kn_settle.specs.Blank.{AreTrailed}
+use Rattle.kn_settle.proofs.Visiting.{VisitsAt}
 use Rattle.kn_settle.proofs.counters.Counters.visit.Given as goal
 
 abbrev pub invariant-loop-node : goal.invariant-loop-node
@@ -9,7 +10,8 @@ invariant-loop-node g l = record {
   counts : length l.self.counts.items ≡ length l.fn.self.counts.items;
   buckets : length l.self.buckets.items ≡ length l.fn.self.buckets.items;
   longer : AreLonger l.fn.self.buckets.items l.self.buckets.items;
-  visiting : Visits l.system l.value l.principal l.k l.fn.self.counts.items l.fn.self.buckets.items l.self.counts.items l.self.buckets.items l.fn.steps l.steps;
+  trailed : AreTrailed l.fn.self.counts.items l.fn.self.trail → AreTrailed l.self.counts.items l.self.trail;
+  visiting : VisitsAt l.system l.value l.principal l.k l.levels.values.items l.fn.self.counts.items l.fn.self.buckets.items l.self.counts.items l.self.buckets.items l.fn.steps l.steps;
 }
 
 abbrev pub decreases-loop-node : goal.decreases-loop-node
