@@ -1,5 +1,5 @@
 -- Names that are the keys of a set.
-use Rattle.std.proofs.Common.{◌≡◌, ℕ, suc, zero, ◌<◌, Bool, true, false, ◌||◌, List, [], ◌∷◌, ◌++◌, get_or, length, map, position, Some, refl, sym, ap, ◌∙◌, arith, true≢false, if◌then◌else◌}
+use Rattle.std.proofs.Common.{◌≡◌, ℕ, suc, zero, ◌<◌, Bool, true, false, ◌||◌, List, [], ◌∷◌, ◌++◌, get_or, length, map, position, take, Some, refl, sym, ap, ◌∙◌, arith, true≢false, if◌then◌else◌}
 use Rattle.std.specs.List.{list_any}
 use Rattle.std.specs.Str.{bytes_eq}
 use Rattle.std.proofs.lemmas.List.{map-append}
@@ -49,3 +49,8 @@ pub pushed_absent : {K : Type 0} (items : K → List ℕ) (keys new : List K) (k
 pushed_absent items keys new k is absent =
     ap (map items) (is ∙ ap (λ b. if b then keys else keys ++ k ∷ []) (unfound_absent items (items k) keys absent))
     ∙ map-append items keys (k ∷ [])
+
+pub map-taken : {A B : Type 0} (f : A → B) (n : ℕ) (xs : List A) → map f (take n xs) ≡ take n (map f xs)
+map-taken f zero xs = refl
+map-taken f (suc n) [] = refl
+map-taken f (suc n) (x ∷ xs) = ap (λ l. f x ∷ l) (map-taken f n xs)

@@ -9,3 +9,9 @@ pub mod Followed
 pub mod Rowed
 pub mod Located
 pub mod Listed
+pub mod Removing
+pub mod Basing
+pub mod Bounded
+pub mod Capped
+pub mod Added
+pub mod Answered

@@ -13,11 +13,11 @@ use Rattle.kn_system.specs.Equations.{row_at}
 use Rattle.kn_system.specs.Least.{worth, at_first}
 use Rattle.kn_system.specs.Proofs.{levels_after, IsStep, AreSteps, IsProof}
 use Rattle.kn_answer.specs.Numbering.{IsNumber, AreDistinct}
-use Rattle.kn_answer.specs.Built.{Interned, IsBuilt}
+use Rattle.kn_answer.specs.Built.{Interned}
 use Rattle.kn_answer.specs.Located.{IsFound, IsLocated, AreLocated}
 use Rattle.kn_answer.proofs.Grown.{AreNumbered-length}
 use Rattle.kn_answer.proofs.Followed.{row_level-none, row_level-zero, HaveFollowed, HaveFollowed-none, HaveFollowed-row}
-use Rattle.kn_answer.proofs.Rowed.{IsAt, at-statement, at-row, worth-at, flag-at, rows-few, closed-named, closed-numbered}
+use Rattle.kn_answer.proofs.Rowed.{IsStated, IsAt, at-statement, at-row, worth-at, flag-at, rows-few, closed-named, closed-numbered}
 
 -- a number in range is that of the item
 pub found-within : {A : Type 0} (items : List A) (item : A) (p : ℕ) → IsFound items item p → p < 2 ^ 32 - 1 → IsNumber items item p
@@ -30,7 +30,7 @@ found-there items item p q (inl number) there = number
 found-there items item p q (inr none) there = absurd (none.0 q there)
 
 -- a step by numbers is a row that may follow by names
-step-named : (e : Equations) (built : Interned) → IsBuilt e built → (before : List NamedRow) (levels : List ℕ) → HaveFollowed e built.names before levels
+step-named : (e : Equations) (built : Interned) → IsStated e built → (before : List NamedRow) (levels : List ℕ) → HaveFollowed e built.names before levels
     → (named_row : NamedRow) (row : ProofRow) → IsLocated built named_row row → IsStep built.system levels row → IsRow e before named_row
 step-named e built is before levels followed named_row row located step =
     let few : length built.system.requesters ≤ 2 ^ 24 = is.well_formed.principals_fit.1 in
@@ -67,7 +67,7 @@ step-named e built is before levels followed named_row row located step =
     }
 
 -- the number of a row's principal
-number-of : (e : Equations) (built : Interned) → IsBuilt e built → (before : List NamedRow) (named_row : NamedRow) (row : ProofRow) → IsLocated built named_row row → IsRow e before named_row → IsNumber built.names named_row.principal row.principal
+number-of : (e : Equations) (built : Interned) → IsStated e built → (before : List NamedRow) (named_row : NamedRow) (row : ProofRow) → IsLocated built named_row row → IsRow e before named_row → IsNumber built.names named_row.principal row.principal
 number-of e built is before named_row row located follows =
     let i : ℕ = follows.supported.0 in
     let s : Statement = follows.supported.1 in
@@ -77,7 +77,7 @@ number-of e built is before named_row row located follows =
     found-there built.names named_row.principal row.principal (row_at built.system.rows i).authorizer located.principal (here.row.authorizer ∙ ap Some supports.own)
 
 -- a row that may follow by names is a step by numbers
-row-numbered : (e : Equations) (built : Interned) → IsBuilt e built → AreDistinct built.ids → (before : List NamedRow) (levels : List ℕ) → HaveFollowed e built.names before levels
+row-numbered : (e : Equations) (built : Interned) → IsStated e built → AreDistinct built.ids → (before : List NamedRow) (levels : List ℕ) → HaveFollowed e built.names before levels
     → (named_row : NamedRow) (row : ProofRow) → IsLocated built named_row row → IsRow e before named_row → IsStep built.system levels row
 row-numbered e built is differ before levels followed named_row row located follows =
     let i : ℕ = follows.supported.0 in
@@ -111,7 +111,7 @@ row-numbered e built is differ before levels followed named_row row located foll
     }
 
 -- the levels after a row are the same by number and by name
-followed-more : (e : Equations) (built : Interned) → IsBuilt e built → (before : List NamedRow) (levels : List ℕ) → HaveFollowed e built.names before levels
+followed-more : (e : Equations) (built : Interned) → IsStated e built → (before : List NamedRow) (levels : List ℕ) → HaveFollowed e built.names before levels
     → (named_row : NamedRow) (row : ProofRow) → IsLocated built named_row row → IsRow e before named_row → HaveFollowed e built.names (before ++ named_row ∷ []) (slice_set levels row.principal row.value)
 followed-more e built is before levels followed named_row row located follows =
     subst (λ v. HaveFollowed e built.names (before ++ named_row ∷ []) (slice_set levels row.principal v)) (sym located.level)
@@ -140,7 +140,7 @@ IsFollowed-more e built before levels named_row row rows located follows step re
 }
 
 -- steps by numbers are rows by names
-pub steps-named : (e : Equations) (built : Interned) → IsBuilt e built → (before : List NamedRow) (levels : List ℕ) → HaveFollowed e built.names before levels
+pub steps-named : (e : Equations) (built : Interned) → IsStated e built → (before : List NamedRow) (levels : List ℕ) → HaveFollowed e built.names before levels
     → (rows : List NamedRow) (located : List ProofRow) → AreLocated built rows located → AreSteps built.system levels located → IsFollowed e built before levels rows located
 steps-named e built is before levels followed [] [] are steps = IsFollowed-none e built before levels followed
 steps-named e built is before levels followed [] (row ∷ located) are steps = absurd are
@@ -152,7 +152,7 @@ steps-named e built is before levels followed (named_row ∷ rows) (row ∷ loca
     (steps-named e built is (before ++ named_row ∷ []) (slice_set levels row.principal row.value) next rows located are.1 steps.1)
 
 -- rows by names are steps by numbers
-rows-numbered : (e : Equations) (built : Interned) → IsBuilt e built → AreDistinct built.ids → (before : List NamedRow) (levels : List ℕ) → HaveFollowed e built.names before levels
+rows-numbered : (e : Equations) (built : Interned) → IsStated e built → AreDistinct built.ids → (before : List NamedRow) (levels : List ℕ) → HaveFollowed e built.names before levels
     → (rows : List NamedRow) (located : List ProofRow) → AreLocated built rows located → AreRows e before rows → IsFollowed e built before levels rows located
 rows-numbered e built is differ before levels followed [] [] are follow = IsFollowed-none e built before levels followed
 rows-numbered e built is differ before levels followed [] (row ∷ located) are follow = absurd are
@@ -163,7 +163,7 @@ rows-numbered e built is differ before levels followed (named_row ∷ rows) (row
     (rows-numbered e built is differ (before ++ named_row ∷ []) (slice_set levels row.principal row.value) next rows located are.1 follow.1)
 
 -- what is proved by numbers is proved by names
-pub proof-named : (e : Equations) (built : Interned) → IsBuilt e built → (rows : List NamedRow) (located : List ProofRow) → AreLocated built rows located → (level : ℕ) → IsProof built.system located level → proof.IsProof e rows level
+pub proof-named : (e : Equations) (built : Interned) → IsStated e built → (rows : List NamedRow) (located : List ProofRow) → AreLocated built rows located → (level : ℕ) → IsProof built.system located level → proof.IsProof e rows level
 proof-named e built is rows located are level proves =
     let first = HaveFollowed-none e built.names built.system is.of in
     let all : IsFollowed e built [] (at_first built.system) rows located = steps-named e built is [] (at_first built.system) first rows located are proves.steps in
@@ -175,7 +175,7 @@ proof-named e built is rows located are level proves =
     }
 
 -- and the other way round, where the ids differ
-pub proof-numbered : (e : Equations) (built : Interned) → IsBuilt e built → AreDistinct built.ids → (rows : List NamedRow) (located : List ProofRow) → AreLocated built rows located → (level : ℕ) → proof.IsProof e rows level → IsProof built.system located level
+pub proof-numbered : (e : Equations) (built : Interned) → IsStated e built → AreDistinct built.ids → (rows : List NamedRow) (located : List ProofRow) → AreLocated built rows located → (level : ℕ) → proof.IsProof e rows level → IsProof built.system located level
 proof-numbered e built is differ rows located are level proves =
     let first = HaveFollowed-none e built.names built.system is.of in
     let all : IsFollowed e built [] (at_first built.system) rows located = rows-numbered e built is differ [] (at_first built.system) first rows located are proves.in_order in

@@ -14,7 +14,17 @@ use Rattle.kn_system.specs.Least.{worth}
 use Rattle.kn_system.specs.Proofs.{IsClosed}
 use Rattle.kn_answer.specs.Numbering.{IsNumber, HaveLevels, IsRowOf, AreRowsOf}
 use Rattle.kn_answer.specs.Built.{Interned, IsBuilt}
+use Rattle.kn_answer.specs.Numbering.{IsSystemOf}
 use Rattle.kn_answer.proofs.Bridge.{worth-same}
+
+-- The system states what the query does, and each row has the id of its statement.
+pub record IsStated (e : Equations) (built : Interned) : Type 0 where
+  pub well_formed : IsSystem built.system
+  pub of : IsSystemOf e built.names built.system
+  pub ids : built.ids ≡ map (λ s. s.id) e.statements
+
+pub IsBuilt-stated : (e : Equations) (built : Interned) → IsBuilt e built → IsStated e built
+IsBuilt-stated e built is = record { well_formed = is.well_formed; of = is.of; ids = is.ids }
 
 pub length-rows : (top : ℕ) (names : List (List ℕ)) (statements : List Statement) (rows : List SystemRow) → AreRowsOf top names statements rows → length statements ≡ length rows
 length-rows top names [] [] are = refl
@@ -38,7 +48,7 @@ pub record IsAt (e : Equations) (built : Interned) (i : ℕ) (s : Statement) : T
   pub row : IsRowOf e.top built.names s (row_at built.system.rows i)
   pub id : IsNumber built.ids s.id i
 
-pub at-statement : (e : Equations) (built : Interned) → IsBuilt e built → (i : ℕ) (s : Statement) → slice_get e.statements i ≡ Some s → IsAt e built i s
+pub at-statement : (e : Equations) (built : Interned) → IsStated e built → (i : ℕ) (s : Statement) → slice_get e.statements i ≡ Some s → IsAt e built i s
 at-statement e built is i s there =
     let listed : i < length e.statements = slice_get_within e.statements i s there in
     let here : slice_index_or e.statements i s ≡ s = get_or_from_slice_get e.statements i s s there in
@@ -55,18 +65,18 @@ some_statement : Statement
 some_statement = record { id = Shared 0; authorizer = []; ceiling = 0; licensees = None }
 
 -- each row is that of a statement
-pub at-row : (e : Equations) (built : Interned) → IsBuilt e built → (i : ℕ) → i < length built.system.rows → (s : Statement) × IsAt e built i s
+pub at-row : (e : Equations) (built : Interned) → IsStated e built → (i : ℕ) → i < length built.system.rows → (s : Statement) × IsAt e built i s
 at-row e built is i l =
     let size : length e.statements ≡ length built.system.rows = length-rows e.top built.names e.statements built.system.rows is.of.rows in
     let s : Statement = get_or e.statements i some_statement in
     (s, at-statement e built is i s (slice_get-get_or e.statements i some_statement (omega arith)))
 
 -- a system has as many levels as the query has compliance values
-pub top-of : (e : Equations) (built : Interned) → IsBuilt e built → built.system.levels - 1 ≡ e.top
+pub top-of : (e : Equations) (built : Interned) → IsStated e built → built.system.levels - 1 ≡ e.top
 top-of e built is = let top : built.system.levels ≡ e.top + 1 = is.of.top in omega arith
 
 -- the row is worth what its statement is
-pub worth-at : (e : Equations) (built : Interned) → IsBuilt e built → (at : Levels) (levels : List ℕ) → HaveLevels built.names at levels → (i : ℕ) (s : Statement) → IsAt e built i s
+pub worth-at : (e : Equations) (built : Interned) → IsStated e built → (at : Levels) (levels : List ℕ) → HaveLevels built.names at levels → (i : ℕ) (s : Statement) → IsAt e built i s
     → worth (built.system.levels - 1) levels (row_at built.system.rows i) ≡ named.worth e.top at s
 worth-at e built is at levels have i s here =
     ap (λ top. worth top levels (row_at built.system.rows i)) (top-of e built is) ∙ worth-same e.top built.names at levels have s (row_at built.system.rows i) here.row
@@ -97,7 +107,7 @@ pub rows-few : (s : SystemEquations) → IsSystem s → length s.rows < 2 ^ 24
 rows-few s fits = let few : length s.rows ≤ node_total s.rows = length-node_total s.levels (length s.requesters) s.rows fits.rows_fit in let nodes : node_total s.rows < 2 ^ 24 = fits.nodes_fit in omega arith
 
 -- no row is worth more than its authorizer has, by name where by number
-pub closed-named : (e : Equations) (built : Interned) → IsBuilt e built → (at : Levels) (levels : List ℕ) → HaveLevels built.names at levels → IsClosed built.system levels → proof.IsClosed e at
+pub closed-named : (e : Equations) (built : Interned) → IsStated e built → (at : Levels) (levels : List ℕ) → HaveLevels built.names at levels → IsClosed built.system levels → proof.IsClosed e at
 closed-named e built is at levels have closed = λ i d l.
     let s : Statement = get_or e.statements i d in
     let here : IsAt e built i s = at-statement e built is i s (slice_get-get_or e.statements i d l) in
@@ -107,7 +117,7 @@ closed-named e built is at levels have closed = λ i d l.
     omega arith
 
 -- and by number where by name
-pub closed-numbered : (e : Equations) (built : Interned) → IsBuilt e built → (at : Levels) (levels : List ℕ) → HaveLevels built.names at levels → proof.IsClosed e at → IsClosed built.system levels
+pub closed-numbered : (e : Equations) (built : Interned) → IsStated e built → (at : Levels) (levels : List ℕ) → HaveLevels built.names at levels → proof.IsClosed e at → IsClosed built.system levels
 closed-numbered e built is at levels have closed = λ i l.
     let s : Statement = (at-row e built is i l).0 in
     let here : IsAt e built i s = (at-row e built is i l).1 in

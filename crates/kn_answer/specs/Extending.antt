@@ -2,9 +2,14 @@
 use Rattle.std.specs.Prelude.{ℕ, ◌≡◌, ◌+◌, ◌≤◌, ◌⊎◌, true, List, [], ◌∷◌, ◌++◌, length}
 use Rattle.std.specs.List.{list_any}
 use Rattle.std.specs.Str.{bytes_eq}
+use Rattle.kn_trees.specs.declared.assertion.Assertion.{Assertion}
+use Rattle.kn_trees.specs.Formulas.{field_nodes}
 use Rattle.kn_meaning.specs.Equations.{Equations, Statement}
+use Rattle.kn_meaning.specs.Occurring.{licensees_names}
+use Rattle.kn_system.specs.Rows.{SystemRow}
 use Rattle.kn_answer.specs.declared.numbered.Numbered.{Numbered}
-use Rattle.kn_answer.specs.Numbering.{IsNumber, AreNumbered, HaveNumbers, IsSystemOf}
+use Rattle.kn_answer.specs.Numbering.{IsNumber, AreDistinct, AreNumbered, HaveNumbers, IsSystemOf}
+use Rattle.kn_answer.specs.Based.{IsBaseRow}
 
 -- the names keep their numbers
 abbrev pub Keeps : List (List ℕ) → List (List ℕ) → Type 0
@@ -30,6 +35,7 @@ pub record Extends (n : ℕ) (added : List (List ℕ)) (old new : Numbered) : Ty
   pub names : AddsNames added old.names new.names
   pub few : length new.names ≤ length old.names + n
   pub one_each : length new.names ≡ length new.system.requesters
+  pub distinct : AreDistinct old.names → AreDistinct new.names
   pub levels : new.system.levels ≡ old.system.levels
   pub rows : new.system.rows ≡ old.system.rows
   pub same : (e : Equations) → IsSystemOf e old.names old.system → IsSystemOf e new.names new.system
@@ -43,3 +49,17 @@ pub record AddsRequester (name : List ℕ) (old new : Numbered) : Type 0 where
   pub rows : new.system.rows ≡ old.system.rows
   pub numbered : (requesters : List (List ℕ)) → list_any (bytes_eq name) requesters ≡ true
       → AreNumbered requesters old.names old.system.requesters → AreNumbered requesters new.names new.system.requesters
+
+-- A row was added behind the others, which is the assertion's and has this ceiling, and its principals have numbers.
+pub record AddsRow (assertion : Assertion) (ceiling : ℕ) (old new : Numbered) : Type 0 where
+  pub row : SystemRow
+  pub names : AddsNames (assertion.authorizer ∷ licensees_names assertion.licensees) old.names new.names
+  pub few : length new.names ≤ length old.names + (2 + field_nodes assertion.licensees)
+  pub one_each : length new.names ≡ length new.system.requesters
+  pub distinct : AreDistinct old.names → AreDistinct new.names
+  pub levels : new.system.levels ≡ old.system.levels
+  pub rows : new.system.rows ≡ old.system.rows ++ row ∷ []
+  pub short : length row.formula ≤ 1 + field_nodes assertion.licensees
+  pub capped : row.ceiling ≡ ceiling
+  pub is : IsBaseRow new.names assertion row
+  pub same : (e : Equations) → IsSystemOf e old.names old.system → IsSystemOf e new.names (record new.system { rows = old.system.rows })

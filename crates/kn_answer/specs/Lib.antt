@@ -4,4 +4,6 @@ pub mod Extending
 pub mod Spelling
 pub mod Built
 pub mod Located
+pub mod Removed
+pub mod Based
 pub mod Laws

@@ -1,7 +1,9 @@
 //! Laws of the systems of queries, each of them the contract of a function that does nothing.
 
 ghost use Rattle.std.specs.Prelude.{◌≡◌};
+ghost use Rattle.kn_answer.specs.Based.{BasesStateQueries};
 ghost use Rattle.kn_answer.specs.Laws.{LocatedProofs};
+ghost use Rattle.kn_answer.specs.Removed.{RemovedAreWorthless};
 
 use crate::types::QUERY_BYTES;
 
@@ -14,4 +16,14 @@ pub fn located_proofs()
 /// The bytes of the texts behind a query, together.
 pub fn query_limit()
     ensures { QUERY_BYTES ≡ 16777000 }
+{}
+
+/// An assertion whose conditions are worth nothing may as well not be there.
+pub fn removed_are_worthless()
+    ensures { RemovedAreWorthless }
+{}
+
+/// A base is the system of each query over its assertions, with the query's requesters and ceilings.
+pub fn bases_state_queries()
+    ensures { BasesStateQueries }
 {}

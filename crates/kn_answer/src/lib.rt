@@ -3,12 +3,17 @@
 #![tactic(auto)]
 
 mod answers;
+mod assertions;
+mod base;
 mod built;
+mod conditions;
 pub mod laws;
 mod names;
 mod numbered;
 mod types;
 
 pub use answers::answer;
+pub use assertions::Assertions;
+pub use base::Base;
 pub use built::{Built, build, locate};
 pub use types::{Answer, Part, QUERY_BYTES, Tally};

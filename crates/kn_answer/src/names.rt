@@ -1,5 +1,5 @@
 //! The names of principals, each with its number.
-ghost use Rattle.std.specs.Prelude.{◌≡◌, ◌^◌, ◌<◌, ◌≤◌, [], ◌∷◌, ◌++◌, length, IfSome, IfNone, OnOk, OnErr};
+ghost use Rattle.std.specs.Prelude.{◌≡◌, ◌^◌, ◌<◌, ◌≤◌, [], ◌∷◌, ◌++◌, length, IfSome, IfNone, OnOk, OnErr, take};
 ghost use Rattle.kn_answer.specs.Numbering.{IsNumber, IsAbsent};
 
 use indexmap::IndexSet;
@@ -71,5 +71,12 @@ impl Names {
             Ok(_) => Ok(()),
             Err(_) => Err(NoMemory),
         }
+    }
+
+    /// Keeps the first of the names alone.
+    pub(super) fn shorten(&mut self, len: u32)
+        ensures { self.new ≡ take len self.old }
+    {
+        self.keys.truncate(len as usize);
     }
 }

@@ -1,15 +1,16 @@
 //! A query over numbered principals.
-ghost use Rattle.std.specs.Prelude.{◌≡◌, ℕ, ◌+◌, ◌-◌, ◌^◌, ◌<◌, ◌≤◌, false, true, [], ◌∷◌, ◌++◌, All, flat_map, length, map, IfOk, IfSome, OnOk};
+ghost use Rattle.std.specs.Prelude.{◌≡◌, ℕ, ◌+◌, ◌-◌, ◌^◌, ◌<◌, ◌≤◌, false, true, [], ◌∷◌, ◌++◌, All, flat_map, length, map, IfOk, IfSome, List as ListOf, OnErr, OnOk};
 ghost use Rattle.std.specs.List.{list_any};
 ghost use Rattle.std.specs.Str.{bytes_eq};
 ghost use Rattle.kn_cond.specs.Programs.{field_value as field_value_of};
 ghost use Rattle.kn_principal.specs.Principals.{policy};
-ghost use Rattle.kn_meaning.specs.Equations.{Equations, equations_over, statement_of};
+ghost use Rattle.kn_meaning.specs.Equations.{Equations, Part as AssertionById, equations_over, statement_of};
 ghost use Rattle.kn_meaning.specs.Occurring.{occurring, formula_names, licensees_names, statement_names};
 ghost use Rattle.kn_system.specs.Equations.{node_total};
 ghost use Rattle.kn_system.specs.Forms.{IsFormula};
 ghost use Rattle.kn_answer.specs.Numbering.{IsNumber, IsAbsent, ArePiecesOf, AreNamesOf, AreNumbered, HaveNumbers, IsSystemOf, SpellLicensees, licensees_pieces};
-ghost use Rattle.kn_answer.specs.Extending.{AddsNames, Extends, AddsRequester, with_statement};
+ghost use Rattle.kn_answer.specs.Based.{AreNumbersOf, IsBaseOf};
+ghost use Rattle.kn_answer.specs.Extending.{AddsNames, AddsRow, Extends, AddsRequester, with_statement};
 ghost use Rattle.kn_answer.specs.Spelling.{AddsSpelled, AddsGate};
 ghost use Rattle.kn_answer.specs.Sizes.{IsReadablePart, size_of, total_size};
 ghost use Rattle.kn_trees.specs.Formulas.{IsReadable, field_nodes, formula_nodes, is_sound, total};
@@ -51,7 +52,7 @@ pub(super) fn numbered_query(
 // An `Err` of these leaves a value that is of no more use.
 impl Numbered {
     // The policy alone, which has number 0.
-    fn of_policy(alloc: Global, values: u8) -> Result<Numbered, NoMemory>
+    pub(super) fn of_policy(alloc: Global, values: u8) -> Result<Numbered, NoMemory>
         requires at_least_two { 2 ≤ values }
         requires at_most { values ≤ 64 }
         ensures names { IfOk result (λ numbered. numbered.names ≡ policy ∷ []) }
@@ -74,9 +75,20 @@ impl Numbered {
         ensures names { OnOk result (self.new.names ≡ self.old.names ++ name.now ∷ []) }
         ensures system { OnOk result (self.new.system
             ≡ record self.old.system { requesters = self.old.system.requesters ++ requester ∷ [] }) }
+        ensures err_names { OnErr result (self.new.names ≡ self.old.names) }
+        ensures err_system { OnErr result (self.new.system ≡ self.old.system) }
     {
-        self.names.push(name)?;
-        self.system.push_principal(requester)
+        match self.names.push(name) {
+            Ok(()) => {}
+            Err(_) => return Err(NoMemory),
+        }
+        match self.system.push_principal(requester) {
+            Ok(number) => Ok(number),
+            Err(_) => {
+                self.names.shorten(self.system.principals());
+                Err(NoMemory)
+            }
+        }
     }
 
     // A system can't make a principal a requester later, so requesters get their numbers before others.
@@ -100,6 +112,8 @@ impl Numbered {
         requires one_each { length self.old.names ≡ length self.old.system.requesters }
         ensures number { IfOk result (λ number. IsNumber self.new.names name.now number) }
         ensures ok { OnOk result (Extends 1 (name.now ∷ []) self.old self.new) }
+        ensures err_names { OnErr result (self.new.names ≡ self.old.names) }
+        ensures err_system { OnErr result (self.new.system ≡ self.old.system) }
     {
         match self.names.find(name) {
             Some(number) => Ok(number),
@@ -168,11 +182,55 @@ impl Numbered {
         ensures principals { OnOk result (AddsNames (statement_names (statement_of query.now part.now)) self.old.names self.new.names) }
     {
         let assertion = part.assertion;
-        let authorizer = self.number(assertion.authorizer.as_slice())?;
         let ceiling = ceiling_of(alloc, query, assertion)?;
+        self.add_row(alloc, assertion, ceiling)?;
+        Ok(())
+    }
+
+    // Adds the row of an assertion with this ceiling.
+    pub(super) fn add_row(
+        &mut self,
+        alloc: Global,
+        assertion: &Assertion,
+        ceiling: u8,
+    ) -> Result<(), NoMemory>
+        requires readable { IfSome assertion.now.licensees (λ formula. (bytes : ℕ) × IsReadable bytes formula) }
+        requires names_fit { length self.old.names + (2 + field_nodes assertion.now.licensees) ≤ 2 ^ 24 }
+        requires nodes_fit { node_total self.old.system.rows + (2 + field_nodes assertion.now.licensees) ≤ 2 ^ 24 }
+        requires one_each { length self.old.names ≡ length self.old.system.requesters }
+        requires ceiling { ceiling < self.old.system.levels }
+        ensures ok { OnOk result (AddsRow assertion.now ceiling self.old self.new) }
+    {
+        let authorizer = self.number(assertion.authorizer.as_slice())?;
         let pieces = self.licensees(alloc, &assertion.licensees)?;
         self.system.push_row(authorizer, ceiling, &pieces)?;
         Ok(())
+    }
+
+    // The numbers of principals, of whom those get one here who have none yet.
+    pub(super) fn numbers(
+        &mut self,
+        alloc: Global,
+        principals: &List<Octets>,
+    ) -> Result<List<u32>, NoMemory>
+        requires few { length self.old.names + length principals.now ≤ 2 ^ 24 }
+        requires one_each { length self.old.names ≡ length self.old.system.requesters }
+        ensures numbers { IfOk result (λ numbers. AreNumbersOf self.new.names principals.now numbers) }
+        ensures base { (parts : ListOf AssertionById) → IsBaseOf parts self.old.names self.old.system
+            → IsBaseOf parts self.new.names self.new.system }
+        ensures rows { self.new.system.rows ≡ self.old.system.rows }
+        ensures one_each { length self.new.names ≡ length self.new.system.requesters }
+        ensures names { length self.new.names ≤ length self.old.names + length principals.now }
+    {
+        let mut numbers = List::new(alloc);
+        for principal in principals.as_slice() {
+            let number = self.number(principal.as_slice())?;
+            match numbers.push(number) {
+                Ok(()) => {}
+                Err(_) => return Err(NoMemory),
+            }
+        }
+        Ok(numbers)
     }
 
     // The pieces of a Licensees field. A missing one has those of `||` over no parts.
@@ -243,7 +301,11 @@ impl Numbered {
 }
 
 // The value of an assertion's conditions in a query.
-fn ceiling_of(alloc: Global, query: &Query<'_>, assertion: &Assertion) -> Result<u8, NoMemory>
+pub(super) fn ceiling_of(
+    alloc: Global,
+    query: &Query<'_>,
+    assertion: &Assertion,
+) -> Result<u8, NoMemory>
     requires at_least_two { 2 ≤ length query.now.values }
     ensures value { IfOk result (λ ceiling. ceiling
         ≡ field_value_of (record { asked = query.now; constants = assertion.now.constants }) assertion.now.conditions) }

@@ -9,6 +9,7 @@ use Rattle.kn_answer.specs.Built.{IsBuilt}
 use Rattle.kn_answer.proofs.Bridge.{IsPolicyLevel-by_name}
 use Rattle.kn_answer.proofs.Listed.{AreOfSystem-steps, level-most}
 use Rattle.kn_answer.proofs.Located.{proof-named}
+use Rattle.kn_answer.proofs.Rowed.{IsBuilt-stated}
 use Rattle.kn_answer.proofs.answers.answer.Goals as goal
 
 pub named_rows-requires : goal.named_rows-requires
@@ -23,7 +24,7 @@ returns-clause-proof c =
     let levels : c.as_slice.result.now ≡ least_levels s = c.as_slice.ensures ∙ c.in_ok-settled.ensures.levels ∙ ap least_levels c.system.ensures in
     let proves : IsProof s c.in_ok-settled.settled.proof.rows (slice_index (least_levels s) 0) = subst (λ x. IsProof x c.in_ok-settled.settled.proof.rows (slice_index (least_levels x) 0)) c.system.ensures c.in_ok-settled.ensures.proof in
     subst (λ ls. proof.IsProof e c.in_ok-rows.rows (slice_index ls 0)) (sym levels)
-    (proof-named e c.in_ok-built.built c.in_ok-built.ensures.built c.in_ok-rows.rows c.in_ok-settled.settled.proof.rows c.in_ok-rows.ensures (slice_index (least_levels s) 0) proves)
+    (proof-named e c.in_ok-built.built (IsBuilt-stated e c.in_ok-built.built c.in_ok-built.ensures.built) c.in_ok-rows.rows c.in_ok-settled.settled.proof.rows c.in_ok-rows.ensures (slice_index (least_levels s) 0) proves)
 
 pub returns-clause-least : goal.returns-clause-least
 returns-clause-least c =

@@ -1,0 +1,228 @@
+//! A base: the system of assertions without a query, from which each query is answered at the cost of what it reaches.
+ghost use Rattle.std.specs.Prelude.{◌≡◌, ℕ, ◌+◌, ◌-◌, ◌*◌, ◌^◌, ◌<◌, ◌≤◌, false, true, [], ◌∷◌, ◌++◌, List as ListOf, length, map, slice_set, IfOk};
+ghost use Rattle.kn_meaning.specs.Equations.{IsPolicyLevel, Part as AssertionById, equations_over};
+ghost use Rattle.kn_meaning.specs.Proofs.{IsProof};
+ghost use Rattle.kn_system.specs.Equations.{SystemEquations, node_total};
+ghost use Rattle.kn_answer.specs.Based.{IsBaseOf};
+ghost use Rattle.kn_answer.specs.Located.{AreLocated, AreOfSystem, IsLocated, IsOfSystem};
+ghost use Rattle.kn_answer.specs.Removed.{live_parts};
+ghost use Rattle.kn_answer.specs.Sizes.{IsReadablePart, size_of};
+
+use crate::assertions::Assertions;
+use crate::conditions::Conditions;
+use crate::numbered::Numbered;
+use crate::types::{Answer, Part, Tally};
+use kn_base::limits::MOST_COMPLIANCE_VALUES;
+use kn_base::{List, NoMemory, Octets, Steps};
+use kn_env::Query;
+use kn_proof::{NamedRow, Proof, Row};
+use kn_settle::{Scratch, settle_on_demand};
+use kn_system::laws;
+use std::alloc::Global;
+use std::marker::Model;
+
+/// The principals of assertions by numbers, and a row for each assertion, in the order in which they were added. The
+/// assertions themselves stay with the caller, who lends them to each answer. A base is of no query: a query's
+/// requesters are looked up when it is answered, and conditions are evaluated when their row is first reached.
+#[derive(Drop)]
+pub struct Base {
+    numbered: Numbered,
+    // For each row whether its assertion is still there.
+    live: List<bool>,
+    scratch: Scratch,
+}
+
+impl Model for Base {
+    ghost use Rattle.std.specs.Prelude.{◌≡◌, length};
+    ghost use Rattle.kn_answer.specs.Based.{BaseView};
+
+    ghost Value = { BaseView };
+
+    ghost view = { λ b. record { names = b.numbered.names; system = b.numbered.system; live = b.live } };
+
+    ghost invariant = { λ b.
+        (length b.numbered.names ≡ length b.numbered.system.requesters)
+        × (length b.live ≡ length b.numbered.system.rows) };
+}
+
+impl Base {
+    /// A base of no assertions.
+    pub fn new(alloc: Global) -> Result<Base, NoMemory>
+        ensures base { IfOk result (λ base. IsBaseOf [] base.names base.system) }
+        ensures names { IfOk result (λ base. length base.names ≡ 1) }
+        ensures nodes { IfOk result (λ base. node_total base.system.rows ≡ 0) }
+        ensures live { IfOk result (λ base. base.live ≡ []) }
+    {
+        Ok(Base {
+            numbered: Numbered::of_policy(alloc, MOST_COMPLIANCE_VALUES as u8)?,
+            live: List::new(alloc),
+            scratch: Scratch::new(alloc),
+        })
+    }
+
+    /// The base with one more assertion, behind the others. Its text has more bytes than its formula has nodes, so a
+    /// caller who counts bytes knows that it has room.
+    ///
+    /// `NoMemory` comes only for want of memory, and the base is gone then.
+    pub fn extend(self, alloc: Global, part: &Part<'_>) -> Result<Base, NoMemory>
+        requires readable { IsReadablePart part.now }
+        requires names_fit { length self.names + size_of part.now ≤ 2 ^ 24 }
+        requires nodes_fit { node_total self.system.rows + size_of part.now ≤ 2 ^ 24 }
+        ensures base { IfOk result (λ base. (parts : ListOf AssertionById) → IsBaseOf parts self.names self.system
+            → IsBaseOf (parts ++ part.now ∷ []) base.names base.system) }
+        ensures names { IfOk result (λ base. length base.names ≤ length self.names + size_of part.now) }
+        ensures nodes { IfOk result (λ base. node_total base.system.rows
+            ≤ node_total self.system.rows + size_of part.now) }
+        ensures live { IfOk result (λ base. base.live ≡ self.live ++ true ∷ []) }
+    {
+        let Base {
+            mut numbered,
+            mut live,
+            scratch,
+        } = self;
+        let _levels = numbered.system.levels();
+        numbered.add_row(alloc, part.assertion, 0)?;
+        live.add(true)?;
+        Ok(Base {
+            numbered,
+            live,
+            scratch,
+        })
+    }
+
+    /// Takes the assertion of a row out of all answers from here on. Its row stays.
+    pub fn remove(&mut self, row: u32)
+        requires { row < length self.old.live }
+        ensures { self.new ≡ record self.old { live = slice_set self.old.live row false } }
+    {
+        let _was = self.live.replace(row, false);
+    }
+
+    /// Puts the assertion of a row back into the answers.
+    pub fn restore(&mut self, row: u32)
+        requires { row < length self.old.live }
+        ensures { self.new ≡ record self.old { live = slice_set self.old.live row true } }
+    {
+        let _was = self.live.replace(row, true);
+    }
+
+    /// The number of principals.
+    pub fn principals(&self) -> u32
+        ensures { result ≡ length self.now.names }
+    {
+        self.numbered.system.principals()
+    }
+
+    /// The number of nodes of the assertions' formulas together.
+    pub fn nodes(&self) -> u32
+        ensures { result ≡ node_total self.now.system.rows }
+    {
+        self.numbered.system.nodes()
+    }
+
+    /// The number of rows, with those whose assertions were removed.
+    pub fn rows(&self) -> u32
+        ensures { result ≡ length self.now.live }
+    {
+        self.live.len()
+    }
+
+    /// The compliance value of a query (RFC 2704, section 5) over the assertions that are still there, with a proof of it
+    /// by names (keynoted's own). The assertions are those that were added, in their order.
+    ///
+    /// `NoMemory` comes only for want of memory. After it, as after an answer, the base is of the same assertions, and
+    /// requesters who weren't known may have got numbers.
+    pub fn answer<A: Assertions>(
+        &mut self,
+        alloc: Global,
+        query: &Query<'_>,
+        assertions: &A,
+    ) -> Result<Answer, NoMemory>
+        requires base { IsBaseOf (A.parts assertions.now) self.old.names self.old.system }
+        requires room { length self.old.names + length query.now.requesters ≤ 2 ^ 24 }
+        ensures proof { IfOk result (λ a.
+            IsProof (equations_over query.now (live_parts (A.parts assertions.now) self.old.live)) a.rows a.value) }
+        ensures least { IfOk result (λ a.
+            IsPolicyLevel (equations_over query.now (live_parts (A.parts assertions.now) self.old.live)) a.value) }
+        ensures below { IfOk result (λ a. a.value < length query.now.values) }
+        ensures base { IsBaseOf (A.parts assertions.now) self.new.names self.new.system }
+        ensures names { length self.new.names ≤ length self.old.names + length query.now.requesters }
+        ensures rows { self.new.system.rows ≡ self.old.system.rows }
+        ensures live { self.new.live ≡ self.old.live }
+    {
+        let requesters = self.numbered.numbers(alloc, query.requesters())?;
+        let system = &self.numbered.system;
+        let _levels = system.levels();
+        let levels = query.values().len();
+        self.scratch
+            .fit(alloc, system.principals(), system.nodes(), levels)?;
+        let conditions = Conditions {
+            alloc,
+            query,
+            assertions,
+            live: &self.live,
+        };
+        let settled = settle_on_demand(
+            alloc,
+            system,
+            levels,
+            requesters.as_slice(),
+            &conditions,
+            &mut self.scratch,
+            &mut Steps::start(Tally),
+        )?;
+        laws::least_levels_are_least();
+        Ok(Answer {
+            value: settled.value,
+            rows: self.named_rows(alloc, assertions, &settled.proof)?,
+        })
+    }
+
+    // The rows of a proof by names, in their order.
+    fn named_rows<A: Assertions>(
+        &self,
+        alloc: Global,
+        assertions: &A,
+        proof: &Proof,
+    ) -> Result<List<NamedRow>, NoMemory>
+        requires numbers { AreOfSystem self.now.system proof.now.rows }
+        requires one_each { length (A.parts assertions.now) ≡ length self.now.system.rows }
+        ensures { IfOk result (λ rows. (s : SystemEquations) → AreLocated (record {
+          names = self.now.names;
+          system = s;
+          ids = map (λ part. part.id) (A.parts assertions.now);
+        }) rows proof.now.rows) }
+    {
+        let mut rows = List::new(alloc);
+        for row in proof.rows.as_slice() {
+            let named = self.named(alloc, assertions, row)?;
+            match rows.push(named) {
+                Ok(()) => {}
+                Err(_) => return Err(NoMemory),
+            }
+        }
+        Ok(rows)
+    }
+
+    // A row by its names.
+    fn named<A: Assertions>(
+        &self,
+        alloc: Global,
+        assertions: &A,
+        row: &Row,
+    ) -> Result<NamedRow, NoMemory>
+        requires numbers { IsOfSystem self.now.system row.now }
+        requires one_each { length (A.parts assertions.now) ≡ length self.now.system.rows }
+        ensures { IfOk result (λ named. (s : SystemEquations) → IsLocated (record {
+          names = self.now.names;
+          system = s;
+          ids = map (λ part. part.id) (A.parts assertions.now);
+        }) named row.now) }
+    {
+        Ok(NamedRow {
+            value: row.value,
+            id: assertions.id(row.by),
+            principal: Octets::from_slice(alloc, self.numbered.names.get(row.principal))?,
+        })
+    }
+}
