@@ -1,5 +1,5 @@
 -- The ceilings of a base's rows in a query.
-use Rattle.std.proofs.Common.{◌≡◌, ℕ, zero, suc, ◌<◌, Bool, true, false, cond, All, List, [], ◌∷◌, length, map, get_or, slice_index, refl, sym, ap, ◌∙◌, arith}
+use Rattle.std.proofs.Common.{◌≡◌, ℕ, zero, suc, ◌<◌, Bool, true, false, cond, All, List, [], ◌∷◌, length, map, get_or, slice_index, refl, sym, ap, ◌∙◌, arith, replicate}
 use Rattle.std.proofs.lemmas.List.{get_or_default, length-map}
 use Rattle.std.proofs.lemmas.List.Elements.{All-nil, All-cons}
 use Rattle.kn_trees.specs.declared.assertion.Assertion.{Assertion}
@@ -7,6 +7,7 @@ use Rattle.kn_env.specs.Environment.{Asked}
 use Rattle.kn_cond.specs.Programs.{field_value}
 use Rattle.kn_meaning.specs.Equations.{Part, statement_of}
 use Rattle.kn_answer.specs.Numbering.{IsNumber}
+use Rattle.kn_answer.specs.Removed.{live_parts}
 use Rattle.kn_answer.specs.Based.{ceilings_of}
 use Rattle.kn_answer.proofs.Basing.{length-kept}
 use Rattle.kn_answer.proofs.Bounded.{field_value-within}
@@ -55,3 +56,9 @@ ceilings-low asked (part ∷ parts) (flag ∷ live) levels e some =
 -- a flag that was read
 pub flag-here : (seen live : List Bool) (row : ℕ) (flag : Bool) → seen ≡ live → row < length live → get_or seen row false ≡ flag → flag ≡ get_or live row flag
 flag-here seen live row flag same within e = sym e ∙ ap (λ fs. get_or fs row false) same ∙ get_or_default live row false flag within
+
+-- all are there
+pub live-all : (parts : List Part) (n : ℕ) → n ≡ length parts → live_parts parts (replicate n true) ≡ parts
+live-all [] n size = refl
+live-all (part ∷ parts) zero size = absurd (omega (arith, size))
+live-all (part ∷ parts) (suc n) size = ap (λ ps. part ∷ ps) (live-all parts n (omega (arith, size)))

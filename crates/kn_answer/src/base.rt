@@ -6,7 +6,8 @@ ghost use Rattle.kn_system.specs.Equations.{SystemEquations, node_total};
 ghost use Rattle.kn_answer.specs.Based.{IsBaseOf};
 ghost use Rattle.kn_answer.specs.Located.{AreLocated, AreOfSystem, IsLocated, IsOfSystem};
 ghost use Rattle.kn_answer.specs.Removed.{live_parts};
-ghost use Rattle.kn_answer.specs.Sizes.{IsReadablePart, size_of};
+ghost use Rattle.kn_answer.specs.Sizes.{HaveTexts, IsReadablePart, size_of};
+ghost use Rattle.kn_base.specs.declared.limits.TheConstants.{REQUESTERS};
 
 use crate::assertions::Assertions;
 use crate::conditions::Conditions;
@@ -58,6 +59,24 @@ impl Base {
             live: List::new(alloc),
             scratch: Scratch::new(alloc),
         })
+    }
+
+    /// The base of these assertions, in their order. They are those of texts that have at most 16,777,000 bytes together.
+    ///
+    /// `NoMemory` comes only for want of memory.
+    pub fn of(alloc: Global, list: &List<Part<'_>>) -> Result<Base, NoMemory>
+        requires { HaveTexts list.now }
+        ensures base { IfOk result (λ base. IsBaseOf list.now base.names base.system) }
+        ensures live { IfOk result (λ base. live_parts list.now base.live ≡ list.now) }
+        ensures names { IfOk result (λ base. length base.names + REQUESTERS ≤ 2 ^ 24) }
+    {
+        kn_assert::laws::readings_are_computed();
+        kn_assert::laws::readings_are_sound();
+        let mut base = Base::new(alloc)?;
+        for part in list.as_slice() {
+            base = base.extend(alloc, part)?;
+        }
+        Ok(base)
     }
 
     /// The base with one more assertion, behind the others. Its text has more bytes than its formula has nodes, so a
