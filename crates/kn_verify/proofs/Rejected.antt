@@ -22,7 +22,7 @@ use Rattle.kn_answer.specs.Numbering.{IsNumber, HaveLevels}
 use Rattle.kn_answer.specs.Built.{Interned, IsBuilt}
 use Rattle.kn_answer.specs.Located.{IsLocated, AreLocated}
 use Rattle.kn_answer.proofs.Grown.{AreNumbered-length}
-use Rattle.kn_answer.proofs.Rowed.{IsAt, at-statement, at-row, worth-at, flag-at, rows-few, length-rows, closed-named}
+use Rattle.kn_answer.proofs.Rowed.{IsAt, IsBuilt-stated, at-statement, at-row, worth-at, flag-at, rows-few, length-rows, closed-named}
 use Rattle.kn_answer.proofs.Followed.{row_level-none, row_level-zero, HaveFollowed, HaveFollowed-none}
 use Rattle.kn_answer.proofs.Located.{found-within, found-there, IsFollowed, steps-named}
 use Rattle.kn_verify.specs.Rejections.{IsNamedInRange, NamesOther, NamesFresh, NamesRaised, IsNamedRowReject, IsNamedRowFault, IsNamedUnclosed, IsRejected}
@@ -61,8 +61,8 @@ is-there e built is named_row row located range =
     let few : length built.system.requesters ≤ 2 ^ 24 = is.well_formed.principals_fit.1 in
     let few_rows : length built.system.rows < 2 ^ 24 = rows-few built.system is.well_formed in
     let by : IsNumber built.ids named_row.id row.by = found-within built.ids named_row.id row.by located.by (omega (arith, range.named)) in
-    let s : Statement = (at-row e built is row.by range.named).0 in
-    let here : IsAt e built row.by s = (at-row e built is row.by range.named).1 in
+    let s : Statement = (at-row e built (IsBuilt-stated e built is) row.by range.named).0 in
+    let here : IsAt e built row.by s = (at-row e built (IsBuilt-stated e built is) row.by range.named).1 in
     let ids : Some s.id ≡ Some named_row.id = sym here.id ∙ by in
     record {
       number = found-within built.names named_row.principal row.principal located.principal (omega (arith, range.principal));
@@ -90,7 +90,7 @@ range-numbered e built is named_row row located range =
     let each : length built.names ≡ length built.system.requesters = AreNumbered-length e.requesters built.names built.system.requesters is.of.numbered in
     let i : ℕ = range.assertion.0 in
     let s : Statement = range.assertion.1 in
-    let here : IsAt e built i s = at-statement e built is i s (slice_get-get_or e.statements i s range.assertion.2 ∙ ap Some range.assertion.3) in
+    let here : IsAt e built i s = at-statement e built (IsBuilt-stated e built is) i s (slice_get-get_or e.statements i s range.assertion.2 ∙ ap Some range.assertion.3) in
     let id : IsNumber built.ids named_row.id i = here.id ∙ ap Some range.assertion.4 in
     let by : IsNumber built.ids named_row.id row.by = found-there built.ids named_row.id row.by i located.by id in
     let in_ids : row.by < length built.ids = slice_get_within built.ids row.by named_row.id by in
@@ -178,7 +178,7 @@ reason-named e built is before levels followed k named_row row located (Unsuppor
     let less : found < row.value = reason.3 in (
       reason.0,
       raised-named e built is before levels followed named_row row located own.raising,
-      (row.by, s, there.at.listed, there.at.here, record { named = there.id; own = cc; worth_found = reason.2 ∙ worth-at e built is (levels_by e before) levels followed.have row.by s there.at }),
+      (row.by, s, there.at.listed, there.at.here, record { named = there.id; own = cc; worth_found = reason.2 ∙ worth-at e built (IsBuilt-stated e built is) (levels_by e before) levels followed.have row.by s there.at }),
       omega arith,
     )
 reason-named e built is before levels followed k named_row row located (Unclosed i found) reason = absurd reason
@@ -188,7 +188,7 @@ fault-named : (e : Equations) (built : Interned) → IsBuilt e built → (rows :
 fault-named e built is rows located are reject k fault =
     let found : IsNamed built rows k (proof_row_at located k) = located-at built rows located are k fault.within in
     let front : IsFollowed e built [] (at_first built.system) (take k rows) (take k located) =
-    steps-named e built is [] (at_first built.system) (HaveFollowed-none e built.names built.system is.of) (take k rows) (take k located) (located-take built rows located are k) fault.before in
+    steps-named e built (IsBuilt-stated e built is) [] (at_first built.system) (HaveFollowed-none e built.names built.system is.of) (take k rows) (take k located) (located-take built rows located are k) fault.before in
     record {
       k = k;
       row = found.named_row;
@@ -199,15 +199,15 @@ fault-named e built is rows located are reject k fault =
 
 unclosed-named : (e : Equations) (built : Interned) → IsBuilt e built → (at : Levels) (levels : List ℕ) → HaveLevels built.names at levels → (i found : ℕ) → numbered.IsUnclosed built.system levels i found → IsNamedUnclosed e at i found
 unclosed-named e built is at levels have i found unclosed =
-    let s : Statement = (at-row e built is i unclosed.within).0 in
-    let here : IsAt e built i s = (at-row e built is i unclosed.within).1 in
+    let s : Statement = (at-row e built (IsBuilt-stated e built is) i unclosed.within).0 in
+    let here : IsAt e built i s = (at-row e built (IsBuilt-stated e built is) i unclosed.within).1 in
     let own : slice_index levels (row_at built.system.rows i).authorizer ≡ at s.authorizer = have (row_at built.system.rows i).authorizer s.authorizer here.row.authorizer in
     let more : slice_index levels (row_at built.system.rows i).authorizer < found = unclosed.more in
     record {
       statement = s;
       here = slice_get-get_or e.statements i s here.listed ∙ ap Some here.here;
       before = λ j d l. before here.listed j d l;
-      worth_found = unclosed.worth ∙ worth-at e built is at levels have i s here;
+      worth_found = unclosed.worth ∙ worth-at e built (IsBuilt-stated e built is) at levels have i s here;
       more = omega arith;
     }
   where
@@ -216,9 +216,9 @@ unclosed-named e built is at levels have i found unclosed =
         let count : length (take i e.statements) ≡ i = length-take-le i e.statements (omega arith) in
         let less : j < i = omega arith in
         let t : Statement = get_or e.statements j d in
-        let there : IsAt e built j t = at-statement e built is j t (slice_get-get_or e.statements j d (omega arith)) in
+        let there : IsAt e built j t = at-statement e built (IsBuilt-stated e built is) j t (slice_get-get_or e.statements j d (omega arith)) in
         let low = unclosed.before j less in
-        let value = worth-at e built is at levels have j t there in
+        let value = worth-at e built (IsBuilt-stated e built is) at levels have j t there in
         let own : slice_index levels (row_at built.system.rows j).authorizer ≡ at t.authorizer = have (row_at built.system.rows j).authorizer t.authorizer there.row.authorizer in
         let holds : named.worth e.top at t ≤ at t.authorizer = omega arith in
         subst (λ x. named.worth e.top at x ≤ at x.authorizer) (sym (get_or-take i e.statements j d less)) holds
@@ -232,13 +232,13 @@ rejected-named e built is rows located are level (Zero j) rejects = fault-named 
 rejected-named e built is rows located are level (Foreign j) rejects = fault-named e built is rows located are (Foreign j) rejects.0 rejects.1
 rejected-named e built is rows located are level (Unsupported j found) rejects = fault-named e built is rows located are (Unsupported j found) rejects.0 rejects.1
 rejected-named e built is rows located are level (Unclosed i found) rejects =
-    let all : IsFollowed e built [] (at_first built.system) rows located = steps-named e built is [] (at_first built.system) (HaveFollowed-none e built.names built.system is.of) rows located are rejects.0 in
+    let all : IsFollowed e built [] (at_first built.system) rows located = steps-named e built (IsBuilt-stated e built is) [] (at_first built.system) (HaveFollowed-none e built.names built.system is.of) rows located are rejects.0 in
     (all.in_order, unclosed-named e built is (levels_by e rows) (levels_after (at_first built.system) located) all.after.have i found rejects.1)
 rejected-named e built is rows located are level (Claim found) rejects =
-    let all : IsFollowed e built [] (at_first built.system) rows located = steps-named e built is [] (at_first built.system) (HaveFollowed-none e built.names built.system is.of) rows located are rejects.0 in (
+    let all : IsFollowed e built [] (at_first built.system) rows located = steps-named e built (IsBuilt-stated e built is) [] (at_first built.system) (HaveFollowed-none e built.names built.system is.of) rows located are rejects.0 in (
       all.in_order,
       record {
-        closed = closed-named e built is (levels_by e rows) (levels_after (at_first built.system) located) all.after.have rejects.1.closed;
+        closed = closed-named e built (IsBuilt-stated e built is) (levels_by e rows) (levels_after (at_first built.system) located) all.after.have rejects.1.closed;
         level = rejects.1.level ∙ all.after.have 0 policy is.of.numbered.first;
         differs = rejects.1.differs;
       },
