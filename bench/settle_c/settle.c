@@ -160,8 +160,11 @@ struct counters {
 	uint32_t waiting[LEVELS], room[LEVELS];
 };
 
-static void put_row(struct counters *c, const struct system *s, uint32_t row, uint8_t value)
+static void put_row(struct counters *c, const struct system *s, struct settled *t, uint32_t row, uint8_t value)
 {
+	if (t->levels[s->authorizer[row]])
+		return;
+	t->steps++;
 	uint8_t level = value < s->ceiling[row] ? value : s->ceiling[row];
 	if (c->waiting[level] == c->room[level]) {
 		c->room[level] = room_for(c->room[level], c->waiting[level] + 1);
@@ -170,19 +173,19 @@ static void put_row(struct counters *c, const struct system *s, uint32_t row, ui
 	c->buckets[level][c->waiting[level]++] = row;
 }
 
-static void climb(struct counters *c, const struct system *s, uint32_t node, uint8_t value, uint64_t *steps)
+static void climb(struct counters *c, const struct system *s, struct settled *t, uint32_t node, uint8_t value)
 {
-	++*steps;
+	t->steps++;
 	uint32_t up = s->up[node];
 	while (!(up & ROW)) {
-		++*steps;
+		t->steps++;
 		if (c->counts[up] >= s->need[up])
 			return;
 		if (++c->counts[up] < s->need[up])
 			return;
 		up = s->up[up];
 	}
-	put_row(c, s, up & ~ROW, value);
+	put_row(c, s, t, up & ~ROW, value);
 }
 
 static void reach(struct counters *c, const struct system *s, struct settled *t, uint32_t principal, uint8_t value)
@@ -190,7 +193,7 @@ static void reach(struct counters *c, const struct system *s, struct settled *t,
 	t->levels[principal] = value;
 	for (uint32_t node = s->first_use[principal]; node != NONE; node = s->next_use[node]) {
 		t->steps++;
-		climb(c, s, node, value, &t->steps);
+		climb(c, s, t, node, value);
 	}
 	t->steps++;
 }
