@@ -16,12 +16,13 @@ use Rattle.kn_commands.specs.Names.{AskNames, CheckNames, in_order}
 use Rattle.kn_commands.specs.Held.{IsPolicy}
 use Rattle.kn_commands.specs.Stopping.{status_of, stop_line, policy_fault_line, limit_line}
 use Rattle.kn_commands.specs.Asking.{IsLinkAnswered, AskCause, StopsAtPolicy, StopsAtKeys, AreKeysStopped, status_of_ended, line_of_ended, status_of_ask, line_of_ask}
-use Rattle.kn_commands.specs.Checking.{StopsCheckAt, CheckCause, Reached, name_of, count_before, count_to, status_of_ending, line_of_ending}
+use Rattle.kn_commands.specs.Checking.{StopsCheckAt, CheckCause, Reached, name_of, NeedsMemory, count_before, count_to, status_of_ending, line_of_ending}
 use Rattle.kn_commands.proofs.Files.{asked_nothing}
 use Rattle.kn_commands.proofs.Reached.{one_more}
 use Rattle.keynoted.specs.Commands.{AskFor, CheckFor, IsNoCommand}
-use Rattle.keynoted.specs.Running.{AsksServed, IsNext, IsDue, IsPrinted, IsEnded}
+use Rattle.keynoted.specs.Running.{AsksServed, IsNext, IsDue, IsPrinted, IsEnded, NeedsMemoryNext}
 use Rattle.keynoted.specs.Running as D
+use Rattle.keynoted.proofs.Known.{ask_is_no_check, same_names}
 
 pub refused_ended : (given : List (List ℕ)) (f : FilesSeen) (o s s' : LinkSeen) (status : ℕ) → IsNoCommand given → IsPrinted (stop_line [] Words) 1 s s' status →
     IsEnded given f f o o s s' status
@@ -29,6 +30,9 @@ refused_ended given f o s s' status none told =
     record { due = 1; line = stop_line [] Words; cause = D.Words refl (record { words = none; files = refl; link = refl; told = refl }); told = told }
 
 module _ (given : List (List ℕ)) (names : AskNames) (f f' : FilesSeen) (o o' : LinkSeen) (words : AskFor given names) where
+  no_check : (front : List (List ℕ)) → NeedsMemoryNext given f front
+  no_check front others check named = absurd (ask_is_no_check given names others words check)
+
   ask_policy_next : IsNext given f [] names.policy
   ask_policy_next = D.PolicyOfAsk names words refl refl
 
@@ -47,7 +51,7 @@ module _ (given : List (List ℕ)) (names : AskNames) (f f' : FilesSeen) (o o' :
           [],
           names.policy,
           ask_policy_next,
-          ⊎_elim (λ (none : f' ≡ f). inl (subst (HasAsked [] f) (sym none) (asked_nothing f))) (λ (one : HasAsked (names.policy ∷ []) f f'). inr one) stops,
+          ⊎_elim (λ (none : f' ≡ f). inl (subst (HasAsked [] f) (sym none) (asked_nothing f))) (λ (one : HasAsked (names.policy ∷ []) f f'). inr (one, no_check [])) stops,
         ),
       )
   policy_due Words stops same = absurd stops
@@ -68,7 +72,12 @@ module _ (given : List (List ℕ)) (names : AskNames) (f f' : FilesSeen) (o o' :
       link = same;
       told = refl;
     })
-    keys_due Memory stops = D.Memory refl (refl, same, inl (names.policy ∷ [], name, keys_next, stops))
+    keys_due Memory stops = D.Memory refl (refl, same, inl (
+      names.policy ∷ [],
+      name,
+      keys_next,
+      ⊎_elim (λ (before : HasAsked (names.policy ∷ []) f f'). inl before) (λ (both : HasAsked (names.policy ∷ name ∷ []) f f'). inr (both, no_check (names.policy ∷ []))) stops,
+    ))
     keys_due Words stops = absurd stops
     keys_due (Policy n fault) stops = absurd stops
     keys_due (Limit n word count) stops = absurd stops
@@ -106,6 +115,11 @@ module _ (given : List (List ℕ)) (names : CheckNames) (f f' : FilesSeen) (o o'
   next At.Script reached = D.ScriptOfCheck names reached.0 words reached.1 refl refl
   next At.Reply reached = D.ReplyOfCheck names reached.0 reached.1 words reached.2 refl refl
 
+  needed : (source : Source) → NeedsMemory f names source → NeedsMemoryNext given f (take (count_before source) (in_order names))
+  needed At.Policy needs others check named = absurd (cc)
+  needed At.Script needs others check named = absurd (cc)
+  needed At.Reply needs others check named = subst (λ (n : CheckNames). NeedsMemory f n At.Reply) (same_names given names others words check) needs
+
   check_policy_next : IsNext given f [] names.policy
   check_policy_next = D.PolicyOfCheck names words refl refl
 
@@ -140,7 +154,8 @@ module _ (given : List (List ℕ)) (names : CheckNames) (f f' : FilesSeen) (o o'
           next source cause.0,
           ⊎_elim
               (λ (before : HasAsked (take (count_before source) (in_order names)) f f'). inl before)
-              (λ (to : HasAsked (take (count_to source) (in_order names)) f f'). inr (subst (λ (l : List (List ℕ)). HasAsked l f f') (sym (one_more names source)) to))
+              (λ (to : HasAsked (take (count_to source) (in_order names)) f f' × NeedsMemory f names source).
+                  inr (subst (λ (l : List (List ℕ)). HasAsked l f f') (sym (one_more names source)) to.0, needed source to.1))
               cause.1,
         ),
       )

@@ -10,3 +10,4 @@ pub mod ServiceCalled
 pub mod ServiceDue
 pub mod ClapLaws
 pub mod Texts
+pub mod Specified

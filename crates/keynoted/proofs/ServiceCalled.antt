@@ -137,7 +137,7 @@ module _ {C R : Type 0} (door : R → DoorSeen (ServedSeen C)) (link : C → Lin
       by : IsEndDue door link given f f' n n' o o' run.due run.line → EndsWith due status
       by (Apart none same is) = ends_called law given f f' o o' s s' status (ended_of is) calm due calls
       by (Service is) = absurd (no_serve calls is.words.serve)
-      by (Unread five unread) = absurd (no_serve calls unread.serve)
+      by (Unread five unread) = absurd (no_serve calls unread.words.serve)
 
   -- an input of `ask` that is in order is served to its end
   pub run_asked : OneQueryOfScript → (input : List ℕ) → CallsToServe given f o o' input → IsOrderly input → EndsWith 0 status
@@ -146,7 +146,7 @@ module _ {C R : Type 0} (door : R → DoorSeen (ServedSeen C)) (link : C → Lin
       by : IsEndDue door link given f f' n n' o o' run.due run.line → EndsWith 0 status
       by (Apart none same is) = ends_served law given f f' o o' s s' status (ended_of is) calm input calls orderly
       by (Service is) = absurd (ask_is_no_serve given calls.names calls.words is.words.serve)
-      by (Unread five unread) = absurd (ask_is_no_serve given calls.names calls.words unread.serve)
+      by (Unread five unread) = absurd (ask_is_no_serve given calls.names calls.words unread.words.serve)
 
   -- the files of a service call for a status, where no call of the net failed
   pub run_served : (order : Order) → ServeFor given order → (due : ℕ) → AskLeads f order.files (λ served. served ≡ 0) due → ¬ Rose n.faults n'.faults → EndsWith due status
@@ -178,4 +178,4 @@ run_generated door link given f f' n n' o o' s s' status run numbers gen = by ru
     by : IsEndDue door link given f f' n n' o o' run.due run.line → EndsWith 0 status ⊎ ((status ≡ 9) × Rose s.faults s'.faults)
     by (Apart none same is) = says_generated given f f' o o' s s' status (record { due = run.due; line = run.line; cause = is; told = run.told }) numbers gen
     by (Service is) = absurd (gen_is_no_serve given numbers gen is.words.serve)
-    by (Unread five unread) = absurd (gen_is_no_serve given numbers gen unread.serve)
+    by (Unread five unread) = absurd (gen_is_no_serve given numbers gen unread.words.serve)

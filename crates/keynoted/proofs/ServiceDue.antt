@@ -13,7 +13,7 @@ use Rattle.kn_commands.specs.declared.serve_ending.ServeEnding.{ServeEnding}
 use Rattle.keynoted.specs.Commands.{ServeFor, IsNoCommand, IsNo}
 use Rattle.keynoted.specs.Running.{IsPrinted, IsEnded}
 use Rattle.keynoted.specs.Running as D
-use Rattle.keynoted.specs.Serving.{Apart, Service, Unread, IsRun}
+use Rattle.keynoted.specs.Serving.{Apart, Service, Unread, AreServeTexts, IsRun}
 use Rattle.keynoted.proofs.ServiceCalled.{ask_is_no_serve, check_is_no_serve, gen_is_no_serve}
 
 -- words that begin otherwise ask for no service
@@ -31,8 +31,8 @@ module _ {C R : Type 0} (door : R → DoorSeen (ServedSeen C)) (link : C → Lin
       record { ask = λ names words. ask_is_no_serve given names words serve; check = λ names words. check_is_no_serve given names words serve; gen = λ numbers words. gen_is_no_serve given numbers words serve; serve = none } in
       record { due = 1; line = stop_line [] Words; cause = Apart none refl (D.Words refl (record { words = nothing; files = refl; link = refl; told = refl })); told = told }
 
-  pub unread_run : slice_get given 0 ≡ Some (codes "serve") → IsPrinted (stop_line [] Memory) 5 s s' status → IsRun door link given f f n n o o s s' status
-  unread_run serve told = record { due = 5; line = stop_line [] Memory; cause = Unread refl (record { serve = serve; files = refl; net = refl; link = refl; told = refl }); told = told }
+  pub unread_run : AreServeTexts given → IsPrinted (stop_line [] Memory) 5 s s' status → IsRun door link given f f n n o o s s' status
+  unread_run words told = record { due = 5; line = stop_line [] Memory; cause = Unread refl (record { words = words; files = refl; net = refl; link = refl; told = refl }); told = told }
 
   pub service_run : (order : Order) (ending : ServeEnding) → ServeFor given order → ServeCause door link f f' n n' order ending →
       IsPrinted (line_of_serve order ending) (status_of_serve ending) s s' status → IsRun door link given f f' n n' o o s s' status

@@ -253,6 +253,6 @@ module _ {C R : Type 0} (door : R → DoorSeen (ServedSeen C)) (link : C → Lin
         by (Apart apart same due) = ⊎_elim (λ (one : status ≡ 1). inl one) (λ (nine : (status ≡ 9) × Rose s.faults s'.faults). inr (inl nine)) (says_refused given f f' o o' s s' status (ended_of due) none)
         by (Service due) = absurd (none.serve due.order due.words)
         by (Unread five unread) = ⊎_elim
-            (λ (t : (status ≡ run.due) × Writes true run.line s s'). inr (inr (t.0 ∙ five, unread.serve)))
+            (λ (t : (status ≡ run.due) × Writes true run.line s s'). inr (inr (t.0 ∙ five, unread.words)))
             (λ (t : (status ≡ 9) × Writes false run.line s s'). inr (inl (t.0, t.1.2)))
             run.told

@@ -7,7 +7,7 @@ use Rattle.kn_commands.specs.declared.generating.GenNumbers.{GenNumbers}
 use Rattle.keynoted.specs.Commands.{GenFor, IsNoCommand}
 use Rattle.kn_outside.specs.Asked.{HasAsked}
 use Rattle.kn_daemon.specs.declared.ended.Ended.TheVariants as E
-use Rattle.keynoted.specs.Running.{AsksServed, IsNext, IsDone, HasNoCommand, IsFileFault, IsPolicyFault, IsLinkFault, LacksMemory, IsReplyFault, IsKeyFault, MeansNoQuery, IsDue, IsPrinted, IsEnded, Tells, TellsPart}
+use Rattle.keynoted.specs.Running.{AsksServed, IsNext, IsDone, HasNoCommand, IsFileFault, IsPolicyFault, IsLinkFault, LacksMemory, NeedsMemoryNext, IsReplyFault, IsKeyFault, MeansNoQuery, IsDue, IsPrinted, IsEnded, Tells, TellsPart}
 use Rattle.keynoted.specs.Running as D
 
 -- a status other than 9 is that of what was due, and its line was written whole
@@ -198,7 +198,8 @@ module _ (given : List (List ℕ)) (f f' : FilesSeen) (o o' s s' : LinkSeen) (st
       lacks : (line : List ℕ) → LacksMemory given f f' o o' line → ⊥
       lacks line cause = way cause.2
         where
-          way : ((front : List (List ℕ)) × (name : List ℕ) × IsNext given f front name × (HasAsked front f f' ⊎ HasAsked (front ++ name ∷ []) f f'))
+          way : ((front : List (List ℕ)) × (name : List ℕ) × IsNext given f front name
+              × (HasAsked front f f' ⊎ (HasAsked (front ++ name ∷ []) f f' × NeedsMemoryNext given f front)))
               ⊎ (AsksServed given f f' o o' E.Memory ⊎ ((numbers : GenNumbers) × GenFor given numbers × (f' ≡ f))) → ⊥
           way (inl early) = next early.0 early.1 early.2
           way (inr (inl late)) = none.ask late.names late.words

@@ -3,3 +3,4 @@ pub mod Running
 pub mod Serving
 pub mod Calling
 pub mod Generating
+pub mod Specified

@@ -13,11 +13,12 @@ use Rattle.kn_daemon.specs.declared.ended.Ended.TheVariants as E
 use Rattle.kn_session.specs.Sessions.{Session}
 use Rattle.kn_store.specs.Loading.{IsFaultyAt}
 use Rattle.kn_commands.specs.declared.stop.Stop.TheVariants.{KeyLine}
+use Rattle.kn_commands.specs.declared.ending.Source.TheVariants.{Reply}
 use Rattle.kn_commands.specs.Names.{AskNames, CheckNames, in_order}
 use Rattle.kn_commands.specs.Held.{IsTooLarge, IsPolicy, IsFileRead}
 use Rattle.kn_commands.specs.Stopping.{IsLimitAt, policy_fault_line, limit_line, keys_line}
 use Rattle.kn_commands.specs.Asking.{IsLinkAnswered, AreKeysStopped, status_of_ended, line_of_ended}
-use Rattle.kn_commands.specs.Checking.{IsTried, IsFaultyText, IsUnprovedText, IsProvedText, HasQuery, HasNoQuery, text_line, reject_line, proved_line}
+use Rattle.kn_commands.specs.Checking.{IsTried, IsFaultyText, IsUnprovedText, IsProvedText, HasQuery, HasNoQuery, NeedsMemory, text_line, reject_line, proved_line}
 use Rattle.kn_commands.specs.Generating.{IsGenLine}
 use Rattle.kn_commands.specs.declared.generating.GenNumbers.{GenNumbers}
 use Rattle.keynoted.specs.Commands.{AskFor, CheckFor, GenFor, IsNoCommand}
@@ -100,11 +101,16 @@ pub record IsLinkFault (given : List (List ℕ)) (f f' : FilesSeen) (o o' : Link
   pub served : AsksServed given f f' o o' ended
   pub told : line ≡ line_of_ended ended
 
+-- where the words are `check` and the first two files are these, the third holds the text of a reply to the query
+abbrev pub NeedsMemoryNext : List (List ℕ) → FilesSeen → List (List ℕ) → Type 0
+NeedsMemoryNext given f front = (names : CheckNames) → CheckFor given names → front ≡ names.policy ∷ names.script ∷ [] → NeedsMemory f names Reply
+
 -- 5: memory lacked, before or behind the read of the next file, or before the link was read, or for `gen`; nothing was read from
 -- the link or written to it
 abbrev pub LacksMemory : List (List ℕ) → FilesSeen → FilesSeen → LinkSeen → LinkSeen → List ℕ → Type 0
 LacksMemory given f f' o o' line = (line ≡ codes "error memory\n") × (o' ≡ o)
-    × (((front : List (List ℕ)) × (name : List ℕ) × IsNext given f front name × (HasAsked front f f' ⊎ HasAsked (front ++ name ∷ []) f f'))
+    × (((front : List (List ℕ)) × (name : List ℕ) × IsNext given f front name
+    × (HasAsked front f f' ⊎ (HasAsked (front ++ name ∷ []) f f' × NeedsMemoryNext given f front)))
     ⊎ (AsksServed given f f' o o' E.Memory
     ⊎ ((numbers : GenNumbers) × GenFor given numbers × (f' ≡ f))))
 

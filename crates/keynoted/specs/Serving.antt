@@ -1,6 +1,7 @@
 -- How a run of the program ends where its words may ask for a service (keynoted's own). What is seen of the files, of the net, of
 -- the link and of the output is f, n, o and s before the run, and f', n', o' and s' after it.
-use Rattle.std.specs.Prelude.{ℕ, ◌≡◌, List, slice_get, codes, Some, ◌⊎◌}
+use Rattle.std.specs.Prelude.{ℕ, ◌≡◌, List, All, slice_get, codes, Some, ◌⊎◌}
+use Rattle.std.specs.Str.{IsUtf8}
 use Rattle.kn_outside.specs.Seen.{FilesSeen, LinkSeen}
 use Rattle.kn_outside.specs.Faults.{Rose}
 use Rattle.kn_workers.specs.Connections.{ServedSeen}
@@ -29,13 +30,18 @@ module _ {C R : Type 0} (door : R → DoorSeen (ServedSeen C)) (connection : C �
     pub rose : Rose n.faults n'.faults
     pub told : line ≡ codes "error listener\n"
 
--- words of no command end with status 1, or with 9 in its place; where the first is `serve` there may be no memory to read them
-abbrev pub EndsRefused : List (List ℕ) → LinkSeen → LinkSeen → ℕ → Type 0
-EndsRefused given s s' status = (status ≡ 1) ⊎ (((status ≡ 9) × Rose s.faults s'.faults) ⊎ ((status ≡ 5) × (slice_get given 0 ≡ Some (codes "serve"))))
-
--- the first word is `serve`, and there was no memory to read the words
-pub record AreUnread {R : Type 0} (given : List (List ℕ)) (f f' : FilesSeen) (n n' : NetSeen R) (o o' : LinkSeen) (line : List ℕ) : Type 0 where
+-- the words are those of which `clap` says what they ask: the first is `serve`, and all are UTF-8
+pub record AreServeTexts (given : List (List ℕ)) : Type 0 where
   pub serve : slice_get given 0 ≡ Some (codes "serve")
+  pub texts : All IsUtf8 given
+
+-- words of no command end with status 1, or with 9 in its place; only for those that `clap` reads there may be no memory
+abbrev pub EndsRefused : List (List ℕ) → LinkSeen → LinkSeen → ℕ → Type 0
+EndsRefused given s s' status = (status ≡ 1) ⊎ (((status ≡ 9) × Rose s.faults s'.faults) ⊎ ((status ≡ 5) × AreServeTexts given))
+
+-- there was no memory to read the words by `clap`
+pub record AreUnread {R : Type 0} (given : List (List ℕ)) (f f' : FilesSeen) (n n' : NetSeen R) (o o' : LinkSeen) (line : List ℕ) : Type 0 where
+  pub words : AreServeTexts given
   pub files : f' ≡ f
   pub net : n' ≡ n
   pub link : o' ≡ o

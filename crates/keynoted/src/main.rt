@@ -5,6 +5,8 @@ mod generating;
 mod idle;
 #[cfg(test)]
 mod meeting;
+#[cfg(test)]
+mod part_tests;
 mod run;
 mod run_service;
 #[cfg(test)]

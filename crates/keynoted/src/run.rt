@@ -1,16 +1,12 @@
 //! The program over whatever files, link and output it is given.
-ghost use Rattle.std.specs.Prelude.{◌≡◌, ℕ, [], List, ◌⊎◌, IfSome, IfNone, None, option_map, slice_get};
-ghost use Rattle.kn_outside.specs.Faults.{Rose};
+ghost use Rattle.std.specs.Prelude.{◌≡◌, [], IfSome, IfNone, None, option_map, slice_get};
 ghost use Rattle.kn_commands.specs.Stopping.{stop_line, status_of};
 ghost use Rattle.kn_commands.specs.Asking.{line_of_ask, status_of_ask};
 ghost use Rattle.kn_commands.specs.Checking.{line_of_ending, status_of_ending};
-ghost use Rattle.kn_serve.specs.Serving.{IsOrderly};
-ghost use Rattle.kn_commands.specs.declared.generating.GenNumbers.{GenNumbers};
-ghost use Rattle.kn_commands.specs.Serving.{Order};
-ghost use Rattle.keynoted.specs.Commands.{AskFor, CheckFor, GenFor, ServeFor, IsNoCommand, IsNo};
-ghost use Rattle.keynoted.specs.Running.{IsDone, HasNoCommand, IsFileFault, IsPolicyFault, IsLinkFault, IsReplyFault, IsKeyFault, MeansNoQuery, IsPrinted, IsEnded, Tells, TellsPart};
-ghost use Rattle.keynoted.specs.Serving.{OrServes, EndsRefused, LacksMemoryFor, IsListenerFault, IsEndDue, IsRun};
-ghost use Rattle.keynoted.specs.Calling.{AskLeads, CallsFor, CallsToServe, IsCalm, EndsWith};
+ghost use Rattle.keynoted.specs.Commands.{AskFor, CheckFor, ServeFor, IsNo};
+ghost use Rattle.keynoted.specs.Running.{IsPrinted, IsEnded};
+ghost use Rattle.keynoted.specs.Serving.{IsRun};
+ghost use Rattle.keynoted.specs.Specified.{IsSpecified};
 
 use crate::generating::{gen_numbers, run_gen};
 use crate::run_service::{asks_to_serve, run_service};
@@ -191,32 +187,8 @@ where
     <N::Room as Door>::Conn: Send,
     requires unbound { (N.seen net.old).bound ≡ None }
     requires none { (N.seen net.old).rooms ≡ [] }
-
-    // A line was due with its status, for its cause; it was written whole, or a front of it stands and the status is 9.
-    ensures ends { IsRun N.Room.seen N.Room.Conn.seen words.now (F.seen files.old) (F.seen files.new) (N.seen net.old) (N.seen net.new) (L.seen own.old) (L.seen own.new) (O.seen out.old) (O.seen out.new) result }
-
-    // What each status says.
-    ensures done { result ≡ 0 → Tells (OrServes N.Room.seen N.Room.Conn.seen words.now (F.seen files.old) (F.seen files.new) (N.seen net.old) (N.seen net.new) (L.seen own.old) (L.seen own.new) (IsDone words.now (F.seen files.old) (F.seen files.new) (L.seen own.old) (L.seen own.new)) 0) (O.seen out.old) (O.seen out.new) }
-    ensures words { result ≡ 1 → Tells (HasNoCommand words.now (F.seen files.old) (F.seen files.new) (L.seen own.old) (L.seen own.new)) (O.seen out.old) (O.seen out.new) × (N.seen net.new ≡ N.seen net.old) }
-    ensures file { result ≡ 2 → Tells (OrServes N.Room.seen N.Room.Conn.seen words.now (F.seen files.old) (F.seen files.new) (N.seen net.old) (N.seen net.new) (L.seen own.old) (L.seen own.new) (IsFileFault words.now (F.seen files.old) (F.seen files.new) (L.seen own.old) (L.seen own.new)) 2) (O.seen out.old) (O.seen out.new) }
-    ensures policy { result ≡ 3 → Tells (OrServes N.Room.seen N.Room.Conn.seen words.now (F.seen files.old) (F.seen files.new) (N.seen net.old) (N.seen net.new) (L.seen own.old) (L.seen own.new) (IsPolicyFault words.now (F.seen files.old) (F.seen files.new) (L.seen own.old) (L.seen own.new)) 3) (O.seen out.old) (O.seen out.new) }
-    ensures link { result ≡ 4 → Tells (IsLinkFault words.now (F.seen files.old) (F.seen files.new) (L.seen own.old) (L.seen own.new)) (O.seen out.old) (O.seen out.new) × (N.seen net.new ≡ N.seen net.old) }
-    ensures memory { result ≡ 5 → Tells (LacksMemoryFor N.Room.seen N.Room.Conn.seen words.now (F.seen files.old) (F.seen files.new) (N.seen net.old) (N.seen net.new) (L.seen own.old) (L.seen own.new)) (O.seen out.old) (O.seen out.new) }
-    ensures reply { result ≡ 6 → Tells (IsReplyFault words.now (F.seen files.old) (F.seen files.new) (L.seen own.old) (L.seen own.new)) (O.seen out.old) (O.seen out.new) × (N.seen net.new ≡ N.seen net.old) }
-    ensures listener { result ≡ 7 → Tells (IsListenerFault N.Room.seen N.Room.Conn.seen words.now (F.seen files.old) (F.seen files.new) (N.seen net.old) (N.seen net.new) (L.seen own.old) (L.seen own.new)) (O.seen out.old) (O.seen out.new) }
-    ensures keys { result ≡ 8 → Tells (OrServes N.Room.seen N.Room.Conn.seen words.now (F.seen files.old) (F.seen files.new) (N.seen net.old) (N.seen net.new) (L.seen own.old) (L.seen own.new) (IsKeyFault words.now (F.seen files.old) (F.seen files.new) (L.seen own.old) (L.seen own.new)) 8) (O.seen out.old) (O.seen out.new) }
-    ensures cut { result ≡ 9 → TellsPart (IsEndDue N.Room.seen N.Room.Conn.seen words.now (F.seen files.old) (F.seen files.new) (N.seen net.old) (N.seen net.new) (L.seen own.old) (L.seen own.new)) (O.seen out.old) (O.seen out.new) }
-    ensures query { result ≡ 10 → Tells (MeansNoQuery words.now (F.seen files.old) (F.seen files.new) (L.seen own.old) (L.seen own.new)) (O.seen out.old) (O.seen out.new) × (N.seen net.new ≡ N.seen net.old) }
-
-    // Which status comes where the words, the files or the input are known.
-    ensures no_words { IsNoCommand words.now → EndsRefused words.now (O.seen out.old) (O.seen out.new) result }
-    ensures generates { (numbers : GenNumbers) → GenFor words.now numbers → EndsWith 0 result ⊎ ((result ≡ 9) × Rose (O.seen out.old).faults (O.seen out.new).faults) }
-    ensures calls { (status : ℕ) → CallsFor words.now (F.seen files.old) status →
-        IsCalm (F.seen files.old) (F.seen files.new) (O.seen out.old) (O.seen out.new) → EndsWith status result }
-    ensures complete { (input : List ℕ) → CallsToServe words.now (F.seen files.old) (L.seen own.old) (L.seen own.new) input → IsOrderly input →
-        IsCalm (F.seen files.old) (F.seen files.new) (O.seen out.old) (O.seen out.new) → EndsWith 0 result }
-    ensures serves { (order : Order) → ServeFor words.now order → (status : ℕ) → AskLeads (F.seen files.old) order.files (λ served. served ≡ 0) status →
-        IsCalm (F.seen files.old) (F.seen files.new) (O.seen out.old) (O.seen out.new) → ¬ Rose (N.seen net.old).faults (N.seen net.new).faults → EndsWith status result }
+    ensures { IsSpecified N.Room.seen N.Room.Conn.seen words.now (F.seen files.old) (F.seen files.new) (N.seen net.old) (N.seen net.new)
+        (L.seen own.old) (L.seen own.new) (O.seen out.old) (O.seen out.new) result }
 {
     one_query_is_meant();
     carry_out(rt, alloc, words, files, net, own, out, gate)

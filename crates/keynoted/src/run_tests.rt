@@ -25,10 +25,10 @@ const FAULTY: &[u8] = b"Authorizer: \"x\ny\"\n";
 const KEYS: &[u8] = b"secret 733363726574\n";
 
 // The policy licenses alice.
-const ONE: &[u8] = b"Authorizer: \"POLICY\"\nLicensees: \"alice\"\n";
+pub(crate) const ONE: &[u8] = b"Authorizer: \"POLICY\"\nLicensees: \"alice\"\n";
 
 // The digest of the credential by which alice licenses bob, and the secret `s3cret`.
-const DIGEST: &[u8] =
+pub(crate) const DIGEST: &[u8] =
     b"digest 3a2fddf6b9c0c453599be733a55a62f5ec7aeedc4e45ab821977ad4d9583376a\nsecret 733363726574\n";
 
 const SCRIPT: &[u8] = b"OPEN\nAUTH 1 x\nAUTH 1 w\nQUERY 1 no,log,yes\n";

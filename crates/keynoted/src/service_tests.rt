@@ -38,7 +38,7 @@ Licensees: \"bob\"
 BYE
 ";
 
-const ADDS: &[u8] = b"ADMIN 733363726574
+pub(crate) const ADDS: &[u8] = b"ADMIN 733363726574
 ADD 37
 Authorizer: \"alice\"
 Licensees: \"bob\"

@@ -1,5 +1,6 @@
 //! The words of a service.
-ghost use Rattle.std.specs.Prelude.{◌≡◌, ◌≤◌, ℕ, Some, false, All, IfOk, IfSome, IfNone, codes, map, slice_get, option_and_then};
+ghost use Rattle.std.specs.Prelude.{◌≡◌, ◌≤◌, ℕ, Some, false, All, IfOk, OnErr, IfSome, IfNone, codes, map, slice_get, option_and_then};
+ghost use Rattle.std.specs.Bool.{OnTrue, OnFalse};
 ghost use Rattle.std.specs.Str.{IsUtf8};
 ghost use Rattle.clap.specs.Words.{app_of, rule_of, first_value, found_of};
 ghost use Rattle.kn_base.specs.Decimal.{decimal_of};
@@ -20,7 +21,11 @@ pub(crate) fn texts_of<'a>(
 ) -> Result<Option<Vec<&'a str>>, NoMemory>
     ensures texts { IfOk result (λ texts. IfSome texts (λ t. (map (λ s. s.now) t.items ≡ words.now) × All IsUtf8 words.now)) }
     ensures none { IfOk result (λ texts. IfNone texts (¬ All IsUtf8 words.now)) }
+    ensures lacks { OnErr result (All IsUtf8 words.now) }
 {
+    if !are_texts(words) {
+        return Ok(None);
+    }
     let mut texts = Vec::new(alloc);
     for word in words {
         match str::from_utf8(word.as_slice()) {
@@ -32,6 +37,19 @@ pub(crate) fn texts_of<'a>(
         }
     }
     Ok(Some(texts))
+}
+
+/// Whether all words are UTF-8.
+fn are_texts(words: &[Octets]) -> bool
+    ensures yes { OnTrue result (All IsUtf8 words.now) }
+    ensures no { OnFalse result (¬ All IsUtf8 words.now) }
+{
+    for word in words {
+        if str::from_utf8(word.as_slice()).is_err() {
+            return false;
+        }
+    }
+    true
 }
 
 /// The service that words ask for; None where they ask for none. The first word stands for the program's name.

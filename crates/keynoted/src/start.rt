@@ -1,7 +1,7 @@
 //! The start of the program over its words, for which there may be no memory.
 ghost use Rattle.std.specs.Prelude.{◌≡◌, [], None, codes, IfOk, OnErr};
 ghost use Rattle.keynoted.specs.Running.{IsPrinted};
-ghost use Rattle.keynoted.specs.Serving.{IsRun};
+ghost use Rattle.keynoted.specs.Specified.{IsSpecified};
 
 use crate::run::{end, run};
 use kn_base::{List, NoMemory, Octets};
@@ -27,7 +27,8 @@ where
     <N::Room as Door>::Conn: Send,
     requires unbound { (N.seen net.old).bound ≡ None }
     requires none { (N.seen net.old).rooms ≡ [] }
-    ensures ends { IfOk words (λ given. IsRun N.Room.seen N.Room.Conn.seen given (F.seen files.old) (F.seen files.new) (N.seen net.old) (N.seen net.new) (L.seen own.old) (L.seen own.new) (O.seen out.old) (O.seen out.new) result) }
+    ensures run { IfOk words (λ given. IsSpecified N.Room.seen N.Room.Conn.seen given (F.seen files.old) (F.seen files.new)
+        (N.seen net.old) (N.seen net.new) (L.seen own.old) (L.seen own.new) (O.seen out.old) (O.seen out.new) result) }
     ensures memory { OnErr words (IsPrinted (codes "error memory\n") 5 (O.seen out.old) (O.seen out.new) result) }
     ensures asks_nothing { OnErr words (F.seen files.new ≡ F.seen files.old) }
     ensures binds_nothing { OnErr words (N.seen net.new ≡ N.seen net.old) }

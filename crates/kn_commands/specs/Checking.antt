@@ -66,9 +66,22 @@ Reached f names Policy = Unit {0}
 Reached f names TheScript = (bytes : List ℕ) × IsPolicy f names.policy bytes
 Reached f names Reply = (session : Session) × (values : List (List ℕ)) × HasQuery f names session values
 
--- a file was about to be asked for, or was, and nothing else changed
-abbrev pub HasComeTo : FilesSeen → FilesSeen → CheckNames → Source → Type 0
-HasComeTo f f' names source = HasAsked (take (count_before source) (in_order names)) f f' ⊎ HasAsked (take (count_to source) (in_order names)) f f'
+-- the text is that of a reply to the query
+pub record IsTextTo (session : Session) (values : List (List ℕ)) (text : List ℕ) : Type 0 where
+  pub reply : ReadReply
+  pub read : IsReplyText text reply
+  pub to_query : IsReplyTo (length session.pinned) values reply
+
+-- what is known of a file behind which memory lacks: that of the reply holds the text of one to the query
+abbrev pub NeedsMemory : FilesSeen → CheckNames → Source → Type 0
+NeedsMemory f names Policy = Unit {0}
+NeedsMemory f names TheScript = Unit {0}
+NeedsMemory f names Reply = (session : Session) × (values : List (List ℕ)) × (text : List ℕ) × HasQuery f names session values × HasContent f names.reply text × IsTextTo session values text
+
+-- memory lacks where a file was about to be asked for, or was, and nothing else changed
+abbrev pub LacksAt : FilesSeen → FilesSeen → CheckNames → Source → Type 0
+LacksAt f f' names source =
+    HasAsked (take (count_before source) (in_order names)) f f' ⊎ (HasAsked (take (count_to source) (in_order names)) f f' × NeedsMemory f names source)
 
 -- why reading a file, or loading the policy, stops a run
 abbrev pub StopsCheckAt : FilesSeen → FilesSeen → CheckNames → Source → Stop → Type 0
@@ -76,7 +89,7 @@ StopsCheckAt f f' names source FileFailed = Reached f names source × HasFailed 
 StopsCheckAt f f' names source FileTooLarge = Reached f names source × HasAsked (take (count_to source) (in_order names)) f f' × IsTooLarge f (name_of names source)
 StopsCheckAt f f' names source (S.Policy n fault) = (source ≡ Policy) × (bytes : List ℕ) × IsFileRead names.policy f f' bytes × IsFaultyAt (pieces_of bytes) n fault
 StopsCheckAt f f' names source (Limit n word count) = (source ≡ Policy) × (bytes : List ℕ) × IsFileRead names.policy f f' bytes × IsLimitAt (pieces_of bytes) n word count
-StopsCheckAt f f' names source Memory = Reached f names source × HasComeTo f f' names source
+StopsCheckAt f f' names source Memory = Reached f names source × LacksAt f f' names source
 StopsCheckAt f f' names source Words = ⊥
 StopsCheckAt f f' names source (KeyLine n) = ⊥
 
@@ -107,13 +120,21 @@ pub record IsProvedText (session : Session) (values : List (List ℕ)) (text : L
   pub name_told : reply.name ≡ name
   pub proved : IsProved (equations_of session values) (length session.pinned) values reply
 
--- what the text of a reply to a query shows where a run ends so; for want of memory it shows nothing
+-- what the text of a reply to a query shows where a run ends so; memory lacks only for one to the query
 abbrev pub ReplyShows : Session → List (List ℕ) → List ℕ → Ending → Type 0
-ReplyShows session values text (Stopped source stop) = (source ≡ Reply) × (stop ≡ Memory)
+ReplyShows session values text (Stopped source stop) = (source ≡ Reply) × (stop ≡ Memory) × IsTextTo session values text
 ReplyShows session values text NoQuery = ⊥
 ReplyShows session values text (Faulty fault line) = IsFaultyText session values text fault line
 ReplyShows session values text (Rejected reject) = IsUnprovedText session values text reject
 ReplyShows session values text (Proved value name) = IsProvedText session values text value name
+
+-- what a reply to a query shows that was read
+abbrev pub ReadShows : Session → List (List ℕ) → ReadReply → Ending → Type 0
+ReadShows session values reply (Stopped source stop) = (source ≡ Reply) × (stop ≡ Memory) × IsReplyTo (length session.pinned) values reply
+ReadShows session values reply NoQuery = ⊥
+ReadShows session values reply (Faulty fault line) = (fault ≡ 1) × (line ≡ 1) × ¬ IsReplyTo (length session.pinned) values reply
+ReadShows session values reply (Rejected reject) = IsUnproved (equations_of session values) (length session.pinned) values reply reject
+ReadShows session values reply (Proved value name) = (reply.value ≡ value) × (reply.name ≡ name) × IsProved (equations_of session values) (length session.pinned) values reply
 
 -- the files were read; the first two hold this query, and the third this text
 pub record IsTried (f f' : FilesSeen) (names : CheckNames) (session : Session) (values : List (List ℕ)) (text : List ℕ) : Type 0 where

@@ -9,7 +9,7 @@ ghost use Rattle.kn_session.specs.Views.{session_of_view, AreReadPrivates, ArePr
 ghost use Rattle.kn_commands.specs.Held.{HasContent};
 ghost use Rattle.kn_commands.specs.Names.{in_order};
 ghost use Rattle.kn_load.specs.Loaded.{IsLoaded};
-ghost use Rattle.kn_commands.specs.Checking.{CheckCause, HasQuery, ReplyShows, ending_of_fault, name_of};
+ghost use Rattle.kn_commands.specs.Checking.{CheckCause, HasQuery, ReadShows, ReplyShows, ending_of_fault, name_of};
 
 use crate::content::read_file;
 use crate::ending::{Ending, Source};
@@ -19,10 +19,10 @@ use kn_env::Values;
 use kn_load::load_file;
 use kn_outside::Files;
 use kn_play::{Meant, find_query};
-use kn_proof::{ProofFault, read_reply};
+use kn_proof::{ProofFault, ReadReply, read_reply, scan_reply};
 use kn_registry::{Pass, Registry};
 use kn_session::View;
-use kn_verify::{Refused, verify};
+use kn_verify::{Refused, is_reply_to, verify};
 use std::alloc::Global;
 use std::marker::Model;
 use std::sync::Wait;
@@ -46,7 +46,7 @@ impl<'a> Model for CheckFiles<'a> {
 
 impl<'a> CheckFiles<'a> {
     /// The name of one of them.
-    pub fn name(&self, source: Source) -> &[u8]
+    pub(crate) fn name(&self, source: Source) -> &[u8]
         ensures { result.now ≡ name_of self.now source }
     {
         match source {
@@ -141,10 +141,26 @@ fn judge(alloc: Global, view: &View<'_>, values: &Values, text: &[u8]) -> Ending
     requires requesters { AreRequesters view.now.requesters.now }
     ensures { ReplyShows (session_of_view view.now) values.now text.now result }
 {
-    let reply = match read_reply(alloc, text) {
-        Ok(reply) => reply,
+    let head = match scan_reply(text) {
+        Ok(head) => head,
         Err(fault) => return faulty(fault),
     };
+    if !is_reply_to(&head, view, values) {
+        return Ending::Faulty { fault: 1, line: 1 };
+    }
+    match read_reply(alloc, text) {
+        Ok(reply) => weigh(alloc, view, values, reply),
+        Err(fault) => faulty(fault),
+    }
+}
+
+/// What a reply shows of the query of a session for these values.
+fn weigh(alloc: Global, view: &View<'_>, values: &Values, reply: ReadReply) -> Ending
+    requires privates { ArePrivates (session_of_view view.now).privates }
+    requires readings { AreReadPrivates view.now.private.now }
+    requires requesters { AreRequesters view.now.requesters.now }
+    ensures { ReadShows (session_of_view view.now) values.now reply result }
+{
     match verify(alloc, view, values, &reply) {
         Ok(()) => Ending::Proved {
             value: reply.value,

@@ -1,11 +1,12 @@
 -- What the checker of rows by numbers says of a reply, which tells them by names.
-use Rattle.std.proofs.Common.{◌≡◌, ℕ, ◌<◌, Bool, List, [], length, map, slice_get, slice_index, slice_index_or, Result, Ok, Err, OnOk, IfErr, IsTrue, Some, sym, ap, ◌∙◌, subst}
+use Rattle.std.proofs.Common.{◌≡◌, ℕ, ◌<◌, Bool, List, [], length, map, slice_get, slice_index, slice_index_or, Result, Ok, Err, OnOk, IfErr, IsTrue, ◌↔◌, Some, sym, ap, ◌∙◌, subst, arith}
 use Rattle.std.specs.Str.{bytes_eq}
 use Rattle.std.proofs.lemmas.Option.{get_or_from_slice_get}
 use Rattle.std.proofs.lemmas.Slice.Eq.{bytes_eq-Decides}
 use Rattle.kn_proof.specs.declared.named.Id.{Id}
 use Rattle.kn_proof.specs.declared.row.Row.{Row}
 use Rattle.kn_proof.specs.declared.reply.ReadReply.{ReadReply}
+use Rattle.kn_proof.specs.Reading.{IsHeadOf}
 use Rattle.kn_store.specs.declared.update.Update.{Update}
 use Rattle.kn_system.specs.Least.{least_levels}
 use Rattle.kn_system.specs.Lawful.{LeastLevelsAreLeast}
@@ -73,9 +74,21 @@ pub err_by_name : LocatedProofs → (e : Equations) (version : ℕ) (values : Li
 err_by_name law e version values reply built rows (Ok u) to_query of cause = tt
 err_by_name law e version values reply built rows (Err refused) to_query of cause = refused_by_name law e version values reply built rows refused to_query of cause
 
--- the version is the number of updates that the session is pinned to
-pub reply_to : (number : ℕ) (seen pinned : List Update) (values : List (List ℕ)) (reply : ReadReply) → number ≡ length seen → seen ≡ pinned → IsReplyTo number values reply → IsReplyTo (length pinned) values reply
-reply_to number seen pinned values reply count same to_query = subst (λ n. IsReplyTo n values reply) (count ∙ ap length same) to_query
+-- a reply is one to the query exactly where its head is
+pub same_query : (number version : ℕ) (values : List (List ℕ)) (reply : ReadReply) (value : ℕ) (name : List ℕ) (told : ℕ) (test : Bool) → number ≡ version → IsHeadOf reply value name told
+    → (IsTrue test ↔ IsReplyTo number values (record { value = value; name = name; version = told; rows = [] })) → (IsTrue test ↔ IsReplyTo version values reply)
+same_query number version values reply value name told test same head decides = (
+  λ yes. let to = decides.0 yes in record {
+    same_version = head.tells_version ∙ to.same_version ∙ same;
+    within = let v = head.tells_value in let w = to.within in omega arith;
+    name = head.tells_name ∙ to.name ∙ ap (λ (v : ℕ). slice_index_or values v []) (sym head.tells_value);
+  },
+  λ to. decides.1 (record {
+    same_version = sym head.tells_version ∙ to.same_version ∙ sym same;
+    within = let v = head.tells_value in let w = to.within in omega arith;
+    name = sym head.tells_name ∙ to.name ∙ ap (λ (v : ℕ). slice_index_or values v []) head.tells_value;
+  }),
+)
 
 -- the name of a value that is there decides
 pub name_decides : (version : ℕ) (values : List (List ℕ)) (reply : ReadReply) (name : List ℕ) (test : Bool) → reply.version ≡ version → reply.value < length values →

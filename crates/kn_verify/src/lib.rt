@@ -4,4 +4,4 @@
 pub mod laws;
 mod verdict;
 
-pub use verdict::{Refused, verify};
+pub use verdict::{Refused, is_reply_to, verify};

@@ -1,6 +1,8 @@
 //! Whether a reply proves the value of a query.
-ghost use Rattle.std.specs.Prelude.{◌≡◌, ◌+◌, ◌^◌, ◌<◌, ◌↔◌, IsTrue, All, length, slice_index, IfErr, IfOk, OnOk};
+ghost use Rattle.std.specs.Prelude.{◌≡◌, ◌+◌, ◌^◌, ◌<◌, ◌↔◌, [], IsTrue, All, length, slice_index, IfErr, IfOk, OnOk};
 ghost use Rattle.kn_env.specs.Environment.{AreRequesters};
+ghost use Rattle.kn_proof.specs.declared.reply.ReadReply.{ReadReply};
+ghost use Rattle.kn_proof.specs.Reading.{IsHeadOf};
 ghost use Rattle.kn_system.specs.Least.{least_levels};
 ghost use Rattle.kn_system.specs.Proofs.{IsProof};
 ghost use Rattle.kn_session.specs.Views.{session_of_view, AreReadPrivates, ArePrivates};
@@ -12,7 +14,7 @@ use kn_answer::{Built, Tally, locate};
 use kn_base::{NoMemory, Steps};
 use kn_check::{Reject, check};
 use kn_env::Values;
-use kn_proof::{Proof, ReadReply};
+use kn_proof::{Proof, ReadReply, ReplyHead};
 use kn_query::build_query;
 use kn_session::View;
 use kn_store::Version;
@@ -59,8 +61,7 @@ pub fn verify(
     ensures refused { IfErr result (IsRefusal (equations_of (session_of_view view.now) values.now)
         (length (session_of_view view.now).pinned) values.now reply.now) }
 {
-    let version: &Version = view.snapshot;
-    if !is_reply_to(reply, version.number(), values) {
+    if !is_reply_to(&reply.head(), view, values) {
         return Err(Refused::Other);
     }
     located_proofs();
@@ -70,13 +71,23 @@ pub fn verify(
     follow(alloc, &built, &proof, reply.value)
 }
 
-/// Whether a reply tells this version, and one of these values by its name.
-fn is_reply_to(reply: &ReadReply, version: u32, values: &Values) -> bool
-    ensures { IsTrue result ↔ IsReplyTo version values.now reply.now }
+/// Whether the reply with this head is one to what a session asks where these are the compliance values: it tells the
+/// version to which the session is pinned, and one of the values by its name. Takes no memory.
+pub fn is_reply_to(head: &ReplyHead<'_>, view: &View<'_>, values: &Values) -> bool
+    ensures { (reply : ReadReply) → IsHeadOf reply head.now.value head.now.name.now head.now.version
+        → (IsTrue result ↔ IsReplyTo (length (session_of_view view.now).pinned) values.now reply) }
 {
-    reply.version == version
-        && reply.value < values.len()
-        && reply.name.as_slice() == values.name(reply.value)
+    let version: &Version = view.snapshot;
+    tells(head, version.number(), values)
+}
+
+/// Whether a head tells this version, and one of these values by its name.
+fn tells(head: &ReplyHead<'_>, version: u32, values: &Values) -> bool
+    ensures { IsTrue result ↔ IsReplyTo version values.now (record { value = head.now.value; name = head.now.name.now; version = head.now.version; rows = [] }) }
+{
+    head.version == version
+        && head.value < values.len()
+        && head.name == values.name(head.value)
 }
 
 /// Whether the rows prove the value in the system of a query.
