@@ -20,6 +20,16 @@ one_more texts after text words i word slice so_far lt is same now utf8 pushed =
       all = subst (All IsUtf8) (sym more) (All-push IsUtf8 (take i words) word so_far.all (subst IsUtf8 same utf8));
     }
 
+-- one more word is UTF-8
+pub texts_more : (words : List (List ℕ)) (i : ℕ) (word slice : List ℕ) → All IsUtf8 (take i words) → i < length words → word ≡ get_or words i word → slice ≡ word → IsUtf8 slice →
+    All IsUtf8 (take (i + 1) words)
+texts_more words i word slice so_far lt is same utf8 =
+    let more : take (i + 1) words ≡ take i words ++ word ∷ [] = take_more words i word lt ∙ ap (λ (w : List ℕ). take i words ++ w ∷ []) (sym is) in
+    subst (All IsUtf8) (sym more) (All-push IsUtf8 (take i words) word so_far (subst IsUtf8 same utf8))
+
+pub texts_whole : (words : List (List ℕ)) (i : ℕ) → All IsUtf8 (take i words) → length words ≤ i → All IsUtf8 words
+texts_whole words i so_far end = subst (All IsUtf8) (take_all i words end) so_far
+
 pub all_texts : (texts : List (Bor (List ℕ))) (words : List (List ℕ)) (i : ℕ) → AreTexts texts (take i words) → length words ≤ i → AreTexts texts words
 all_texts texts words i so_far end = subst (λ (l : List (List ℕ)). AreTexts texts l) (take_all i words end) so_far
 

@@ -45,8 +45,9 @@ fn are_texts(words: &[Octets]) -> bool
     ensures no { OnFalse result (¬ All IsUtf8 words.now) }
 {
     for word in words {
-        if str::from_utf8(word.as_slice()).is_err() {
-            return false;
+        match str::from_utf8(word.as_slice()) {
+            Ok(_) => {}
+            Err(_) => return false,
         }
     }
     true
