@@ -72,12 +72,16 @@ module _ (given : List (List ℕ)) (names : AskNames) (f f' : FilesSeen) (o o' :
       link = same;
       told = refl;
     })
-    keys_due Memory stops = D.Memory refl (refl, same, inl (
-      names.policy ∷ [],
-      name,
-      keys_next,
-      ⊎_elim (λ (before : HasAsked (names.policy ∷ []) f f'). inl before) (λ (both : HasAsked (names.policy ∷ name ∷ []) f f'). inr (both, no_check (names.policy ∷ []))) stops,
-    ))
+    keys_due Memory stops = D.Memory refl (
+      refl,
+      same,
+      inl (
+        names.policy ∷ [],
+        name,
+        keys_next,
+        ⊎_elim (λ (before : HasAsked (names.policy ∷ []) f f'). inl before) (λ (both : HasAsked (names.policy ∷ name ∷ []) f f'). inr (both, no_check (names.policy ∷ []))) stops,
+      ),
+    )
     keys_due Words stops = absurd stops
     keys_due (Policy n fault) stops = absurd stops
     keys_due (Limit n word count) stops = absurd stops
@@ -155,7 +159,7 @@ module _ (given : List (List ℕ)) (names : CheckNames) (f f' : FilesSeen) (o o'
           ⊎_elim
               (λ (before : HasAsked (take (count_before source) (in_order names)) f f'). inl before)
               (λ (to : HasAsked (take (count_to source) (in_order names)) f f' × NeedsMemory f names source).
-                  inr (subst (λ (l : List (List ℕ)). HasAsked l f f') (sym (one_more names source)) to.0, needed source to.1))
+              inr (subst (λ (l : List (List ℕ)). HasAsked l f f') (sym (one_more names source)) to.0, needed source to.1))
               cause.1,
         ),
       )

@@ -19,7 +19,6 @@ module _ {C R : Type 0} (door : R → DoorSeen (ServedSeen C)) (connection : C �
   pub record IsSpecified (given : List (List ℕ)) (f f' : FilesSeen) (n n' : NetSeen R) (o o' s s' : LinkSeen) (status : ℕ) : Type 0 where
     -- A line was due with its status, for its cause; it was written whole, or a front of it stands and the status is 9.
     pub ends : IsRun door connection given f f' n n' o o' s s' status
-
     -- What each status says.
     pub done : status ≡ 0 → Tells (OrServes door connection given f f' n n' o o' (IsDone given f f' o o') 0) s s'
     pub words : status ≡ 1 → Tells (HasNoCommand given f f' o o') s s' × (n' ≡ n)
@@ -32,7 +31,6 @@ module _ {C R : Type 0} (door : R → DoorSeen (ServedSeen C)) (connection : C �
     pub keys : status ≡ 8 → Tells (OrServes door connection given f f' n n' o o' (IsKeyFault given f f' o o') 8) s s'
     pub cut : status ≡ 9 → TellsPart (IsEndDue door connection given f f' n n' o o') s s'
     pub query : status ≡ 10 → Tells (MeansNoQuery given f f' o o') s s' × (n' ≡ n)
-
     -- Which status comes where the words, the files or the input are known.
     pub no_words : IsNoCommand given → EndsRefused given s s' status
     pub generates : (numbers : GenNumbers) → GenFor given numbers → EndsWith 0 status ⊎ ((status ≡ 9) × Rose s.faults s'.faults)

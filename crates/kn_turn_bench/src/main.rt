@@ -47,8 +47,14 @@ fn main(rt: HostRuntime) -> io::Result<()> {
 /// What two passes saw in turn.
 fn print_seen(rt: &HostRuntime, seen: &Seen) -> io::Result<()> {
     let (id, version) = seen.added;
-    println!(rt; "a{id} is in version {version}; the other pass has met {} update", seen.met)?;
-    println!(rt; "it pins version {}; version {} is without a{id}", seen.pinned, seen.removed)?;
+    println!(rt;
+        "a{id} is in version {version}; the other pass has met {} update",
+        seen.met
+    )?;
+    println!(rt;
+        "it pins version {}; version {} is without a{id}",
+        seen.pinned, seen.removed
+    )?;
     let kept = if seen.is_kept { "still" } else { "no more" };
     println!(rt; "the pinned version has it {kept}")?;
     match seen.unknown {

@@ -34,11 +34,15 @@ pub fn two_passes<R: Wait>(rt: &R, alloc: Global) -> io::Result<Seen> {
     let mut second = registry.split(&mut root).or(Err(lacks_memory()))?;
     let assertion = read(alloc, CREDENTIAL).or(Err(lacks_memory()))?;
     let ready = Ready::of(alloc, CREDENTIAL, assertion).or(Err(lacks_memory()))?;
-    let added = registry.add(rt, &mut second, ready).or(Err(lacks_memory()))?;
+    let added = registry
+        .add(rt, &mut second, ready)
+        .or(Err(lacks_memory()))?;
     registry.meet(&mut root, &mut second);
     let met = root.seen_length();
     let snapshot = registry.pin(rt, &mut root).or(Err(lacks_memory()))?;
-    let removed = registry.drop_id(rt, &mut second, added.0).or(Err(lacks_memory()))?;
+    let removed = registry
+        .drop_id(rt, &mut second, added.0)
+        .or(Err(lacks_memory()))?;
     let again = registry.drop_id(rt, &mut root, added.0);
     Ok(Seen {
         added,

@@ -85,9 +85,7 @@ pub fn is_reply_to(head: &ReplyHead<'_>, view: &View<'_>, values: &Values) -> bo
 fn tells(head: &ReplyHead<'_>, version: u32, values: &Values) -> bool
     ensures { IsTrue result ↔ IsReplyTo version values.now (record { value = head.now.value; name = head.now.name.now; version = head.now.version; rows = [] }) }
 {
-    head.version == version
-        && head.value < values.len()
-        && head.name == values.name(head.value)
+    head.version == version && head.value < values.len() && head.name == values.name(head.value)
 }
 
 /// Whether the rows prove the value in the system of a query.
