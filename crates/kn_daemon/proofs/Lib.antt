@@ -6,4 +6,4 @@ pub mod Opening
 pub mod Counts
 pub mod Alone
 pub mod Reading
-pub mod Pins
+pub mod Pinning
