@@ -1,64 +1,54 @@
--- A private assertion whose text has a fault changes nothing.
-use Rattle.std.proofs.Common.{◌≡◌, ◌≢◌, ℕ, ◌⊎◌, inl, inr, Option, Some, None, Result, Ok, Err, List, OnOk, refl, sym, ap, ◌∙◌}
-use Rattle.std.specs.Option.{option_map, option_map_or}
-use Rattle.std.specs.Result.{result_err}
-use Rattle.kn_trees.specs.declared.assertion.Assertion.{Assertion}
-use Rattle.kn_store.specs.declared.update.Update.{Update}
-use Rattle.kn_reply.specs.declared.refusal.Refusal.{Refusal}
-use Rattle.kn_reply.specs.declared.refusal.Refusal.TheVariants.{Read}
+-- A call of a session that is accepted or refused.
+use Rattle.std.proofs.Common.{◌≡◌, ◌∙◌, ◌⊎◌, inl, inr, ℕ, true, false, Option, Some, None, List, refl, sym, ap}
+use Rattle.std.specs.Prelude.{option_map, option_and_then, is_none, is_some}
+use Rattle.std.specs.Option.{option_map_or}
 use Rattle.kn_fields.specs.Numbers.{fault_number, fault_place}
-use Rattle.kn_fields.specs.declared.fault.ReadFault.{ReadFault}
-use Rattle.kn_fields.specs.declared.fault.ReadFault.TheVariants.{NotText, BadString, BadToken, Float, Regex, Number, Blank, TooLong, BadField, FieldTwice, FieldOrder, NoAuthorizer, Version, Constant, TooDeep, Syntax, Kind, Threshold, Name, NoMemory}
-use Rattle.kn_assert.specs.Reading.{reading_of, fault_of}
-use Rattle.kn_session.specs.Sessions.{Session, OpenSessions}
-use Rattle.kn_session.specs.Calls.{private_fault}
-use Rattle.kn_wire.specs.Requests.{Assert}
-use Rattle.kn_daemon.specs.Daemon.{State, session_of, in_session, refusal_by, refusal_of_reading, refusal_of_private, changed}
+use Rattle.kn_store.specs.declared.update.Update.{Update}
+use Rattle.kn_session.specs.declared.call.Applied.{Applied}
+use Rattle.kn_session.specs.declared.fault.CallFault.{CallFault}
+use Rattle.kn_session.specs.declared.fault.CallFault.TheVariants as T
+use Rattle.kn_session.specs.declared.fault.SessionFault.TheVariants as S
+use Rattle.kn_session.specs.Sessions.{OpenSessions, session_in}
+use Rattle.kn_session.specs.Calls.{Call, call_fault_in, lacks_memory, Accepts, Refuses}
+use Rattle.kn_reply.specs.declared.refusal.Refusal.{Refusal}
+use Rattle.kn_reply.specs.declared.refusal.Refusal.TheVariants as R
+use Rattle.kn_daemon.specs.Shapes.{Calls}
+use Rattle.kn_daemon.specs.Daemon.{State, refusal_of_call, changed}
 use Rattle.kn_play.specs.Playing.{state_of_sessions, applied}
 
-has_number : (fault : ReadFault) → fault ≢ NoMemory → (n : ℕ) × (fault_number fault ≡ Some n)
-has_number (NotText at) h = (1, refl)
-has_number (BadString at) h = (2, refl)
-has_number (BadToken at) h = (3, refl)
-has_number (Float at) h = (4, refl)
-has_number (Regex at) h = (5, refl)
-has_number (Number at) h = (6, refl)
-has_number (Blank at) h = (7, refl)
-has_number (TooLong len) h = (8, refl)
-has_number (BadField at) h = (9, refl)
-has_number (FieldTwice at) h = (10, refl)
-has_number (FieldOrder at) h = (11, refl)
-has_number NoAuthorizer h = (12, refl)
-has_number (Version at) h = (13, refl)
-has_number (Constant at) h = (14, refl)
-has_number (TooDeep field) h = (15, refl)
-has_number (Syntax field) h = (16, refl)
-has_number (Kind field) h = (17, refl)
-has_number (Threshold field) h = (18, refl)
-has_number (Name field) h = (19, refl)
-has_number NoMemory h = absurd (h refl)
+-- a fault is told as a refusal, unless it is want of memory
+is_told : (fault : CallFault) → lacks_memory fault ≡ false → is_some (refusal_of_call fault) ≡ true
+is_told (T.Text fault) e = by (fault_number fault) e
+  where
+    by : (number : Option ℕ) → is_none number ≡ false → is_some (option_map (λ n. R.Read n (fault_place fault)) number) ≡ true
+    by None e = cc
+    by (Some n) e = refl
+is_told (T.Session S.NoMemory) e = cc
+is_told (T.Session fault) e = refl
 
-is_err : (r : Result Assertion ReadFault) (fault : ReadFault) → result_err r ≡ Some fault → r ≡ Err fault
-is_err (Ok assertion) fault e = absurd (cc)
-is_err (Err other) fault e = cc
+-- a refusal changes nothing
+kept : (refusal : Option Refusal) (old new : State) → is_some refusal ≡ true → old ≡ option_map_or (λ r. old) refusal new
+kept None old new e = cc
+kept (Some refusal) old new e = refl
 
-stays_by : (history : List Update) (state : State) (s : ℕ) (text : List ℕ) (fault : ReadFault) → fault ≢ NoMemory → reading_of text ≡ Err fault → (session : Option Session)
-    → state ≡ option_map_or (λ refusal. state) (in_session session (refusal_of_private text)) (changed history state (Assert s text))
-stays_by history state s text fault h read None = refl
-stays_by history state s text fault h read (Some session) =
-    let number = has_number fault h in
-    let next : Assertion → Option Refusal = λ a. refusal_by (private_fault text a session) in
-    ap (λ (n : Option ℕ). option_map_or (λ refusal. state) (option_map (λ number. Read number (fault_place fault)) n) (changed history state (Assert s text))) (sym number.1)
-    ∙ ap (λ (r : Result Assertion ReadFault). option_map_or (λ refusal. state) (refusal_of_reading r next) (changed history state (Assert s text))) (sym read)
+-- what is left where this refuses a call
+after : List Update → OpenSessions → ℕ → Call → Option CallFault → State
+after history sessions s call fault =
+    option_map_or (λ refusal. state_of_sessions sessions) (option_and_then refusal_of_call fault) (changed history (state_of_sessions sessions) (Calls s call))
 
--- the sessions stay as they were where the text has a fault
-pub stays : (history : List Update) (sessions : OpenSessions) (s : ℕ) (text : List ℕ) (fault : ReadFault) → (fault ≡ NoMemory) ⊎ (fault_of text ≡ Some fault) → fault ≢ NoMemory
-    → state_of_sessions sessions ≡ applied history sessions (Assert s text)
-stays history sessions s text fault (inl none) h = absurd (h none)
-stays history sessions s text fault (inr told) h =
-    stays_by history (state_of_sessions sessions) s text fault h (is_err (reading_of text) fault told) (session_of (state_of_sessions sessions) s)
+pub accepted : (history : List Update) (old new : OpenSessions) (s : ℕ) (call : Call) (gives : Applied) → Accepts old new s call gives → state_of_sessions new ≡ applied history old (Calls s call)
+unfolding after
+accepted history old new s call gives accepts =
+    ap state_of_sessions accepts.makes
+    ∙ sym (ap (after history old s call) (ap (λ session. call_fault_in s session call) accepts.found ∙ accepts.no_fault))
 
--- so where a fault is passed over
-pub passed : {X E : Type 0} {P Q : Type 0} (result : Result X E) → OnOk result P → (P → Q) → OnOk result Q
-passed (Ok x) p go = go p
-passed (Err e) p go = p
+pub refused : (history : List Update) (old new : OpenSessions) (s : ℕ) (call : Call) (fault : CallFault) → Refuses old new s call fault → lacks_memory fault ≡ false
+    → state_of_sessions new ≡ applied history old (Calls s call)
+unfolding after
+refused history old new s call fault refuses memory = ap state_of_sessions refuses.same ∙ by refuses.why
+  where
+    by : (lacks_memory fault ≡ true) ⊎ (call_fault_in s (session_in old.sessions s) call ≡ Some fault) → state_of_sessions old ≡ after history old s call (call_fault_in s (session_in old.sessions s) call)
+    by (inl lacks) = cc
+    by (inr why) =
+        kept (refusal_of_call fault) (state_of_sessions old) (changed history (state_of_sessions old) (Calls s call)) (is_told fault memory)
+        ∙ sym (ap (after history old s call) why)

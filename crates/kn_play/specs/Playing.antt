@@ -1,12 +1,14 @@
 -- A script that is being played.
 use Rattle.std.specs.Prelude.{ℕ, ◌≡◌, ◌<◌, ◌≤◌, ◌^◌, false, List, [], ◌∷◌, ◌++◌, length, take, Option, Some, None}
 use Rattle.std.specs.List.{list_any}
+use Rattle.std.specs.Option.{option_map_or}
 use Rattle.kn_store.specs.declared.update.Update.{Update}
 use Rattle.kn_wire.specs.Requests.{Request, AreRequests, Takes}
 use Rattle.kn_wire.specs.Feeding.{Held, held_bytes, pushed, next_of, is_shut}
 use Rattle.kn_session.specs.Sessions.{Session, OpenSessions, session_in}
-use Rattle.kn_daemon.specs.Daemon.{State, first_state, session_of}
-use Rattle.kn_daemon.specs.Played.{after_request, played, is_last, up_to_end, no_grounds, IsAsking}
+use Rattle.kn_daemon.specs.Daemon.{State, first_state, session_of, own_refusal, changed}
+use Rattle.kn_daemon.specs.Played.{after_request, played, is_last, up_to_end, no_grounds, AsksOf, IsAsking}
+use Rattle.kn_daemon.specs.Shapes.{Shape, shape_of}
 use Rattle.kn_play.specs.declared.asking.Asked.{Asked}
 use Rattle.kn_play.specs.declared.answering.Step.{Step}
 use Rattle.kn_play.specs.declared.playing.LastQuery.{LastQuery}
@@ -16,9 +18,10 @@ use Rattle.kn_play.specs.declared.playing.Played.{Played}
 abbrev pub state_of_sessions : OpenSessions → State
 state_of_sessions sessions = record { started = sessions.started; sessions = sessions.sessions; is_admin = false }
 
--- the state after a request over a version that nothing changes
-abbrev pub applied : List Update → OpenSessions → Request → State
-applied history sessions request = after_request no_grounds history (state_of_sessions sessions) request
+-- the state after a request of this shape over a version that nothing changes
+abbrev pub applied : List Update → OpenSessions → Shape → State
+applied history sessions shape =
+    option_map_or (λ refusal. state_of_sessions sessions) (own_refusal no_grounds (state_of_sessions sessions) shape) (changed history (state_of_sessions sessions) shape)
 
 -- there is room for the numbers of one more session, and of one more private assertion in each
 pub record NumbersGoOn (sessions : OpenSessions) : Type 0 where
@@ -29,14 +32,17 @@ pub record NumbersGoOn (sessions : OpenSessions) : Type 0 where
 abbrev pub IsNoAnsweredQuery : State → Request → Type 0
 IsNoAnsweredQuery state request = (session : Session) (values : List (List ℕ)) → IsAsking state request session values → ⊥
 
--- the request asks this of an open session, or no query that is answered with a value
+-- a request of this shape asks this of an open session, or no query that is answered with a value
+abbrev pub AsksFor : State → Shape → Option Asked → Type 0
+AsksFor state shape None = (session : Session) (values : List (List ℕ)) → AsksOf state shape session values → ⊥
+AsksFor state shape (Some asked) = (session : Session) × (session_of state asked.session ≡ Some session) × AsksOf state shape session asked.values
+
 abbrev pub Asks : State → Request → Option Asked → Type 0
-Asks state request None = IsNoAnsweredQuery state request
-Asks state request (Some asked) = (session : Session) × (session_of state asked.session ≡ Some session) × IsAsking state request session asked.values
+Asks state request asked = AsksFor state (shape_of request) asked
 
 -- the request was played
 pub record IsRequestPlayed (history : List Update) (old : OpenSessions) (request : Request) (new : OpenSessions) (step : Step) : Type 0 where
-  pub state : state_of_sessions new ≡ applied history old request
+  pub state : state_of_sessions new ≡ applied history old (shape_of request)
   pub asks : Asks (state_of_sessions old) request step.asked
   pub last : step.is_last ≡ is_last request
 

@@ -11,6 +11,7 @@ ghost use Rattle.kn_play.specs.Playing.{NumbersGoOn, IsRequestPlayed, PlaysNext}
 use crate::applying::apply;
 use crate::asking::{Asked, read_asked};
 use kn_base::NoMemory;
+use kn_daemon::shape::shape_of;
 use kn_session::Sessions;
 use kn_store::Snapshot;
 use kn_wire::{Feed, Request, WireFault};
@@ -59,9 +60,10 @@ fn answer(
     requires form { IsWellFormed (request_of request) }
     ensures { IfOk result (IsRequestPlayed (arc_value snapshot.now) sessions.old (request_of request.entry) sessions.new) }
 {
-    let asked = read_asked(alloc, sessions, &request)?;
     let is_last = is_bye(&request);
-    apply(alloc, snapshot, sessions, request)?;
+    let shape = shape_of(request);
+    let asked = read_asked(alloc, sessions, shape)?;
+    apply(alloc, snapshot, sessions, shape)?;
     Ok(Step { asked, is_last })
 }
 

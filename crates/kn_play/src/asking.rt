@@ -1,13 +1,12 @@
 //! What a QUERY asks.
 ghost use Rattle.std.specs.Prelude.{IfOk};
-ghost use Rattle.kn_wire.specs.Requests.{Query};
-ghost use Rattle.kn_wire.specs.Wired.{request_of};
-ghost use Rattle.kn_play.specs.Playing.{state_of_sessions, Asks};
+ghost use Rattle.kn_daemon.specs.Shapes.{Asks, shape_in_code};
+ghost use Rattle.kn_play.specs.Playing.{state_of_sessions, AsksFor};
 
 use kn_base::NoMemory;
+use kn_daemon::shape::Shape;
 use kn_env::{Values, ValuesFault};
 use kn_session::Sessions;
-use kn_wire::Request;
 use std::alloc::Global;
 
 /// The number of an open session, and the compliance values that are asked for.
@@ -17,31 +16,24 @@ pub(crate) struct Asked {
     pub values: Values,
 }
 
-/// What a request asks; None where it is no QUERY that is answered with a value.
+/// What a request of this shape asks; None where it is no QUERY that is answered with a value.
 pub(crate) fn read_asked(
     alloc: Global,
     sessions: &Sessions,
-    request: &Request<'_>,
+    shape: Shape<'_>,
 ) -> Result<Option<Asked>, NoMemory>
-    ensures { IfOk result (Asks (state_of_sessions sessions.now) (request_of request.now)) }
+    ensures { IfOk result (AsksFor (state_of_sessions sessions.now) (shape_in_code shape.entry)) }
 {
-    match request {
-        Request::Query { s, values } => read_query(alloc, sessions, *s, values),
-        Request::Start
-        | Request::Close { .. }
-        | Request::Pin { .. }
-        | Request::Assert { .. }
-        | Request::Retract { .. }
-        | Request::Set { .. }
-        | Request::SetHex { .. }
-        | Request::Unset { .. }
-        | Request::Auth { .. }
-        | Request::Unauth { .. }
-        | Request::Clear { .. }
-        | Request::Admin { .. }
-        | Request::Add { .. }
-        | Request::Remove { .. }
-        | Request::Bye => Ok(None),
+    match shape {
+        Shape::Query { s, values } => read_query(alloc, sessions, s, values),
+        Shape::Call { .. }
+        | Shape::SetDigits { .. }
+        | Shape::Open
+        | Shape::Pin { .. }
+        | Shape::Add { .. }
+        | Shape::Remove { .. }
+        | Shape::Admin { .. }
+        | Shape::Bye => Ok(None),
     }
 }
 
@@ -52,7 +44,7 @@ fn read_query(
     session: u32,
     names: &[u8],
 ) -> Result<Option<Asked>, NoMemory>
-    ensures { IfOk result (Asks (state_of_sessions sessions.now) (Query session names.now)) }
+    ensures { IfOk result (AsksFor (state_of_sessions sessions.now) (Asks session names.now)) }
 {
     match sessions.view(session) {
         Ok(_) => {}

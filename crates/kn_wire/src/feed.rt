@@ -39,10 +39,9 @@ pub struct Feed {
 }
 
 impl Feed {
-    ghost use Rattle.std.specs.Prelude.{◌≡◌, ◌+◌, ◌<◌, ◌≤◌, ◌++◌, ⊤, [], length, take, drop, None, IfOk, IfSome, OnErr};
+    ghost use Rattle.std.specs.Prelude.{◌≡◌, ◌+◌, ◌≤◌, ⊤, [], length, take, drop, None, IfOk, IfSome};
     ghost use Rattle.std.specs.Borrow.{sem, follows_so};
-    ghost use Rattle.kn_outside.specs.Reading.{Reads, Fails};
-    ghost use Rattle.kn_wire.specs.Cursors.{Advances, held_at};
+    ghost use Rattle.kn_wire.specs.Cursors.{Advances};
     ghost use Rattle.kn_wire.specs.Lines.{blocked_of, with_block};
     ghost use Rattle.kn_wire.specs.Parts.{part_of};
     ghost use Rattle.kn_wire.specs.Requests as D;
@@ -50,7 +49,7 @@ impl Feed {
     ghost use Rattle.kn_wire.specs.Digits.{IsWellFormed};
     ghost use Rattle.kn_wire.specs.Wired.{request_of, request_or_fault};
     ghost use mathlib.Core.Option.{none};
-    ghost use Rattle.kn_wire.specs.Feeding.{Bytes, pushed, next_of, held_bytes, is_shut};
+    ghost use Rattle.kn_wire.specs.Feeding.{Bytes, pushed, next_of, held_bytes};
     ghost use Rattle.kn_wire.specs.Filling.{IsFilled};
     ghost use Rattle.kn_wire.specs.Feeds.{held, IsAnswer};
     ghost use Rattle.kn_wire.specs.contracts.feed.Feed.{the_row};
