@@ -19,8 +19,9 @@ use Rattle.kn_serve.specs.Handling.{Handles, Tells}
 -- a pass that moved so, and a reply that is permitted at what it has then seen
 pub handled_by : (g : Grounds) (v w : PassSeen) (old new : State) (shape : Shape) (reply : Reply) (whole : Bool) (l l' : LinkSeen) (more own : List Update) (entries : List ℕ) →
     Moves v w more own entries → own ≡ option_to_list (update_by v.number shape reply) → Permits g v.number w.seen old shape reply new →
-    StandsFor (is_placed shape reply) (length w.seen) entries → Prints whole (reply_text reply) l l' → Handles g v w old new shape whole l l'
-handled_by g v w old new shape reply whole l l' more own entries m same permitted stood prints =
+    StandsFor (is_placed shape reply) (length w.seen) entries → ((refusal : Refusal) → own_refusal g old shape ≡ Some refusal → w ≡ v) → Prints whole (reply_text reply) l l' →
+    Handles g v w old new shape whole l l'
+handled_by g v w old new shape reply whole l l' more own entries m same permitted stood still prints =
     let moves : Moves v w more (option_to_list (update_by v.number shape reply)) entries = subst (λ (x : List Update). Moves v w more x entries) same m in
     record {
       reply = reply;
