@@ -1,5 +1,5 @@
 -- Requests by shape (keynoted's own): what sort of thing each asks. All that the daemon says of requests it says by their shape.
-use Rattle.std.specs.Prelude.{ℕ, ◌≡◌, ◌≤◌, ⊤, true, Bool, false, List, length}
+use Rattle.std.specs.Prelude.{ℕ, ◌≡◌, ◌≤◌, ⊤, true, List, length}
 use Rattle.kn_base.specs.declared.limits.TheConstants.{ASSERTION_BYTES}
 use Rattle.kn_session.specs.Calls.{Call, call_of, asserted}
 use Rattle.kn_session.specs.Calls as C

@@ -1,7 +1,7 @@
 -- A connection that is being served (keynoted's own): what the serving loop keeps.
 use Rattle.std.specs.Prelude.{ℕ, ◌≡◌, false, List, ◌++◌, length, drop, flat_map, filter_map, option_to_list, ◌≤◌, Some}
 use Rattle.kn_store.specs.declared.update.Update.{Update}
-use Rattle.kn_wire.specs.Requests.{Request, Takes}
+use Rattle.kn_wire.specs.Requests.{Takes}
 use Rattle.kn_reply.specs.Replies.{Reply}
 use Rattle.kn_daemon.specs.Shapes.{Shape}
 use Rattle.kn_daemon.specs.Daemon.{Grounds, State, first_state, session_of, Permits}

@@ -11,10 +11,10 @@ use Rattle.kn_session.specs.declared.fault.CallFault.TheVariants as T
 use Rattle.kn_session.specs.declared.call.Applied.{Applied}
 use Rattle.kn_session.specs.declared.call.Applied.TheVariants as A
 use Rattle.kn_session.specs.Sessions.{Session, OpenSessions, session_in, fault_in}
-use Rattle.kn_session.specs.Calls.{Call, call_fault, call_fault_in, call_answer, lacks_memory, with_call, Accepts, Refuses}
+use Rattle.kn_session.specs.Calls.{Call, call_fault_in, call_answer, lacks_memory, with_call, Accepts, Refuses}
 use Rattle.kn_reply.specs.declared.refusal.Refusal.{Refusal}
 use Rattle.kn_reply.specs.declared.refusal.Refusal.TheVariants as R
-use Rattle.kn_reply.specs.Replies.{Reply, reply_text}
+use Rattle.kn_reply.specs.Replies.{reply_text}
 use Rattle.kn_daemon.specs.Shapes.{Calls}
 use Rattle.kn_daemon.specs.Daemon.{Grounds, State, session_of, own_refusal, refusal_of_call, reply_of_call}
 use Rattle.kn_daemon.specs.Linearized.{update_by, is_placed}

@@ -1,6 +1,6 @@
 -- What a call takes, writes and sees, step by step.
 use Rattle.std.proofs.Common.{◌≡◌, ℕ, ◌≤◌, true, false, List, [], ◌++◌, refl, sym, ap, ◌∙◌, append_assoc, append-nil, arith, Option, Some, None, subst}
-use Rattle.std.specs.Prelude.{◌==◌, take}
+use Rattle.std.specs.Prelude.{take}
 use Rattle.kn_outside.specs.Seen.{LinkSeen}
 use Rattle.kn_outside.specs.Told.{more, before}
 use Rattle.kn_outside.specs.Printing.{Prints}

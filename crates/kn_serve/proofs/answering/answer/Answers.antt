@@ -1,4 +1,4 @@
-use Rattle.std.proofs.Common.{refl, ap, ◌∙◌}
+use Rattle.std.proofs.Common.{refl}
 use Rattle.kn_serve.proofs.HandlingLaws.{told_handled, handles_as}
 use Rattle.kn_serve.proofs.answering.answer.Goals as goal
 

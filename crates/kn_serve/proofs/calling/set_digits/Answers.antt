@@ -1,4 +1,4 @@
-use Rattle.std.proofs.Common.{refl, ◌∙◌, subst}
+use Rattle.std.proofs.Common.{refl, ◌∙◌}
 use Rattle.kn_wire.specs.Digits.{bytes_of_digits}
 use Rattle.kn_daemon.specs.Shapes.{Calls}
 use Rattle.kn_session.specs.Calls as C

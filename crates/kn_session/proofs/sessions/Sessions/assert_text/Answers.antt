@@ -1,5 +1,4 @@
 use Rattle.kn_session.proofs.Applying.{unknown, unread, unadded, added}
-use Rattle.kn_session.specs.Views.{session_of_view}
 use Rattle.kn_session.proofs.sessions.Sessions.assert_text.Goals as goal
 
 pub returns-in-Err-clause-err : goal.returns-in-Err-clause-err
