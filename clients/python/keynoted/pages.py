@@ -95,7 +95,7 @@ def svg_of(proof: Proof, picture: Picture) -> Iterator[str]:
            f'viewBox="0 0 {width:.0f} {height:.0f}" role="img">')
     yield f"<title>{escape(f'Why POLICY has {proof.name}')}</title>"
     yield ('<defs><marker id="tip" markerWidth="9" markerHeight="8" refX="8" refY="4" orient="auto">'
-           '<path d="M0,0 L9,4 L0,8 z" fill="#33507a"/></marker></defs>')
+           '<path d="M0,0 9,4 0,8 z" fill="#33507a"/></marker></defs>')
     for edge in picture.edges:
         yield path_of(edge, spots)
     for key, box in picture.boxes.items():
