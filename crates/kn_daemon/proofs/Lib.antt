@@ -6,4 +6,3 @@ pub mod Opening
 pub mod Counts
 pub mod Alone
 pub mod Reading
-pub mod Pinning

@@ -6,4 +6,3 @@ pub mod Underway
 pub mod Played
 pub mod Alone
 pub mod Laws
-pub mod Pinned
