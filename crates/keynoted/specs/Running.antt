@@ -13,7 +13,7 @@ use Rattle.kn_daemon.specs.declared.ended.Ended.TheVariants as E
 use Rattle.kn_session.specs.Sessions.{Session}
 use Rattle.kn_store.specs.Loading.{IsFaultyAt}
 use Rattle.kn_commands.specs.declared.stop.Stop.TheVariants.{KeyLine}
-use Rattle.kn_commands.specs.declared.ending.Source.TheVariants.{Reply}
+use Rattle.kn_commands.specs.declared.ending.Source.TheVariants as At
 use Rattle.kn_commands.specs.Names.{AskNames, CheckNames, in_order}
 use Rattle.kn_commands.specs.Held.{IsTooLarge, IsPolicy, IsFileRead}
 use Rattle.kn_commands.specs.Stopping.{IsLimitAt, policy_fault_line, limit_line, keys_line}
@@ -103,7 +103,7 @@ pub record IsLinkFault (given : List (List ℕ)) (f f' : FilesSeen) (o o' : Link
 
 -- where the words are `check` and the first two files are these, the third holds the text of a reply to the query
 abbrev pub NeedsMemoryNext : List (List ℕ) → FilesSeen → List (List ℕ) → Type 0
-NeedsMemoryNext given f front = (names : CheckNames) → CheckFor given names → front ≡ names.policy ∷ names.script ∷ [] → NeedsMemory f names Reply
+NeedsMemoryNext given f front = (names : CheckNames) → CheckFor given names → front ≡ names.policy ∷ names.script ∷ [] → NeedsMemory f names At.Reply
 
 -- 5: memory lacked, before or behind the read of the next file, or before the link was read, or for `gen`; nothing was read from
 -- the link or written to it
