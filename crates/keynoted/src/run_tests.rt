@@ -274,6 +274,6 @@ fn a_front_of_a_line_may_be_written(rt: HostRuntime) -> Result<(), Fail> {
 fn the_system_takes_names_in_utf8(rt: HostRuntime) {
     let file = RealFiles::new(rt).read(b"\xff");
     assert!(rt; matches!(file, Err(FileFault::Failed)));
-    let rooms = TcpNet::new(rt).bind(&rt, rt.alloc(), b"\xff:1", 1, 1);
+    let rooms = TcpNet::new(rt, None).bind(&rt, rt.alloc(), b"\xff:1", 1, 1);
     assert!(rt; matches!(rooms, Err(BindFault::Failed)));
 }
