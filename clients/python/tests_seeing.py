@@ -43,7 +43,7 @@ class LintCases(Room):
         words = [PROGRAM, "ask", "policy.kn"] + (["keys"] if keys else [])
         run = subprocess.run(words, input=script.encode(), stdout=subprocess.PIPE)
         self.assertEqual((run.returncode, re.findall(rb"^(?:NO|error) .*", run.stdout, re.M)), (0, []), policy)
-        return linting.findings("policy.kn", ["script"] if script else [], "keys" if keys else None)
+        return linting.findings("policy.kn", ["script"] if script else [], "keys" if keys else None, PROGRAM)
 
     def test_most_mistakes_are_named(self):
         missed, count = [], 0

@@ -3,8 +3,9 @@ nothing."""
 
 from __future__ import annotations
 
-from typing import Dict, Iterator, Optional, Sequence, Set, Tuple, Union
+from typing import Iterator, Optional, Sequence, Tuple
 
+from .logic import always_true, implies, is_steady, never_true, tokens_of, truth_of
 from .parts import SPECIAL, Found, Part, Script, words
 from .trees import COMPARISONS, Clause, Node
 
@@ -17,80 +18,106 @@ LOWEST = NO | {
 SCALES = [it.split() for it in (
     b"no log yes", b"false true", b"deny log allow", b"deny ask allow", b"refuse log approve", b"reject log accept",
     b"none list read append write admin", b"none view read edit write full", b"none low medium high",
-    b"none guest user operator admin",
+    b"none guest user operator admin", b"none read comment write own",
 )]
-# what a comparison says where it doesn't hold, and with its sides exchanged
-OPPOSITES = {"==": "!=", "!=": "==", "<": ">=", ">": "<=", "<=": ">", ">=": "<"}
-TURNED = {"<": ">", ">": "<", "<=": ">=", ">=": "<="}
-# the least and the greatest number of which a comparison holds, counted from the one behind it
-BOUNDS: Dict[str, Tuple[Optional[int], Optional[int]]] = {
-    "==": (0, 0), "<": (None, -1), ">": (1, None), "<=": (None, 0), ">=": (0, None),
-}
-LEAST, GREATEST = -2147483648, 2147483647
+OWNERS = {b"owner", b"admin", b"administrator", b"root", b"superuser", b"chief", b"manager", b"master", b"operator"}
 
 
-def lint_program(part: Part, clauses: Sequence[Clause], script: Script) -> Iterator[Found]:
+def lint_program(part: Part, clauses: Sequence[Clause], script: Script, before: Tuple[Node, ...] = ()) -> Iterator[Found]:
     for at, clause in enumerate(clauses):
-        what = never_decides(part, clause, clauses, script)
-        if what:
-            yield "never", clause.test.start, what
+        found = never_decides(part, clause, clauses, script, before)
+        if found:
+            yield ("never", *found)
+        else:
+            yield from lint_within(part, clause.test)
         is_rest = at > 0 and at == len(clauses) - 1 and bool(truth_of(part, clause.test))
         if clause.value and is_lowest(part, clause.value, script) and not is_rest:
             value = part.source(clause.value)
             what = f"{value} is the lowest value, which refuses nothing: what another clause or assertion gives holds"
             yield "deny", clause.value.start, what
         if clause.program:
-            yield from lint_program(part, clause.program, script)
+            yield from lint_program(part, clause.program, script, (*before, clause.test))
+    yield from lint_valueless(part, clauses, script)
 
 
-def never_decides(part: Part, clause: Clause, clauses: Sequence[Clause], script: Script) -> str:
-    """Why a clause, or its test, decides nothing among these clauses; empty where it may."""
+def never_decides(part: Part, clause: Clause, clauses: Sequence[Clause], script: Script,
+                  before: Tuple[Node, ...]) -> Optional[Tuple[int, str]]:
+    """Why a clause, or its test, decides nothing among these clauses, and where; nothing where it may."""
     truth = truth_of(part, clause.test)
     if truth is False:
-        return "this test is never true"
+        return culprit(part, clause.test), "this test is never true"
     if clause.program == ():
-        return "this clause gives nothing: no clause stands in its braces"
+        return clause.test.start, "this clause gives nothing: no clause stands in its braces"
+    if before and never_true(part, (*before, clause.test)):
+        return clause.test.start, f"this test is never true behind that at {part.spot(before[-1].start)}"
     for it in clauses:
         if it is not clause and is_over(part, it, clause, script):
             more = f"the clause at {part.spot(it.test.start)} gives as much wherever this one gives anything"
-            return f"this clause never decides: {more}"
-    return "this test is always true" if truth and clause.test.sign != "truth" else ""
+            return clause.test.start, f"this clause never decides: {more}"
+    always = truth and clause.test.sign != "truth"
+    return (culprit(part, clause.test), "this test is always true") if always else None
+
+
+def culprit(part: Part, test: Node) -> int:
+    """Where the first part of a test stands that is always one thing, or the first of two that make it so."""
+    for node in test.walk():
+        if node.sign in COMPARISONS and truth_of(part, node) is not None:
+            return node.start
+    for node in (it for it in test.walk() if it.sign in ("&&", "||")):
+        for at, one in enumerate(node.parts):
+            if any(truth_of(part, node._replace(parts=(one, it))) is not None for it in node.parts[at + 1:]):
+                return one.start
+    return test.start
+
+
+def lint_within(part: Part, test: Node) -> Iterator[Found]:
+    """Parts of a test that are always true or never are, while the test hangs on more."""
+    for it in test.parts if test.sign in ("&&", "||", "!") else ():
+        if it.sign == "||" and is_steady(it) and always_true(part, it):
+            yield "never", culprit(part, it), "this part of the test is always true: && was meant, or another value"
+        elif it.sign == "&&" and never_true(part, [it]):
+            yield "never", culprit(part, it), "this part of the test is never true: || was meant, or another value"
+        else:
+            yield from lint_within(part, it)
+    same = test.sign in COMPARISONS and tokens_of(part, test.parts[0]) == tokens_of(part, test.parts[1])
+    if same and any(it.sign == "name" and it.text not in part.constants for it in test.walk()):
+        yield "never", test.start, "both sides of this comparison are the same"
+
+
+def lint_valueless(part: Part, clauses: Sequence[Clause], script: Script) -> Iterator[Found]:
+    """Clauses without a value beside others with one, where the highest value is one that no clause names."""
+    highest = {order[-1] for order in script.scales}
+    given = {part.value(it.value) for it in clauses if it.value}
+    if not given or not script.scales or highest & script.named or any(len(it) < 3 for it in script.scales):
+        return
+    for it in clauses:
+        texts = {part.value(node) for node in it.test.walk()}
+        if it.value is None and it.program is None and not texts & OWNERS:
+            what = f"no value stands behind this clause, so it gives the highest, {words(min(highest))}"
+            yield "valueless", it.test.start, what
 
 
 def is_over(part: Part, one: Clause, other: Clause, script: Script) -> bool:
     """Whether one clause makes the other needless; of two that do so for each other, the earlier one stays."""
-    if not (holds_with(part, one, other) and gives_as_much(part, one, other, script)):
+    if not (holds_with(part, one, other) and gives_as_much(part, one, part, other, script)):
         return False
-    both = holds_with(part, other, one) and gives_as_much(part, other, one, script)
+    both = holds_with(part, other, one) and gives_as_much(part, other, part, one, script)
     return not both or one.test.start < other.test.start
 
 
 def holds_with(part: Part, one: Clause, other: Clause) -> bool:
-    """Whether the test of one clause is true wherever that of the other is, by their texts."""
-    if truth_of(part, one.test):
-        return True
-    required, given = parts_by(part, one.test, "&&"), parts_by(part, other.test, "&&")
-    return required <= given or bool(parts_by(part, one.test, "||") & given)
+    """Whether the test of one clause is true wherever that of the other is, by their form."""
+    return bool(truth_of(part, one.test)) or implies(part, [other.test], part, [one.test])
 
 
-def parts_by(part: Part, test: Node, sign: str) -> Set[Tuple[bytes, ...]]:
-    """The parts that a sign joins, each by its tokens."""
-    return {tokens_of(part, it) for it in (test.parts if test.sign == sign else (test,))}
-
-
-def tokens_of(part: Part, node: Node) -> Tuple[bytes, ...]:
-    tokens = (it for field in part.fields for it in field.tokens if node.start <= it.start < node.end)
-    return tuple(it.text for it in tokens if it.text not in (b"(", b")"))
-
-
-def gives_as_much(part: Part, one: Clause, other: Clause, script: Script) -> bool:
-    """Whether a clause gives at least what the other may give, in each query."""
-    first, second = level_of(part, one), level_of(part, other)
+def gives_as_much(part: Part, one: Clause, at: Part, other: Clause, script: Script) -> bool:
+    """Whether a clause gives at least what the other, of the second assertion, may give, in each query."""
+    first, second = level_of(part, one), level_of(at, other)
     if first == b"_MAX_TRUST" or second == b"_MIN_TRUST":
         return True
     if first is None or second is None or second == b"_MAX_TRUST" or first == b"_MIN_TRUST":
         return False
-    orders = script.orders or [it for it in SCALES if first in it and second in it]
+    orders = script.scales or [it for it in SCALES if first in it and second in it]
     indices = [[order.index(it) if it in order else 0 for it in (first, second)] for order in orders]
     return first == second or bool(indices) and all(left >= right for left, right in indices)
 
@@ -108,74 +135,7 @@ def is_lowest(part: Part, node: Node, script: Script) -> bool:
     value = part.value(node)
     if value is None:
         return node.text == b"_MIN_TRUST"
-    if script.orders:
-        lowest = [order[0] for order in script.orders if value in order]
+    if script.scales:
+        lowest = [order[0] for order in script.scales if value in order]
         return bool(lowest) and all(it == value for it in lowest)
     return words(value).lower() in LOWEST
-
-
-def truth_of(part: Part, node: Node) -> Optional[bool]:
-    """Whether a test is true whatever the action, or never is; nothing where it hangs on that. A fault isn't true."""
-    if node.sign == "truth":
-        return node.text.lower() == b"true"
-    if node.sign == "!":
-        inner = truth_of(part, node.parts[0])
-        return not inner if inner or inner is False and is_steady(node) else None
-    if node.sign == "&&":
-        truths = [truth_of(part, it) for it in node.parts]
-        return False if False in truths or opposed(part, node) else None if None in truths else True
-    if node.sign == "||":
-        return truth_of_either(part, node)
-    if node.sign in ("==", "!="):
-        values = [it.text if it.sign == "number" else part.value(it) for it in node.parts]
-        return (values[0] == values[1]) == (node.sign == "==") if None not in values else None
-    return None
-
-
-def truth_of_either(part: Part, node: Node) -> Optional[bool]:
-    """The same for ||, which a fault before the part that decides makes one."""
-    truths = [truth_of(part, it) for it in node.parts]
-    if True in truths and all(is_steady(it) for it in node.parts[:truths.index(True)]):
-        return True
-    if is_steady(node) and opposed(part, node):
-        return True
-    return False if all(it is False for it in truths) else None
-
-
-def is_steady(node: Node) -> bool:
-    """Whether a test can't be a fault: it computes nothing. A number that is read is taken for one in range."""
-    steady = ("truth", "text", "name", "number", "@", "!", "&&", "||", *COMPARISONS)
-    return all(it.sign in steady for it in node.walk())
-
-
-def opposed(part: Part, node: Node) -> bool:
-    """Whether no value of a name meets all parts of &&, or each value meets a part of ||."""
-    texts: Dict[bytes, Tuple[Set[bytes], Set[bytes]]] = {}
-    numbers: Dict[bytes, Tuple[int, int]] = {}
-    for it in node.parts:
-        sign, name, value = compared(part, it)
-        sign = OPPOSITES.get(sign, "") if node.sign == "||" else sign
-        if isinstance(value, bytes) and sign in ("==", "!="):
-            texts.setdefault(name, (set(), set()))[sign == "!="].add(value)
-        elif isinstance(value, int) and sign in BOUNDS:
-            low, high = numbers.get(name, (LEAST, GREATEST))
-            least, greatest = BOUNDS[sign]
-            low = low if least is None else max(low, value + least)
-            numbers[name] = (low, high if greatest is None else min(high, value + greatest))
-    if any(len(same) > 1 or same & others for same, others in texts.values()):
-        return True
-    return any(low > high for low, high in numbers.values())
-
-
-def compared(part: Part, node: Node) -> Tuple[str, bytes, Union[bytes, int, None]]:
-    """A comparison of an attribute with a text, or of its number with a number: the sign, the name and the value."""
-    turned = TURNED.get(node.sign, node.sign)
-    for sign, (one, other) in ((node.sign, node.parts), (turned, node.parts[::-1])) if node.sign in COMPARISONS else ():
-        name = one.parts[0] if one.sign == "@" else one
-        if name.sign != "name" or part.value(name) is not None:
-            continue
-        if one.sign == "@" and other.sign == "number":
-            return sign, b"@" + name.text, int(other.text)
-        if one.sign == "name" and part.value(other) is not None:
-            return sign, name.text, part.value(other)
-    return "", b"", None

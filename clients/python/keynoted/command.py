@@ -66,12 +66,14 @@ def run_explain(args: argparse.Namespace) -> int:
 
 
 def run_lint(args: argparse.Namespace) -> int:
-    files = [args.policy] + ([args.keys] if args.keys else [])
+    if not (args.policy or args.keys):
+        raise ValueError("a policy file or --keys KEYS is wanted")
+    files = [args.policy or os.devnull] + ([args.keys] if args.keys else [])
     run = subprocess.run([program_of(), "ask", *files], stdin=subprocess.DEVNULL, stdout=subprocess.PIPE)
     if run.returncode:
         line = run.stdout.decode("utf-8", "surrogateescape").strip()
-        raise LinkEnded(explain(line) or f"the program ended with status {run.returncode}", line)
-    told = lint(args.policy, args.script, args.keys)
+        raise LinkEnded(explain(line, args.keys or "") or f"the program ended with status {run.returncode}", line)
+    told = lint(args.policy, args.script, args.keys, program_of())
     for line in told:
         print(line)
     return 1 if told else 0
@@ -98,7 +100,7 @@ def main(words: Optional[Sequence[str]] = None) -> int:
     told.add_argument("--dot", dest="picture", action="store_const", const="dot", help="the same for Graphviz")
     told.set_defaults(run=run_explain)
     warned = commands.add_parser("lint", help="warns of what is accepted and surely not meant: 0 nothing, 1 warnings, 2 an error")
-    warned.add_argument("policy")
+    warned.add_argument("policy", nargs="?", help="the policy file; without it the key file alone is looked at")
     warned.add_argument("script", nargs="*", help="files of requests")
     warned.add_argument("--keys", help="the key file")
     warned.set_defaults(run=run_lint)

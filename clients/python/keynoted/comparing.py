@@ -1,15 +1,51 @@
-"""The rules of `lint` on comparisons: numbers as texts, null, and patterns."""
+"""The rules of `lint` on comparisons: numbers as texts, null, patterns, and texts without quotes."""
 
 from __future__ import annotations
 
 import re
-from typing import Iterator, Optional
+from typing import Iterator, List, Optional, Sequence, Set
 
 from .parts import Found, Part, Script, words
 from .trees import COMPARISONS, Node, nodes_of
 
 ORDERINGS = ("<", ">", "<=", ">=")
 GREATEST = 2147483647
+DATED = re.compile(rb"[0-9]{1,2}[./][0-9]{1,2}[./](?:[0-9]{2}){1,2}|[0-9]{4}-(?:[0-9]-[0-9]{1,2}|[0-9]{2}-[0-9])")
+VERSION = re.compile(rb"v?[0-9]+(?:\.[0-9]+){2,}")
+MEASURE = re.compile(rb"([0-9]+) ?(?:[kKMGT]i?B?|B|%|EUR|USD|CHF|ms|s|min|h|d|bits?|bytes)")
+PATTERN = re.compile(
+    rb"^\^|[])*+]\$$|\[(?:[a-zA-Z]-[a-zA-Z]|[0-9]-[0-9]|\^)[^]]*\]|\.\+$|\\[dws][+{]|^%[^ ]+|[^ 0-9]%$|\{[0-9]+,[0-9]*\}"
+)
+NETWORK = re.compile(rb"(?:[0-9]{1,3}\.){3}[0-9]{1,3}/[0-9]{1,3}(?:\.[0-9.]+)?|[0-9a-fA-F:]*::?[0-9a-fA-F:]*/[0-9]{1,3}")
+RANGE = re.compile(rb"(?:[0-9]{1,3}\.){3}[0-9]{1,3} ?- ?(?:[0-9]{1,3}\.){0,3}[0-9]{1,3}|(?:[0-9]{1,3}\.){1,3}(?:[xX](?:\.[xX])*)?")
+SPAN = re.compile(rb"[0-9]+ ?(?:-|\.\.|to) ?[0-9]+")
+LIST = re.compile(rb"[A-Za-z0-9_-]+(?: ?[,|;] ?[A-Za-z0-9_-]+)+|[A-Za-z0-9_/.-]+(?: ?\|\|? ?[A-Za-z0-9_/.-]+)+")
+NETS = re.compile(rb"net|filter|range|cidr|prefix|route|mask|zone|block|pool|scope", re.I)
+HOSTS = re.compile(rb"(?:^|_)(?:ip|addr|address|host|peer|client|src|source|remote|from|dst|dest|destination|sender|origin)(?:$|_|ip|addr)", re.I)
+COUNTED = re.compile(rb"(?:^|_)(?:port|hour|day|week|month|minute|age|level|amount|size|number|count|year)s?$", re.I)
+# attributes whose values are words of a short list, those that hold another's name, and names for what is wanted
+KINDS = {
+    b"action", b"verb", b"method", b"operation", b"op", b"command", b"role", b"group", b"department", b"team", b"state",
+    b"status", b"protocol", b"proto", b"colour", b"color", b"app_domain", b"class", b"type", b"kind", b"mode", b"stage",
+    b"environment", b"env", b"branch", b"region", b"country", b"zone", b"currency", b"unit", b"room", b"door", b"gate",
+    b"day", b"weekday", b"service", b"share", b"database", b"direction", b"cipher", b"section", b"ward", b"format",
+    b"app", b"access", b"permission", b"function", b"position", b"rank", b"shift", b"format", b"channel", b"format",
+    b"user_group", b"job", b"task", b"queue", b"site", b"building", b"priority", b"severity", b"language", b"encoding",
+    b"classification", b"sensitivity", b"category", b"right", b"privilege", b"request", b"event", b"product", b"table",
+}
+HOLDERS = {b"user", b"owner", b"author", b"requester", b"requestor", b"creator", b"reviewer", b"approver", b"subject",
+           b"principal", b"account", b"customer", b"client", b"sender", b"recipient", b"manager", b"name", b"username"}
+HOLDING = {
+    b"wanted", b"needed", b"required", b"requested", b"allowed", b"expected", b"assigned", b"permitted", b"booked",
+    b"home", b"own", b"base", b"default", b"current", b"target", b"origin", b"source", b"other", b"same", b"last", b"first",
+    b"my", b"new", b"old", b"previous", b"given", b"local", b"remote", b"day", b"today", b"hour", b"date", b"from", b"to",
+}
+RANKS = {
+    b"low", b"medium", b"high", b"critical", b"public", b"internal", b"confidential", b"secret", b"top secret",
+    b"guest", b"user", b"admin", b"junior", b"senior", b"monday", b"tuesday", b"wednesday", b"thursday", b"friday",
+    b"saturday", b"sunday", b"january", b"february", b"march", b"april", b"june", b"july", b"august", b"september",
+    b"october", b"november", b"december",
+}
 NULLS = {b"null", b"nil", b"none", b"undefined", b"nothing", b"empty", b"unset"}
 ALGORITHM = re.compile(rb"alg|enc|auth|cipher|hash|comp|prf|mode", re.I)
 NUMERIC = re.compile(rb"-?[0-9]+(?:\.[0-9]+)?")
@@ -24,6 +60,8 @@ def lint_comparisons(part: Part, script: Script) -> Iterator[Found]:
         for side, other in (node.parts, node.parts[::-1]):
             found = lint_order(part, node, side, other, script)
             found = found or lint_null(part, side, other, script) or lint_pattern(part, side, script)
+            if not found and node.sign in ("==", "!="):
+                found = lint_text(part, side, other, script)
             if found:
                 yield found
                 break
@@ -47,6 +85,14 @@ def unlike_numbers(part: Part, node: Node, value: bytes, other: Node, script: Sc
     """How a text of digits is to be compared; empty where texts are right."""
     if ADDRESS.fullmatch(value) and not PADDED.fullmatch(value):
         return f"addresses are compared as texts: write each number of {words(value)} with three digits"
+    if DATED.fullmatch(value):
+        return f"texts are compared, byte by byte: write dates as 2026-01-31 or 20260131, and not {words(value)}"
+    if VERSION.fullmatch(value) and not ADDRESS.fullmatch(value):
+        return f"texts are compared, byte by byte, in which 1.10.0 is below 1.9.0: {words(value)} is no number"
+    if MEASURE.fullmatch(value):
+        return f"texts are compared, byte by byte: compare the number alone, as @{part.source(other)}"
+    if value.lower() in RANKS:
+        return f"texts are compared, byte by byte, and not by rank: name each text beside {words(value)} that will do"
     if HOUR.fullmatch(value):
         return f"times are compared as texts: write 0{words(value)}, and two digits for each hour"
     if not NUMERIC.fullmatch(value) or is_padded(part, value, other, script):
@@ -94,6 +140,107 @@ def lint_pattern(part: Part, side: Node, script: Script) -> Optional[Found]:
     value = part.value(side)
     if value is None or script.has_value(value):
         return None
-    if b"*" in value or value.lower() == b"any":
+    if b"*" in value or value.lower() == b"any" or PATTERN.search(value):
         return "wildcard", side.start, f"\"{words(value)}\" stands for itself alone: there are no patterns"
     return None
+
+
+def lint_text(part: Part, side: Node, other: Node, script: Script) -> Optional[Found]:
+    """Texts of equality that no single value of an attribute is: networks, ranges, lists, and spaces at an end."""
+    value, name = part.value(side), attribute_of(part, other)
+    if value is None or not name or value in script.settings.get(name, ()):
+        return None
+    told = words(value)
+    given = [it for it in script.settings.get(name, ()) if ADDRESS.fullmatch(it)]
+    hosts = HOSTS.search(name) and not NETS.search(name)
+    if NETWORK.fullmatch(value) and (hosts or given) or RANGE.fullmatch(value) and b"." in value and (hosts or given):
+        return "network", side.start, f"\"{told}\" is a text, which no single address is equal to: compare bounds with three digits each"
+    if SPAN.fullmatch(value) and (COUNTED.search(name) or any(NUMERIC.fullmatch(it) for it in script.settings.get(name, ()))):
+        return "list", side.start, f"\"{told}\" is a text, and no range: compare @{words(name)} with both ends"
+    if LIST.fullmatch(value) and (is_kind(name, value) or is_listed(value, script.settings.get(name, set()))):
+        return "list", side.start, f"\"{told}\" is one text: compare with each, and join the comparisons by ||"
+    if value != value.strip() and value.strip() and b"\n" not in value:
+        return "spaces", side.start, f"each space counts, and this text has one at an end: {told!r}"
+    return None
+
+
+def is_kind(name: bytes, value: bytes) -> bool:
+    """Whether an attribute has single words of a short list, or somebody's name."""
+    return name.lower() in KINDS or name.lower() in HOLDERS and value == value.lower()
+
+
+def is_listed(value: bytes, given: Set[bytes]) -> bool:
+    """Whether requests set a part of a list."""
+    return any(it.strip() in given for it in re.split(rb"[,|;]", value))
+
+
+def attribute_of(part: Part, node: Node) -> bytes:
+    return node.text if node.sign == "name" and part.value(node) is None else b""
+
+
+def lint_bare(part: Part, parts: Sequence[Part], script: Script) -> Iterator[Found]:
+    """Texts that stand without quotes where an attribute is compared, as `role == admin`."""
+    for node in (it for it in nodes_of(part.clauses) if it.sign in ("==", "!=")):
+        names = [attribute_of(part, it) for it in node.parts]
+        if not all(names) or names[0] == names[1]:
+            continue
+        for name, bare, side in ((*names, node.parts[1]), (*names[::-1], node.parts[0])):
+            if is_bare(part, name, bare, parts, script):
+                what = f"this is an attribute, and empty where it isn't set: write \"{words(bare)}\" for the text"
+                yield "bare", side.start, what
+                break
+
+
+def is_bare(part: Part, name: bytes, bare: bytes, parts: Sequence[Part], script: Script) -> bool:
+    """Whether a name is surely a text of which the quotes are missing."""
+    if bare in script.settings or bare.lower() in NULLS or b"_" in (name[:1], bare[:1]) or is_used(bare, parts):
+        return False
+    compared = [it for one in parts for it in nodes_of(one.clauses) if it.sign in COMPARISONS]
+    texts = {part.value(side) for it in compared if name in {x.text for x in it.parts} for side in it.parts}
+    if bare in texts or bare in script.settings.get(name, ()):
+        return True
+    ends, others = segments(name), segments(bare)
+    known = HOLDERS | KINDS | HOLDING
+    return name.lower() in KINDS and not ends & others and not others & known and bare.lower() not in known
+
+
+def is_used(name: bytes, parts: Sequence[Part]) -> bool:
+    """Whether a name is that of a constant or an attribute elsewhere than in a comparison of two names."""
+    count = 0
+    for part in parts:
+        nodes = list(nodes_of(part.clauses))
+        pairs = [it for it in nodes if it.sign in ("==", "!=") and all(attribute_of(part, side) for side in it.parts)]
+        count += sum(it.sign == "name" and it.text == name for it in nodes)
+        count -= sum(side.text == name for it in pairs for side in it.parts)
+    return count > 0 or any(name in it.constants for it in parts)
+
+
+def segments(name: bytes) -> Set[bytes]:
+    return {it.lower() for it in re.findall(rb"[A-Z]?[a-z0-9]+|[A-Z]+", name)}
+
+
+def lint_joined(part: Part, script: Script) -> Iterator[Found]:
+    """A dot between two names as for a field of a record, and $ before a name as in a shell."""
+    for node in (it for it in nodes_of(part.clauses) if it.sign in COMPARISONS):
+        for side, other in (node.parts, node.parts[::-1]):
+            text, source = part.value(other), part.text[side.start:side.end]
+            is_path = side.sign == "." and not side.bracketed and re.fullmatch(rb"[A-Za-z]\w*(?:\.[A-Za-z]\w*)+", source)
+            if is_path and text and not text.isdigit() and not is_joined(part, side, text, script):
+                what = f"the dot joins the texts of {', '.join(words(it.text) for it in side.parts)}: it reaches no field"
+                yield "dot", side.start, what
+            name = attribute_of(part, side.parts[0]) if side.sign == "$" else b""
+            given = script.settings.get(name, set())
+            is_value = bool(given) and not any(it in script.settings or it in part.constants for it in given)
+            if name and other.sign != "$" and (is_value or not given and name.lower() in KINDS | HOLDERS - {b"name"}):
+                what = f"$ gives the attribute that the text of {words(name)} names: write {words(name)} for its own text"
+                yield "dollar", side.start, what
+
+
+def is_joined(part: Part, node: Node, text: bytes, script: Script) -> bool:
+    """Whether values that requests set make this text together."""
+    texts = {b""}
+    for it in node.parts:
+        value = part.value(it)
+        given = {value} if value is not None else script.settings.get(it.text, set())
+        texts = {one + more for one in list(texts)[:50] for more in given}
+    return text in texts

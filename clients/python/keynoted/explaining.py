@@ -7,6 +7,7 @@ import re
 from typing import Dict, Tuple
 
 from .errors import REFUSAL, refusal_of
+from .keyfiles import fault_of
 from .reader import Reader, Wrong
 from .texts import FIELDS, Field, Token, constants_of, fields_of, place_of, read_file, split_file
 
@@ -102,6 +103,14 @@ def explain_text(text: bytes, line: str) -> str:
     return f"{place_of(text, at)}: {what}"
 
 
+def fault_in_keys(file: str, number: int) -> str:
+    """What is wrong in a line of a key file; empty where that isn't seen."""
+    if not file:
+        return ""
+    lines = read_file(file).split(b"\n")
+    return fault_of(lines[number - 1].rstrip(b"\r")) if number <= len(lines) else ""
+
+
 def explain(line: str, file: str = "") -> str:
     """The words of a line `error ..` or `NO ..` of the daemon's, or nothing for another line.
 
@@ -115,7 +124,7 @@ def explain(line: str, file: str = "") -> str:
     match = re.fullmatch(r"error keys (\d+)", line)
     if match:
         forms = "neither mac DIGITS PRINCIPAL nor digest DIGITS nor secret DIGITS, or a second one"
-        return f"{file or 'the key file'}:{match[1]}:1: {forms}"
+        return f"{file or 'the key file'}:{match[1]}:1: {fault_in_keys(file, int(match[1])) or forms}"
     match = re.fullmatch(r"error proof reject ([1-8]) (\d+) (\d+)", line)
     if match:
         where = f"(row or assertion {match[2]} from 0, found {match[3]})"

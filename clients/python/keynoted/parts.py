@@ -3,7 +3,7 @@
 from __future__ import annotations
 
 import re
-from typing import Dict, Iterator, List, Optional, Set, Tuple
+from typing import Dict, FrozenSet, Iterator, List, Optional, Set, Tuple
 
 from .answers import NUMBER
 from .texts import Field, Token, constants_of, fields_of, place_of, read_file, split_file, value_of
@@ -60,12 +60,34 @@ class Part:
 
 
 class Script:
-    """What scripts of requests say: the values of their queries, what they set, and who requests."""
+    """What scripts of requests say: the values of their queries, what they set, and who requests; and what a policy
+    says of its values."""
 
     def __init__(self) -> None:
         self.orders: List[List[bytes]] = []
+        self.told: List[List[bytes]] = []  # an order of values in a comment
+        self.named: Set[bytes] = set()  # the values behind `->`
+        self.asking: List[FrozenSet[bytes]] = []  # the requesters of each query
+        self.present: Dict[bytes, Set[bytes]] = {}  # of each session, as the script is read
         self.settings: Dict[bytes, Set[bytes]] = {}
         self.requesters: List[Tuple[str, bytes]] = []
+
+    @property
+    def scales(self) -> List[List[bytes]]:
+        """The orders of values: of the queries, or of a comment where there are none."""
+        return self.orders or self.told
+
+    def take(self, session: bytes, word: bytes, principal: bytes) -> None:
+        """Keeps who requests in a session."""
+        present = self.present.setdefault(session, set())
+        if word == b"AUTH":
+            present.add(principal)
+        elif word == b"UNAUTH":
+            present.discard(principal)
+        elif word == b"QUERY":
+            self.asking.append(frozenset(present))
+        elif word in (b"OPEN", b"CLEAR", b"CLOSE"):
+            present.clear()
 
     def asks(self, principal: bytes) -> bool:
         return any(who == principal for _, who in self.requesters)

@@ -1,0 +1,162 @@
+"""The rules of `lint` on who is licensed: principals that stand twice, lists in one pair of quotes, wildcards, constants'
+names in quotes, and groups of which the comment or the script says something else."""
+
+from __future__ import annotations
+
+import re
+from typing import FrozenSet, Iterator, Optional, Sequence, Set
+
+from .near import nearly, plain
+from .parts import Found, Part, Script, words
+from .trees import Node
+
+EVERYBODY = {b"any", b"anyone", b"anybody", b"everyone", b"everybody", b"all"}
+NUMBERS = {"one": 1, "two": 2, "three": 3, "four": 4, "five": 5, "six": 6, "seven": 7, "eight": 8, "nine": 9}
+COUNT = r"(one|two|three|four|five|six|seven|eight|nine|[1-9])"
+OF = re.compile(rf"(?i)\b{COUNT} (?:people |members )?(?:out )?of (?:the |these |them |our |all )?{COUNT}\b")
+ALONE = re.compile(r"(?i)\b(?:each|either|any|every one|both)\b[^.;]*\b(?:alone|on (?:his|her|its|their) own|by (?:him|her|it)self)\b"
+                   r"|\beither of (?:them|the two)\b|\b(?:one|either) of (?:them|the two) is enough\b|\beach is enough\b")
+TOGETHER = re.compile(r"(?i)\b(?:only|must|have to|has to|may only|need to) (?:both )?\w* ?(?:together|jointly)\b"
+                      r"|\bfour[- ]eyes\b|\b(?:both must|both have to|both are needed|two[- ](?:person|man) rule)\b")
+NOT = re.compile(r"(?i)\b(?:not|no|nobody|none|neither|never|without|isn't|aren't|can't|unless)\b")
+TITLES = re.compile(rb"[=:\"\\]")
+LISTED = re.compile(rb"[ ]*(?:,|;|\|\|?|&&)[ ]*")
+HEX = re.compile(rb"[a-z0-9-]*-hex:(.*)")
+
+
+def lint_licensees(part: Part, script: Script, parts: Sequence[Part]) -> Iterator[Found]:
+    yield from lint_spelling(part, script, parts)
+    field, conditions, by = part.field(5), part.field(3), part.field(1)
+    if conditions and conditions.tokens and by and not (field and field.tokens):
+        yield "licensees", (field or by).label.start, "the conditions grant nothing: Licensees is missing or empty"
+    known = {who for it in parts for _, who in it.principals(1)}
+    for node in part.formula.walk() if part.formula else ():
+        yield from lint_repeated(part, node)
+        who = part.principal(node) if not node.parts else b""
+        if (b"*" in who or who.lower() in EVERYBODY) and who not in known and not script.asks(who):
+            yield "wildcard", node.start, f"\"{words(who)}\" is one principal's name: there are no wildcards"
+        elif who not in known and not script.asks(who) and is_list(who, parts, script):
+            yield "list", node.start, f"\"{words(who)}\" is one principal's name: put each into quotes of its own"
+    if part.formula:
+        yield from lint_said(part, part.formula)
+        yield from lint_asked(part, part.formula, script)
+
+
+def lint_spelling(part: Part, script: Script, parts: Sequence[Part]) -> Iterator[Found]:
+    """Principals that are surely spelled wrong, or that are constants' names in quotes."""
+    constants = {name: other for other in parts for name in other.constants}
+    authors = {who for it in parts for _, who in it.principals(1)}
+    for number in (1, 5):
+        tokens = {it.start: it for field in part.fields if field.number == number for it in field.tokens}
+        for at, who in part.principals(number):
+            hexadecimal = HEX.fullmatch(who)
+            if len(who) > 1 and who[:1] == who[-1:] == b'"':
+                yield "quotes", at, "this principal has quotes within"
+            elif who != who.strip():
+                yield "spaces", at, f"each space counts, and this principal has one too many: {words(who)!r}"
+            elif hexadecimal and re.search(rb"[^0-9a-f]", hexadecimal[1]):
+                yield "hex", at, f"{words(who)} isn't hexadecimal"
+            elif tokens[at].sort == "text" and who in constants and not script.asks(who) and who not in authors - by_of(part):
+                yield "quoted", at, f"this is the principal \"{words(who)}\", and not the constant of this name: write it without quotes"
+            elif number == 5 and who not in authors:
+                asked = unasked(who, script, parts)
+                if asked:
+                    yield "asked", at, f"no requester is {words(who)}: is {words(asked)} meant, who requests and isn't licensed?"
+
+
+def by_of(part: Part) -> Set[bytes]:
+    return {who for _, who in part.principals(1)}
+
+
+def unasked(who: bytes, script: Script, parts: Sequence[Part]) -> Optional[bytes]:
+    """A requester whom nobody licenses and whose name is nearly that of a licensee who never requests."""
+    licensed = {it for part in parts for _, it in part.principals(5)}
+    strangers = {it for _, it in script.requesters if it not in licensed}
+    if script.asks(who):
+        return None
+    return next((it for it in sorted(strangers) if plain(it) == plain(who) or nearly(it, who)), None)
+
+
+def is_list(who: bytes, parts: Sequence[Part], script: Script) -> bool:
+    """Whether a text is several principals: plain names with commas between, and no title or name with its parts."""
+    if TITLES.search(who):
+        return False
+    names = [it for it in LISTED.split(who) if it]
+    if len(names) < 2:
+        return False
+    if re.search(rb"\|\||&&", who):
+        return True
+    known = {it for part in parts for number in (1, 5) for _, it in part.principals(number)}
+    known |= {it for _, it in script.requesters}
+    single = all(b" " not in it for it in names)
+    return bool(known & set(names)) or single and len(names) > 2 or single and who.lower() == who
+
+
+def lint_repeated(part: Part, node: Node) -> Iterator[Found]:
+    """Principals that stand twice where parts are joined, or are enough for two parts of a threshold."""
+    seen: Set[bytes] = set()
+    for it in node.parts:
+        if node.sign == "of":
+            alone = enough_alone(part, it)
+        else:
+            alone = {part.principal(it)} if not it.parts else set()
+        for who in sorted(alone & seen):
+            counts = ", and counts twice: one requester does for two" if node.sign == "of" else ""
+            yield "repeated", it.start, f"{words(who)} stands here twice{counts}"
+        seen |= alone
+
+
+def enough_alone(part: Part, node: Node) -> Set[bytes]:
+    """The principals each of which alone meets a formula, by its form."""
+    if not node.parts:
+        return {part.principal(node)}
+    if node.threshold > 1:
+        return set()
+    return {who for it in node.parts for who in enough_alone(part, it)}
+
+
+def remark_of(part: Part) -> str:
+    """What an assertion's own comments say."""
+    text = b" ".join(it.label.text.partition(b":")[2] for it in part.fields if it.number == 2)
+    remarks = re.match(rb"(?:#[^\n]*\n)*", part.text)
+    return words(b" ".join(((remarks[0] if remarks else b"") + b" " + text).replace(b"#", b" ").split()))
+
+
+def number_in(word: str) -> int:
+    return NUMBERS.get(word.lower()) or int(word)
+
+
+def lint_said(part: Part, formula: Node) -> Iterator[Found]:
+    """Groups of principals of which the assertion's comment says something else."""
+    said = remark_of(part)
+    thresholds = [it for it in formula.walk() if it.sign == "of"]
+    counts = {(number_in(one), number_in(members)) for one, members in OF.findall(said)}
+    if len(thresholds) == 1 and len(counts) == 1:
+        wanted, members = min(counts)
+        found = thresholds[0]
+        if members == len(found.parts) and wanted != found.threshold and wanted <= members:
+            what = f"the comment says {wanted} of {members}, and here {found.threshold} of {members} are asked for"
+            yield "said", found.start, what
+    are_leaves = all(not it.parts for it in formula.parts)
+    if formula.sign == "&&" and are_leaves and ALONE.search(said) and not NOT.search(said):
+        yield "said", formula.start, "&& asks that all request together, and the comment says that one is enough: write ||"
+    if formula.sign == "||" and are_leaves and len(formula.parts) == 2 and TOGETHER.search(said) and not NOT.search(said):
+        yield "said", formula.start, "|| lets one request alone, and the comment says that they have to together: write &&"
+
+
+def lint_asked(part: Part, formula: Node, script: Script) -> Iterator[Found]:
+    """Groups whose members all request in the scripts, but never so that the group is complete."""
+    members = {part.principal(it) for it in formula.walk() if not it.parts}
+    asking = [it for it in script.asking if it & members]
+    if len(members) < 2 or enough_alone(part, formula) or any(is_met(part, formula, it) for it in asking):
+        return
+    if all(frozenset((who,)) in asking for who in members):
+        what = "each of these requests alone in the script, and no request is of as many as are asked for here"
+        yield "alone", formula.start, what
+
+
+def is_met(part: Part, node: Node, present: FrozenSet[bytes]) -> bool:
+    """Whether requesters complete a group by themselves."""
+    if not node.parts:
+        return part.principal(node) in present
+    return sum(is_met(part, it, present) for it in node.parts) >= node.threshold

@@ -1,0 +1,160 @@
+"""The rules of `lint` on names and words: constants in the wrong place, attributes that no request sets, and words that
+are nearly others."""
+
+from __future__ import annotations
+
+import re
+from collections import Counter
+from typing import Dict, Iterator, List, Sequence, Set, Tuple
+
+from .comparing import NULLS, attribute_of
+from .near import near_in, nearly
+from .parts import SPECIAL, Found, Part, Script, words
+from .trees import COMPARISONS, Node, nodes_of
+
+ORDER = re.compile(r"(?i)\bvalues?\b[^:\n]{0,40}:\s*([\w-]+(?:\s*(?:,|<)\s*[\w-]+)+)")
+
+
+def orders_in(data: bytes) -> List[List[bytes]]:
+    """The orders of values that the comments of a file say, as `Values, the lowest first: none, read, write`."""
+    remarks = words(re.sub(rb"\n#[ \t]*", b" ", data[:65536])).split("\n")
+    lines = [it for it in remarks if it.lstrip().startswith("#") or it.lower().startswith("comment:")]
+    found = [re.split(r"\s*[,<]\s*", match[1]) for line in lines for match in ORDER.finditer(line)]
+    return [[it.encode() for it in order] for order in found if len(set(order)) == len(order)]
+
+
+def take_values(own: Sequence[Part], parts: Sequence[Part], script: Script) -> None:
+    """Keeps the values that clauses name, and the order that a comment says where it has most of them."""
+    for part in parts:
+        values = (part.value(it.value) for top in part.clauses for it in top.walk() if it.value)
+        script.named |= {it for it in values if it is not None}
+    told = orders_in(own[0].data) if own else []
+    script.told = [it for it in told if len(set(it) & script.named) * 2 > len(script.named)]
+
+
+def lint_constants(part: Part, script: Script, parts: Sequence[Part]) -> Iterator[Found]:
+    """Constants that nothing uses, and those in whose place an attribute was meant."""
+    tokens = [it for field in part.fields if field.number in (1, 3, 5) for it in field.tokens]
+    used = {it.text for it in tokens if it.sort == "name"}
+    quoted = {it.text[1:-1] for it in tokens if it.sort == "text"}
+    near = {near_in(it, part.constants) for it in used - set(part.constants)}
+    for token in (it for field in part.fields if field.number == 6 for it in field.tokens):
+        if token.sort != "name" or token.text not in part.constants:
+            continue
+        name = words(token.text)
+        if token.text not in used | quoted | near and all(it.text != b"$" for it in tokens):
+            yield "unused", token.start, f"the constant {name} isn't used"
+        why = hidden_by(part, token.text, script, parts)
+        if why:
+            yield "hidden", token.start, f"the constant {name} hides the attribute of this name: {why}"
+
+
+def hidden_by(part: Part, name: bytes, script: Script, parts: Sequence[Part]) -> str:
+    """Why the attribute was meant where a condition has a constant's name; empty where it wasn't."""
+    nodes = list(nodes_of(part.clauses))
+    if all(it.text != name or it.sign != "name" for it in nodes):
+        return ""
+    for node in nodes:
+        leaves = [it for it in node.walk() if not it.parts] if node.sign in COMPARISONS else []
+        is_fixed = all(it.sign == "number" or part.value(it) is not None for it in leaves)
+        if is_fixed and any(it.text == name and it.sign == "name" for it in leaves):
+            return f"the comparison at {part.spot(node.start)} has no attribute"
+    if name in script.settings:
+        return "a request sets it"
+    for other in parts:
+        if name not in other.constants and any(name in names for names in tested(other)):
+            return f"{other.place(0)} has a condition on it"
+    return ""
+
+
+def tested(part: Part) -> Iterator[Set[bytes]]:
+    """The attributes that a comparison tests by themselves: those of one with two names aren't told apart."""
+    for node in (it for it in nodes_of(part.clauses) if it.sign in COMPARISONS):
+        names = {it.text for it in node.walk() if it.sign == "name" and it.text not in part.constants}
+        if len(names) == 1:
+            yield names
+
+
+def lint_words(part: Part, script: Script, parts: Sequence[Part]) -> Iterator[Found]:
+    """Names in conditions that are constants of another place, or nearly a constant or another attribute, and texts
+    that are nearly others of their attribute."""
+    behind = {it.value.start for top in part.clauses for it in top.walk() if it.value}
+    nodes = [it for it in nodes_of(part.clauses) if it.sign == "name" and it.start not in behind]
+    counts = Counter(it.text for one in parts for it in nodes_of(one.clauses) if it.sign == "name")
+    passed = {*part.constants, *script.settings}
+    for node in nodes:
+        if node.text in passed or node.text.startswith(b"_") or node.text.lower() in NULLS:
+            continue
+        passed.add(node.text)
+        what = meant_name(part, node.text, script, parts, counts)
+        if what:
+            yield "unset", node.start, what
+    yield from lint_texts(part, script, parts)
+
+
+def meant_name(part: Part, name: bytes, script: Script, parts: Sequence[Part], counts: "Counter[bytes]") -> str:
+    """What was meant by the name of an attribute that no request sets; empty where it may be itself."""
+    told = words(name)
+    elsewhere = [it for it in parts if name in it.constants]
+    if elsewhere and not any({name} == names for it in parts for names in tested(it)):
+        at = elsewhere[0].place(0)
+        return f"{told} is a constant of the assertion at {at} alone: here it is an attribute, which is empty"
+    near = near_in(name, [it for it in part.constants if it not in script.settings])
+    if near:
+        return f"this is an attribute, and no constant: is {words(near)} meant?"
+    given = {it for it in script.settings if nearly(it, name)} if script.orders else set()
+    if given:
+        return f"no request sets {told}: is {words(min(given))} meant?"
+    rare = [it for it in counts if nearly(it, name) and counts[it] > counts[name] and not it.startswith(b"_")]
+    return f"{told} stands here alone: is {words(min(rare))} meant?" if rare and counts[name] == 1 else ""
+
+
+def lint_texts(part: Part, script: Script, parts: Sequence[Part]) -> Iterator[Found]:
+    """Texts that one attribute is compared with, and that are nearly what other comparisons or requests have."""
+    counts: Dict[Tuple[bytes, bytes], int] = Counter((name, text) for one in parts for name, text, _ in compared_texts(one))
+    for name, text, side in compared_texts(part):
+        given = script.settings.get(name, set())
+        if text in given or not text:
+            continue
+        known = [it for one, it in counts if one == name and nearly(it, text) and counts[one, it] > counts[name, text]]
+        compared = {it for one, it in counts if one == name}
+        known += [it for it in given if nearly(it, text) and it not in compared]
+        if known and counts[name, text] == 1:
+            yield "text", side.start, f"\"{words(text)}\" stands here alone: is \"{words(min(known))}\" meant?"
+        elif name == b"_ACTION_AUTHORIZERS" and b"," not in text and b":" in text and part.principal(side) != text:
+            what = f"requesters are named in their normal form: write \"{words(part.principal(side))}\""
+            yield "text", side.start, what
+
+
+def compared_texts(part: Part) -> Iterator[Tuple[bytes, bytes, Node]]:
+    for node in (it for it in nodes_of(part.clauses) if it.sign in ("==", "!=")):
+        for side, other in (node.parts, node.parts[::-1]):
+            name, text = attribute_of(part, side), part.value(other)
+            if name and text is not None:
+                yield name, text, other
+
+
+def lint_special(part: Part) -> Iterator[Found]:
+    for node in nodes_of(part.clauses):
+        if node.sign == "name" and node.text.startswith(b"_") and node.text not in SPECIAL:
+            yield "special", node.start, f"{words(node.text)} is always empty: no attribute begins with _"
+
+
+def lint_values_behind(part: Part, script: Script) -> Iterator[Found]:
+    """Values behind `->` that are attributes' values, or values of no query."""
+    for node in (it.value for top in part.clauses for it in top.walk() if it.value):
+        value, name = part.value(node), words(node.text)
+        if value is None:
+            if node.sign == "name" and node.text not in SPECIAL:
+                what = f"this is the value of the attribute {name}: write \"{name}\" for the value of that name"
+                yield "value", node.start, what
+            continue
+        if script.orders and all(value not in order for order in script.orders):
+            yield "value", node.start, f"no query has the value {words(value)}, so this gives the lowest"
+            continue
+        known = {it for order in script.scales for it in order} or script.named
+        near = near_in(value, known) if value not in {it for order in script.scales for it in order} else None
+        if value in SPECIAL[:2]:
+            yield "value", node.start, f"this is a text: write {words(value)} without quotes"
+        elif near and not script.orders:
+            yield "value", node.start, f"no other clause gives {words(value)}: is \"{words(near)}\" meant?"
