@@ -17,7 +17,7 @@ from .trees import Clause, Node
 Placed = Tuple[Part, str, int, str]  # the assertion, the rule's word, the place in it, and what is wrong
 PATHS = 64  # ways of trust to a principal that are looked at
 LABEL = re.compile(rb"(?i)(licensees|conditions):[ \t]*(\S.*)?")
-CODE = re.compile(rb"[=!<>]=|->|\"|&&|\|\|")
+CODE = re.compile(rb"[=!<>]=|->|\"|&&|\|\||@[A-Za-z]|;\s*$")
 DOMAIN = b"app_domain"
 
 

@@ -63,7 +63,7 @@ def culprit(part: Part, test: Node) -> int:
     for node in test.walk():
         if node.sign in COMPARISONS and truth_of(part, node) is not None:
             return node.start
-    for node in (it for it in test.walk() if it.sign in ("&&", "||")):
+    for node in reversed([it for it in test.walk() if it.sign in ("&&", "||")]):
         for at, one in enumerate(node.parts):
             if any(truth_of(part, node._replace(parts=(one, it))) is not None for it in node.parts[at + 1:]):
                 return one.start
@@ -88,7 +88,7 @@ def lint_valueless(part: Part, clauses: Sequence[Clause], script: Script) -> Ite
     """Clauses without a value beside others with one, where the highest value is one that no clause names."""
     highest = {order[-1] for order in script.scales}
     given = {part.value(it.value) for it in clauses if it.value}
-    if not given or not script.scales or highest & script.named or any(len(it) < 3 for it in script.scales):
+    if not given or not script.scales or highest & set(script.named) or any(len(it) < 3 for it in script.scales):
         return
     for it in clauses:
         texts = {part.value(node) for node in it.test.walk()}

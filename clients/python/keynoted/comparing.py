@@ -25,11 +25,11 @@ HOSTS = re.compile(rb"(?:^|_)(?:ip|addr|address|host|peer|client|src|source|remo
 COUNTED = re.compile(rb"(?:^|_)(?:port|hour|day|week|month|minute|age|level|amount|size|number|count|year)s?$", re.I)
 # attributes whose values are words of a short list, those that hold another's name, and names for what is wanted
 KINDS = {
-    b"action", b"verb", b"method", b"operation", b"op", b"command", b"role", b"group", b"department", b"team", b"state",
+    b"action", b"verb", b"method", b"operation", b"op", b"command", b"role", b"group", b"department", b"team", b"state", b"dept", b"division",
     b"status", b"protocol", b"proto", b"colour", b"color", b"app_domain", b"class", b"type", b"kind", b"mode", b"stage",
     b"environment", b"env", b"branch", b"region", b"country", b"zone", b"currency", b"unit", b"room", b"door", b"gate",
     b"day", b"weekday", b"service", b"share", b"database", b"direction", b"cipher", b"section", b"ward", b"format",
-    b"app", b"access", b"permission", b"function", b"position", b"rank", b"shift", b"format", b"channel", b"format",
+    b"app", b"access", b"permission", b"function", b"position", b"rank", b"shift", b"channel",
     b"user_group", b"job", b"task", b"queue", b"site", b"building", b"priority", b"severity", b"language", b"encoding",
     b"classification", b"sensitivity", b"category", b"right", b"privilege", b"request", b"event", b"product", b"table",
 }
@@ -141,7 +141,7 @@ def lint_pattern(part: Part, side: Node, script: Script) -> Optional[Found]:
     if value is None or script.has_value(value):
         return None
     if b"*" in value or value.lower() == b"any" or PATTERN.search(value):
-        return "wildcard", side.start, f"\"{words(value)}\" stands for itself alone: there are no patterns"
+        return "wildcard", place_in(part, side), f"\"{words(value)}\" stands for itself alone: there are no patterns"
     return None
 
 
@@ -154,19 +154,28 @@ def lint_text(part: Part, side: Node, other: Node, script: Script) -> Optional[F
     given = [it for it in script.settings.get(name, ()) if ADDRESS.fullmatch(it)]
     hosts = HOSTS.search(name) and not NETS.search(name)
     if NETWORK.fullmatch(value) and (hosts or given) or RANGE.fullmatch(value) and b"." in value and (hosts or given):
-        return "network", side.start, f"\"{told}\" is a text, which no single address is equal to: compare bounds with three digits each"
+        return "network", place_in(part, side), f"\"{told}\" is a text, which no single address is equal to: compare bounds with three digits each"
     if SPAN.fullmatch(value) and (COUNTED.search(name) or any(NUMERIC.fullmatch(it) for it in script.settings.get(name, ()))):
-        return "list", side.start, f"\"{told}\" is a text, and no range: compare @{words(name)} with both ends"
+        return "list", place_in(part, side), f"\"{told}\" is a text, and no range: compare @{words(name)} with both ends"
     if LIST.fullmatch(value) and (is_kind(name, value) or is_listed(value, script.settings.get(name, set()))):
-        return "list", side.start, f"\"{told}\" is one text: compare with each, and join the comparisons by ||"
+        return "list", place_in(part, side), f"\"{told}\" is one text: compare with each, and join the comparisons by ||"
     if value != value.strip() and value.strip() and b"\n" not in value:
-        return "spaces", side.start, f"each space counts, and this text has one at an end: {told!r}"
+        return "spaces", place_in(part, side), f"each space counts, and this text has one at an end: {told!r}"
     return None
+
+
+def place_in(part: Part, side: Node) -> int:
+    """Where a text stands: that of a constant where the constant has it."""
+    return part.constants[side.text].start if side.sign == "name" else side.start
 
 
 def is_kind(name: bytes, value: bytes) -> bool:
     """Whether an attribute has single words of a short list, or somebody's name."""
-    return name.lower() in KINDS or name.lower() in HOLDERS and value == value.lower()
+    return has_kind(name) or b"||" in value or name.lower() in HOLDERS and value == value.lower()
+
+
+def has_kind(name: bytes) -> bool:
+    return name.lower() in KINDS or name.lower().rpartition(b"_")[2] in KINDS
 
 
 def is_listed(value: bytes, given: Set[bytes]) -> bool:
@@ -201,7 +210,7 @@ def is_bare(part: Part, name: bytes, bare: bytes, parts: Sequence[Part], script:
         return True
     ends, others = segments(name), segments(bare)
     known = HOLDERS | KINDS | HOLDING
-    return name.lower() in KINDS and not ends & others and not others & known and bare.lower() not in known
+    return has_kind(name) and not ends & others and not others & known and bare.lower() not in known
 
 
 def is_used(name: bytes, parts: Sequence[Part]) -> bool:

@@ -7,7 +7,7 @@ from typing import Iterator, List, Optional
 
 from .logic import GREATEST, LEAST, read_number, tokens_of
 from .parts import Found, Part, words
-from .trees import Node, nodes_of
+from .trees import COMPARISONS, Node, nodes_of
 
 SIGNS = ("+", "-", "*", "/", "%", "^")
 
@@ -26,10 +26,20 @@ def lint_numbers(part: Part) -> Iterator[Found]:
         except Fault as why:
             seen |= {it.start for it in node.walk()}
             yield "range", node.start, f"{why}, so this test is a fault and never true"
+        if node.sign in COMPARISONS:
+            yield from lint_remainder(part, node)
         if node.sign == "*" or node.sign == "/":
             yield from lint_division(part, node)
         if node.sign == "@":
             yield from lint_reading(part, node)
+
+
+def lint_remainder(part: Part, node: Node) -> Iterator[Found]:
+    """A remainder that is compared with a number which it never is."""
+    for side, other in (node.parts, node.parts[::-1]):
+        if side.sign == "%" and len(side.parts) == 2 and side.parts[1].sign == other.sign == "number" and node.sign == "==":
+            if int(other.text) >= int(side.parts[1].text) > 0:
+                yield "never", node.start, f"a remainder of {words(side.parts[1].text)} is below it: this is never true"
 
 
 def signs_of(part: Part, node: Node) -> List[str]:
@@ -91,7 +101,8 @@ def lint_division(part: Part, node: Node) -> Iterator[Found]:
         if not same and (has_names(divisor) or percent or is_zero(part, node, at)):
             yield "division", node.start, "division cuts off, and what is lost isn't multiplied: multiply first"
             return
-    if inner and len(node.parts) > 1:
+    is_nothing = node.sign == "/" and node.bracketed and is_zero(part, node, len(node.parts) - 1)
+    if inner and len(node.parts) > 1 or is_nothing:
         yield "division", node.start, "division cuts off, and what is lost isn't multiplied: multiply first"
 
 

@@ -7,6 +7,7 @@ import re
 import stat
 from typing import Dict, Iterator, Sequence, Tuple
 
+from .licensing import is_list
 from .near import near_in
 from .parts import Part, normal, words
 from .texts import read_file
@@ -22,8 +23,8 @@ def lint_keys(name: str, parts: Sequence[Part]) -> Iterator[Told]:
     """What is surely not meant in a key file, by its lines and by who may read it."""
     mode = os.stat(name).st_mode
     known = {who for part in parts for number in (1, 5) for _, who in part.principals(number)}
-    if stat.S_ISREG(mode) and mode & stat.S_IRWXO:
-        yield "key-mode", f"{name}:1:1", f"others may read or write this file of secrets: chmod o= {name}"
+    if stat.S_ISREG(mode) and mode & (stat.S_IRWXO | stat.S_IWGRP):
+        yield "key-mode", f"{name}:1:1", f"others may read or write this file of secrets: chmod 600 {name}"
     seen: Dict[bytes, bytes] = {}
     for number, line in enumerate(read_file(name).split(b"\n"), 1):
         match = MAC.fullmatch(line) or SECRET.fullmatch(line)
@@ -50,6 +51,8 @@ def lint_principal(principal: bytes, known: "set[bytes]") -> Iterator[Tuple[str,
         yield "key-comment", f"no comment stands behind a principal: this one is {told!r}"
     elif principal != principal.strip() or single != principal and normal(single) in known:
         yield "key-spaces", f"each space counts, and this principal has one too many: {told!r}"
+    elif is_list(principal, known):
+        yield "key-list", f"one principal has a key by one line: this one is {told!r}"
     elif principal.upper() == b"POLICY":
         yield "key-policy", "who has this key may sign assertions by POLICY, and so grant anything"
     elif known and normal(principal) not in known:

@@ -30,13 +30,15 @@ def lint_licensees(part: Part, script: Script, parts: Sequence[Part]) -> Iterato
     if conditions and conditions.tokens and by and not (field and field.tokens):
         yield "licensees", (field or by).label.start, "the conditions grant nothing: Licensees is missing or empty"
     known = {who for it in parts for _, who in it.principals(1)}
+    everybody = known | {who for it in parts for _, who in it.principals(5)} | {who for _, who in script.requesters}
     for node in part.formula.walk() if part.formula else ():
         yield from lint_repeated(part, node)
         who = part.principal(node) if not node.parts else b""
+        at = part.constants[node.text].start if node.sign == "name" and node.text in part.constants else node.start
         if (b"*" in who or who.lower() in EVERYBODY) and who not in known and not script.asks(who):
-            yield "wildcard", node.start, f"\"{words(who)}\" is one principal's name: there are no wildcards"
-        elif who not in known and not script.asks(who) and is_list(who, parts, script):
-            yield "list", node.start, f"\"{words(who)}\" is one principal's name: put each into quotes of its own"
+            yield "wildcard", at, f"\"{words(who)}\" is one principal's name: there are no wildcards"
+        elif who not in known and not script.asks(who) and is_list(who, everybody):
+            yield "list", at, f"\"{words(who)}\" is one principal's name: put each into quotes of its own"
     if part.formula:
         yield from lint_said(part, part.formula)
         yield from lint_asked(part, part.formula, script)
@@ -45,10 +47,11 @@ def lint_licensees(part: Part, script: Script, parts: Sequence[Part]) -> Iterato
 def lint_spelling(part: Part, script: Script, parts: Sequence[Part]) -> Iterator[Found]:
     """Principals that are surely spelled wrong, or that are constants' names in quotes."""
     constants = {name: other for other in parts for name in other.constants}
-    authors = {who for it in parts for _, who in it.principals(1)}
+    known = {number: {who for it in parts for _, who in it.principals(6 - number)} for number in (1, 5)}
     for number in (1, 5):
         tokens = {it.start: it for field in part.fields if field.number == number for it in field.tokens}
-        for at, who in part.principals(number):
+        for start, who in part.principals(number):
+            at = part.constants.get(tokens[start].text, tokens[start]).start
             hexadecimal = HEX.fullmatch(who)
             if len(who) > 1 and who[:1] == who[-1:] == b'"':
                 yield "quotes", at, "this principal has quotes within"
@@ -56,16 +59,13 @@ def lint_spelling(part: Part, script: Script, parts: Sequence[Part]) -> Iterator
                 yield "spaces", at, f"each space counts, and this principal has one too many: {words(who)!r}"
             elif hexadecimal and re.search(rb"[^0-9a-f]", hexadecimal[1]):
                 yield "hex", at, f"{words(who)} isn't hexadecimal"
-            elif tokens[at].sort == "text" and who in constants and not script.asks(who) and who not in authors - by_of(part):
-                yield "quoted", at, f"this is the principal \"{words(who)}\", and not the constant of this name: write it without quotes"
-            elif number == 5 and who not in authors:
+            elif tokens[start].sort == "text" and who in constants and not script.asks(who) and who not in known[number]:
+                what = f"this is the principal \"{words(who)}\", and not the constant of this name: write it without quotes"
+                yield "quoted", at, what
+            elif number == 5 and who not in known[number]:
                 asked = unasked(who, script, parts)
                 if asked:
                     yield "asked", at, f"no requester is {words(who)}: is {words(asked)} meant, who requests and isn't licensed?"
-
-
-def by_of(part: Part) -> Set[bytes]:
-    return {who for _, who in part.principals(1)}
 
 
 def unasked(who: bytes, script: Script, parts: Sequence[Part]) -> Optional[bytes]:
@@ -77,19 +77,14 @@ def unasked(who: bytes, script: Script, parts: Sequence[Part]) -> Optional[bytes
     return next((it for it in sorted(strangers) if plain(it) == plain(who) or nearly(it, who)), None)
 
 
-def is_list(who: bytes, parts: Sequence[Part], script: Script) -> bool:
+def is_list(who: bytes, known: Set[bytes]) -> bool:
     """Whether a text is several principals: plain names with commas between, and no title or name with its parts."""
-    if TITLES.search(who):
-        return False
     names = [it for it in LISTED.split(who) if it]
-    if len(names) < 2:
+    if TITLES.search(who) or len(names) < 2:
         return False
-    if re.search(rb"\|\||&&", who):
-        return True
-    known = {it for part in parts for number in (1, 5) for _, it in part.principals(number)}
-    known |= {it for _, it in script.requesters}
     single = all(b" " not in it for it in names)
-    return bool(known & set(names)) or single and len(names) > 2 or single and who.lower() == who
+    is_joined = bool(re.search(rb"\|\||&&", who))
+    return is_joined or bool(known & set(names)) or single and (len(names) > 2 or who.lower() == who)
 
 
 def lint_repeated(part: Part, node: Node) -> Iterator[Found]:
@@ -134,7 +129,7 @@ def lint_said(part: Part, formula: Node) -> Iterator[Found]:
     if len(thresholds) == 1 and len(counts) == 1:
         wanted, members = min(counts)
         found = thresholds[0]
-        if members == len(found.parts) and wanted != found.threshold and wanted <= members:
+        if members == len(found.parts) and wanted != found.threshold and 1 < wanted <= members:
             what = f"the comment says {wanted} of {members}, and here {found.threshold} of {members} are asked for"
             yield "said", found.start, what
     are_leaves = all(not it.parts for it in formula.parts)

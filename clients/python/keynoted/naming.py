@@ -27,9 +27,9 @@ def take_values(own: Sequence[Part], parts: Sequence[Part], script: Script) -> N
     """Keeps the values that clauses name, and the order that a comment says where it has most of them."""
     for part in parts:
         values = (part.value(it.value) for top in part.clauses for it in top.walk() if it.value)
-        script.named |= {it for it in values if it is not None}
+        script.named.update(it for it in values if it is not None)
     told = orders_in(own[0].data) if own else []
-    script.told = [it for it in told if len(set(it) & script.named) * 2 > len(script.named)]
+    script.told = [it for it in told if len(set(it) & set(script.named)) * 2 >= len(script.named) > 0]
 
 
 def lint_constants(part: Part, script: Script, parts: Sequence[Part]) -> Iterator[Found]:
@@ -37,7 +37,7 @@ def lint_constants(part: Part, script: Script, parts: Sequence[Part]) -> Iterato
     tokens = [it for field in part.fields if field.number in (1, 3, 5) for it in field.tokens]
     used = {it.text for it in tokens if it.sort == "name"}
     quoted = {it.text[1:-1] for it in tokens if it.sort == "text"}
-    near = {near_in(it, part.constants) for it in used - set(part.constants)}
+    near = {near_in(it, set(part.constants) - used) for it in used - set(part.constants)}
     for token in (it for field in part.fields if field.number == 6 for it in field.tokens):
         if token.sort != "name" or token.text not in part.constants:
             continue
@@ -90,6 +90,16 @@ def lint_words(part: Part, script: Script, parts: Sequence[Part]) -> Iterator[Fo
         if what:
             yield "unset", node.start, what
     yield from lint_texts(part, script, parts)
+    yield from lint_quoted(part, script)
+
+
+def lint_quoted(part: Part, script: Script) -> Iterator[Found]:
+    """Constants' names in quotes in conditions."""
+    used = {it.text for field in part.fields if field.number in (1, 3, 5) for it in field.tokens if it.sort == "name"}
+    for name, text, side in compared_texts(part):
+        is_name = side.sign == "text" and text in part.constants and text not in script.settings.get(name, set())
+        if is_name and (text not in used or text.isupper() and part.value(side._replace(sign="name", text=text)) != text):
+            yield "quoted", side.start, f"this is the text {words(text)}, and not the constant of this name: write it without quotes"
 
 
 def meant_name(part: Part, name: bytes, script: Script, parts: Sequence[Part], counts: "Counter[bytes]") -> str:
@@ -99,7 +109,8 @@ def meant_name(part: Part, name: bytes, script: Script, parts: Sequence[Part], c
     if elsewhere and not any({name} == names for it in parts for names in tested(it)):
         at = elsewhere[0].place(0)
         return f"{told} is a constant of the assertion at {at} alone: here it is an attribute, which is empty"
-    near = near_in(name, [it for it in part.constants if it not in script.settings])
+    used = {it.text for field in part.fields if field.number in (1, 3, 5) for it in field.tokens}
+    near = near_in(name, [it for it in part.constants if it not in script.settings and it not in used])
     if near:
         return f"this is an attribute, and no constant: is {words(near)} meant?"
     given = {it for it in script.settings if nearly(it, name)} if script.orders else set()
@@ -152,9 +163,9 @@ def lint_values_behind(part: Part, script: Script) -> Iterator[Found]:
         if script.orders and all(value not in order for order in script.orders):
             yield "value", node.start, f"no query has the value {words(value)}, so this gives the lowest"
             continue
-        known = {it for order in script.scales for it in order} or script.named
-        near = near_in(value, known) if value not in {it for order in script.scales for it in order} else None
+        known = {it for order in script.scales for it in order}
+        near = near_in(value, known or {it for it in script.named if script.named[it] > script.named[value]})
         if value in SPECIAL[:2]:
             yield "value", node.start, f"this is a text: write {words(value)} without quotes"
-        elif near and not script.orders:
+        elif near and value not in known:
             yield "value", node.start, f"no other clause gives {words(value)}: is \"{words(near)}\" meant?"

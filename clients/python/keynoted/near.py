@@ -27,7 +27,13 @@ def slipped(one: bytes, other: bytes) -> bool:
         longer, shorter = (rest, others) if len(one) > len(other) else (others, rest)
         alike = longer[1:] == shorter and longer not in (b"s", b"d", b"r", b"n", b"e")
         signs = longer[:1]
-    return alike and signs.isalpha() and length_at(one, first) >= 5 and length_at(other, first) >= 4
+    return alike and signs.isalpha() and is_long(one, other, first)
+
+
+def is_long(one: bytes, other: bytes, at: int) -> bool:
+    """Whether the words have enough letters where they differ: four, if two are exchanged, and else five in one."""
+    lengths = sorted(length_at(it, at) for it in (one, other))
+    return lengths[0] > 3 and (lengths[1] > 4 or sorted(one) == sorted(other) and {one, other} != {b"form", b"from"})
 
 
 def length_at(word: bytes, at: int) -> int:

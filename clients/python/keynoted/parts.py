@@ -3,7 +3,7 @@
 from __future__ import annotations
 
 import re
-from typing import Dict, FrozenSet, Iterator, List, Optional, Set, Tuple
+from typing import Counter, Dict, FrozenSet, Iterator, List, Optional, Set, Tuple
 
 from .answers import NUMBER
 from .texts import Field, Token, constants_of, fields_of, place_of, read_file, split_file, value_of
@@ -66,7 +66,7 @@ class Script:
     def __init__(self) -> None:
         self.orders: List[List[bytes]] = []
         self.told: List[List[bytes]] = []  # an order of values in a comment
-        self.named: Set[bytes] = set()  # the values behind `->`
+        self.named: Counter[bytes] = Counter()  # the values behind `->`
         self.asking: List[FrozenSet[bytes]] = []  # the requesters of each query
         self.present: Dict[bytes, Set[bytes]] = {}  # of each session, as the script is read
         self.settings: Dict[bytes, Set[bytes]] = {}

@@ -58,7 +58,7 @@ def lint_remarks(part: Part) -> Iterator[Found]:
         following = [it.label.start for it in part.fields if it.label.start > field.label.start]
         end = min(following, default=len(part.text))
         texts = [it for it in field.tokens if it.sort == "text"]
-        for match in re.finditer(rb"#[ \t]*(?:&&|\|\||->)", part.text[field.label.end:end]):
+        for match in re.finditer(rb"#[ \t]*(?:&&|\|\||->)[^\n]*[;\"){}][ \t\r]*$", part.text[field.label.end:end], re.M):
             at = field.label.end + match.start()
             if not any(it.start < at < it.end for it in texts):
                 yield "remark", at, "# begins a comment here, and what stands behind it counts for nothing"
