@@ -4,10 +4,10 @@ than their neighbours."""
 from __future__ import annotations
 
 import re
-from typing import Dict, Iterator, List, Sequence, Set, Tuple
+from typing import Dict, Iterator, List, NamedTuple, Sequence, Set, Tuple
 
 from .clauses import gives_as_much, is_lowest
-from .licensing import enough_alone
+from .licensing import enough_alone, remark_of
 from .logic import Atom, Way, impossible, implies, truth_of, ways_of, ways_to_hold
 from .near import near_in
 from .parts import Found, Part, Script, words
@@ -19,6 +19,7 @@ PATHS = 64  # ways of trust to a principal that are looked at
 LABEL = re.compile(rb"(?i)(licensees|conditions):[ \t]*(\S.*)?")
 CODE = re.compile(rb"[=!<>]=|->|\"|&&|\|\||@[A-Za-z]|;\s*$")
 DOMAIN = b"app_domain"
+FIRST = re.compile(r"(?i)\bfirst[- ]match|\bfirst (?:rule|clause|line|test)\b[^.;]*\b(?:decides|wins|counts|applies|holds|matches|fits)\b")
 
 
 def lint_beside(own: Sequence[Part], parts: Sequence[Part], script: Script) -> Iterator[Placed]:
@@ -26,9 +27,10 @@ def lint_beside(own: Sequence[Part], parts: Sequence[Part], script: Script) -> I
     yield from lint_reach(parts)
     for part in own:
         yield from lint_narrowing(part, own, script)
-        yield from lint_chain(part, parts)
-        for rule, at, what in [*lint_labels(part), *lint_domain(part, script)]:
+        yield from lint_chain(part, parts, script)
+        for rule, at, what in [*lint_labels(part), *lint_domain(part, script), *lint_order(part, script)]:
             yield part, rule, at, what
+    yield from lint_domains(own)
 
 
 def by(part: Part) -> Set[bytes]:
@@ -88,35 +90,60 @@ def is_under(part: Part, way: Way, other: Part, over: Way, script: Script) -> bo
     return gives and implies(part, way.tests, other, over.tests)
 
 
-def lint_chain(part: Part, parts: Sequence[Part]) -> Iterator[Placed]:
-    """Clauses that hold only where their authorizer has no trust."""
-    if b"POLICY" in by(part):
-        return
+class Path(NamedTuple):
+    """A way of trust from POLICY to a principal: what has to hold, and the values by name that it goes through."""
+
+    atoms: List[Atom]
+    values: Tuple[bytes, ...]
+
+
+def lint_chain(part: Part, parts: Sequence[Part], script: Script) -> Iterator[Placed]:
+    """Clauses that hold only where their authorizer has no trust, and values above what it ever has there."""
     paths = [it for who in by(part) for it in trusted(who, parts, frozenset())]
-    if not paths or len(paths) > PATHS:
+    if b"POLICY" in by(part) or not paths or len(paths) > PATHS:
         return
+    who = words(min(by(part)))
     for way in ways_of(part.clauses):
         own = ways_to_hold(part, way.tests)
         if not own or all(impossible(it) for it in own):
             continue
-        if all(impossible([*it, *path]) for it in own for path in paths):
-            who = words(min(by(part)))
+        open_paths = [path for path in paths if not all(impossible([*it, *path.atoms]) for it in own)]
+        value = part.value(way.clause.value) if way.clause.value else None
+        if not open_paths:
             what = f"{who} is never trusted where this holds: what licenses {who} demands something else"
             yield part, "chain", way.clause.test.start, what
+        elif way.clause.value and value and all(is_below(path, value, script) for path in open_paths):
+            what = f"{who} never has {words(value)} here, and so hands on less"
+            yield part, "chain", way.clause.value.start, what
 
 
-def trusted(who: bytes, parts: Sequence[Part], seen: "frozenset[bytes]") -> List[List[Atom]]:
-    """What has to hold for a principal to have trust, in each way that trust comes from POLICY by."""
+def is_below(path: Path, value: bytes, script: Script) -> bool:
+    """Whether a way of trust gives less than this value, in all orders of values."""
+    orders = [it for it in script.scales if value in it]
+    return bool(orders) and all(any(it in order and order.index(it) < order.index(value) for it in path.values)
+                                for order in orders)
+
+
+def trusted(who: bytes, parts: Sequence[Part], seen: "frozenset[bytes]") -> List[Path]:
+    """The ways of trust to a principal; of those that are many, more than are looked at."""
     if who == b"POLICY":
-        return [[]]
-    found: List[List[Atom]] = []
+        return [Path([], ())]
+    found: List[Path] = []
     for part in parts:
         if who not in {it for _, it in part.principals(5)} or by(part) & seen or len(found) > PATHS:
             continue
-        ways = [ways_to_hold(part, it.tests) for it in ways_of(part.clauses)] if part.clauses else [[[]]]
-        above = [it for one in by(part) for it in trusted(one, parts, seen | {who})]
-        for path in above[:PATHS + 1]:
-            found += [[*path, *it] for way in ways for it in (way if way is not None else [[]])]
+        above = [it for one in by(part) for it in trusted(one, parts, seen | {who})][:PATHS + 1]
+        found += [Path([*path.atoms, *it.atoms], path.values + it.values) for path in above for it in steps(part)]
+    return found
+
+
+def steps(part: Part) -> List[Path]:
+    """What one assertion demands of those whom it licenses, and what it gives them, in each way."""
+    found = [] if part.clauses else [Path([], ())]
+    for way in ways_of(part.clauses):
+        value = part.value(way.clause.value) if way.clause.value else None
+        holds = ways_to_hold(part, way.tests)
+        found += [Path(it, (value,) if value is not None else ()) for it in (holds if holds is not None else [[]])]
     return found
 
 
@@ -150,6 +177,33 @@ def lint_domain(part: Part, script: Script) -> Iterator[Found]:
         else:
             what = f"this clause holds in each app_domain, unlike that at {part.spot(asking[0].test.start)}"
             yield "domain", clause.test.start, what
+
+
+def lint_domains(own: Sequence[Part]) -> Iterator[Placed]:
+    """The one assertion by POLICY that asks for no app_domain, where the conditions of all others do."""
+    parts = [it for it in own if b"POLICY" in by(it) and it.clauses]
+    lacking = [it for it in parts if not any(names_domain(one.test) or one.program for one in it.clauses)]
+    asking = [it for it in parts if all(names_domain(one.test) for one in it.clauses)]
+    authors = {who for part in own for who in by(part)}
+    for part in lacking if len(lacking) == 1 and len(asking) > 1 and len(asking) + 1 == len(parts) else ():
+        is_end = not authors & {who for _, who in part.principals(5)}
+        names = {it.text for one in part.clauses for it in one.test.walk() if it.sign == "name"}
+        if is_end and names and DOMAIN not in part.constants:
+            what = f"this holds in each app_domain, unlike the other assertions by POLICY, as that at {asking[0].place(0)}"
+            yield part, "domain", part.clauses[0].test.start, what
+
+
+def lint_order(part: Part, script: Script) -> Iterator[Found]:
+    """Clauses of which a comment says that the first one decides."""
+    if not FIRST.search(remark_of(part)) or len(part.clauses) + sum(len(it.program or ()) for it in part.clauses) < 2:
+        return
+    for clauses in [part.clauses, *(it.program for top in part.clauses for it in top.walk() if it.program)]:
+        for at, clause in enumerate(clauses):
+            over = any(gives_as_much(part, it, part, clause, script) for it in clauses[at + 1:])
+            if clause.value and over and not is_lowest(part, clause.value, script):
+                what = "clauses have no order: the highest value of those that are true is given, and not that of the first"
+                yield "order", clause.test.start, what
+                return
 
 
 def names_domain(test: Node) -> bool:

@@ -113,7 +113,7 @@ def meant_name(part: Part, name: bytes, script: Script, parts: Sequence[Part], c
     near = near_in(name, [it for it in part.constants if it not in script.settings and it not in used])
     if near:
         return f"this is an attribute, and no constant: is {words(near)} meant?"
-    given = {it for it in script.settings if nearly(it, name)} if script.orders else set()
+    given = {it for it in script.settings if nearly(it, name) or it.lower() == name.lower()} if script.orders else set()
     if given:
         return f"no request sets {told}: is {words(min(given))} meant?"
     rare = [it for it in counts if nearly(it, name) and counts[it] > counts[name] and not it.startswith(b"_")]

@@ -16,6 +16,11 @@ from .trees import COMPARISONS, Node, nodes_of
 
 # how a folder, an account or a host of Windows begins, before what the language takes for an escape
 FOLDER = re.compile(rb'"(?:[A-Za-z]:|[A-Z][A-Z0-9_.-]+|\\\\[^\\"]+)(?=\\[nrtf][a-z])')
+# letters that aren't seen, quotes of print, and Greek or Cyrillic letters in a word of Latin ones
+UNSEEN = re.compile(
+    "[\u00a0\u00ad\u200b-\u200f\u202a-\u202e\u2060\ufeff\u201c-\u201f]|[A-Za-z][\u0370-\u052f]"
+    "|(?<=[\u0370-\u052f])[\u0370-\u052f](?=[A-Za-z])|^\"[\u0370-\u052f](?=[A-Za-z])"
+)
 
 
 def lint_part(part: Part, script: Script, parts: Sequence[Part]) -> Iterator[Found]:
@@ -34,6 +39,7 @@ def lint_part(part: Part, script: Script, parts: Sequence[Part]) -> Iterator[Fou
     for node in [*nodes_of(part.clauses), *(part.formula.walk() if part.formula else ())]:
         yield from lint_brackets(node)
     yield from lint_escapes(part)
+    yield from lint_letters(part)
 
 
 def lint_brackets(node: Node) -> Iterator[Found]:
@@ -62,6 +68,15 @@ def lint_remarks(part: Part) -> Iterator[Found]:
             at = field.label.end + match.start()
             if not any(it.start < at < it.end for it in texts):
                 yield "remark", at, "# begins a comment here, and what stands behind it counts for nothing"
+
+
+def lint_letters(part: Part) -> Iterator[Found]:
+    """Letters that aren't seen, or that look like others."""
+    for field in part.fields:
+        for token in field.tokens if field.number in (1, 3, 5, 6) else ():
+            found = UNSEEN.search(token.text.decode("utf-8", "replace")) if token.sort == "text" else None
+            if found:
+                yield "letters", token.start, f"this text has the letter {found[0][-1]!a}, which looks like another or isn't seen"
 
 
 def lint_escapes(part: Part) -> Iterator[Found]:
