@@ -13,13 +13,13 @@ from .near import near_in
 from .parts import Found, Part, Script, words
 from .texts import value_of
 from .trees import Clause, Node
+from .vocabulary import FIRST
 
 Placed = Tuple[Part, str, int, str]  # the assertion, the rule's word, the place in it, and what is wrong
 PATHS = 64  # ways of trust to a principal that are looked at
 LABEL = re.compile(rb"(?i)(licensees|conditions):[ \t]*(\S.*)?")
 CODE = re.compile(rb"[=!<>]=|->|\"|&&|\|\||@[A-Za-z]|;\s*$")
 DOMAIN = b"app_domain"
-FIRST = re.compile(r"(?i)\bfirst[- ]match|\bfirst (?:rule|clause|line|test)\b[^.;]*\b(?:decides|wins|counts|applies|holds|matches|fits)\b")
 
 
 def lint_beside(own: Sequence[Part], parts: Sequence[Part], script: Script) -> Iterator[Placed]:
@@ -51,7 +51,8 @@ def lint_reach(parts: Sequence[Part]) -> Iterator[Placed]:
             near = near_in(who, licensed | {b"POLICY"}) if who not in licensed and who != b"POLICY" else None
             more = f": is {words(near)} meant?" if near else ""
             if any(it == b"POLICY" for _, it in part.principals(5)):
-                yield part, "reach", at, "POLICY is licensed here, and licenses nobody: Authorizer and Licensees are exchanged"
+                what = "POLICY is licensed here, and licenses nobody: Authorizer and Licensees are exchanged"
+                yield part, "reach", at, what
             elif who not in reached:
                 why = "isn't reached from POLICY" if who in licensed else "is licensed by nobody"
                 yield part, "reach", at, f"{words(who)} {why}, so this assertion grants nothing{more}"
@@ -67,7 +68,7 @@ def lint_narrowing(part: Part, own: Sequence[Part], script: Script) -> Iterator[
         if covers(part, other, script) and own.index(other) > own.index(part):
             continue
         at = part.clauses[0].test.start if part.clauses else 0
-        what = f"this assertion adds nothing, and takes nothing away: that at {other.place(0)} gives as much to the same"
+        what = f"this assertion adds nothing, and takes nothing away: {other.place(0)} gives as much to the same"
         if contents(part) != contents(other):
             yield part, "narrow", at, what
         return
@@ -189,7 +190,7 @@ def lint_domains(own: Sequence[Part]) -> Iterator[Placed]:
         is_end = not authors & {who for _, who in part.principals(5)}
         names = {it.text for one in part.clauses for it in one.test.walk() if it.sign == "name"}
         if is_end and names and DOMAIN not in part.constants:
-            what = f"this holds in each app_domain, unlike the other assertions by POLICY, as that at {asking[0].place(0)}"
+            what = f"this holds in each app_domain, unlike all other assertions by POLICY, as {asking[0].place(0)}"
             yield part, "domain", part.clauses[0].test.start, what
 
 
@@ -201,7 +202,7 @@ def lint_order(part: Part, script: Script) -> Iterator[Found]:
         for at, clause in enumerate(clauses):
             over = any(gives_as_much(part, it, part, clause, script) for it in clauses[at + 1:])
             if clause.value and over and not is_lowest(part, clause.value, script):
-                what = "clauses have no order: the highest value of those that are true is given, and not that of the first"
+                what = "clauses have no order: the highest value of those that are true is given, not the first"
                 yield "order", clause.test.start, what
                 return
 

@@ -8,6 +8,7 @@ from typing import Iterator, Optional, Sequence, Tuple
 from .logic import always_true, implies, is_steady, never_true, tokens_of, truth_of
 from .parts import SPECIAL, Found, Part, Script, words
 from .trees import COMPARISONS, Clause, Node
+from .vocabulary import OWNERS
 
 NO = {"no", "false", "deny", "denied", "refuse", "refused", "reject", "rejected", "forbid", "none", "closed", "drop"}
 LOWEST = NO | {
@@ -20,10 +21,10 @@ SCALES = [it.split() for it in (
     b"none list read append write admin", b"none view read edit write full", b"none low medium high",
     b"none guest user operator admin", b"none read comment write own",
 )]
-OWNERS = {b"owner", b"admin", b"administrator", b"root", b"superuser", b"chief", b"manager", b"master", b"operator"}
 
 
-def lint_program(part: Part, clauses: Sequence[Clause], script: Script, before: Tuple[Node, ...] = ()) -> Iterator[Found]:
+def lint_program(part: Part, clauses: Sequence[Clause], script: Script,
+                 before: Tuple[Node, ...] = ()) -> Iterator[Found]:
     for at, clause in enumerate(clauses):
         found = never_decides(part, clause, clauses, script, before)
         if found:
@@ -117,7 +118,8 @@ def gives_as_much(part: Part, one: Clause, at: Part, other: Clause, script: Scri
         return True
     if first is None or second is None or second == b"_MAX_TRUST" or first == b"_MIN_TRUST":
         return False
-    orders = script.scales or [it for it in SCALES if first in it and second in it]
+    named = [[it for it in orders if first in it and second in it] for orders in (script.told, SCALES)]
+    orders = script.orders or named[0] or named[1]
     indices = [[order.index(it) if it in order else 0 for it in (first, second)] for order in orders]
     return first == second or bool(indices) and all(left >= right for left, right in indices)
 

@@ -3,56 +3,15 @@
 from __future__ import annotations
 
 import re
-from typing import Iterator, List, Optional, Sequence, Set
+from typing import Iterator, Optional, Sequence, Set
 
 from .parts import Found, Part, Script, words
 from .trees import COMPARISONS, Node, nodes_of
+from .vocabulary import ADDRESS, ALGORITHM, COUNTED, DATE, DATED, HOLDERS, HOLDING, HOSTS, HOUR, KINDS, LIST, MEASURE
+from .vocabulary import NETS, NETWORK, NULLS, NUMERIC, PADDED, PATTERN, RANGE, RANKS, SPAN, VERSION
 
 ORDERINGS = ("<", ">", "<=", ">=")
 GREATEST = 2147483647
-DATED = re.compile(rb"[0-9]{1,2}[./][0-9]{1,2}[./](?:[0-9]{2}){1,2}|[0-9]{4}-(?:[0-9]-[0-9]{1,2}|[0-9]{2}-[0-9])")
-VERSION = re.compile(rb"v?[0-9]+(?:\.[0-9]+){2,}")
-MEASURE = re.compile(rb"([0-9]+) ?(?:[kKMGT]i?B?|B|%|EUR|USD|CHF|ms|s|min|h|d|bits?|bytes)")
-PATTERN = re.compile(
-    rb"^\^|[])*+]\$$|\[(?:[a-zA-Z]-[a-zA-Z]|[0-9]-[0-9]|\^)[^]]*\]|\.\+$|\\[dws][+{]|^%[^ ]+|[^ 0-9]%$|\{[0-9]+,[0-9]*\}"
-)
-NETWORK = re.compile(rb"(?:[0-9]{1,3}\.){3}[0-9]{1,3}/[0-9]{1,3}(?:\.[0-9.]+)?|[0-9a-fA-F:]*::?[0-9a-fA-F:]*/[0-9]{1,3}")
-RANGE = re.compile(rb"(?:[0-9]{1,3}\.){3}[0-9]{1,3} ?- ?(?:[0-9]{1,3}\.){0,3}[0-9]{1,3}|(?:[0-9]{1,3}\.){1,3}(?:[xX](?:\.[xX])*)?")
-SPAN = re.compile(rb"[0-9]+ ?(?:-|\.\.|to) ?[0-9]+")
-LIST = re.compile(rb"[A-Za-z0-9_-]+(?: ?[,|;] ?[A-Za-z0-9_-]+)+|[A-Za-z0-9_/.-]+(?: ?\|\|? ?[A-Za-z0-9_/.-]+)+")
-NETS = re.compile(rb"net|filter|range|cidr|prefix|route|mask|zone|block|pool|scope", re.I)
-HOSTS = re.compile(rb"(?:^|_)(?:ip|addr|address|host|peer|client|src|source|remote|from|dst|dest|destination|sender|origin)(?:$|_|ip|addr)", re.I)
-COUNTED = re.compile(rb"(?:^|_)(?:port|hour|day|week|month|minute|age|level|amount|size|number|count|year)s?$", re.I)
-# attributes whose values are words of a short list, those that hold another's name, and names for what is wanted
-KINDS = {
-    b"action", b"verb", b"method", b"operation", b"op", b"command", b"role", b"group", b"department", b"team", b"state", b"dept", b"division",
-    b"status", b"protocol", b"proto", b"colour", b"color", b"app_domain", b"class", b"type", b"kind", b"mode", b"stage",
-    b"environment", b"env", b"branch", b"region", b"country", b"zone", b"currency", b"unit", b"room", b"door", b"gate",
-    b"day", b"weekday", b"service", b"share", b"database", b"direction", b"cipher", b"section", b"ward", b"format",
-    b"app", b"access", b"permission", b"function", b"position", b"rank", b"shift", b"channel",
-    b"user_group", b"job", b"task", b"queue", b"site", b"building", b"priority", b"severity", b"language", b"encoding",
-    b"classification", b"sensitivity", b"category", b"right", b"privilege", b"request", b"event", b"product", b"table",
-}
-HOLDERS = {b"user", b"owner", b"author", b"requester", b"requestor", b"creator", b"reviewer", b"approver", b"subject",
-           b"principal", b"account", b"customer", b"client", b"sender", b"recipient", b"manager", b"name", b"username"}
-HOLDING = {
-    b"wanted", b"needed", b"required", b"requested", b"allowed", b"expected", b"assigned", b"permitted", b"booked",
-    b"home", b"own", b"base", b"default", b"current", b"target", b"origin", b"source", b"other", b"same", b"last", b"first",
-    b"my", b"new", b"old", b"previous", b"given", b"local", b"remote", b"day", b"today", b"hour", b"date", b"from", b"to",
-}
-RANKS = {
-    b"low", b"medium", b"high", b"critical", b"public", b"internal", b"confidential", b"secret", b"top secret",
-    b"guest", b"user", b"admin", b"junior", b"senior", b"monday", b"tuesday", b"wednesday", b"thursday", b"friday",
-    b"saturday", b"sunday", b"january", b"february", b"march", b"april", b"june", b"july", b"august", b"september",
-    b"october", b"november", b"december",
-}
-NULLS = {b"null", b"nil", b"none", b"undefined", b"nothing", b"empty", b"unset"}
-ALGORITHM = re.compile(rb"alg|enc|auth|cipher|hash|comp|prf|mode", re.I)
-NUMERIC = re.compile(rb"-?[0-9]+(?:\.[0-9]+)?")
-HOUR = re.compile(rb"[0-9](?::[0-9]{2}){1,2}")
-ADDRESS = re.compile(rb"(?:[0-9]{1,3}\.){3}[0-9]{1,3}")
-PADDED = re.compile(rb"(?:[0-9]{3}\.){3}[0-9]{3}|0[0-9]+")
-DATE = re.compile(rb"(?:19|20|21)[0-9]{2}(?:0[1-9]|1[0-2])(?:0[1-9]|[12][0-9]|3[01])(?:[0-9]{4}|[0-9]{6})?")
 
 
 def lint_comparisons(part: Part, script: Script) -> Iterator[Found]:
@@ -146,21 +105,21 @@ def lint_pattern(part: Part, side: Node, script: Script) -> Optional[Found]:
 
 
 def lint_text(part: Part, side: Node, other: Node, script: Script) -> Optional[Found]:
-    """Texts of equality that no single value of an attribute is: networks, ranges, lists, and spaces at an end."""
+    """Texts that no single value of an attribute is equal to: networks, ranges, lists, and spaces at an end."""
     value, name = part.value(side), attribute_of(part, other)
     if value is None or not name or value in script.settings.get(name, ()):
         return None
-    told = words(value)
-    given = [it for it in script.settings.get(name, ()) if ADDRESS.fullmatch(it)]
-    hosts = HOSTS.search(name) and not NETS.search(name)
-    if NETWORK.fullmatch(value) and (hosts or given) or RANGE.fullmatch(value) and b"." in value and (hosts or given):
-        return "network", place_in(part, side), f"\"{told}\" is a text, which no single address is equal to: compare bounds with three digits each"
-    if SPAN.fullmatch(value) and (COUNTED.search(name) or any(NUMERIC.fullmatch(it) for it in script.settings.get(name, ()))):
-        return "list", place_in(part, side), f"\"{told}\" is a text, and no range: compare @{words(name)} with both ends"
-    if LIST.fullmatch(value) and (is_kind(name, value) or is_listed(value, script.settings.get(name, set()))):
-        return "list", place_in(part, side), f"\"{told}\" is one text: compare with each, and join the comparisons by ||"
+    told, at, given = words(value), place_in(part, side), script.settings.get(name, set())
+    hosts = HOSTS.search(name) and not NETS.search(name) or any(ADDRESS.fullmatch(it) for it in given)
+    if hosts and (NETWORK.fullmatch(value) or RANGE.fullmatch(value)):
+        what = f"\"{told}\" is a text, which no single address is equal to: compare bounds with three digits each"
+        return "network", at, what
+    if SPAN.fullmatch(value) and (COUNTED.search(name) or any(NUMERIC.fullmatch(it) for it in given)):
+        return "list", at, f"\"{told}\" is a text, and no range: compare @{words(name)} with both ends"
+    if LIST.fullmatch(value) and (is_kind(name, value) or is_listed(value, given)):
+        return "list", at, f"\"{told}\" is one text: compare with each, and join the comparisons by ||"
     if value != value.strip() and value.strip() and b"\n" not in value:
-        return "spaces", place_in(part, side), f"each space counts, and this text has one at an end: {told!r}"
+        return "spaces", at, f"each space counts, and this text has one at an end: {told!r}"
     return None
 
 
@@ -233,16 +192,22 @@ def lint_joined(part: Part, script: Script) -> Iterator[Found]:
     for node in (it for it in nodes_of(part.clauses) if it.sign in COMPARISONS):
         for side, other in (node.parts, node.parts[::-1]):
             text, source = part.value(other), part.text[side.start:side.end]
-            is_path = side.sign == "." and not side.bracketed and re.fullmatch(rb"[A-Za-z]\w*(?:\.[A-Za-z]\w*)+", source)
+            is_path = side.sign == "." and re.fullmatch(rb"[A-Za-z]\w*(?:\.[A-Za-z]\w*)+", source)
             if is_path and text and not text.isdigit() and not is_joined(part, side, text, script):
-                what = f"the dot joins the texts of {', '.join(words(it.text) for it in side.parts)}: it reaches no field"
-                yield "dot", side.start, what
-            name = attribute_of(part, side.parts[0]) if side.sign == "$" else b""
-            given = script.settings.get(name, set())
-            is_value = bool(given) and not any(it in script.settings or it in part.constants for it in given)
-            if name and other.sign != "$" and (is_value or not given and name.lower() in KINDS | HOLDERS - {b"name"}):
-                what = f"$ gives the attribute that the text of {words(name)} names: write {words(name)} for its own text"
+                names = ", ".join(words(it.text) for it in side.parts)
+                yield "dot", side.start, f"the dot joins the texts of {names}: it reaches no field"
+            name = words(attribute_of(part, side.parts[0])) if side.sign == "$" else ""
+            if name and other.sign != "$" and is_variable(part, name.encode(), script):
+                what = f"$ gives the attribute that the text of {name} names: write {name} for its own text"
                 yield "dollar", side.start, what
+
+
+def is_variable(part: Part, name: bytes, script: Script) -> bool:
+    """Whether the text of an attribute surely is no attribute's name."""
+    given = script.settings.get(name, set())
+    if given:
+        return not any(it in script.settings or it in part.constants for it in given)
+    return name.lower() in KINDS | HOLDERS - {b"name"}
 
 
 def is_joined(part: Part, node: Node, text: bytes, script: Script) -> bool:

@@ -1,4 +1,4 @@
-"""The rules of `lint` on numbers: sums out of range, divisions that cut off too early, and texts that are no numbers."""
+"""The rules of `lint` on numbers: those out of range, divisions that cut off too early, texts that are no numbers."""
 
 from __future__ import annotations
 
@@ -37,8 +37,8 @@ def lint_numbers(part: Part) -> Iterator[Found]:
 def lint_remainder(part: Part, node: Node) -> Iterator[Found]:
     """A remainder that is compared with a number which it never is."""
     for side, other in (node.parts, node.parts[::-1]):
-        if side.sign == "%" and len(side.parts) == 2 and side.parts[1].sign == other.sign == "number" and node.sign == "==":
-            if int(other.text) >= int(side.parts[1].text) > 0:
+        if node.sign == "==" and side.sign == "%" and len(side.parts) == 2 and other.sign == "number":
+            if side.parts[1].sign == "number" and int(other.text) >= int(side.parts[1].text) > 0:
                 yield "never", node.start, f"a remainder of {words(side.parts[1].text)} is below it: this is never true"
 
 

@@ -38,7 +38,7 @@ def lint_keys(name: str, parts: Sequence[Part]) -> Iterator[Told]:
         if seen.setdefault(digits, who) != who:
             yield "key-same", place, "these digits stand before, for somebody else: each needs digits of its own"
         if len(digits) < SHORT or len(set(digits)) < 3:
-            yield "key-short", place, "these digits can be guessed: take 32 that are drawn by chance (openssl rand -hex 16)"
+            yield "key-short", place, "these digits can be guessed: take 32 by chance (openssl rand -hex 16)"
 
 
 def lint_principal(principal: bytes, known: "set[bytes]") -> Iterator[Tuple[str, str]]:

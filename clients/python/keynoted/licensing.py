@@ -1,24 +1,16 @@
-"""The rules of `lint` on who is licensed: principals that stand twice, lists in one pair of quotes, wildcards, constants'
-names in quotes, and groups of which the comment or the script says something else."""
+"""The rules of `lint` on who is licensed: principals that stand twice, lists in one pair of quotes, wildcards,
+constants' names in quotes, and groups of which the comment or the script says something else."""
 
 from __future__ import annotations
 
 import re
-from typing import FrozenSet, Iterator, Optional, Sequence, Set
+from typing import FrozenSet, Iterator, Sequence, Set
 
 from .near import nearly, plain
 from .parts import Found, Part, Script, words
 from .trees import Node
+from .vocabulary import ALONE, EVERYBODY, NOT, NUMBERS, OF, TOGETHER
 
-EVERYBODY = {b"any", b"anyone", b"anybody", b"everyone", b"everybody", b"all"}
-NUMBERS = {"one": 1, "two": 2, "three": 3, "four": 4, "five": 5, "six": 6, "seven": 7, "eight": 8, "nine": 9}
-COUNT = r"(one|two|three|four|five|six|seven|eight|nine|[1-9])"
-OF = re.compile(rf"(?i)\b{COUNT} (?:people |members )?(?:out )?of (?:the |these |them |our |all )?{COUNT}\b")
-ALONE = re.compile(r"(?i)\b(?:each|either|any|every one|both)\b[^.;]*\b(?:alone|on (?:his|her|its|their) own|by (?:him|her|it)self)\b"
-                   r"|\beither of (?:them|the two)\b|\b(?:one|either) of (?:them|the two) is enough\b|\beach is enough\b")
-TOGETHER = re.compile(r"(?i)\b(?:only|must|have to|has to|may only|need to) (?:both )?\w* ?(?:together|jointly)\b"
-                      r"|\bfour[- ]eyes\b|\b(?:both must|both have to|both are needed|two[- ](?:person|man) rule)\b")
-NOT = re.compile(r"(?i)\b(?:not|no|nobody|none|neither|never|without|isn't|aren't|can't|unless)\b")
 TITLES = re.compile(rb"[=:\"\\]")
 LISTED = re.compile(rb"[ ]*(?:,|;|\|\|?|&&)[ ]*")
 HEX = re.compile(rb"[a-z0-9-]*-hex:(.*)")
@@ -59,22 +51,22 @@ def lint_spelling(part: Part, script: Script, parts: Sequence[Part]) -> Iterator
                 yield "spaces", at, f"each space counts, and this principal has one too many: {words(who)!r}"
             elif hexadecimal and re.search(rb"[^0-9a-f]", hexadecimal[1]):
                 yield "hex", at, f"{words(who)} isn't hexadecimal"
-            elif tokens[start].sort == "text" and who in constants and not script.asks(who) and who not in known[number]:
-                what = f"this is the principal \"{words(who)}\", and not the constant of this name: write it without quotes"
+            elif who in known[number] or script.asks(who):
+                continue
+            elif tokens[start].sort == "text" and who in constants:
+                what = f"\"{words(who)}\" is a principal, and not the constant of this name: write it without quotes"
                 yield "quoted", at, what
-            elif number == 5 and who not in known[number]:
+            elif number == 5:
                 asked = unasked(who, script, parts)
-                if asked:
-                    yield "asked", at, f"no requester is {words(who)}: is {words(asked)} meant, who requests and isn't licensed?"
+                what = f"no requester is {words(who)}: is {words(asked)} meant, who requests and isn't licensed?"
+                yield from [("asked", at, what)] if asked else ()
 
 
-def unasked(who: bytes, script: Script, parts: Sequence[Part]) -> Optional[bytes]:
+def unasked(who: bytes, script: Script, parts: Sequence[Part]) -> bytes:
     """A requester whom nobody licenses and whose name is nearly that of a licensee who never requests."""
     licensed = {it for part in parts for _, it in part.principals(5)}
     strangers = {it for _, it in script.requesters if it not in licensed}
-    if script.asks(who):
-        return None
-    return next((it for it in sorted(strangers) if plain(it) == plain(who) or nearly(it, who)), None)
+    return next((it for it in sorted(strangers) if plain(it) == plain(who) or nearly(it, who)), b"")
 
 
 def is_list(who: bytes, known: Set[bytes]) -> bool:
@@ -132,11 +124,14 @@ def lint_said(part: Part, formula: Node) -> Iterator[Found]:
         if members == len(found.parts) and wanted != found.threshold and 1 < wanted <= members:
             what = f"the comment says {wanted} of {members}, and here {found.threshold} of {members} are asked for"
             yield "said", found.start, what
-    are_leaves = all(not it.parts for it in formula.parts)
-    if formula.sign == "&&" and are_leaves and ALONE.search(said) and not NOT.search(said):
-        yield "said", formula.start, "&& asks that all request together, and the comment says that one is enough: write ||"
-    if formula.sign == "||" and are_leaves and len(formula.parts) == 2 and TOGETHER.search(said) and not NOT.search(said):
-        yield "said", formula.start, "|| lets one request alone, and the comment says that they have to together: write &&"
+    if NOT.search(said) or any(it.parts for it in formula.parts):
+        return
+    if formula.sign == "&&" and ALONE.search(said):
+        what = "&& asks that all request together, and the comment says that one is enough: write ||"
+        yield "said", formula.start, what
+    if formula.sign == "||" and len(formula.parts) == 2 and TOGETHER.search(said):
+        what = "|| lets one request alone, and the comment says that they have to together: write &&"
+        yield "said", formula.start, what
 
 
 def lint_asked(part: Part, formula: Node, script: Script) -> Iterator[Found]:

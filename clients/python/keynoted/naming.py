@@ -5,21 +5,22 @@ from __future__ import annotations
 
 import re
 from collections import Counter
-from typing import Dict, Iterator, List, Sequence, Set, Tuple
+from typing import Iterator, List, Sequence, Set, Tuple
 
-from .comparing import NULLS, attribute_of
+from .comparing import attribute_of
 from .near import near_in, nearly
 from .parts import SPECIAL, Found, Part, Script, words
 from .trees import COMPARISONS, Node, nodes_of
+from .vocabulary import NULLS
 
-ORDER = re.compile(r"(?i)\bvalues?\b[^:\n]{0,40}:\s*([\w-]+(?:\s*(?:,|<)\s*[\w-]+)+)")
+ORDER = re.compile(r"(?i)\bvalues?\b[^:\n]{0,40}:\s*([\w-]+(?:(?:\s*[,<]\s*(?:and )?|\s+and\s+)[\w-]+)+)")
 
 
 def orders_in(data: bytes) -> List[List[bytes]]:
     """The orders of values that the comments of a file say, as `Values, the lowest first: none, read, write`."""
     remarks = words(re.sub(rb"\n#[ \t]*", b" ", data[:65536])).split("\n")
     lines = [it for it in remarks if it.lstrip().startswith("#") or it.lower().startswith("comment:")]
-    found = [re.split(r"\s*[,<]\s*", match[1]) for line in lines for match in ORDER.finditer(line)]
+    found = [re.split(r"\s*[,<]\s*(?:and )?|\s+and\s+", match[1]) for line in lines for match in ORDER.finditer(line)]
     return [[it.encode() for it in order] for order in found if len(set(order)) == len(order)]
 
 
@@ -98,8 +99,9 @@ def lint_quoted(part: Part, script: Script) -> Iterator[Found]:
     used = {it.text for field in part.fields if field.number in (1, 3, 5) for it in field.tokens if it.sort == "name"}
     for name, text, side in compared_texts(part):
         is_name = side.sign == "text" and text in part.constants and text not in script.settings.get(name, set())
-        if is_name and (text not in used or text.isupper() and part.value(side._replace(sign="name", text=text)) != text):
-            yield "quoted", side.start, f"this is the text {words(text)}, and not the constant of this name: write it without quotes"
+        if is_name and (text not in used or text.isupper()):
+            what = f"this is the text {words(text)}, and not the constant of this name: write it without quotes"
+            yield "quoted", side.start, what
 
 
 def meant_name(part: Part, name: bytes, script: Script, parts: Sequence[Part], counts: "Counter[bytes]") -> str:
@@ -122,7 +124,7 @@ def meant_name(part: Part, name: bytes, script: Script, parts: Sequence[Part], c
 
 def lint_texts(part: Part, script: Script, parts: Sequence[Part]) -> Iterator[Found]:
     """Texts that one attribute is compared with, and that are nearly what other comparisons or requests have."""
-    counts: Dict[Tuple[bytes, bytes], int] = Counter((name, text) for one in parts for name, text, _ in compared_texts(one))
+    counts = Counter((name, text) for one in parts for name, text, _ in compared_texts(one))
     for name, text, side in compared_texts(part):
         given = script.settings.get(name, set())
         if text in given or not text:

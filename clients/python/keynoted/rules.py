@@ -21,6 +21,7 @@ UNSEEN = re.compile(
     "[\u00a0\u00ad\u200b-\u200f\u202a-\u202e\u2060\ufeff\u201c-\u201f]|[A-Za-z][\u0370-\u052f]"
     "|(?<=[\u0370-\u052f])[\u0370-\u052f](?=[A-Za-z])|^\"[\u0370-\u052f](?=[A-Za-z])"
 )
+CUT_OFF = re.compile(rb"#[ \t]*(?:&&|\|\||->)[^\n]*[;\"){}][ \t\r]*$", re.M)
 
 
 def lint_part(part: Part, script: Script, parts: Sequence[Part]) -> Iterator[Found]:
@@ -64,7 +65,7 @@ def lint_remarks(part: Part) -> Iterator[Found]:
         following = [it.label.start for it in part.fields if it.label.start > field.label.start]
         end = min(following, default=len(part.text))
         texts = [it for it in field.tokens if it.sort == "text"]
-        for match in re.finditer(rb"#[ \t]*(?:&&|\|\||->)[^\n]*[;\"){}][ \t\r]*$", part.text[field.label.end:end], re.M):
+        for match in CUT_OFF.finditer(part.text[field.label.end:end]):
             at = field.label.end + match.start()
             if not any(it.start < at < it.end for it in texts):
                 yield "remark", at, "# begins a comment here, and what stands behind it counts for nothing"
@@ -76,7 +77,8 @@ def lint_letters(part: Part) -> Iterator[Found]:
         for token in field.tokens if field.number in (1, 3, 5, 6) else ():
             found = UNSEEN.search(token.text.decode("utf-8", "replace")) if token.sort == "text" else None
             if found:
-                yield "letters", token.start, f"this text has the letter {found[0][-1]!a}, which looks like another or isn't seen"
+                what = f"this text has the letter {found[0][-1]!a}, which looks like another or isn't seen"
+                yield "letters", token.start, what
 
 
 def lint_escapes(part: Part) -> Iterator[Found]:

@@ -9,15 +9,15 @@ import subprocess
 import tempfile
 from typing import Iterator, List, Optional, Sequence, Tuple
 
-from .comparing import NULLS, attribute_of
+from .comparing import attribute_of
 from .parts import Part, Script, words
 from .texts import read_file
 from .trees import COMPARISONS, Node, nodes_of
+from .vocabulary import COUNTER, NULLS
 
 MOST = 12  # comparisons that are tried
 TIME = 10.0  # seconds for one run
 YES = {b"yes", b"true", b"1", b"on", b"y"}
-COUNTER = re.compile(rb"fail|attempt|error|tries|retry|retries|count|used|strike|warning|queued|pending|open|debt|balance")
 
 
 class Trials:
@@ -71,7 +71,7 @@ def lint_unmet(own: Sequence[Part], script: Script, trials: Trials) -> Iterator[
     found = [(part, it) for part, it in nodes[:MOST] if differs(trials.with_text(part, it, b"true"), trials.first)]
     for part, node in found if len(found) == 1 and len(nodes) <= MOST else ():
         if not unset_name(part, node, script):
-            yield part, "unmet", node.start, "this test is true in no query of the script, and without it one would get more"
+            yield part, "unmet", node.start, "no query of the script meets this test, and without it one would get more"
 
 
 def unset_name(part: Part, node: Node, script: Script) -> bytes:
