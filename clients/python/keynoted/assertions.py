@@ -81,7 +81,8 @@ def covers(one: Part, other: Part, script: Script) -> bool:
     if not {who for _, who in other.principals(5)} <= enough_alone(one, one.formula):
         return False
     if not one.clauses:
-        return not one.field(3) or not one.field(3).tokens  # type: ignore[union-attr]
+        field = one.field(3)
+        return not field or not field.tokens
     ways = [it for it in ways_of(other.clauses) if not (it.clause.value and is_lowest(other, it.clause.value, script))]
     return bool(ways) and all(any(is_under(other, it, one, way, script) for way in ways_of(one.clauses)) for it in ways)
 

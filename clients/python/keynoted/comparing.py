@@ -118,7 +118,7 @@ def lint_text(part: Part, side: Node, other: Node, script: Script) -> Optional[F
         return "list", at, f"\"{told}\" is a text, and no range: compare @{words(name)} with both ends"
     if LIST.fullmatch(value) and (is_kind(name, value) or is_listed(value, given)):
         return "list", at, f"\"{told}\" is one text: compare with each, and join the comparisons by ||"
-    if value != value.strip() and value.strip() and b"\n" not in value:
+    if value != value.strip(b" ") and value.strip() and b"\n" not in value:
         return "spaces", at, f"each space counts, and this text has one at an end: {told!r}"
     return None
 
@@ -152,8 +152,9 @@ def lint_bare(part: Part, parts: Sequence[Part], script: Script) -> Iterator[Fou
         names = [attribute_of(part, it) for it in node.parts]
         if not all(names) or names[0] == names[1]:
             continue
-        for name, bare, side in ((*names, node.parts[1]), (*names[::-1], node.parts[0])):
-            if is_bare(part, name, bare, parts, script):
+        for at, side in reversed(list(enumerate(node.parts))):
+            bare = names[at]
+            if is_bare(part, names[1 - at], bare, parts, script):
                 what = f"this is an attribute, and empty where it isn't set: write \"{words(bare)}\" for the text"
                 yield "bare", side.start, what
                 break

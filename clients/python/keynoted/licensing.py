@@ -47,7 +47,7 @@ def lint_spelling(part: Part, script: Script, parts: Sequence[Part]) -> Iterator
             hexadecimal = HEX.fullmatch(who)
             if len(who) > 1 and who[:1] == who[-1:] == b'"':
                 yield "quotes", at, "this principal has quotes within"
-            elif who != who.strip():
+            elif who != who.strip(b" "):
                 yield "spaces", at, f"each space counts, and this principal has one too many: {words(who)!r}"
             elif hexadecimal and re.search(rb"[^0-9a-f]", hexadecimal[1]):
                 yield "hex", at, f"{words(who)} isn't hexadecimal"
@@ -58,14 +58,15 @@ def lint_spelling(part: Part, script: Script, parts: Sequence[Part]) -> Iterator
                 yield "quoted", at, what
             elif number == 5:
                 asked = unasked(who, script, parts)
-                what = f"no requester is {words(who)}: is {words(asked)} meant, who requests and isn't licensed?"
-                yield from [("asked", at, what)] if asked else ()
+                if asked:
+                    what = f"no requester is {words(who)}: is {words(asked)} meant, who requests and isn't licensed?"
+                    yield "asked", at, what
 
 
 def unasked(who: bytes, script: Script, parts: Sequence[Part]) -> bytes:
     """A requester whom nobody licenses and whose name is nearly that of a licensee who never requests."""
     licensed = {it for part in parts for _, it in part.principals(5)}
-    strangers = {it for _, it in script.requesters if it not in licensed}
+    strangers = {it for _, it in script.requesters if it not in licensed and not it.startswith(b'"')}
     return next((it for it in sorted(strangers) if plain(it) == plain(who) or nearly(it, who)), b"")
 
 

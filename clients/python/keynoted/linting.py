@@ -2,7 +2,7 @@
 
 from __future__ import annotations
 
-from typing import Iterator, List, NamedTuple, Optional, Sequence, Set
+from typing import Dict, Iterator, List, NamedTuple, Optional, Sequence, Set, Tuple
 
 from .assertions import lint_beside, lint_twice
 from .clauses import NO
@@ -50,7 +50,7 @@ def findings(policy: Optional[str], scripts: Sequence[str] = (), keys: Optional[
     if policy and script.orders and program:
         placed += lint_unset(own, script, Trials(policy, scripts, keys, program))
     for part in parts:
-        told = {}
+        told: Dict[Tuple[int, str], str] = {}
         for rule, at, what in [*lint_part(part, script, parts), *(it[1:] for it in placed if it[0] is part)]:
             told.setdefault((at, rule), what)
         order = sorted(told, key=lambda it: it[0])

@@ -3,7 +3,8 @@
 from __future__ import annotations
 
 import re
-from typing import Counter, Dict, FrozenSet, Iterator, List, Optional, Set, Tuple
+from collections import Counter
+from typing import Dict, FrozenSet, Iterator, List, Optional, Set, Tuple
 
 from .answers import NUMBER
 from .texts import Field, Token, constants_of, fields_of, place_of, read_file, split_file, value_of

@@ -29,21 +29,27 @@ class Trials:
         self.first = self.indices(self.policy)
 
     def indices(self, policy: bytes) -> List[int]:
-        """The indices of all replies to queries; none where the program gives none."""
+        """The indices of all replies to queries; none where the program gives none in its time."""
         with tempfile.TemporaryDirectory() as room:
             name = os.path.join(room, "policy.kn")
             with open(name, "wb") as file:
                 file.write(policy)
-            words_of = [self.program, "ask", name] + ([self.keys] if self.keys else [])
-            found: List[int] = []
-            for script in self.scripts:
-                run = subprocess.run(words_of, input=script, stdout=subprocess.PIPE, timeout=TIME, check=False)
-                found += [int(it) for it in re.findall(rb"^VALUE ([0-9]+) ", run.stdout, re.M)]
-            return found
+            told = [self.program, "ask", name] + ([self.keys] if self.keys else [])
+            try:
+                outputs = [run_once(told, script) for script in self.scripts]
+            except subprocess.TimeoutExpired:
+                return []
+        return [int(it) for output in outputs for it in re.findall(rb"^VALUE ([0-9]+) ", output, re.M)]
 
     def with_text(self, part: Part, node: Node, text: bytes) -> List[int]:
         start, end = part.start + node.start, part.start + node.end
         return self.indices(self.policy[:start] + text + self.policy[end:])
+
+
+def run_once(told: Sequence[str], script: bytes) -> bytes:
+    """What a command writes over a script."""
+    run = subprocess.run(told, input=script, stdout=subprocess.PIPE, timeout=TIME, check=False)
+    return run.stdout
 
 
 def lint_unset(own: Sequence[Part], script: Script, trials: Trials) -> Iterator[Tuple[Part, str, int, str]]:
