@@ -2,9 +2,9 @@
 
 from __future__ import annotations
 
-from typing import Dict, Iterator, List, NamedTuple, Optional, Sequence, Set, Tuple
+from typing import Dict, Iterable, Iterator, List, NamedTuple, Optional, Sequence, Set, Tuple
 
-from .assertions import lint_beside, lint_twice
+from .assertions import Placed, lint_beside, lint_twice
 from .clauses import NO
 from .keyfiles import lint_keys
 from .near import plain
@@ -12,7 +12,7 @@ from .naming import take_values
 from .parts import Part, Script, normal, parts_of, requests_of, words
 from .rules import lint_part
 from .texts import place_of, read_file
-from .trials import Trials, lint_unset
+from .trials import Trials, lint_unmet, lint_unset
 
 YES = {"yes", "true", "ok", "allow", "allowed", "approve", "accept", "permit", "grant", "granted", "open"}
 
@@ -46,18 +46,24 @@ def findings(policy: Optional[str], scripts: Sequence[str] = (), keys: Optional[
     take_values(own, parts, script)
     licensed = {who for part in parts for _, who in part.principals(5)}
     found += lint_requesters(script, licensed)
-    placed = list(lint_beside(own, parts, script))
-    if policy and script.orders and program:
-        placed += lint_unset(own, script, Trials(policy, scripts, keys, program))
-    for part in parts:
-        told: Dict[Tuple[int, str], str] = {}
-        for rule, at, what in [*lint_part(part, script, parts), *(it[1:] for it in placed if it[0] is part)]:
-            told.setdefault((at, rule), what)
-        order = sorted(told, key=lambda it: it[0])
-        found += [Finding(rule, part.place(at), told[at, rule]) for at, rule in order]
+    placed = [*lint_beside(own, parts, script)]
+    placed += [(part, *it) for part in parts for it in lint_part(part, script, parts)]
+    trials = Trials(policy, scripts, keys, program) if policy and script.orders and program else None
+    placed += lint_unset(own, script, trials) if trials else ()
+    placed += lint_unmet(own, script, trials) if trials and not placed else ()
+    found += in_order(parts, placed)
     found += lint_signatures(own)
-    found += [Finding(rule, part.place(at), what) for part, rule, at, what in lint_twice(own)]
+    found += in_order(own, lint_twice(own))
     return found + ([Finding(*it) for it in lint_keys(keys, parts)] if keys else [])
+
+
+def in_order(parts: Sequence[Part], placed: Iterable[Placed]) -> Iterator[Finding]:
+    """Warnings in the order of their places, one of each rule at a place."""
+    told: Dict[Tuple[int, int, str], str] = {}
+    for part, rule, at, what in placed:
+        told.setdefault((parts.index(part), at, rule), what)
+    for number, at, rule in sorted(told, key=lambda it: it[:2]):
+        yield Finding(rule, parts[number].place(at), told[number, at, rule])
 
 
 def lint_signatures(parts: Sequence[Part]) -> Iterator[Finding]:

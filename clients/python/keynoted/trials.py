@@ -56,8 +56,6 @@ def lint_unset(own: Sequence[Part], script: Script, trials: Trials) -> Iterator[
     """Comparisons of attributes that no request sets, where an answer hangs on that."""
     if not trials.first:
         return
-    if not any(trials.first):
-        yield from lint_unmet(own, script, trials)
     tried = 0
     for part in own:
         for node in (it for it in nodes_of(part.clauses) if it.sign in COMPARISONS):
@@ -73,6 +71,8 @@ def lint_unset(own: Sequence[Part], script: Script, trials: Trials) -> Iterator[
 
 def lint_unmet(own: Sequence[Part], script: Script, trials: Trials) -> Iterator[Tuple[Part, str, int, str]]:
     """The one comparison without which a query would be granted, where no query of the scripts is."""
+    if not trials.first or any(trials.first):
+        return
     nodes = [(part, it) for part in own for it in nodes_of(part.clauses) if it.sign in COMPARISONS]
     found = [(part, it) for part, it in nodes[:MOST] if differs(trials.with_text(part, it, b"true"), trials.first)]
     for part, node in found if len(found) == 1 and len(nodes) <= MOST else ():
