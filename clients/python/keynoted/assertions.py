@@ -4,7 +4,7 @@ than their neighbours."""
 from __future__ import annotations
 
 import re
-from typing import Dict, Iterator, List, NamedTuple, Sequence, Set, Tuple
+from typing import Dict, FrozenSet, Iterator, List, NamedTuple, Sequence, Tuple
 
 from .clauses import gives_as_much, is_lowest
 from .licensing import enough_alone, remark_of
@@ -17,6 +17,7 @@ from .vocabulary import FIRST
 
 Placed = Tuple[Part, str, int, str]  # the assertion, the rule's word, the place in it, and what is wrong
 PATHS = 64  # ways of trust to a principal that are looked at
+DEPTH = 8  # how far trust is followed
 LABEL = re.compile(rb"(?i)(licensees|conditions):[ \t]*(\S.*)?")
 CODE = re.compile(rb"[=!<>]=|->|\"|&&|\|\||@[A-Za-z]|;\s*$")
 DOMAIN = b"app_domain"
@@ -25,16 +26,23 @@ DOMAIN = b"app_domain"
 def lint_beside(own: Sequence[Part], parts: Sequence[Part], script: Script) -> Iterator[Placed]:
     """What is surely not meant in the assertions of a file beside each other, and beside those of scripts."""
     yield from lint_reach(parts)
+    others: Dict[FrozenSet[bytes], List[Part]] = {}
+    licensing: Dict[bytes, List[Part]] = {}
     for part in own:
-        yield from lint_narrowing(part, own, script)
-        yield from lint_chain(part, parts, script)
+        others.setdefault(by(part), []).append(part)
+    for part in parts:
+        for who in part.who(5):
+            licensing.setdefault(who, []).append(part)
+    for part in own:
+        yield from lint_narrowing(part, others[by(part)], script)
+        yield from lint_chain(part, licensing, script)
         for rule, at, what in [*lint_labels(part), *lint_domain(part, script), *lint_order(part, script)]:
             yield part, rule, at, what
     yield from lint_domains(own)
 
 
-def by(part: Part) -> Set[bytes]:
-    return {who for _, who in part.principals(1)}
+def by(part: Part) -> FrozenSet[bytes]:
+    return part.who(1)
 
 
 def lint_reach(parts: Sequence[Part]) -> Iterator[Placed]:
@@ -78,7 +86,7 @@ def covers(one: Part, other: Part, script: Script) -> bool:
     """Whether an assertion gives all that the other may give, by their form."""
     if not one.formula or not other.formula or by(one) != by(other) or not by(one):
         return False
-    if not {who for _, who in other.principals(5)} <= enough_alone(one, one.formula):
+    if not other.who(5) <= one.who(5) or not other.who(5) <= enough_alone(one, one.formula):
         return False
     if not one.clauses:
         field = one.field(3)
@@ -99,9 +107,9 @@ class Path(NamedTuple):
     values: Tuple[bytes, ...]
 
 
-def lint_chain(part: Part, parts: Sequence[Part], script: Script) -> Iterator[Placed]:
+def lint_chain(part: Part, licensing: Dict[bytes, List[Part]], script: Script) -> Iterator[Placed]:
     """Clauses that hold only where their authorizer has no trust, and values above what it ever has there."""
-    paths = [it for who in by(part) for it in trusted(who, parts, frozenset())]
+    paths = [it for who in by(part) for it in trusted(who, licensing, frozenset())]
     if b"POLICY" in by(part) or not paths or len(paths) > PATHS:
         return
     who = words(min(by(part)))
@@ -126,15 +134,17 @@ def is_below(path: Path, value: bytes, script: Script) -> bool:
                                 for order in orders)
 
 
-def trusted(who: bytes, parts: Sequence[Part], seen: "frozenset[bytes]") -> List[Path]:
+def trusted(who: bytes, licensing: Dict[bytes, List[Part]], seen: FrozenSet[bytes]) -> List[Path]:
     """The ways of trust to a principal; of those that are many, more than are looked at."""
     if who == b"POLICY":
         return [Path([], ())]
     found: List[Path] = []
-    for part in parts:
-        if who not in {it for _, it in part.principals(5)} or by(part) & seen or len(found) > PATHS:
+    for part in licensing.get(who, ()):
+        if by(part) & seen or len(found) > PATHS:
             continue
-        above = [it for one in by(part) for it in trusted(one, parts, seen | {who})][:PATHS + 1]
+        if len(seen) > DEPTH:
+            return [Path([], ())]  # what is farther may demand anything
+        above = [it for one in by(part) for it in trusted(one, licensing, seen | {who})][:PATHS + 1]
         found += [Path([*path.atoms, *it.atoms], path.values + it.values) for path in above for it in steps(part)]
     return found
 

@@ -3,7 +3,7 @@
 from __future__ import annotations
 
 import re
-from typing import Iterator, Optional, Sequence, Set
+from typing import Iterator, Optional, Set
 
 from .parts import Found, Part, Script, words
 from .trees import COMPARISONS, Node, nodes_of
@@ -146,7 +146,7 @@ def attribute_of(part: Part, node: Node) -> bytes:
     return node.text if node.sign == "name" and part.value(node) is None else b""
 
 
-def lint_bare(part: Part, parts: Sequence[Part], script: Script) -> Iterator[Found]:
+def lint_bare(part: Part, script: Script) -> Iterator[Found]:
     """Texts that stand without quotes where an attribute is compared, as `role == admin`."""
     for node in (it for it in nodes_of(part.clauses) if it.sign in ("==", "!=")):
         names = [attribute_of(part, it) for it in node.parts]
@@ -154,34 +154,21 @@ def lint_bare(part: Part, parts: Sequence[Part], script: Script) -> Iterator[Fou
             continue
         for at, side in reversed(list(enumerate(node.parts))):
             bare = names[at]
-            if is_bare(part, names[1 - at], bare, parts, script):
+            if is_bare(names[1 - at], bare, script):
                 what = f"this is an attribute, and empty where it isn't set: write \"{words(bare)}\" for the text"
                 yield "bare", side.start, what
                 break
 
 
-def is_bare(part: Part, name: bytes, bare: bytes, parts: Sequence[Part], script: Script) -> bool:
+def is_bare(name: bytes, bare: bytes, script: Script) -> bool:
     """Whether a name is surely a text of which the quotes are missing."""
-    if bare in script.settings or bare.lower() in NULLS or b"_" in (name[:1], bare[:1]) or is_used(bare, parts):
+    if bare in script.settings or bare in script.constants or bare.lower() in NULLS or b"_" in (name[:1], bare[:1]) or script.names[bare] > script.paired[bare]:
         return False
-    compared = [it for one in parts for it in nodes_of(one.clauses) if it.sign in COMPARISONS]
-    texts = {part.value(side) for it in compared if name in {x.text for x in it.parts} for side in it.parts}
-    if bare in texts or bare in script.settings.get(name, ()):
+    if bare in script.texts.get(name, ()) or bare in script.settings.get(name, ()):
         return True
     ends, others = segments(name), segments(bare)
     known = HOLDERS | KINDS | HOLDING
     return has_kind(name) and not ends & others and not others & known and bare.lower() not in known
-
-
-def is_used(name: bytes, parts: Sequence[Part]) -> bool:
-    """Whether a name is that of a constant or an attribute elsewhere than in a comparison of two names."""
-    count = 0
-    for part in parts:
-        nodes = list(nodes_of(part.clauses))
-        pairs = [it for it in nodes if it.sign in ("==", "!=") and all(attribute_of(part, side) for side in it.parts)]
-        count += sum(it.sign == "name" and it.text == name for it in nodes)
-        count -= sum(side.text == name for it in pairs for side in it.parts)
-    return count > 0 or any(name in it.constants for it in parts)
 
 
 def segments(name: bytes) -> Set[bytes]:

@@ -5,11 +5,11 @@ from __future__ import annotations
 import os
 import re
 import stat
-from typing import Dict, Iterator, Sequence, Tuple
+from typing import Dict, Iterator, Tuple
 
 from .licensing import is_list
 from .near import near_in
-from .parts import Part, normal, words
+from .parts import Script, normal, words
 from .texts import read_file
 
 LINE = re.compile(rb"(mac|secret|digest)([ \t]*)(\S*)([ \t]*)(.*?)\r?", re.S)
@@ -19,10 +19,9 @@ SHORT = 16  # digits of a key that can be guessed
 Told = Tuple[str, str, str]  # the rule's word, the place, and what is wrong
 
 
-def lint_keys(name: str, parts: Sequence[Part]) -> Iterator[Told]:
+def lint_keys(name: str, script: Script) -> Iterator[Told]:
     """What is surely not meant in a key file, by its lines and by who may read it."""
     mode = os.stat(name).st_mode
-    known = {who for part in parts for number in (1, 5) for _, who in part.principals(number)}
     if stat.S_ISREG(mode) and mode & (stat.S_IRWXO | stat.S_IWGRP):
         yield "key-mode", f"{name}:1:1", f"others may read or write this file of secrets: chmod 600 {name}"
     seen: Dict[bytes, bytes] = {}
@@ -31,7 +30,7 @@ def lint_keys(name: str, parts: Sequence[Part]) -> Iterator[Told]:
         if not match:
             continue
         who = normal(match[3]) if match.re is MAC else b""
-        for rule, what in lint_principal(match[3], known) if who else ():
+        for rule, what in lint_principal(match[3], script) if who else ():
             yield rule, f"{name}:{number}:{len(match[1]) + 1}", what
         digits = match[2].lower()
         place = f"{name}:{number}:{match.start(2) + 1}"
@@ -41,8 +40,9 @@ def lint_keys(name: str, parts: Sequence[Part]) -> Iterator[Told]:
             yield "key-short", place, "these digits can be guessed: take 32 by chance (openssl rand -hex 16)"
 
 
-def lint_principal(principal: bytes, known: "set[bytes]") -> Iterator[Tuple[str, str]]:
+def lint_principal(principal: bytes, script: Script) -> Iterator[Tuple[str, str]]:
     """What is surely not meant in the principal of a key."""
+    known = script.authors | script.licensed
     single, told = b" ".join(principal.split()), words(principal)
     remark = re.search(rb"\s+(#|//|;)(?=\s|[A-Za-z]|$)", principal)
     if len(principal) > 1 and principal[:1] == principal[-1:] and principal[:1] in (b'"', b"'"):
@@ -51,7 +51,7 @@ def lint_principal(principal: bytes, known: "set[bytes]") -> Iterator[Tuple[str,
         yield "key-comment", f"no comment stands behind a principal: this one is {told!r}"
     elif principal != principal.strip() or single != principal and normal(single) in known:
         yield "key-spaces", f"each space counts, and this principal has one too many: {told!r}"
-    elif is_list(principal, known):
+    elif is_list(principal, script):
         yield "key-list", f"one principal has a key by one line: this one is {told!r}"
     elif principal.upper() == b"POLICY":
         yield "key-policy", "who has this key may sign assertions by POLICY, and so grant anything"

@@ -4,7 +4,7 @@ constants' names in quotes, and groups of which the comment or the script says s
 from __future__ import annotations
 
 import re
-from typing import FrozenSet, Iterator, Sequence, Set
+from typing import FrozenSet, Iterator, Set
 
 from .near import nearly, plain
 from .parts import Found, Part, Script, words
@@ -16,30 +16,28 @@ LISTED = re.compile(rb"[ ]*(?:,|;|\|\|?|&&)[ ]*")
 HEX = re.compile(rb"[a-z0-9-]*-hex:(.*)")
 
 
-def lint_licensees(part: Part, script: Script, parts: Sequence[Part]) -> Iterator[Found]:
-    yield from lint_spelling(part, script, parts)
+def lint_licensees(part: Part, script: Script) -> Iterator[Found]:
+    yield from lint_spelling(part, script)
     field, conditions, by = part.field(5), part.field(3), part.field(1)
     if conditions and conditions.tokens and by and not (field and field.tokens):
         yield "licensees", (field or by).label.start, "the conditions grant nothing: Licensees is missing or empty"
-    known = {who for it in parts for _, who in it.principals(1)}
-    everybody = known | {who for it in parts for _, who in it.principals(5)} | {who for _, who in script.requesters}
+    known = script.authors
     for node in part.formula.walk() if part.formula else ():
         yield from lint_repeated(part, node)
         who = part.principal(node) if not node.parts else b""
         at = part.constants[node.text].start if node.sign == "name" and node.text in part.constants else node.start
         if (b"*" in who or who.lower() in EVERYBODY) and who not in known and not script.asks(who):
             yield "wildcard", at, f"\"{words(who)}\" is one principal's name: there are no wildcards"
-        elif who not in known and not script.asks(who) and is_list(who, everybody):
+        elif who not in known and not script.asks(who) and is_list(who, script):
             yield "list", at, f"\"{words(who)}\" is one principal's name: put each into quotes of its own"
     if part.formula:
         yield from lint_said(part, part.formula)
         yield from lint_asked(part, part.formula, script)
 
 
-def lint_spelling(part: Part, script: Script, parts: Sequence[Part]) -> Iterator[Found]:
+def lint_spelling(part: Part, script: Script) -> Iterator[Found]:
     """Principals that are surely spelled wrong, or that are constants' names in quotes."""
-    constants = {name: other for other in parts for name in other.constants}
-    known = {number: {who for it in parts for _, who in it.principals(6 - number)} for number in (1, 5)}
+    known = {1: script.licensed, 5: script.authors}
     for number in (1, 5):
         tokens = {it.start: it for field in part.fields if field.number == number for it in field.tokens}
         for start, who in part.principals(number):
@@ -53,31 +51,31 @@ def lint_spelling(part: Part, script: Script, parts: Sequence[Part]) -> Iterator
                 yield "hex", at, f"{words(who)} isn't hexadecimal"
             elif who in known[number] or script.asks(who):
                 continue
-            elif tokens[start].sort == "text" and who in constants:
+            elif tokens[start].sort == "text" and who in script.constants:
                 what = f"\"{words(who)}\" is a principal, and not the constant of this name: write it without quotes"
                 yield "quoted", at, what
             elif number == 5:
-                asked = unasked(who, script, parts)
+                asked = unasked(who, script)
                 if asked:
                     what = f"no requester is {words(who)}: is {words(asked)} meant, who requests and isn't licensed?"
                     yield "asked", at, what
 
 
-def unasked(who: bytes, script: Script, parts: Sequence[Part]) -> bytes:
+def unasked(who: bytes, script: Script) -> bytes:
     """A requester whom nobody licenses and whose name is nearly that of a licensee who never requests."""
-    licensed = {it for part in parts for _, it in part.principals(5)}
-    strangers = {it for _, it in script.requesters if it not in licensed and not it.startswith(b'"')}
+    strangers = {it for _, it in script.requesters if it not in script.licensed and not it.startswith(b'"')}
     return next((it for it in sorted(strangers) if plain(it) == plain(who) or nearly(it, who)), b"")
 
 
-def is_list(who: bytes, known: Set[bytes]) -> bool:
+def is_list(who: bytes, script: Script) -> bool:
     """Whether a text is several principals: plain names with commas between, and no title or name with its parts."""
     names = [it for it in LISTED.split(who) if it]
     if TITLES.search(who) or len(names) < 2:
         return False
     single = all(b" " not in it for it in names)
     is_joined = bool(re.search(rb"\|\||&&", who))
-    return is_joined or bool(known & set(names)) or single and (len(names) > 2 or who.lower() == who)
+    is_known = any(it in script.authors or it in script.licensed or script.asks(it) for it in names)
+    return is_joined or is_known or single and (len(names) > 2 or who.lower() == who)
 
 
 def lint_repeated(part: Part, node: Node) -> Iterator[Found]:

@@ -8,7 +8,7 @@ from .assertions import Placed, lint_beside, lint_twice
 from .clauses import NO
 from .keyfiles import lint_keys
 from .near import plain
-from .naming import take_values
+from .naming import take_parts
 from .parts import Part, Script, normal, parts_of, requests_of, words
 from .rules import lint_part
 from .texts import place_of, read_file
@@ -43,25 +43,25 @@ def findings(policy: Optional[str], scripts: Sequence[str] = (), keys: Optional[
         found.append(Finding("policy", f"{policy}:1:1", "no assertion is by POLICY, so nobody is ever authorized"))
     for name in scripts:
         found += read_script(name, script, parts)
-    take_values(own, parts, script)
-    licensed = {who for part in parts for _, who in part.principals(5)}
-    found += lint_requesters(script, licensed)
+    take_parts(own, parts, script)
+    found += lint_requesters(script, script.licensed)
     placed = [*lint_beside(own, parts, script)]
-    placed += [(part, *it) for part in parts for it in lint_part(part, script, parts)]
+    placed += [(part, *it) for part in parts for it in lint_part(part, script)]
     trials = Trials(policy, scripts, keys, program) if policy and script.orders and program else None
     placed += lint_unset(own, script, trials) if trials else ()
     placed += lint_unmet(own, script, trials) if trials and not placed else ()
     found += in_order(parts, placed)
     found += lint_signatures(own)
     found += in_order(own, lint_twice(own))
-    return found + ([Finding(*it) for it in lint_keys(keys, parts)] if keys else [])
+    return found + ([Finding(*it) for it in lint_keys(keys, script)] if keys else [])
 
 
 def in_order(parts: Sequence[Part], placed: Iterable[Placed]) -> Iterator[Finding]:
     """Warnings in the order of their places, one of each rule at a place."""
     told: Dict[Tuple[int, int, str], str] = {}
+    numbers = {id(part): number for number, part in enumerate(parts)}
     for part, rule, at, what in placed:
-        told.setdefault((parts.index(part), at, rule), what)
+        told.setdefault((numbers[id(part)], at, rule), what)
     for number, at, rule in sorted(told, key=lambda it: it[:2]):
         yield Finding(rule, parts[number].place(at), told[number, at, rule])
 

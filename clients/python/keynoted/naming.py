@@ -24,16 +24,26 @@ def orders_in(data: bytes) -> List[List[bytes]]:
     return [[it.encode() for it in order] for order in found if len(set(order)) == len(order)]
 
 
-def take_values(own: Sequence[Part], parts: Sequence[Part], script: Script) -> None:
-    """Keeps the values that clauses name, and the order that a comment says where it has most of them."""
+def take_parts(own: Sequence[Part], parts: Sequence[Part], script: Script) -> None:
+    """Keeps what all assertions name, and the order of values that a comment says where it has most of them."""
     for part in parts:
         values = (part.value(it.value) for top in part.clauses for it in top.walk() if it.value)
         script.named.update(it for it in values if it is not None)
+        script.authors |= part.who(1)
+        script.licensed |= part.who(5)
+        script.constants.update((it, part) for it in part.constants if it not in script.constants)
+        for name, text, _ in compared_texts(part):
+            script.texts.setdefault(name, Counter())[text] += 1
+        script.tested.update((it, part) for names in tested(part) for it in names if it not in script.tested)
+        for node in nodes_of(part.clauses):
+            script.names.update([node.text] if node.sign == "name" else ())
+            sides = [attribute_of(part, it) for it in node.parts] if node.sign in ("==", "!=") else []
+            script.paired.update(sides if all(sides) else ())
     told = orders_in(own[0].data) if own else []
     script.told = [it for it in told if len(set(it) & set(script.named)) * 2 >= len(script.named) > 0]
 
 
-def lint_constants(part: Part, script: Script, parts: Sequence[Part]) -> Iterator[Found]:
+def lint_constants(part: Part, script: Script) -> Iterator[Found]:
     """Constants that nothing uses, and those in whose place an attribute was meant."""
     tokens = [it for field in part.fields if field.number in (1, 3, 5) for it in field.tokens]
     used = {it.text for it in tokens if it.sort == "name"}
@@ -45,12 +55,12 @@ def lint_constants(part: Part, script: Script, parts: Sequence[Part]) -> Iterato
         name = words(token.text)
         if token.text not in used | quoted | near and all(it.text != b"$" for it in tokens):
             yield "unused", token.start, f"the constant {name} isn't used"
-        why = hidden_by(part, token.text, script, parts)
+        why = hidden_by(part, token.text, script)
         if why:
             yield "hidden", token.start, f"the constant {name} hides the attribute of this name: {why}"
 
 
-def hidden_by(part: Part, name: bytes, script: Script, parts: Sequence[Part]) -> str:
+def hidden_by(part: Part, name: bytes, script: Script) -> str:
     """Why the attribute was meant where a condition has a constant's name; empty where it wasn't."""
     nodes = list(nodes_of(part.clauses))
     if all(it.text != name or it.sign != "name" for it in nodes):
@@ -62,10 +72,7 @@ def hidden_by(part: Part, name: bytes, script: Script, parts: Sequence[Part]) ->
             return f"the comparison at {part.spot(node.start)} has no attribute"
     if name in script.settings:
         return "a request sets it"
-    for other in parts:
-        if name not in other.constants and any(name in names for names in tested(other)):
-            return f"{other.place(0)} has a condition on it"
-    return ""
+    return f"{script.tested[name].place(0)} has a condition on it" if name in script.tested else ""
 
 
 def tested(part: Part) -> Iterator[Set[bytes]]:
@@ -76,21 +83,20 @@ def tested(part: Part) -> Iterator[Set[bytes]]:
             yield names
 
 
-def lint_words(part: Part, script: Script, parts: Sequence[Part]) -> Iterator[Found]:
+def lint_words(part: Part, script: Script) -> Iterator[Found]:
     """Names in conditions that are constants of another place, or nearly a constant or another attribute, and texts
     that are nearly others of their attribute."""
     behind = {it.value.start for top in part.clauses for it in top.walk() if it.value}
     nodes = [it for it in nodes_of(part.clauses) if it.sign == "name" and it.start not in behind]
-    counts = Counter(it.text for one in parts for it in nodes_of(one.clauses) if it.sign == "name")
     passed = {*part.constants, *script.settings}
     for node in nodes:
         if node.text in passed or node.text.startswith(b"_") or node.text.lower() in NULLS:
             continue
         passed.add(node.text)
-        what = meant_name(part, node.text, script, parts, counts)
+        what = meant_name(part, node.text, script)
         if what:
             yield "unset", node.start, what
-    yield from lint_texts(part, script, parts)
+    yield from lint_texts(part, script)
     yield from lint_quoted(part, script)
 
 
@@ -104,36 +110,43 @@ def lint_quoted(part: Part, script: Script) -> Iterator[Found]:
             yield "quoted", side.start, what
 
 
-def meant_name(part: Part, name: bytes, script: Script, parts: Sequence[Part], counts: "Counter[bytes]") -> str:
+def meant_name(part: Part, name: bytes, script: Script) -> str:
     """What was meant by the name of an attribute that no request sets; empty where it may be itself."""
     told = words(name)
-    elsewhere = [it for it in parts if name in it.constants]
-    if elsewhere and not any({name} == names for it in parts for names in tested(it)):
-        at = elsewhere[0].place(0)
+    if name in script.constants and name not in script.tested:
+        at = script.constants[name].place(0)
         return f"{told} is a constant of the assertion at {at} alone: here it is an attribute, which is empty"
     used = {it.text for field in part.fields if field.number in (1, 3, 5) for it in field.tokens}
     near = near_in(name, [it for it in part.constants if it not in script.settings and it not in used])
     if near:
         return f"this is an attribute, and no constant: is {words(near)} meant?"
-    given = {it for it in script.settings if nearly(it, name) or it.lower() == name.lower()} if script.orders else set()
+    if name not in script.near:
+        script.near[name] = near_name(name, script)
+    return script.near[name]
+
+
+def near_name(name: bytes, script: Script) -> str:
+    """The attribute that a name is nearly, in words."""
+    settings = script.settings if script.orders else {}
+    given = [it for it in settings if nearly(it, name) or it.lower() == name.lower()]
     if given:
-        return f"no request sets {told}: is {words(min(given))} meant?"
-    rare = [it for it in counts if nearly(it, name) and counts[it] > counts[name] and not it.startswith(b"_")]
-    return f"{told} stands here alone: is {words(min(rare))} meant?" if rare and counts[name] == 1 else ""
+        return f"no request sets {words(name)}: is {words(min(given))} meant?"
+    counts = script.names
+    often = [it for it in counts if counts[it] > 1 and it[:1] != b"_"] if counts[name] == 1 else []
+    near = near_in(name, often)
+    return f"{words(name)} stands here alone: is {words(near)} meant?" if near else ""
 
 
-def lint_texts(part: Part, script: Script, parts: Sequence[Part]) -> Iterator[Found]:
+def lint_texts(part: Part, script: Script) -> Iterator[Found]:
     """Texts that one attribute is compared with, and that are nearly what other comparisons or requests have."""
-    counts = Counter((name, text) for one in parts for name, text, _ in compared_texts(one))
     for name, text, side in compared_texts(part):
-        given = script.settings.get(name, set())
+        given, compared = script.settings.get(name, set()), script.texts[name]
         if text in given or not text:
             continue
-        known = [it for one, it in counts if one == name and nearly(it, text) and counts[one, it] > counts[name, text]]
-        compared = {it for one, it in counts if one == name}
-        known += [it for it in given if nearly(it, text) and it not in compared]
-        if known and counts[name, text] == 1:
-            yield "text", side.start, f"\"{words(text)}\" stands here alone: is \"{words(min(known))}\" meant?"
+        often = [it for it in compared if compared[it] > 1] if compared[text] == 1 else []
+        near = near_in(text, [*often, *(it for it in given if it not in compared)]) if compared[text] == 1 else None
+        if near:
+            yield "text", side.start, f"\"{words(text)}\" stands here alone: is \"{words(near)}\" meant?"
         elif name == b"_ACTION_AUTHORIZERS" and b"," not in text and b":" in text and part.principal(side) != text:
             what = f"requesters are named in their normal form: write \"{words(part.principal(side))}\""
             yield "text", side.start, what

@@ -21,6 +21,7 @@ class Part:
     def __init__(self, name: str, data: bytes, start: int, end: int) -> None:
         self.name, self.data, self.start, self.text = name, data, start, data[start:end]
         self.fields = fields_of(self.text)
+        self.named: Dict[int, List[Tuple[int, bytes]]] = {}
         self.constants: Dict[bytes, Token] = constants_of(self.fields)
         self.formula: Optional[Node] = formula_of(self.field(5))
         self.clauses: Tuple[Clause, ...] = clauses_of(self.field(3))
@@ -50,8 +51,16 @@ class Part:
         value = self.value(node)
         return normal(value) if value is not None else node.text
 
-    def principals(self, number: int) -> Iterator[Tuple[int, bytes]]:
+    def principals(self, number: int) -> List[Tuple[int, bytes]]:
         """The principals of this field in normal form, with their places."""
+        if number not in self.named:
+            self.named[number] = list(self.find_principals(number))
+        return self.named[number]
+
+    def who(self, number: int) -> FrozenSet[bytes]:
+        return frozenset(who for _, who in self.principals(number))
+
+    def find_principals(self, number: int) -> Iterator[Tuple[int, bytes]]:
         for token in (it for field in self.fields if field.number == number for it in field.tokens):
             literal = self.constants.get(token.text, token)
             if literal.sort == "text":
@@ -68,6 +77,14 @@ class Script:
         self.orders: List[List[bytes]] = []
         self.told: List[List[bytes]] = []  # an order of values in a comment
         self.named: Counter[bytes] = Counter()  # the values behind `->`
+        self.authors: Set[bytes] = set()  # of all assertions, as what follows
+        self.licensed: Set[bytes] = set()
+        self.constants: Dict[bytes, Part] = {}  # each with an assertion that has it
+        self.names: Counter[bytes] = Counter()  # in conditions
+        self.paired: Counter[bytes] = Counter()  # of these, the two of == and !=
+        self.texts: Dict[bytes, Counter[bytes]] = {}  # that attributes are compared with
+        self.tested: Dict[bytes, Part] = {}  # attributes that a comparison tests alone, with an assertion that does
+        self.near: Dict[bytes, str] = {}  # what a name of an attribute is nearly
         self.asking: List[FrozenSet[bytes]] = []  # the requesters of each query
         self.present: Dict[bytes, Set[bytes]] = {}  # of each session, as the script is read
         self.settings: Dict[bytes, Set[bytes]] = {}

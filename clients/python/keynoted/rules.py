@@ -3,7 +3,7 @@
 from __future__ import annotations
 
 import re
-from typing import Iterator, Optional, Sequence, Tuple
+from typing import Iterator, Optional, Tuple
 
 from .clauses import lint_program
 from .comparing import lint_bare, lint_comparisons, lint_joined
@@ -24,19 +24,19 @@ UNSEEN = re.compile(
 CUT_OFF = re.compile(rb"#[ \t]*(?:&&|\|\||->)[^\n]*[;\"){}][ \t\r]*$", re.M)
 
 
-def lint_part(part: Part, script: Script, parts: Sequence[Part]) -> Iterator[Found]:
+def lint_part(part: Part, script: Script) -> Iterator[Found]:
     """What is surely not meant in one assertion."""
-    yield from lint_constants(part, script, parts)
-    yield from lint_words(part, script, parts)
+    yield from lint_constants(part, script)
+    yield from lint_words(part, script)
     yield from lint_special(part)
     yield from lint_values_behind(part, script)
     yield from lint_comparisons(part, script)
-    yield from lint_bare(part, parts, script)
+    yield from lint_bare(part, script)
     yield from lint_joined(part, script)
     yield from lint_numbers(part)
     yield from lint_remarks(part)
     yield from lint_program(part, part.clauses, script)
-    yield from lint_licensees(part, script, parts)
+    yield from lint_licensees(part, script)
     for node in [*nodes_of(part.clauses), *(part.formula.walk() if part.formula else ())]:
         yield from lint_brackets(node)
     yield from lint_escapes(part)
