@@ -162,7 +162,8 @@ def lint_bare(part: Part, script: Script) -> Iterator[Found]:
 
 def is_bare(name: bytes, bare: bytes, script: Script) -> bool:
     """Whether a name is surely a text of which the quotes are missing."""
-    if bare in script.settings or bare in script.constants or bare.lower() in NULLS or b"_" in (name[:1], bare[:1]) or script.names[bare] > script.paired[bare]:
+    is_used = bare in script.settings or bare in script.constants or script.names[bare] > script.paired[bare]
+    if is_used or bare.lower() in NULLS or b"_" in (name[:1], bare[:1]):
         return False
     if bare in script.texts.get(name, ()) or bare in script.settings.get(name, ()):
         return True

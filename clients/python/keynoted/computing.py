@@ -27,14 +27,14 @@ def lint_numbers(part: Part) -> Iterator[Found]:
             seen |= {it.start for it in node.walk()}
             yield "range", node.start, f"{why}, so this test is a fault and never true"
         if node.sign in COMPARISONS:
-            yield from lint_remainder(part, node)
+            yield from lint_remainder(node)
         if node.sign == "*" or node.sign == "/":
             yield from lint_division(part, node)
         if node.sign == "@":
             yield from lint_reading(part, node)
 
 
-def lint_remainder(part: Part, node: Node) -> Iterator[Found]:
+def lint_remainder(node: Node) -> Iterator[Found]:
     """A remainder that is compared with a number which it never is."""
     for side, other in (node.parts, node.parts[::-1]):
         if node.sign == "==" and side.sign == "%" and len(side.parts) == 2 and other.sign == "number":

@@ -63,7 +63,7 @@ def lint_unset(own: Sequence[Part], script: Script, trials: Trials) -> Iterator[
             if not name or tried >= MOST:
                 continue
             tried += 1
-            what = hangs_on(part, node, name, script, trials)
+            what = hangs_on(part, node, name, trials)
             if what:
                 at = next(it.start for it in node.walk() if it.sign == "name" and it.text == name)
                 yield part, "unset", at, f"no request sets {words(name)}, so {what}"
@@ -91,7 +91,7 @@ def unset_name(part: Part, node: Node, script: Script) -> bytes:
     return b"" if not unset or is_guard or is_flag else unset[0]
 
 
-def hangs_on(part: Part, node: Node, name: bytes, script: Script, trials: Trials) -> str:
+def hangs_on(part: Part, node: Node, name: bytes, trials: Trials) -> str:
     """How the answer to a query hangs on an attribute that isn't set; empty where that may be meant."""
     if differs(trials.first, trials.with_text(part, node, b"false")):
         is_count = COUNTER.search(name) and node.sign in ("<", "<=", ">", ">=")
