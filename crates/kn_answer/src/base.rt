@@ -1,4 +1,4 @@
-//! A base: the system of assertions without a query, from which each query is answered at the cost of what it reaches.
+//! A base: the system of assertions without a query, from which each query is answered.
 ghost use Rattle.std.specs.Prelude.{◌≡◌, ℕ, ◌+◌, ◌-◌, ◌*◌, ◌^◌, ◌<◌, ◌≤◌, false, true, [], ◌∷◌, ◌++◌, List as ListOf, length, map, slice_set, IfOk};
 ghost use Rattle.kn_meaning.specs.Equations.{IsPolicyLevel, Part as AssertionById, equations_over};
 ghost use Rattle.kn_meaning.specs.Proofs.{IsProof};

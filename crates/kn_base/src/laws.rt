@@ -5,11 +5,11 @@
 ghost use Rattle.std.specs.Prelude.{◌≡◌};
 
 use crate::limits::{
-    ASSERTION_BYTES, ATTRIBUTES, COMPLIANCE_VALUE_BYTES, CONNECTIONS, FEWEST_COMPLIANCE_VALUES,
-    FILE_BYTES, GENERATED_CREDENTIALS, LINE_BYTES, LIVE_BYTES, LIVE_CREDENTIALS, LOGGED_BYTES,
-    MOST_COMPLIANCE_VALUES, NAME_BYTES, OPEN_BRACKETS, PASSES, PREFIX_SIGNS, PRINCIPAL_BYTES,
-    PRIVATE_ASSERTIONS, PRIVATE_BYTES, REQUESTERS, REQUESTS, SESSIONS, TEXT_BYTES, UPDATES,
-    VALUE_BYTES, WHOLE_NUMBER, WORKERS,
+    ASSERTION_BYTES, ATTRIBUTES, CHANGES, COMPLIANCE_VALUE_BYTES, CONNECTIONS, CRITICAL_NODES,
+    FEWEST_COMPLIANCE_VALUES, FILE_BYTES, GENERATED_CREDENTIALS, LINE_BYTES, LIVE_BYTES,
+    LIVE_CREDENTIALS, LOGGED_BYTES, LOG_UPDATES, MOST_COMPLIANCE_VALUES, NAME_BYTES, OPEN_BRACKETS,
+    PASSES, PREFIX_SIGNS, PRINCIPAL_BYTES, PRIVATE_ASSERTIONS, PRIVATE_BYTES, REQUESTERS, REQUESTS,
+    RETAINED_VERSIONS, SESSIONS, TEXT_BYTES, UPDATES, VALUE_BYTES, WHOLE_NUMBER, WORKERS,
 };
 
 /// The bytes of an assertion, and of a block of the protocol.
@@ -94,7 +94,7 @@ pub fn compliance_value_limit()
 
 /// The live credentials of the shared set.
 pub fn live_credential_limit()
-    ensures { LIVE_CREDENTIALS ≡ 2048 }
+    ensures { LIVE_CREDENTIALS ≡ 4096 }
 {}
 
 /// The credentials that `gen` makes.
@@ -104,12 +104,32 @@ pub fn generated_credential_limit()
 
 /// The bytes of the live credentials together.
 pub fn live_bytes_limit()
-    ensures { LIVE_BYTES ≡ 4194304 }
+    ensures { LIVE_BYTES ≡ 8388608 }
 {}
 
-/// The updates of the shared set.
+/// The changes of all updates of the shared set.
 pub fn update_limit()
     ensures { UPDATES ≡ 65536 }
+{}
+
+/// The changes of one update, and the items of a batch.
+pub fn change_limit()
+    ensures { CHANGES ≡ 256 }
+{}
+
+/// The newest versions of the shared set that are kept.
+pub fn retained_version_limit()
+    ensures { RETAINED_VERSIONS ≡ 16 }
+{}
+
+/// The updates that one reply to LOG tells.
+pub fn log_update_limit()
+    ensures { LOG_UPDATES ≡ 16 }
+{}
+
+/// The nodes of a system whose critical credentials are looked for.
+pub fn critical_node_limit()
+    ensures { CRITICAL_NODES ≡ 16384 }
 {}
 
 /// The bytes of all credentials that were ever added to the shared set.

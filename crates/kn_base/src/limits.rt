@@ -49,16 +49,28 @@ pub const MOST_COMPLIANCE_VALUES: u32 = 64;
 pub const COMPLIANCE_VALUE_BYTES: usize = 128;
 
 /// The live credentials of the shared set.
-pub const LIVE_CREDENTIALS: u32 = 2_048;
+pub const LIVE_CREDENTIALS: u32 = 4_096;
 
 /// The credentials that `gen` makes.
 pub const GENERATED_CREDENTIALS: u32 = 2_048;
 
 /// The bytes of the live credentials together.
-pub const LIVE_BYTES: usize = 4_194_304;
+pub const LIVE_BYTES: usize = 8_388_608;
 
-/// The updates of the shared set.
+/// The changes of all updates of the shared set.
 pub const UPDATES: u32 = 65_536;
+
+/// The changes of one update, which has one at least, and the items of a batch.
+pub const CHANGES: u32 = 256;
+
+/// The newest versions of the shared set that are kept, the newest among them.
+pub const RETAINED_VERSIONS: u32 = 16;
+
+/// The updates that one reply to LOG tells.
+pub const LOG_UPDATES: u32 = 16;
+
+/// The nodes of a system whose critical credentials are looked for.
+pub const CRITICAL_NODES: u32 = 16_384;
 
 /// The bytes of all credentials that were ever added to the shared set.
 pub const LOGGED_BYTES: usize = 67_108_864;

@@ -79,11 +79,4 @@ impl Octets {
             Err(_) => Err(NoMemory),
         }
     }
-
-    /// Drops all bytes.
-    pub fn clear(&mut self)
-        ensures { self.new ≡ [] }
-    {
-        self.bytes.clear();
-    }
 }

@@ -83,8 +83,8 @@ not_refused front text are is few =
     let logged : logged_bytes past ≡ total front = logged_total 0 front in
     let low : total front ≤ 200 * length front = few_bytes front are in
     let short : length text ≤ 200 = is.short in
-    let a : nat_le 2048 (length (live past)) ≡ false = lt-leb 2048 (length (live past)) (omega arith) in
-    let b : nat_lt 4194304 (text_bytes (live past) + length text) ≡ false = le-ltb 4194304 (text_bytes (live past) + length text) (omega arith) in
+    let a : nat_le 4096 (length (live past)) ≡ false = lt-leb 4096 (length (live past)) (omega arith) in
+    let b : nat_lt 8388608 (text_bytes (live past) + length text) ≡ false = le-ltb 8388608 (text_bytes (live past) + length text) (omega arith) in
     let c : nat_le 65536 (length past) ≡ false = lt-leb 65536 (length past) (omega arith) in
     let d : nat_lt 67108864 (logged_bytes past + length text) ≡ false = le-ltb 67108864 (logged_bytes past + length text) (omega arith) in
     all_false _ _ _ _ a b c d _ _ _ _

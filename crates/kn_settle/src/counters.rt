@@ -69,7 +69,7 @@ impl Counters {
     }
 
     // Puts a row into the bucket of the level, or of its ceiling, if lower, unless its authorizer has a level already.
-    // Only then is its ceiling query_system for.
+    // Only then is its ceiling asked for.
     fn put_row<L, C: Ceilings<L>>(
         &mut self,
         system: &QuerySystem<L, C>,

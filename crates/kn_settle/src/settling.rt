@@ -79,8 +79,7 @@ pub fn settle<L>(
 }
 
 /// The policy's least level in a query over a base (RFC 2704, section 5), and a proof of it (keynoted's own), on
-/// demand: settling goes from the requesters to what they reach, so a row is looked at only when its formula is
-/// fulfilled, and its ceiling is asked for only then.
+/// demand: settling goes from the requesters to what they reach.
 ///
 /// The base is a system whose levels, requesters and ceilings are of no matter. `requesters` are those of the query by
 /// their numbers in the base, and the scratch is for the base's principals and nodes and the query's levels.

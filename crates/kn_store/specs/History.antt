@@ -1,9 +1,8 @@
 -- Histories of updates to the shared credentials (keynoted's own).
 use Rattle.std.specs.Prelude.{ℕ, ◌≡◌, ◌+◌, Bool, true, false, ◌==◌, ◌&&◌, not, nat_le, nat_lt, List, [], ◌∷◌, ◌++◌, length, filter, sum_by, flat_map, Option, Some, None, is_none, is_some, if◌then◌else◌}
 use Rattle.std.specs.List.{list_any}
-use Rattle.kn_base.specs.declared.limits.TheConstants.{LIVE_CREDENTIALS, LIVE_BYTES, UPDATES, LOGGED_BYTES}
+use Rattle.kn_base.specs.declared.limits.TheConstants.{LIVE_CREDENTIALS, LIVE_BYTES, UPDATES, CHANGES, LOGGED_BYTES}
 use Rattle.kn_assert.specs.Reading.{assertion_of}
-use Rattle.kn_store.specs.declared.update.TheConstants.{CHANGES}
 use Rattle.kn_store.specs.declared.update.Change.{Change}
 use Rattle.kn_store.specs.declared.update.Change.TheVariants.{Add, Remove}
 use Rattle.kn_store.specs.declared.update.Numbered.{Numbered}

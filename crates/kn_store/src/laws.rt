@@ -3,8 +3,6 @@
 ghost use Rattle.std.specs.Prelude.{◌≡◌, ℕ, List};
 ghost use Rattle.kn_store.specs.Laws.{LoadingEnds, LoadingEndsOnce, LoadableIsValid, AdditionIsLive, RemovalIsGone, IdsDiffer, ValidGrows, ValidBefore};
 
-use crate::update::CHANGES;
-
 /// Loading texts makes a history of them, or ends at the first one that has a fault or is refused; and it ends
 /// in one way.
 pub fn loading_ends()
@@ -32,9 +30,4 @@ pub fn ids_differ()
 pub fn valid_histories()
     ensures grows { ValidGrows }
     ensures before { ValidBefore }
-{}
-
-/// The most changes of an update.
-pub fn change_limit()
-    ensures { CHANGES ≡ 256 }
 {}

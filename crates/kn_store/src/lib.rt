@@ -14,5 +14,5 @@ mod version;
 pub use book::{Book, Done, Prepared};
 pub use credential::{Credential, Ready};
 pub use fault::StoreFault;
-pub use update::{CHANGES, Change, Numbered, Update};
+pub use update::{Change, Numbered, Update};
 pub use version::{Snapshot, Version};

@@ -2,9 +2,6 @@
 
 use kn_base::{List, Octets};
 
-/// The most changes of an update, which has one at least.
-pub const CHANGES: u32 = 256;
-
 /// What a change does: it adds the credential of this text, or removes one.
 #[derive(Drop)]
 pub enum Change {
