@@ -30,7 +30,8 @@ use Rattle.kn_answer.proofs.Bridge.{bytes_eq-same, bytes_eq-true, number_or_none
 use Rattle.kn_answer.proofs.Folded.{formula_nodes-Who, formula_names-Who, formula_pieces-Who, IsGate, IsGate-All, IsGate-Any, IsGate-Threshold}
 use Rattle.kn_answer.proofs.Grown.{AreNumbered-length}
 use Rattle.kn_generate.specs.declared.query.Measured.{Measured}
-use Rattle.kn_generate.specs.Measured.{granted_count, HasCounts, licensees_nodes, IsMeasured}
+use Rattle.kn_meaning.specs.Critical.{licensees_nodes}
+use Rattle.kn_generate.specs.Measured.{granted_count, HasCounts, IsMeasured}
 
 -- who has no number differs from all names
 differs-from : (name : List ℕ) (names : List (List ℕ)) → IsAbsent names name → AllByRecursion (λ other. bytes_eq name other ≡ false) names

@@ -1,10 +1,9 @@
 -- What is told of a query that was settled: its value, and how large the system of it is (keynoted's own).
-use Rattle.std.specs.Prelude.{ℕ, ◌≡◌, ◌+◌, ◌&&◌, not, nat_lt, Bool, false, slice_index_or, List, [], ◌∷◌, length, sum_by, count_by, Option, Some, None, if◌then◌else◌}
+use Rattle.std.specs.Prelude.{ℕ, ◌≡◌, ◌+◌, ◌&&◌, not, nat_lt, Bool, false, slice_index_or, List, [], ◌∷◌, length, sum_by, count_by, if◌then◌else◌}
 use Rattle.std.specs.List.{list_any, IsDistinct}
 use Rattle.std.specs.Str.{bytes_eq}
-use Rattle.kn_trees.specs.declared.formula.Formula.{Formula}
-use Rattle.kn_trees.specs.Formulas.{formula_nodes}
 use Rattle.kn_meaning.specs.Equations.{Equations, IsPolicyLevel, is_requester}
+use Rattle.kn_meaning.specs.Critical.{equation_nodes}
 use Rattle.kn_meaning.specs.Occurring.{occurring, licensees_names}
 use Rattle.kn_system.specs.Equations.{SystemEquations, node_total, leaf_total}
 use Rattle.kn_system.specs.Least.{least_levels}
@@ -28,11 +27,6 @@ pub record HasCounts (s : SystemEquations) (m : Measured) : Type 0 where
   pub uses : m.uses ≡ leaf_total s.rows
   pub levels : m.levels ≡ s.levels
 
--- how many nodes a Licensees field has: a missing one is a list of no parts
-abbrev pub licensees_nodes : Option Formula → ℕ
-licensees_nodes None = 1
-licensees_nodes (Some formula) = formula_nodes formula
-
 -- The level is that of the policy in the least fixed point. The names are those that occur in the query, each once; `rows`
 -- counts those of them that are no requesters and have a level above the lowest, and `uses` the principals in the formulas.
 pub record IsMeasured (e : Equations) (m : Measured) : Type 0 where
@@ -42,6 +36,6 @@ pub record IsMeasured (e : Equations) (m : Measured) : Type 0 where
   pub occur : (name : List ℕ) → list_any (bytes_eq name) names ≡ list_any (bytes_eq name) (occurring e)
   pub rows : m.rows ≡ count_by (λ name. not (is_requester e name) && nat_lt 0 (level.levels name)) names
   pub principals : m.principals ≡ length names
-  pub nodes : m.nodes ≡ sum_by (λ s. licensees_nodes s.licensees) e.statements
+  pub nodes : m.nodes ≡ equation_nodes e
   pub uses : m.uses ≡ sum_by (λ s. length (licensees_names s.licensees)) e.statements
   pub levels : m.levels ≡ e.top + 1

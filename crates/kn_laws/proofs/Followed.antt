@@ -17,7 +17,8 @@ use Rattle.kn_meaning.specs.Formulas.{Levels}
 use Rattle.kn_meaning.specs.Equations.{Equations, Statement, worth, is_requester}
 use Rattle.kn_meaning.specs.Tables.{level_in, entry_of, entries_of, statement_in, equations_from}
 use Rattle.kn_meaning.specs.Proofs.{row_level, levels_by, Supports, IsRow, AreRows, IsClosed, IsProof}
-use Rattle.kn_laws.specs.Tested.{is_same_id, supports, has_entry, may_follow, with_row, all_follow, table_after, is_settled, is_closed, ends_proof}
+use Rattle.kn_meaning.specs.Critical.{is_same_id}
+use Rattle.kn_laws.specs.Tested.{supports, has_entry, may_follow, with_row, all_follow, table_after, is_settled, is_closed, ends_proof}
 use Rattle.kn_laws.proofs.Turned.{worth-below}
 
 Decides-id : (a b : Id) → Decides (is_same_id a b) (a ≡ b)

@@ -6,3 +6,4 @@ pub mod Settles
 pub mod Tabled
 pub mod Followed
 pub mod Exists
+pub mod Unnamed

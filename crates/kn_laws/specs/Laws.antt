@@ -1,9 +1,12 @@
 -- Laws of least levels and of proofs.
-use Rattle.std.specs.Prelude.{ℕ, ◌≡◌, ◌≤◌, List}
+use Rattle.std.specs.Prelude.{ℕ, ◌≡◌, ◌≤◌, false, List}
+use Rattle.kn_env.specs.Environment.{Asked}
+use Rattle.kn_proof.specs.declared.named.Id.{Id}
 use Rattle.kn_principal.specs.Principals.{policy}
 use Rattle.kn_proof.specs.declared.named.NamedRow.{NamedRow}
 use Rattle.kn_meaning.specs.Formulas.{Levels}
-use Rattle.kn_meaning.specs.Equations.{Equations, IsLeast, IsPolicyLevel}
+use Rattle.kn_meaning.specs.Equations.{Part, Equations, equations_over, IsLeast, IsPolicyLevel}
+use Rattle.kn_meaning.specs.Critical.{without_part, is_row_by, IsCritical, AreCritical}
 use Rattle.kn_meaning.specs.Proofs.{levels_by, IsProof}
 use Rattle.kn_meaning.specs.Tables.{level_in, equations_from, last_table}
 use Rattle.kn_meaning.specs.declared.plain.Stated.{Stated}
@@ -48,3 +51,17 @@ ProofDeterminesLevel = (e : Equations) (rows : List NamedRow) (level : ℕ) → 
 -- each query has a proof
 abbrev pub EveryQueryHasAProof : Type 0
 EveryQueryHasAProof = (e : Equations) → (level : ℕ) × (rows : List NamedRow) × IsProof e rows level
+
+-- rows that don't name an assertion prove the same level without it
+abbrev pub RowsStayAProof : Type 0
+RowsStayAProof = (asked : Asked) (id : Id) (parts : List Part) (rows : List NamedRow) (level : ℕ) → IsProof (equations_over asked parts) rows level → is_row_by rows id ≡ false
+    → IsProof (equations_over asked (without_part id parts)) rows level
+
+-- so it isn't critical
+abbrev pub UnnamedIsNotCritical : Type 0
+UnnamedIsNotCritical = (asked : Asked) (parts : List Part) (id : Id) (rows : List NamedRow) (level : ℕ) → IsProof (equations_over asked parts) rows level → is_row_by rows id ≡ false
+    → IsCritical asked parts id → ⊥
+
+-- the critical assertions are one list
+abbrev pub CriticalIsOne : Type 0
+CriticalIsOne = (asked : Asked) (all parts : List Part) (ids others : List Id) → AreCritical asked all parts ids → AreCritical asked all parts others → ids ≡ others

@@ -3,19 +3,12 @@ use Rattle.std.specs.Prelude.{ℕ, Bool, true, false, ◌==◌, ◌&&◌, not, n
 use Rattle.std.specs.List.{list_any, list_all}
 use Rattle.std.specs.Str.{bytes_eq}
 use Rattle.kn_principal.specs.Principals.{policy}
-use Rattle.kn_proof.specs.declared.named.Id.{Id}
-use Rattle.kn_proof.specs.declared.named.Id.TheVariants.{Shared, Private}
 use Rattle.kn_proof.specs.declared.named.NamedRow.{NamedRow}
 use Rattle.kn_meaning.specs.declared.plain.Level.{Level}
 use Rattle.kn_meaning.specs.Formulas.{Levels}
 use Rattle.kn_meaning.specs.Equations.{Statement, worth}
+use Rattle.kn_meaning.specs.Critical.{is_same_id}
 use Rattle.kn_meaning.specs.Tables.{level_in, entry_of}
-
-abbrev pub is_same_id : Id → Id → Bool
-is_same_id (Shared a) (Shared b) = a == b
-is_same_id (Shared a) (Private b) = false
-is_same_id (Private a) (Shared b) = false
-is_same_id (Private a) (Private b) = a == b
 
 abbrev pub supports : ℕ → Levels → NamedRow → Statement → Bool
 supports top at row s = is_same_id s.id row.id && (bytes_eq s.authorizer row.principal && nat_le row.value (worth top at s))

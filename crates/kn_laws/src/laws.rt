@@ -1,6 +1,6 @@
 //! Laws of the definitions, each of them the contract of a function that does nothing.
 
-ghost use Rattle.kn_laws.specs.Laws.{LeastLevelsAreLeast, PlainLevelsAreLeast, PlainLevelIsThePolicys, EveryQueryHasALevel, EveryQueryHasOneLevel, LeastLevelsAreWithin, ProofDeterminesLevel, EveryQueryHasAProof};
+ghost use Rattle.kn_laws.specs.Laws.{LeastLevelsAreLeast, PlainLevelsAreLeast, PlainLevelIsThePolicys, EveryQueryHasALevel, EveryQueryHasOneLevel, LeastLevelsAreWithin, ProofDeterminesLevel, EveryQueryHasAProof, RowsStayAProof, UnnamedIsNotCritical, CriticalIsOne};
 
 /// As many rounds as a query has principals times the top, from the requesters at the top and all others at 0, give the
 /// least levels.
@@ -30,4 +30,12 @@ pub fn proof_determines_level()
 /// Each query has a proof, and so the policy's least level has one.
 pub fn every_query_has_a_proof()
     ensures { EveryQueryHasAProof }
+{}
+
+/// Rows that don't name an assertion prove the same level without it, so it isn't critical; and those that are critical are
+/// one list.
+pub fn unnamed_is_not_critical()
+    ensures rows { RowsStayAProof }
+    ensures uncritical { UnnamedIsNotCritical }
+    ensures one { CriticalIsOne }
 {}
