@@ -8,3 +8,6 @@ pub mod LiveSetLemmas
 pub mod ViewLemmas
 pub mod VersionLemmas
 pub mod Additions
+pub mod Batches
+pub mod Singles
+pub mod Ordered

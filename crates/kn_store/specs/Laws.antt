@@ -1,12 +1,17 @@
 -- Laws of histories and of loading.
-use Rattle.std.specs.Prelude.{ℕ, ◌≡◌, ◌==◌, ◌⊎◌, ◌↔◌, true, not, List, [], ◌∷◌, ◌++◌, map, filter, Some, slice_get}
+use Rattle.std.specs.Prelude.{ℕ, ◌+◌, ◌≡◌, ◌==◌, ◌⊎◌, ◌↔◌, true, not, List, [], ◌∷◌, ◌++◌, map, filter, Some, slice_get}
 use Rattle.kn_fields.specs.declared.fault.ReadFault.{ReadFault}
 use Rattle.kn_store.specs.declared.update.Change.TheVariants.{Add, Remove}
 use Rattle.kn_store.specs.declared.update.Numbered.{Numbered}
 use Rattle.kn_store.specs.declared.update.Update.{Update}
 use Rattle.kn_store.specs.declared.fault.StoreFault.{StoreFault}
 use Rattle.kn_store.specs.LiveView.{IdsAscend}
-use Rattle.kn_store.specs.History.{NumberedText, all_changes, live, update_may_follow, is_valid_history, loaded_history}
+use Rattle.kn_store.specs.declared.item.Item.{Item}
+use Rattle.kn_store.specs.Batches.{all_numbered, numbered_from, items_in, refusal_of_items, batch_by, items_may_follow, IsRefusedItem}
+use Rattle.kn_store.specs.Changed.{after_changes}
+use Rattle.kn_store.specs.Retained.{retained_version}
+use Rattle.kn_store.specs.Singles.{Single, as_update, are_valid_singles}
+use Rattle.kn_store.specs.History.{NumberedText, all_changes, additions, credentials_of, live, update_may_follow, is_valid_history, loaded_history}
 use Rattle.kn_store.specs.Loading.{IsLoadable, IsFaultyAt, IsFullAt}
 
 -- texts make a history, or there is a first one that has a fault, or a first one that is refused
@@ -49,3 +54,35 @@ ValidGrows = (history : List Update) (update : Update) → is_valid_history hist
 -- and so is each part from its beginning
 abbrev pub ValidBefore : Type 0
 ValidBefore = (history more : List Update) → is_valid_history (history ++ more) ≡ true → is_valid_history history ≡ true
+
+-- the item that refuses a batch, found by number, is the first that is refused behind those in front of it
+abbrev pub RefusedItems : Type 0
+RefusedItems = (past : List Numbered) (items : List Item) (number : ℕ) (fault : StoreFault) → (refusal_of_items past items ≡ Some (number, fault)) ↔ IsRefusedItem past items number fault
+
+-- the ids of additions go on from how many there were
+abbrev pub IdsGoOn : Type 0
+IdsGoOn = (past : List Numbered) (items : List Item) → all_numbered past items ≡ numbered_from (additions past + 1) items
+
+-- the update that makes the changes of items may follow exactly where the items may
+abbrev pub BatchFollows : Type 0
+BatchFollows = (caller : ℕ) (past : List Numbered) (items : List Item) → update_may_follow past (batch_by caller (additions past + 1) items) ≡ items_may_follow past items
+
+-- a history of single changes is valid exactly where it is by the rules for such histories
+abbrev pub SinglesAreHistories : Type 0
+SinglesAreHistories = (singles : List Single) → is_valid_history (map as_update singles) ≡ are_valid_singles singles
+
+-- one more update makes its changes, one by one, to the credentials
+abbrev pub CredentialsByUpdate : Type 0
+CredentialsByUpdate = (history : List Update) (update : Update) → credentials_of (history ++ update ∷ []) ≡ after_changes (credentials_of history) update.changes
+
+-- the ids of the credentials of a valid history ascend, so they differ
+abbrev pub ValidIdsAscend : Type 0
+ValidIdsAscend = (history : List Update) → is_valid_history history ≡ true → IdsAscend 0 (credentials_of history)
+
+-- a kept version of a valid history is one
+abbrev pub RetainedIsValid : Type 0
+RetainedIsValid = (history kept : List Update) (number : ℕ) → is_valid_history history ≡ true → retained_version history number ≡ Some kept → is_valid_history kept ≡ true
+
+-- an update that may follow is told by its caller and its items: all ids are determined
+abbrev pub ItemsDetermineUpdate : Type 0
+ItemsDetermineUpdate = (past : List Numbered) (update : Update) → update_may_follow past update ≡ true → update ≡ batch_by update.caller (additions past + 1) (items_in update.changes)

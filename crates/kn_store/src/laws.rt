@@ -1,7 +1,7 @@
 //! Laws of histories and of loading, each of them the contract of a function that does nothing.
 
 ghost use Rattle.std.specs.Prelude.{◌≡◌, ℕ, List};
-ghost use Rattle.kn_store.specs.Laws.{LoadingEnds, LoadingEndsOnce, LoadableIsValid, AdditionIsLive, RemovalIsGone, IdsDiffer, ValidGrows, ValidBefore};
+ghost use Rattle.kn_store.specs.Laws.{LoadingEnds, LoadingEndsOnce, LoadableIsValid, AdditionIsLive, RemovalIsGone, IdsDiffer, ValidGrows, ValidBefore, RefusedItems, IdsGoOn, BatchFollows, ItemsDetermineUpdate, SinglesAreHistories, CredentialsByUpdate, ValidIdsAscend, RetainedIsValid};
 
 /// Loading texts makes a history of them, or ends at the first one that has a fault or is refused; and it ends
 /// in one way.
@@ -30,4 +30,28 @@ pub fn ids_differ()
 pub fn valid_histories()
     ensures grows { ValidGrows }
     ensures before { ValidBefore }
+{}
+
+/// The items of a batch: which one refuses it, and that its update may follow where they may.
+pub fn batches_follow()
+    ensures refused { RefusedItems }
+    ensures ids { IdsGoOn }
+    ensures follows { BatchFollows }
+    ensures determined { ItemsDetermineUpdate }
+{}
+
+/// A history whose updates have one change each is valid exactly where it is by the rules for single changes.
+pub fn singles_are_histories()
+    ensures { SinglesAreHistories }
+{}
+
+/// One more update makes its changes to the credentials one by one, and the ids of a valid history's credentials ascend.
+pub fn updates_change_credentials()
+    ensures changes { CredentialsByUpdate }
+    ensures ids { ValidIdsAscend }
+{}
+
+/// A kept version of a valid history is a valid history.
+pub fn retained_is_valid()
+    ensures { RetainedIsValid }
 {}

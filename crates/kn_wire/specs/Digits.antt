@@ -1,7 +1,7 @@
 -- Bytes by hexadecimal digits of either case (keynoted's own).
 use Rattle.std.specs.Prelude.{ℕ, ◌≡◌, ◌≤◌, length, true, ⊤, ◌+◌, ◌-◌, ◌*◌, nat_le, List, [], ◌∷◌, if◌then◌else◌}
 use Rattle.kn_base.specs.declared.limits.TheConstants.{ASSERTION_BYTES}
-use Rattle.kn_wire.specs.Requests.{Request, Assert, SetHex, Admin, Add, are_digits}
+use Rattle.kn_wire.specs.Requests.{Request, Content, BlockOf, DigitsOf, Plain, FaultOf, content_of, are_digits}
 
 -- the value of a digit
 abbrev pub digit_value : ℕ → ℕ
@@ -14,10 +14,12 @@ bytes_of_digits (digit ∷ []) = []
 bytes_of_digits (high ∷ low ∷ digits) = (digit_value high * 16 + digit_value low) ∷ bytes_of_digits digits
 
 -- the parts of a request are of their form: its digits are hexadecimal digits, an even number of them, and its block isn't
--- too long; no other request has digits or a block
+-- too long
+abbrev pub IsFormedContent : Content → Type 0
+IsFormedContent (BlockOf block) = length block ≤ ASSERTION_BYTES
+IsFormedContent (DigitsOf digits) = are_digits digits ≡ true
+IsFormedContent Plain = ⊤
+IsFormedContent (FaultOf fault) = ⊤
+
 abbrev pub IsWellFormed : Request → Type 0
-IsWellFormed (Assert s block) = length block ≤ ASSERTION_BYTES
-IsWellFormed (SetHex s name digits) = are_digits digits ≡ true
-IsWellFormed (Admin digits) = are_digits digits ≡ true
-IsWellFormed (Add block) = length block ≤ ASSERTION_BYTES
-IsWellFormed request = ⊤
+IsWellFormed request = IsFormedContent (content_of request)

@@ -3,7 +3,7 @@ use Rattle.std.specs.Prelude.{ℕ, Bool, true, false, List, [], ◌++◌, Option
 use Rattle.std.specs.List.{list_any, after_first}
 use Rattle.kn_wire.specs.declared.fault.WireFault.{WireFault}
 use Rattle.kn_wire.specs.declared.fault.WireFault.TheVariants as F
-use Rattle.kn_wire.specs.Requests.{Request, Faulty, first_of, is_newline}
+use Rattle.kn_wire.specs.Requests.{Request, Faulty, Content, BlockOf, DigitsOf, Plain, FaultOf, content_of, first_of, is_newline}
 
 -- Bytes that belong to no answered request; or a long line that was answered before its newline came; or nothing for good,
 -- since a block of n bytes was refused.
@@ -37,10 +37,15 @@ held_after_fault text F.Command left = Bytes left
 held_after_fault text F.Long left = if list_any is_newline text then Bytes left else InLong
 held_after_fault text (F.Block n) left = Shut n
 
--- what is held after this was the first request of a text, and this was left; only a fault may drop some of it
+-- what is held after a request of this content was the first of a text, and this was left; only a fault may drop some of it
+abbrev pub held_after_content : List ℕ → Content → List ℕ → Held
+held_after_content text (BlockOf block) left = Bytes left
+held_after_content text (DigitsOf digits) left = Bytes left
+held_after_content text Plain left = Bytes left
+held_after_content text (FaultOf fault) left = held_after_fault text fault left
+
 abbrev pub held_after : List ℕ → Request → List ℕ → Held
-held_after text (Faulty fault) left = held_after_fault text fault left
-held_after text request left = Bytes left
+held_after text request left = held_after_content text (content_of request) left
 
 -- the next request, and what is then held; a refused block is answered again
 abbrev pub next_of : Held → Option (Request × Held)

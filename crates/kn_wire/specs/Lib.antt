@@ -1,4 +1,5 @@
 pub mod Requests
+pub mod Items
 pub mod Digits
 pub mod Feeding
 pub mod Pieces

@@ -12,6 +12,7 @@ use Rattle.kn_wire.specs.Requests.{is_space, behind_space, is_word}
 abbrev pub with_block : Head → List ℕ → D.Request
 with_block (H.Assert s) block = D.Assert s block
 with_block H.Add block = D.Add block
+with_block H.Batch block = D.Batch block
 
 -- the line of a head whose block has so many bytes
 abbrev pub line_of_head : Head × ℕ → D.Line

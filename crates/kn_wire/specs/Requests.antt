@@ -1,6 +1,7 @@
 -- The requests of a byte stream (keynoted's own line protocol).
 use Rattle.std.specs.Prelude.{ℕ, ◌≡◌, ◌+◌, ◌%◌, Bool, true, ◌==◌, ◌&&◌, not, nat_le, nat_lt, List, [], ◌∷◌, length, take, drop, codes, slice_get, Option, Some, None, option_and_then, option_map, is_some, if◌then◌else◌}
 use Rattle.std.specs.List.{list_all, before_first, after_first, position_or_len}
+use Rattle.std.specs.Option.{option_or}
 use Rattle.std.specs.Str.{bytes_eq}
 use Rattle.kn_base.specs.Decimal.{decimal_of}
 use Rattle.kn_base.specs.declared.limits.TheConstants.{ASSERTION_BYTES, LINE_BYTES}
@@ -26,8 +27,40 @@ pub data Request : Type 0 where
   Admin : List ℕ → Request
   Add : List ℕ → Request
   Drop : ℕ → Request
+  Batch : List ℕ → Request
+  PinAt : ℕ → ℕ → Request
+  Log : ℕ → Request
   Bye : Request
   Faulty : WireFault → Request
+
+-- what stands in a request beside numbers, names and texts: a block, digits, nothing of these, or it is a fault
+pub data Content : Type 0 where
+  BlockOf : List ℕ → Content
+  DigitsOf : List ℕ → Content
+  Plain : Content
+  FaultOf : WireFault → Content
+
+abbrev pub content_of : Request → Content
+content_of Open = Plain
+content_of (Close s) = Plain
+content_of (Pin s) = Plain
+content_of (Assert s block) = BlockOf block
+content_of (Retract s k) = Plain
+content_of (Set s name value) = Plain
+content_of (SetHex s name digits) = DigitsOf digits
+content_of (Unset s name) = Plain
+content_of (Auth s principal) = Plain
+content_of (Unauth s principal) = Plain
+content_of (Clear s) = Plain
+content_of (Query s names) = Plain
+content_of (Admin digits) = DigitsOf digits
+content_of (Add block) = BlockOf block
+content_of (Drop k) = Plain
+content_of (Batch block) = BlockOf block
+content_of (PinAt s version) = Plain
+content_of (Log n) = Plain
+content_of Bye = Plain
+content_of (Faulty fault) = FaultOf fault
 
 -- the command word that a text is
 abbrev pub word_of : List ℕ → Option Word
@@ -47,6 +80,8 @@ word_of text =
     else if bytes_eq text (codes "ADMIN") then Some W.Admin
     else if bytes_eq text (codes "ADD") then Some W.Add
     else if bytes_eq text (codes "DROP") then Some W.Remove
+    else if bytes_eq text (codes "BATCH") then Some W.Batch
+    else if bytes_eq text (codes "LOG") then Some W.Log
     else if bytes_eq text (codes "BYE") then Some W.Bye
     else None
 
@@ -93,12 +128,20 @@ or_empty (Some text) = text
 abbrev pub when : Bool → Request → Option Line
 when b r = if b then Some (Whole r) else None
 
+-- a session and the number of a version
+abbrev pub pin_at_line : List ℕ → Option Line
+pin_at_line text = with_number text (λ s more. option_map (λ v. Whole (PinAt s v)) (decimal_of more))
+
+-- a session alone, or with the number of a version
+abbrev pub pin_line : List ℕ → Option Line
+pin_line text = option_or (option_map (λ s. Whole (Pin s)) (decimal_of text)) (pin_at_line text)
+
 -- the line that a command word and what follows it spell; nothing follows a word alone
 abbrev pub line_of_word : Word → Option (List ℕ) → Option Line
 line_of_word W.Open rest = when (not (is_some rest)) Open
 line_of_word W.Bye rest = when (not (is_some rest)) Bye
 line_of_word W.Close rest = option_and_then (λ text. option_map (λ s. Whole (Close s)) (decimal_of text)) rest
-line_of_word W.Pin rest = option_and_then (λ text. option_map (λ s. Whole (Pin s)) (decimal_of text)) rest
+line_of_word W.Pin rest = option_and_then pin_line rest
 line_of_word W.Clear rest = option_and_then (λ text. option_map (λ s. Whole (Clear s)) (decimal_of text)) rest
 line_of_word W.Assert rest = option_and_then (λ text. with_number text (λ s more. option_map (λ n. Blocked n (Assert s)) (decimal_of more))) rest
 line_of_word W.Retract rest = option_and_then (λ text. with_number text (λ s more. option_map (λ k. Whole (Retract s k)) (number_after 112 more))) rest
@@ -111,6 +154,8 @@ line_of_word W.Query rest = option_and_then (λ text. with_number text (λ s mor
 line_of_word W.Admin rest = option_and_then (λ text. when (nat_lt 0 (length text) && are_digits text) (Admin text)) rest
 line_of_word W.Add rest = option_and_then (λ text. option_map (λ n. Blocked n Add) (decimal_of text)) rest
 line_of_word W.Remove rest = option_and_then (λ text. option_map (λ k. Whole (Drop k)) (number_after 97 text)) rest
+line_of_word W.Batch rest = option_and_then (λ text. option_map (λ n. Blocked n Batch) (decimal_of text)) rest
+line_of_word W.Log rest = option_and_then (λ text. option_map (λ n. Whole (Log n)) (decimal_of text)) rest
 
 -- a line that is not of the form of its command
 abbrev pub or_malformed : Option Line → Line

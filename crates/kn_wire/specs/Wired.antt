@@ -22,6 +22,9 @@ request_of (Q.Query s values) = D.Query s values.now
 request_of (Q.Admin digits) = D.Admin digits.now
 request_of (Q.Add block) = D.Add block.now
 request_of (Q.Remove k) = D.Drop k
+request_of (Q.Batch block) = D.Batch block.now
+request_of (Q.PinAt s version) = D.PinAt s version
+request_of (Q.Log n) = D.Log n
 request_of Q.Bye = D.Bye
 
 -- the request, or the fault

@@ -13,6 +13,7 @@ use kn_base::decimal;
 pub(crate) enum Head {
     Assert { s: u32 },
     Add,
+    Batch,
 }
 
 impl Head {
@@ -27,6 +28,7 @@ impl Head {
         match self {
             Head::Assert { s } => Request::Assert { s, block },
             Head::Add => Request::Add { block },
+            Head::Batch => Request::Batch { block },
         }
     }
 }
@@ -41,6 +43,9 @@ pub(crate) fn read_head(line: &[u8]) -> Option<(Head, usize)>
     if let Some(text) = line.strip_prefix(b"ASSERT ") {
         return read_assert(text);
     }
+    if let Some(text) = line.strip_prefix(b"BATCH ") {
+        return read_batch(text);
+    }
     None
 }
 
@@ -49,6 +54,13 @@ fn read_add(text: &[u8]) -> Option<(Head, usize)>
 {
     let n = decimal(text)?;
     Some((Head::Add, n as usize))
+}
+
+fn read_batch(text: &[u8]) -> Option<(Head, usize)>
+    ensures { option_map line_of_head result ≡ line_of_word Word.Batch (Some text.now) }
+{
+    let n = decimal(text)?;
+    Some((Head::Batch, n as usize))
 }
 
 fn read_assert(text: &[u8]) -> Option<(Head, usize)>

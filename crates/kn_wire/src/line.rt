@@ -1,9 +1,9 @@
 //! What a line asks that names no block.
-ghost use Rattle.std.specs.Prelude.{◌≡◌, not, option_map, Some, None};
+ghost use Rattle.std.specs.Prelude.{◌≡◌, not, option_map, option_and_then, Some, None};
 ghost use Rattle.std.specs.List.{list_all};
-ghost use Rattle.kn_wire.specs.Lines.{blocked_of, name_and_rest, request_of_word};
+ghost use Rattle.kn_wire.specs.Lines.{blocked_of, name_and_rest, request_of_word, whole_of};
 ghost use Rattle.kn_wire.specs.Requests as D;
-ghost use Rattle.kn_wire.specs.Requests.{line_of, number_after, is_space, is_word, are_digits};
+ghost use Rattle.kn_wire.specs.Requests.{line_of, number_after, pin_at_line, is_space, is_word, are_digits};
 ghost use Rattle.kn_wire.specs.Wired.{request_of, request_or_fault};
 
 use crate::digits::are_digits;
@@ -54,7 +54,7 @@ fn read_behind(word: Word, text: &[u8]) -> Option<Request<'_>>
     ensures { option_map request_of result ≡ request_of_word word (Some text.now) }
 {
     match word {
-        Word::Open | Word::Bye | Word::Assert | Word::Add => None,
+        Word::Open | Word::Bye | Word::Assert | Word::Add | Word::Batch => None,
         Word::Close => read_close(text),
         Word::Pin => read_pin(text),
         Word::Retract => read_retract(text),
@@ -67,6 +67,7 @@ fn read_behind(word: Word, text: &[u8]) -> Option<Request<'_>>
         Word::Query => read_query(text),
         Word::Admin => read_admin(text),
         Word::Remove => read_remove(text),
+        Word::Log => read_log(text),
     }
 }
 
@@ -80,8 +81,25 @@ fn read_close(text: &[u8]) -> Option<Request<'_>>
 fn read_pin(text: &[u8]) -> Option<Request<'_>>
     ensures { option_map request_of result ≡ request_of_word Word.Pin (Some text.now) }
 {
-    let s = decimal(text)?;
-    Some(Request::Pin { s })
+    match decimal(text) {
+        Some(s) => Some(Request::Pin { s }),
+        None => read_pin_at(text),
+    }
+}
+
+fn read_pin_at(text: &[u8]) -> Option<Request<'_>>
+    ensures { option_map request_of result ≡ option_and_then whole_of (pin_at_line text.now) }
+{
+    let (s, rest) = split_number(text)?;
+    let version = decimal(rest)?;
+    Some(Request::PinAt { s, version })
+}
+
+fn read_log(text: &[u8]) -> Option<Request<'_>>
+    ensures { option_map request_of result ≡ request_of_word Word.Log (Some text.now) }
+{
+    let n = decimal(text)?;
+    Some(Request::Log { n })
 }
 
 fn read_clear(text: &[u8]) -> Option<Request<'_>>

@@ -13,6 +13,11 @@ pub enum Request<'a> {
     Pin {
         s: u32,
     },
+    /// Pins a retained version: PIN with its number.
+    PinAt {
+        s: u32,
+        version: u32,
+    },
     Assert {
         s: u32,
         block: &'a [u8],
@@ -62,6 +67,14 @@ pub enum Request<'a> {
     /// Removes a shared credential: `DROP`.
     Remove {
         k: u32,
+    },
+    /// Several changes, all or none of them. The block is a list of items.
+    Batch {
+        block: &'a [u8],
+    },
+    /// The updates behind the first `n`, as many as a reply tells.
+    Log {
+        n: u32,
     },
     Bye,
 }

@@ -19,6 +19,8 @@ pub(crate) enum Word {
     Add,
     Remove,
     Bye,
+    Batch,
+    Log,
 }
 
 impl Word {
@@ -61,6 +63,10 @@ impl Word {
             Some(Word::Remove)
         } else if text == b"BYE".as_slice() {
             Some(Word::Bye)
+        } else if text == b"BATCH".as_slice() {
+            Some(Word::Batch)
+        } else if text == b"LOG".as_slice() {
+            Some(Word::Log)
         } else {
             None
         }

@@ -1,8 +1,9 @@
 //! Worked examples of requests, each shown by computing it. The functions have no body: their clauses are what they say.
 
-ghost use Rattle.std.specs.Prelude.{ℕ, List, ◌≡◌, ◌<◌, ◌≤◌, ◌++◌, ◌∷◌, [], false, length, codes, Some, None};
+ghost use Rattle.std.specs.Prelude.{ℕ, List, ◌≡◌, ◌<◌, ◌≤◌, ◌++◌, ◌∷◌, [], false, length, codes, Some, None, Ok, Err};
 ghost use Rattle.std.specs.List.{list_any};
 ghost use Rattle.kn_wire.specs.Requests as Q;
+ghost use Rattle.kn_wire.specs.Items.{items_of, AddText, DropId};
 ghost use Rattle.kn_wire.specs.Requests.{first_of, Takes, is_newline, first_of_line, line_of, without_return};
 ghost use Rattle.kn_wire.specs.declared.fault.WireFault.TheVariants as F;
 
@@ -52,4 +53,24 @@ pub fn line_lengths()
     ensures read { (line rest : List ℕ) → list_any is_newline line ≡ false → length line ≤ 8192
         → first_of (line ++ 10 ∷ rest) ≡ first_of_line (line_of (without_return line)) rest }
     ensures underway { (line : List ℕ) → list_any is_newline line ≡ false → length line ≤ 8192 → first_of line ≡ None }
+{}
+
+/// Lines of the later requests.
+pub fn later_requests()
+    ensures batch { first_of (codes "BATCH 8\nDROP a9\n\nBYE\n") ≡ Some (Q.Batch (codes "DROP a9\n"), codes "BYE\n") }
+    ensures batch_of_nothing { first_of (codes "BATCH 0\n\n") ≡ Some (Q.Batch [], []) }
+    ensures pin { first_of (codes "PIN 1\n") ≡ Some (Q.Pin 1, []) }
+    ensures pin_at { first_of (codes "PIN 1 2\n") ≡ Some (Q.PinAt 1 2, []) }
+    ensures pin_more { first_of (codes "PIN 1 2 3\n") ≡ Some (Q.Faulty F.Syntax, []) }
+    ensures log { first_of (codes "LOG 0\n") ≡ Some (Q.Log 0, []) }
+{}
+
+/// The items of blocks.
+pub fn items_of_blocks()
+    ensures both { items_of (codes "ADD 2\nab\nDROP a9\n") ≡ Ok (AddText (codes "ab") ∷ DropId 9 ∷ []) }
+    ensures nothing { items_of [] ≡ Err 1 }
+    ensures with_return { items_of (codes "DROP a1\nDROP a2\r\n") ≡ Err 2 }
+    ensures unended { items_of (codes "DROP a1\nADD 2\nab") ≡ Err 2 }
+    ensures above { items_of (codes "ADD 2\nabc\n") ≡ Err 1 }
+    ensures blank { items_of (codes "DROP a1\n\n") ≡ Err 2 }
 {}
