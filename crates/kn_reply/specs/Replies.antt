@@ -1,11 +1,16 @@
 -- Replies and their texts (keynoted's own line protocol).
 use Rattle.std.specs.Prelude.{ℕ, List, [], ◌∷◌, ◌++◌, codes, decimal}
+use Rattle.std.specs.Arc.{arc_value}
 use Rattle.kn_proof.specs.declared.named.NamedRow.{NamedRow}
 use Rattle.kn_proof.specs.Texts.{value_text}
+use Rattle.kn_store.specs.declared.update.Update.{Update}
+use Rattle.kn_reply.specs.Logs.{log_text}
 use Rattle.kn_reply.specs.declared.reply.Reply.{Reply as Printed}
 use Rattle.kn_reply.specs.declared.reply.Reply.TheVariants as P
 use Rattle.kn_reply.specs.declared.refusal.Refusal.{Refusal}
 use Rattle.kn_reply.specs.declared.refusal.Refusal.TheVariants as R
+use Rattle.kn_reply.specs.declared.refusal.ItemRefusal.{ItemRefusal}
+use Rattle.kn_reply.specs.declared.refusal.ItemRefusal.TheVariants as I
 use Rattle.kn_reply.specs.declared.refusal.LimitWord.{LimitWord}
 use Rattle.kn_reply.specs.declared.refusal.LimitWord.TheVariants as W
 
@@ -16,6 +21,9 @@ pub data Reply : Type 0 where
   PrivateAdded : ℕ → Reply
   Added : ℕ → ℕ → Reply
   Value : ℕ → List ℕ → ℕ → List NamedRow → Reply
+  Batched : ℕ → ℕ → ℕ → Reply
+  PinnedAt : ℕ → ℕ → Reply
+  Log : ℕ → List Update → Reply
   No : Refusal → Reply
   NoMemory : Reply
 
@@ -30,22 +38,33 @@ word_text W.LiveBytes = codes "live-bytes"
 word_text W.Updates = codes "updates"
 word_text W.LogBytes = codes "log-bytes"
 
+-- the refusal of an item of a batch, as it would be told of a request
+abbrev pub item_refusal_text : ItemRefusal → List ℕ
+item_refusal_text (I.Read fault place) = codes "5 read " ++ decimal fault ++ 32 ∷ decimal place
+item_refusal_text (I.Auth fault) = codes "7 auth " ++ decimal fault
+item_refusal_text I.Unknown = codes "12 unknown"
+item_refusal_text (I.Limit word count) = codes "13 limit " ++ word_text word ++ 32 ∷ decimal count
+
 abbrev pub refusal_text : Refusal → List ℕ
 refusal_text R.Syntax = codes "1 syntax"
 refusal_text R.Command = codes "2 command"
 refusal_text R.Session = codes "3 session"
 refusal_text R.Admin = codes "4 admin"
-refusal_text (R.Read fault place) = codes "5 read " ++ decimal fault ++ 32 ∷ decimal place
+refusal_text (R.Read fault place) = item_refusal_text (I.Read fault place)
 refusal_text R.Policy = codes "6 policy"
-refusal_text (R.Auth fault) = codes "7 auth " ++ decimal fault
+refusal_text (R.Auth fault) = item_refusal_text (I.Auth fault)
 refusal_text R.Name = codes "8 name"
 refusal_text R.Value = codes "9 value"
 refusal_text R.Values = codes "10 values"
 refusal_text R.Principal = codes "11 principal"
-refusal_text R.Unknown = codes "12 unknown"
-refusal_text (R.Limit word count) = codes "13 limit " ++ word_text word ++ 32 ∷ decimal count
+refusal_text R.Unknown = item_refusal_text I.Unknown
+refusal_text (R.Limit word count) = item_refusal_text (I.Limit word count)
 refusal_text R.Long = codes "14 long"
 refusal_text R.Block = codes "15 block"
+refusal_text (R.Batch item) = codes "16 batch " ++ decimal item
+refusal_text (R.Item item inner) = codes "17 item " ++ decimal item ++ 32 ∷ item_refusal_text inner
+refusal_text (R.Retained newest) = codes "18 retained " ++ decimal newest
+refusal_text (R.Ahead newest) = codes "19 ahead " ++ decimal newest
 
 -- the text of a reply
 abbrev pub reply_text : Reply → List ℕ
@@ -55,6 +74,9 @@ reply_text (Number version) = codes "OK " ++ decimal version ++ 10 ∷ []
 reply_text (PrivateAdded k) = codes "OK p" ++ decimal k ++ 10 ∷ []
 reply_text (Added k version) = codes "OK a" ++ decimal k ++ 32 ∷ decimal version ++ 10 ∷ []
 reply_text (Value index name version rows) = value_text index name version rows
+reply_text (Batched first added version) = codes "OK a" ++ decimal first ++ 32 ∷ decimal added ++ 32 ∷ decimal version ++ 10 ∷ []
+reply_text (PinnedAt version newest) = codes "OK " ++ decimal version ++ 32 ∷ decimal newest ++ 10 ∷ []
+reply_text (Log n history) = log_text n history
 reply_text (No refusal) = codes "NO " ++ refusal_text refusal ++ 10 ∷ []
 reply_text NoMemory = codes "NOMEM\n"
 
@@ -66,5 +88,8 @@ reply_of (P.Number version) = Number version
 reply_of (P.Private k) = PrivateAdded k
 reply_of (P.Added k version) = Added k version
 reply_of (P.Value index name version rows) = Value index name.now version rows.now
+reply_of (P.Batched first added version) = Batched first added version
+reply_of (P.PinnedAt version newest) = PinnedAt version newest
+reply_of (P.Log n snapshot) = Log n (arc_value snapshot.now)
 reply_of (P.No refusal) = No refusal
 reply_of P.NoMemory = NoMemory

@@ -4,6 +4,7 @@
 //! examples. Requests are kn_wire's.
 #![tactic(auto)]
 
+pub mod laws;
 mod printer;
 mod printing;
 mod refusal;
@@ -11,5 +12,5 @@ mod reply;
 pub mod worked;
 
 pub use printing::print;
-pub use refusal::{LimitWord, Refusal};
+pub use refusal::{ItemRefusal, LimitWord, Refusal};
 pub use reply::Reply;

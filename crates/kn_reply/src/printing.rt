@@ -29,12 +29,14 @@ pub fn print<O: Sink>(reply: &Reply<'_>, out: &mut O) -> Result<(), Failed>
     ensures { Prints (is_whole result) (reply_text (reply_of reply.now)) (O.seen out.old) (O.seen out.new) }
 {
     match reply {
-        Reply::Value { .. } => print_long(reply, out),
+        Reply::Value { .. } | Reply::Log { .. } => print_long(reply, out),
         Reply::Ok
         | Reply::Started { .. }
         | Reply::Number { .. }
         | Reply::Private { .. }
         | Reply::Added { .. }
+        | Reply::Batched { .. }
+        | Reply::PinnedAt { .. }
         | Reply::No(_)
         | Reply::NoMemory => print_short(reply, out),
     }
@@ -71,6 +73,13 @@ fn put_reply<const N: usize, O: Sink>(printer: &mut Printer<N>, out: &mut O, rep
             version,
             rows,
         } => put_value(printer, out, *index, name, *version, rows),
+        Reply::Batched {
+            first,
+            added,
+            version,
+        } => put_batched(printer, out, *first, *added, *version),
+        Reply::PinnedAt { version, newest } => put_two(printer, out, b"OK ", *version, *newest),
+        Reply::Log { n, snapshot } => put_log(printer, out, *n, snapshot),
         Reply::No(refusal) => put_no(printer, out, *refusal),
         Reply::NoMemory => printer.put(out, b"NOMEM\n"),
     }

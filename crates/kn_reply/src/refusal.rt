@@ -36,7 +36,19 @@ impl LimitWord {
     }
 }
 
-/// Why a request is refused, in the order of the protocol's codes 1 to 15 (keynoted's own protocol).
+/// Why an item of a batch is refused: it is told by the code that it would have as a request.
+#[derive(Debug, Clone, Copy, PartialEq, Eq, Drop)]
+pub enum ItemRefusal {
+    /// The text has this fault at this place.
+    Read { fault: u8, place: u32 },
+    /// The authenticator's fault.
+    Auth { fault: u8 },
+    Unknown,
+    /// The counted quantity is at its limit, or the new text passes it.
+    Limit { word: LimitWord, count: u32 },
+}
+
+/// Why a request is refused, in the order of the protocol's codes 1 to 19 (keynoted's own protocol).
 #[derive(Debug, Clone, Copy, PartialEq, Eq, Drop)]
 pub enum Refusal {
     Syntax,
@@ -57,4 +69,12 @@ pub enum Refusal {
     Limit { word: LimitWord, count: u32 },
     Long,
     Block,
+    /// The block of a batch departs from the form of items at this one, counted from 1.
+    Batch { item: u32 },
+    /// This item of a batch is refused, counted from 1.
+    Item { item: u32, inner: ItemRefusal },
+    /// The version isn't kept; `newest` is the newest one.
+    Retained { newest: u32 },
+    /// There are fewer updates than that; `newest` is their number.
+    Ahead { newest: u32 },
 }

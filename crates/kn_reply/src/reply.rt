@@ -3,6 +3,7 @@
 use crate::refusal::Refusal;
 use kn_base::List;
 use kn_proof::NamedRow;
+use kn_store::Snapshot;
 
 /// A reply of the line protocol (keynoted's own), as it is printed.
 ///
@@ -33,6 +34,22 @@ pub enum Reply<'a> {
         name: &'a [u8],
         version: u32,
         rows: &'a List<NamedRow>,
+    },
+    /// An update of several changes was made: the id of its first addition, if it has one, and how many it has.
+    Batched {
+        first: u32,
+        added: u32,
+        version: u32,
+    },
+    /// A retained version was pinned; `newest` is the newest one.
+    PinnedAt {
+        version: u32,
+        newest: u32,
+    },
+    /// The updates behind the first `n` of those that made this version, as many as a reply tells.
+    Log {
+        n: u32,
+        snapshot: &'a Snapshot,
     },
     No(Refusal),
     NoMemory,

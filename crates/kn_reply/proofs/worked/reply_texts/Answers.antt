@@ -21,3 +21,51 @@ returns-clause-limit c = refl
 pub returns-clause-read : goal.returns-clause-read
 unfolding digits
 returns-clause-read c = refl
+
+pub returns-clause-batched : goal.returns-clause-batched
+unfolding digits
+returns-clause-batched c = refl
+
+pub returns-clause-pinned_at : goal.returns-clause-pinned_at
+unfolding digits
+returns-clause-pinned_at c = refl
+
+pub returns-clause-news : goal.returns-clause-news
+unfolding digits
+returns-clause-news c = refl
+
+pub returns-clause-critical : goal.returns-clause-critical
+unfolding digits
+returns-clause-critical c = refl
+
+pub returns-clause-uncritical : goal.returns-clause-uncritical
+unfolding digits
+returns-clause-uncritical c = refl
+
+pub returns-clause-log : goal.returns-clause-log
+unfolding digits
+returns-clause-log c = refl
+
+pub returns-clause-log_end : goal.returns-clause-log_end
+unfolding digits
+returns-clause-log_end c = refl
+
+pub returns-clause-batch : goal.returns-clause-batch
+unfolding digits
+returns-clause-batch c = refl
+
+pub returns-clause-item : goal.returns-clause-item
+unfolding digits
+returns-clause-item c = refl
+
+pub returns-clause-retained : goal.returns-clause-retained
+unfolding digits
+returns-clause-retained c = refl
+
+pub returns-clause-ahead : goal.returns-clause-ahead
+unfolding digits
+returns-clause-ahead c = refl
+
+pub returns-clause-nodes : goal.returns-clause-nodes
+unfolding digits
+returns-clause-nodes c = refl
