@@ -11,3 +11,6 @@ pub mod Additions
 pub mod Batches
 pub mod Singles
 pub mod Ordered
+pub mod ItemLemmas
+pub mod EarlierLemmas
+pub mod LogLemmas

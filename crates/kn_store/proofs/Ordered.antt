@@ -1,11 +1,10 @@
 -- The live credentials of valid histories, and what an update makes of them.
-use Rattle.std.proofs.Common.{◌≡◌, ℕ, ◌+◌, ◌<◌, ◌≤◌, Bool, true, false, cond, not, ◌==◌, ◌&&◌, nat_lt, Option, List, [], ◌∷◌, ◌++◌, length, take, drop, filter, refl, sym, ap, ◌∙◌, subst, arith, Some, None, is_none, append_assoc, append-nil, take-append-drop}
+use Rattle.std.proofs.Common.{◌≡◌, ◌↔◌, refl, nat_le, nat_lt, ◌&&◌, ℕ, ◌+◌, ◌<◌, ◌≤◌, Bool, true, false, cond, not, ◌==◌, List, [], ◌∷◌, ◌++◌, length, take, drop, filter, sym, ap, ◌∙◌, subst, arith, Some, None, is_none, append_assoc, append-nil, take-append-drop}
 use Rattle.std.specs.List.{AllByRecursion}
-use Rattle.std.proofs.lemmas.Bool.{and_parts, and_from}
+use Rattle.std.proofs.lemmas.Bool.{and_parts, leb-true, ltb-true, le-leb, lt-ltb}
 use Rattle.std.proofs.lemmas.Bool.Decides.{Decides-eqb}
 use Rattle.std.proofs.lemmas.Option.{same_Some}
 use Rattle.std.proofs.lemmas.List.Sums.{sum_by_push}
-use Rattle.std.proofs.lemmas.List.Concat.{flat_map-append}
 use Rattle.kn_store.specs.declared.update.Change.{Change}
 use Rattle.kn_store.specs.declared.update.Change.TheVariants.{Add, Remove}
 use Rattle.kn_store.specs.declared.update.Numbered.{Numbered}
@@ -109,7 +108,7 @@ ordered-updates past (u ∷ history) o follow =
 pub valid-ids_ascend : (history : List Update) → is_valid_history history ≡ true → IdsAscend 0 (credentials_of history)
 valid-ids_ascend history valid = (ordered-updates [] history (record { ids = tt; newest = tt }) valid).ids
 
--- A kept version.
+-- A retained version.
 
 pub retained-is_valid : (history kept : List Update) (number : ℕ) → is_valid_history history ≡ true → retained_version history number ≡ Some kept → is_valid_history kept ≡ true
 retained-is_valid history kept number valid e = by (is_retained (length history) number) e
@@ -119,3 +118,20 @@ retained-is_valid history kept number valid e = by (is_retained (length history)
         subst (λ l. is_valid_history l ≡ true) (same_Some (take number history) kept e)
         (valid-before (take number history) (drop number history) (subst (λ l. is_valid_history l ≡ true) (sym (take-append-drop number history)) valid))
     by false e = cc
+
+pub retained-are_newest : (history kept : List Update) (number : ℕ)
+    → (retained_version history number ≡ Some kept) ↔ ((number ≤ length history) × (length history ≤ number + 15) × (kept ≡ take number history))
+retained-are_newest history kept number = (there, back)
+  where
+    there : retained_version history number ≡ Some kept → (number ≤ length history) × (length history ≤ number + 15) × (kept ≡ take number history)
+    there e = by (is_retained (length history) number) refl e
+      where
+        by : (t : Bool) → is_retained (length history) number ≡ t → cond t (Some (take number history)) None ≡ Some kept → (number ≤ length history) × (length history ≤ number + 15) × (kept ≡ take number history)
+        by true is e =
+            let parts = and_parts (nat_le number (length history)) (nat_lt (length history) (number + 16)) is in
+            let low : number ≤ length history = leb-true number (length history) parts.0 in
+            let high : length history < number + 16 = ltb-true (length history) (number + 16) parts.1 in
+            (low, omega arith, sym (same_Some (take number history) kept e))
+        by false is e = cc
+    back : (number ≤ length history) × (length history ≤ number + 15) × (kept ≡ take number history) → retained_version history number ≡ Some kept
+    back (low, high, same) = rw (le-leb number (length history) low, lt-ltb (length history) (number + 16) (omega arith)) (ap Some (sym same))

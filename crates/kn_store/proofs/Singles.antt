@@ -3,7 +3,6 @@ use Rattle.std.proofs.Common.{◌≡◌, ℕ, Bool, true, false, ◌&&◌, is_no
 use Rattle.std.proofs.lemmas.List.{map_push, length-map}
 use Rattle.kn_store.specs.declared.update.Change.{Change}
 use Rattle.kn_store.specs.declared.update.Change.TheVariants.{Add, Remove}
-use Rattle.kn_store.specs.declared.update.Numbered.{Numbered}
 use Rattle.kn_store.specs.History.{refusal_of, is_well_numbered, may_follow, updates_may_follow, is_valid_history}
 use Rattle.kn_store.specs.Singles.{Single, change_in, changes_in, as_update, refusal_of_single, is_single_numbered, single_may_follow, singles_may_follow, are_valid_singles}
 

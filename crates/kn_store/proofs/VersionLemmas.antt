@@ -1,13 +1,17 @@
 -- A version after one more update.
-use Rattle.std.proofs.Common.{◌≡◌, ℕ, ◌+◌, true, List, [], ◌∷◌, ◌++◌, length, sym, ap, ◌∙◌, subst, arith, length-append}
+use Rattle.std.proofs.Common.{◌≡◌, ℕ, ◌+◌, true, List, [], ◌∷◌, ◌++◌, length, sym, ap, ◌∙◌, subst, arith, length-append, ◌≤◌}
+use Rattle.kn_store.specs.declared.item.Item.{Item}
+use Rattle.kn_store.specs.declared.update.Numbered.{Numbered}
 use Rattle.kn_store.specs.declared.update.Update.{Update}
 use Rattle.kn_store.specs.declared.log.TheConstants.{UPDATES_PAGE}
 use Rattle.kn_store.specs.declared.version.Version.TheInside.{Inside}
-use Rattle.kn_store.specs.History.{all_changes, is_valid_history, update_may_follow}
+use Rattle.kn_store.specs.History.{all_changes, additions, is_valid_history, update_may_follow}
+use Rattle.kn_store.specs.Batches.{batch_by}
 use Rattle.kn_store.specs.LiveView.{LiveView, live_view}
 use Rattle.kn_store.specs.Pages.{joined, with_item}
 use Rattle.kn_store.specs.Versions.{updates_of, IsVersion}
 use Rattle.kn_store.proofs.Histories.{valid-grows}
+use Rattle.kn_store.proofs.ItemLemmas.{AreMadeUpTo, changes_are, batch_follows}
 use Rattle.kn_store.proofs.PageLemmas.{joined-with_item, filled-with_item}
 use Rattle.kn_store.proofs.ViewLemmas.{changes-push, has_changes}
 
@@ -48,3 +52,20 @@ version_after v updates update live made number is seen count kept same follows 
       (subst (λ l. update_may_follow (all_changes l) update ≡ true) (sym seen) follows)),
   longer_log v updates update live is ∙ ap (λ l. l ++ update ∷ []) seen,
 )
+
+-- the same where the update makes the changes of items
+pub version_after_items : (v : Inside) (updates : List (List Update)) (caller : ℕ) (changes : List Numbered) (live : LiveView) (made : List Update) (number : ℕ)
+    → (items : List Item) (place : ℕ) (left : List Item)
+    → updates ≡ with_item UPDATES_PAGE v.updates (record { caller = caller; changes = changes }) → updates_of v ≡ made → number ≡ length made → IsVersion v
+    → AreMadeUpTo (all_changes made) items place live changes left → left ≡ [] → 1 ≤ length items → length items ≤ 256
+    → IsVersion (record { live = live; updates = updates; number = number + 1 })
+    × (joined updates ≡ made ++ batch_by caller (additions (all_changes made) + 1) items ∷ [])
+    × (update_may_follow (all_changes made) (batch_by caller (additions (all_changes made) + 1) items) ≡ true)
+version_after_items v updates caller changes live made number items place left is seen count kept so_far none some few =
+    let past = all_changes made in
+    let update : Update = record { caller = caller; changes = changes } in
+    let batch = batch_by caller (additions past + 1) items in
+    let same : update ≡ batch = ap (λ (l : List Numbered). record { caller = caller; changes = l }) (changes_are past items place live changes left so_far none) in
+    let follows : update_may_follow past batch ≡ true = batch_follows past items place live changes left so_far none caller some few in
+    let after = version_after v updates update live made number is seen count kept so_far.view (subst (λ u. update_may_follow past u ≡ true) (sym same) follows) in
+    (after.0, after.1 ∙ ap (λ u. made ++ u ∷ []) same, follows)

@@ -1,5 +1,5 @@
 -- Updates of several changes, all or none (keynoted's own).
-use Rattle.std.specs.Prelude.{ℕ, ◌≡◌, ◌+◌, Bool, true, ◌&&◌, nat_le, List, [], ◌∷◌, ◌++◌, length, map, Option, Some, None, is_none, is_some}
+use Rattle.std.specs.Prelude.{ℕ, ◌≡◌, ◌+◌, Bool, true, false, ◌&&◌, nat_le, List, [], ◌∷◌, ◌++◌, length, map, Option, Some, None, is_none, is_some}
 use Rattle.std.specs.List.{list_all}
 use Rattle.kn_base.specs.declared.limits.TheConstants.{CHANGES}
 use Rattle.kn_assert.specs.Reading.{assertion_of}
@@ -10,6 +10,8 @@ use Rattle.kn_store.specs.declared.update.Update.{Update}
 use Rattle.kn_store.specs.declared.item.Item.{Item}
 use Rattle.kn_store.specs.declared.item.Item.TheVariants as I
 use Rattle.kn_store.specs.declared.fault.StoreFault.{StoreFault}
+use Rattle.kn_store.specs.declared.fault.BatchFault.{BatchFault}
+use Rattle.kn_store.specs.declared.fault.BatchFault.TheVariants as B
 use Rattle.kn_store.specs.History.{additions, refusal_of_text, refusal_of_id}
 
 -- The change that an item is behind these, with its right id: an addition is numbered by how many there are with it, and a
@@ -79,3 +81,13 @@ pub record IsRefusedItem (past : List Numbered) (items : List Item) (number : �
   pub place : number ≡ length front + 1
   pub before : (first : List Item) (one : Item) (others : List Item) → front ≡ first ++ one ∷ others → refusal_of_item (past ++ all_numbered past first) one ≡ None
   pub refused : refusal_of_item (past ++ all_numbered past front) item ≡ Some fault
+
+-- why a batch is refused: its first refused item, counted from 1, and for what; want of memory tells nothing
+abbrev pub RefusesBatch : Option (ℕ × StoreFault) → BatchFault → Type 0
+RefusesBatch found (B.Item item fault) = found ≡ Some (item, fault)
+RefusesBatch found B.NoMemory = Unit {0}
+
+-- the item is an addition
+abbrev pub item_adds : Item → Bool
+item_adds (I.Add text) = true
+item_adds (I.Remove id) = false

@@ -114,14 +114,6 @@ addition_by caller text id = record { caller = caller; changes = record { change
 abbrev pub removal_by : ℕ → ℕ → Update
 removal_by caller id = record { caller = caller; changes = record { change = Remove; id = id } ∷ [] }
 
--- the id of the first change of an update
-abbrev pub first_id_in : List Numbered → ℕ
-first_id_in [] = 0
-first_id_in (c ∷ changes) = c.id
-
-abbrev pub first_id : Update → ℕ
-first_id u = first_id_in u.changes
-
 -- the updates that add these texts one after the other, each by this caller, behind so many additions
 abbrev pub additions_by : ℕ → ℕ → List (List ℕ) → List Update
 additions_by caller n [] = []

@@ -1,5 +1,5 @@
 -- Laws of histories and of loading.
-use Rattle.std.specs.Prelude.{ℕ, ◌+◌, ◌≡◌, ◌==◌, ◌⊎◌, ◌↔◌, true, not, List, [], ◌∷◌, ◌++◌, map, filter, Some, slice_get}
+use Rattle.std.specs.Prelude.{ℕ, ◌+◌, ◌≡◌, ◌==◌, ◌≤◌, ◌⊎◌, ◌↔◌, true, not, List, [], ◌∷◌, ◌++◌, map, filter, length, take, Some, slice_get}
 use Rattle.kn_fields.specs.declared.fault.ReadFault.{ReadFault}
 use Rattle.kn_store.specs.declared.update.Change.TheVariants.{Add, Remove}
 use Rattle.kn_store.specs.declared.update.Numbered.{Numbered}
@@ -79,7 +79,11 @@ CredentialsByUpdate = (history : List Update) (update : Update) → credentials_
 abbrev pub ValidIdsAscend : Type 0
 ValidIdsAscend = (history : List Update) → is_valid_history history ≡ true → IdsAscend 0 (credentials_of history)
 
--- a kept version of a valid history is one
+-- the newest version and the 15 before it are retained, each with its updates
+abbrev pub RetainedAreNewest : Type 0
+RetainedAreNewest = (history kept : List Update) (number : ℕ) → (retained_version history number ≡ Some kept) ↔ ((number ≤ length history) × (length history ≤ number + 15) × (kept ≡ take number history))
+
+-- a retained version of a valid history is one
 abbrev pub RetainedIsValid : Type 0
 RetainedIsValid = (history kept : List Update) (number : ℕ) → is_valid_history history ≡ true → retained_version history number ≡ Some kept → is_valid_history kept ≡ true
 

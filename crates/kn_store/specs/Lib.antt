@@ -7,8 +7,11 @@ pub mod Changed
 pub mod Laws
 pub mod Pages
 pub mod LiveView
+pub mod ItemViews
 pub mod Places
 pub mod LiveSets
 pub mod Versions
 pub mod Prepared
+pub mod Books
+pub mod Rooms
 pub mod Readies

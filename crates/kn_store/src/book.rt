@@ -1,17 +1,24 @@
 //! The book of updates.
 
-ghost use Rattle.std.specs.Prelude.{◌≡◌, ◌⊎◌, ◌+◌, ℕ, List, true, [], ◌∷◌, ◌++◌, length, Some, IfOk, IfErr, OnOk, OnErr};
+ghost use Rattle.std.specs.Prelude.{◌≡◌, ◌⊎◌, ◌+◌, ◌≤◌, ℕ, List as Of, true, [], ◌∷◌, ◌++◌, length, Some, IfOk, IfErr, OnOk, OnErr, option_map};
 ghost use Rattle.std.specs.Arc.{arc_value};
+ghost use Rattle.kn_base.specs.declared.limits.TheConstants.{CHANGES};
 ghost use Rattle.kn_store.specs.declared.update.Update.{Update};
 ghost use Rattle.kn_store.specs.declared.fault.StoreFault.TheVariants.{NoMemory as Lacking};
-ghost use Rattle.kn_store.specs.History.{all_changes, additions, is_valid_history, update_may_follow, updates_may_follow, refusal_of_text, refusal_of_id, addition_by, additions_by, removal_by, first_id, IsFirstRefused};
+ghost use Rattle.kn_store.specs.Batches.{batch_by, refusal_of_items, RefusesBatch};
+ghost use Rattle.kn_store.specs.History.{all_changes, additions, is_valid_history, update_may_follow, updates_may_follow, refusal_of_text, refusal_of_id, addition_by, additions_by, removal_by, IsFirstRefused};
+ghost use Rattle.kn_store.specs.Retained.{retained_version, AreLeft};
 
 use crate::credential::Ready;
-use crate::fault::StoreFault;
+use crate::earlier::Earlier;
+use crate::fault::{BatchFault, StoreFault};
+use crate::item::Item;
 use crate::version::{Snapshot, Version};
-use kn_base::NoMemory;
+use kn_base::limits::RETAINED_VERSIONS;
+use kn_base::{List, NoMemory};
 use std::alloc::Global;
 use std::marker::Model;
+use std::mem;
 use std::sync::Arc;
 
 /// All updates so far. It is seen as their list.
@@ -19,20 +26,25 @@ use std::sync::Arc;
 pub struct Book {
     alloc: Global,
     newest: Snapshot,
+    /// The versions before it that are retained.
+    earlier: Earlier,
 }
 
 impl Model for Book {
     ghost use Rattle.std.specs.Prelude.{List};
-    ghost use Rattle.std.specs.Arc.{arc_value};
     ghost use Rattle.kn_store.specs.declared.update.Update.{Update};
 
     ghost Value = { List Update };
 
-    ghost view = { λ b. arc_value b.newest };
+    ghost use Rattle.kn_store.specs.Books.{log_of, IsBook};
+
+    ghost view = { log_of };
+
+    ghost invariant = { IsBook };
 }
 
 /// An update for which there is memory, and which isn't in the book yet. It is seen as the log that the book would then
-/// have. To drop it changes nothing.
+/// have, and the id that is answered. To drop it changes nothing.
 #[derive(Drop)]
 pub struct Prepared {
     version: Snapshot,
@@ -40,22 +52,20 @@ pub struct Prepared {
 }
 
 impl Model for Prepared {
-    ghost use Rattle.std.specs.Prelude.{List};
-    ghost use Rattle.kn_store.specs.declared.update.Update.{Update};
+    ghost use Rattle.kn_store.specs.Prepared.{PreparedUpdate};
 
-    ghost Value = { List Update };
+    ghost Value = { PreparedUpdate };
 
-    ghost use Rattle.kn_store.specs.Prepared.{log_of, IsPrepared};
+    ghost use Rattle.kn_store.specs.Prepared.{update_of};
 
-    ghost view = { log_of };
-
-    ghost invariant = { IsPrepared };
+    ghost view = { update_of };
 }
 
 /// What an update answers.
 #[derive(Debug, Clone, Copy, PartialEq, Eq, Drop)]
 pub struct Done {
-    /// The id of its first change.
+    /// The id that an addition has or that a removal removes, and of a batch the id that its first addition has, or would
+    /// have.
     pub id: u32,
     /// The number of updates with it.
     pub version: u32,
@@ -66,15 +76,21 @@ impl Book {
     pub fn empty(alloc: Global) -> Result<Book, NoMemory>
         ensures { IfOk result (λ book. book ≡ []) }
     {
+        let earlier = Earlier::empty(alloc)?;
         match Arc::new(alloc, Version::empty(alloc)) {
-            Ok(newest) => Ok(Book { alloc, newest }),
+            Ok(newest) => Ok(Book {
+                alloc,
+                newest,
+                earlier,
+            }),
             Err(_) => Err(NoMemory),
         }
     }
 
     /// Makes an addition ready, and takes all memory that it needs. The book stays as it is.
     pub fn prepare_add(&mut self, caller: u32, ready: Ready) -> Result<Prepared, StoreFault>
-        ensures log { IfOk result (λ p. p ≡ self.old ++ addition_by caller ready (additions (all_changes self.old) + 1) ∷ []) }
+        ensures log { IfOk result (λ p. p.log ≡ self.old ++ addition_by caller ready (additions (all_changes self.old) + 1) ∷ []) }
+        ensures id { IfOk result (λ p. p.id ≡ additions (all_changes self.old) + 1) }
         ensures follows { OnOk result (update_may_follow (all_changes self.old) (addition_by caller ready (additions (all_changes self.old) + 1)) ≡ true) }
         ensures refused { IfErr result (λ fault. (fault ≡ Lacking) ⊎ (refusal_of_text (all_changes self.old) ready ≡ Some fault)) }
         ensures kept { self.new ≡ self.old }
@@ -85,7 +101,7 @@ impl Book {
         }
         let newest = self.newest.share(self.alloc)?;
         let (version, id) = newest.with_addition(self.alloc, caller, ready)?;
-        make_prepared(self.alloc, version, id)
+        Ok(make_prepared(self.alloc, version, id)?)
     }
 
     /// Adds texts, each by an update of its own, or none of them where one is refused: then its place is told, counted
@@ -99,37 +115,67 @@ impl Book {
         ensures refused { IfErr result (λ refused. (refused.1 ≡ Lacking) ⊎ IsFirstRefused self.old caller readies.items refused.0 refused.1) }
         ensures kept { OnErr result (self.new ≡ self.old) }
     {
-        let Ok(newest) = self.newest.share(self.alloc) else {
+        let Ok((newest, earlier)) = self.begin_additions(readies.len()) else {
             return Err((0, StoreFault::NoMemory));
         };
-        let version = newest.with_additions(self.alloc, caller, readies)?;
+        let (version, earlier) = newest.with_additions(self.alloc, caller, readies, earlier)?;
         let Ok(newest) = Arc::new(self.alloc, version) else {
             return Err((0, StoreFault::NoMemory));
         };
         self.newest = newest;
+        self.earlier = earlier;
         Ok(())
+    }
+
+    /// The newest version, and those of the versions before it that are still retained after so many additions.
+    fn begin_additions(&self, count: usize) -> Result<(Version, Earlier), NoMemory>
+        ensures newest { IfOk result (λ made. made.0 ≡ self.now) }
+        ensures earlier { IfOk result (λ made. AreLeft count self.now made.1) }
+    {
+        let newest = self.newest.share(self.alloc)?;
+        if count < RETAINED_VERSIONS as usize {
+            return Ok((newest, self.earlier.share(self.alloc)?));
+        }
+        Ok((newest, Earlier::empty(self.alloc)?))
     }
 
     /// Makes a removal ready, and takes all memory that it needs. The book stays as it is.
     pub fn prepare_drop(&mut self, caller: u32, id: u32) -> Result<Prepared, StoreFault>
-        ensures log { IfOk result (λ p. p ≡ self.old ++ removal_by caller id ∷ []) }
+        ensures log { IfOk result (λ p. p.log ≡ self.old ++ removal_by caller id ∷ []) }
+        ensures id { IfOk result (λ p. p.id ≡ id) }
         ensures follows { OnOk result (update_may_follow (all_changes self.old) (removal_by caller id) ≡ true) }
         ensures refused { IfErr result (λ fault. (fault ≡ Lacking) ⊎ (refusal_of_id (all_changes self.old) id ≡ Some fault)) }
         ensures kept { self.new ≡ self.old }
     {
         let version = self.newest.with_removal(self.alloc, caller, id)?;
-        make_prepared(self.alloc, version, id)
+        Ok(make_prepared(self.alloc, version, id)?)
+    }
+
+    /// Makes one update of the changes of these items ready, all of them or none, and takes all memory that it needs. The
+    /// book stays as it is. A removal may name an addition in front of it.
+    pub fn prepare_batch(&mut self, caller: u32, items: List<Item>) -> Result<Prepared, BatchFault>
+        requires some { 1 ≤ length items }
+        requires few { length items ≤ CHANGES }
+        ensures log { IfOk result (λ p. p.log ≡ self.old ++ batch_by caller (additions (all_changes self.old) + 1) items ∷ []) }
+        ensures id { IfOk result (λ p. p.id ≡ additions (all_changes self.old) + 1) }
+        ensures follows { OnOk result (update_may_follow (all_changes self.old) (batch_by caller (additions (all_changes self.old) + 1) items) ≡ true) }
+        ensures refused { IfErr result (λ fault. RefusesBatch (refusal_of_items (all_changes self.old) items) fault) }
+        ensures kept { self.new ≡ self.old }
+    {
+        let id = self.newest.next_id();
+        let version = self.newest.with_items(self.alloc, caller, items)?;
+        Ok(make_prepared(self.alloc, version, id)?)
     }
 
     /// Enters the update that was made ready. Takes no memory.
     pub fn commit(&mut self, p: Prepared) -> Done
-        requires next { (update : Update) × (p ≡ self.old ++ update ∷ []) }
-        ensures log { self.new ≡ p }
-        ensures id { (past : List Update) (update : Update) → p ≡ past ++ update ∷ [] → result.id ≡ first_id update }
+        requires next { (update : Update) × (p.log ≡ self.old ++ update ∷ []) }
+        ensures log { self.new ≡ p.log }
+        ensures id { result.id ≡ p.id }
         ensures version { result.version ≡ length self.new }
     {
         let Prepared { version, id } = p;
-        self.newest = version;
+        self.earlier.enter(mem::replace(&mut self.newest, version));
         Done {
             id,
             version: self.newest.number(),
@@ -145,6 +191,22 @@ impl Book {
         &self.newest
     }
 
+    /// The version of this number, which is that of its updates, or None unless it is the newest one or one of the 15 before
+    /// it. Takes no memory.
+    pub fn retained(&self, number: u32) -> Option<&Snapshot>
+        ensures { option_map (λ snapshot. arc_value snapshot.now) result ≡ retained_version self.now number }
+    {
+        let newest = self.newest.number();
+        if number == newest {
+            return Some(&self.newest);
+        }
+        let first = newest - self.earlier.len();
+        if number < first {
+            return None;
+        }
+        self.earlier.get(number - first)
+    }
+
     /// How many updates there are.
     pub fn length(&self) -> u32
         ensures length { result ≡ length self.now }
@@ -154,13 +216,12 @@ impl Book {
     }
 }
 
-fn make_prepared(alloc: Global, version: Version, id: u32) -> Result<Prepared, StoreFault>
-    requires { (past : List Update) (update : Update) → version ≡ past ++ update ∷ [] → id ≡ first_id update }
-    ensures log { IfOk result (λ p. p ≡ version) }
-    ensures refused { IfErr result (λ fault. fault ≡ Lacking) }
+fn make_prepared(alloc: Global, version: Version, id: u32) -> Result<Prepared, NoMemory>
+    ensures log { IfOk result (λ p. p.log ≡ version) }
+    ensures id { IfOk result (λ p. p.id ≡ id) }
 {
     match Arc::new(alloc, version) {
         Ok(version) => Ok(Prepared { version, id }),
-        Err(_) => Err(StoreFault::NoMemory),
+        Err(_) => Err(NoMemory),
     }
 }

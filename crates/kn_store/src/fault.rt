@@ -30,3 +30,24 @@ impl From<NoMemory> for StoreFault {
         StoreFault::NoMemory
     }
 }
+
+/// Why a batch is refused.
+#[derive(Debug, Clone, Copy, PartialEq, Eq, Drop)]
+pub enum BatchFault {
+    /// The first item that is refused behind those in front of it, counted from 1, and why. The fault is never want of
+    /// memory.
+    Item { item: u32, fault: StoreFault },
+    /// There was no memory for the batch.
+    NoMemory,
+}
+
+impl From<NoMemory> for BatchFault {
+    ghost use Rattle.std.specs.Prelude.{◌≡◌};
+    ghost use Rattle.kn_store.specs.declared.fault.BatchFault.TheVariants as F;
+
+    ghost from_gives = { λ _ fault. fault ≡ F.NoMemory };
+
+    fn from(_none: NoMemory) -> BatchFault {
+        BatchFault::NoMemory
+    }
+}

@@ -1,7 +1,7 @@
 //! Laws of histories and of loading, each of them the contract of a function that does nothing.
 
 ghost use Rattle.std.specs.Prelude.{◌≡◌, ℕ, List};
-ghost use Rattle.kn_store.specs.Laws.{LoadingEnds, LoadingEndsOnce, LoadableIsValid, AdditionIsLive, RemovalIsGone, IdsDiffer, ValidGrows, ValidBefore, RefusedItems, IdsGoOn, BatchFollows, ItemsDetermineUpdate, SinglesAreHistories, CredentialsByUpdate, ValidIdsAscend, RetainedIsValid};
+ghost use Rattle.kn_store.specs.Laws.{LoadingEnds, LoadingEndsOnce, LoadableIsValid, AdditionIsLive, RemovalIsGone, IdsDiffer, ValidGrows, ValidBefore, RefusedItems, IdsGoOn, BatchFollows, ItemsDetermineUpdate, SinglesAreHistories, CredentialsByUpdate, ValidIdsAscend, RetainedAreNewest, RetainedIsValid};
 
 /// Loading texts makes a history of them, or ends at the first one that has a fault or is refused; and it ends
 /// in one way.
@@ -51,7 +51,8 @@ pub fn updates_change_credentials()
     ensures ids { ValidIdsAscend }
 {}
 
-/// A kept version of a valid history is a valid history.
+/// The newest 16 versions of a history are retained, and each of them is a valid history where the whole is.
 pub fn retained_is_valid()
-    ensures { RetainedIsValid }
+    ensures newest { RetainedAreNewest }
+    ensures valid { RetainedIsValid }
 {}

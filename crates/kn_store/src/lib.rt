@@ -3,16 +3,21 @@
 
 mod book;
 mod credential;
+mod earlier;
 mod fault;
+mod item;
 pub mod laws;
 mod live_set;
 mod log;
 mod pages;
+#[cfg(test)]
+mod tests;
 mod update;
 mod version;
 
 pub use book::{Book, Done, Prepared};
 pub use credential::{Credential, Ready};
-pub use fault::StoreFault;
+pub use fault::{BatchFault, StoreFault};
+pub use item::{Item, count_additions};
 pub use update::{Change, Numbered, Update};
 pub use version::{Snapshot, Version};

@@ -1,18 +1,22 @@
 //! The live credentials with what is counted beside them.
 
-ghost use Rattle.std.specs.Prelude.{◌≡◌, ◌⊎◌, ◌<◌, ◌≤◌, ◌+◌, ◌^◌, ◌==◌, false, [], map, length, None, Some, IfOk, IfErr, OnOk, MatchOption, slice_get};
+ghost use Rattle.std.specs.Prelude.{◌≡◌, ◌⊎◌, ◌<◌, ◌≤◌, ◌+◌, ◌^◌, ◌==◌, true, false, [], map, length, None, Some, IfOk, IfErr, OnOk, MatchOption, slice_get};
 ghost use Rattle.std.specs.List.{list_any};
 ghost use Rattle.std.specs.Arc.{arc_value};
 ghost use Rattle.kn_base.specs.declared.limits.TheConstants.{LIVE_CREDENTIALS as MOST_CREDENTIALS, LIVE_BYTES as MOST_BYTES, UPDATES as MOST_UPDATES};
 ghost use Rattle.kn_store.specs.declared.fault.StoreFault.TheVariants.{NoMemory as Lacking};
+ghost use Rattle.kn_store.specs.Batches.{item_reads};
 ghost use Rattle.kn_store.specs.History.{text_bytes};
+ghost use Rattle.kn_store.specs.ItemViews.{after_item, change_of, refusal_of};
 ghost use Rattle.kn_store.specs.LiveView.{live_view, refusal_of_size, refusal_of_removal, with_addition, with_removal, IdsAscend};
 ghost use Rattle.kn_store.specs.Pages.{joined};
 ghost use Rattle.kn_store.specs.Places.{IsIdAt, IsPlaceOf, ends_before};
 
 use crate::credential::LiveCredential;
 use crate::fault::StoreFault;
+use crate::item::Item;
 use crate::pages::Pages;
+use crate::update::{Change, Numbered};
 use kn_base::NoMemory;
 use kn_base::limits::{LIVE_BYTES, LIVE_CREDENTIALS, LOGGED_BYTES, UPDATES};
 use std::alloc::Global;
@@ -158,6 +162,38 @@ impl LiveSet {
             logged: logged + size,
             added,
         })
+    }
+
+    /// What an item makes of these, and the change that it is.
+    pub(crate) fn with_item(
+        self,
+        alloc: Global,
+        item: Item,
+    ) -> Result<(LiveSet, Numbered), StoreFault>
+        ensures set { IfOk result (λ next. next.0 ≡ after_item self item) }
+        ensures change { IfOk result (λ next. next.1 ≡ change_of self item) }
+        ensures accepted { OnOk result (refusal_of self item ≡ None) }
+        ensures reads { OnOk result (item_reads item ≡ true) }
+        ensures refused { IfErr result (λ fault. (fault ≡ Lacking) ⊎ (refusal_of self item ≡ Some fault)) }
+    {
+        match item {
+            Item::Add(ready) => {
+                let size = ready.text().len();
+                if let Some(fault) = self.refusal_of_size(size) {
+                    return Err(fault);
+                }
+                let id = self.next_id();
+                let (credential, text) = ready.with_id(id);
+                let live = self.with_addition(alloc, credential, size as u32)?;
+                let change = Change::Add(text);
+                Ok((live, Numbered { change, id }))
+            }
+            Item::Remove(id) => {
+                let live = self.with_removal(alloc, id)?;
+                let change = Change::Remove;
+                Ok((live, Numbered { change, id }))
+            }
+        }
     }
 
     /// These without the one of this id.

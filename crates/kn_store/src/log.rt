@@ -1,7 +1,7 @@
 //! The log of updates, in pages that are kept in blocks.
 
-ghost use Rattle.std.specs.Prelude.{◌≡◌, ◌<◌, [], ◌∷◌, ◌++◌, length, IfOk};
-ghost use Rattle.kn_store.specs.Pages.{with_item};
+ghost use Rattle.std.specs.Prelude.{◌≡◌, ◌<◌, [], ◌∷◌, ◌++◌, length, Some, IfOk, slice_get};
+ghost use Rattle.kn_store.specs.Pages.{joined, with_item, AreFilled};
 
 use crate::pages::{Pages, share_items};
 use crate::update::Update;
@@ -50,6 +50,14 @@ impl LogPage {
         ensures { result ≡ length self.now }
     {
         self.count
+    }
+
+    /// The update at place `i`, counted from 0.
+    fn get(&self, i: u32) -> &Update
+        requires { i < length self.now }
+        ensures { slice_get self.now i ≡ Some result.now }
+    {
+        self.blocks.get(i)
     }
 
     /// The same page, which shares the blocks that are full and all updates.
@@ -105,6 +113,28 @@ impl Log {
             full: List::new(alloc),
             last: LogPage::empty(alloc),
         }
+    }
+
+    /// The update at place `i` of all, counted from 0.
+    #[tactic(auto, using(crate::proofs::LogLemmas::page_there, crate::proofs::LogLemmas::place_there, crate::proofs::LogLemmas::update_there))]
+    pub(crate) fn get(&self, i: u32) -> &Update
+        requires filled { AreFilled UPDATES_PAGE self.now }
+        requires in_range { i < length (joined self.now) }
+        ensures { slice_get (joined self.now) i ≡ Some result.now }
+    {
+        let page = (i / UPDATES_PAGE) as usize;
+        self.page(page).get(i % UPDATES_PAGE)
+    }
+
+    /// The page at this place, counted from 0.
+    fn page(&self, page: usize) -> &LogPage
+        requires { page < length self.now }
+        ensures { slice_get self.now page ≡ Some result.now }
+    {
+        if let Some(full) = self.full.as_slice().get(page) {
+            return full;
+        }
+        &self.last
     }
 
     /// The same log, which shares the pages that are full.

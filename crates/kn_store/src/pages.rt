@@ -295,7 +295,7 @@ fn room_for<'a, T: Drop>(
 }
 
 /// Adds a share of each of these at the end, for which there is room.
-fn share<T: Drop>(room: &mut Reserved<Arc<T>>, items: &[Arc<T>]) -> Result<(), NoMemory>
+pub(crate) fn share<T: Drop>(room: &mut Reserved<Arc<T>>, items: &[Arc<T>]) -> Result<(), NoMemory>
     requires room { length items.now ≤ room.old.spare }
     ensures items { OnOk result (map arc_value room.new.items ≡ map arc_value room.old.items ++ map arc_value items.now) }
     ensures spare { OnOk result (room.old.spare ≤ room.new.spare + length items.now) }

@@ -1,18 +1,24 @@
 //! Versions of the shared credentials.
 
-ghost use Rattle.std.specs.Prelude.{◌≡◌, ◌⊎◌, ◌<◌, ◌≤◌, ◌+◌, true, [], ◌∷◌, ◌++◌, map, length, ℕ, List as Of, None, Some, IfOk, IfErr, OnOk, slice_get};
-ghost use Rattle.kn_base.specs.declared.limits.TheConstants.{LIVE_CREDENTIALS, LIVE_BYTES, UPDATES};
+ghost use Rattle.std.specs.Prelude.{◌≡◌, ◌⊎◌, ◌<◌, ◌≤◌, ◌+◌, true, [], ◌∷◌, ◌++◌, map, length, ℕ, List as Of, Option, None, Some, IfOk, IfErr, OnOk, slice_get};
+ghost use Rattle.kn_base.specs.declared.limits.TheConstants.{LIVE_CREDENTIALS, LIVE_BYTES, UPDATES, CHANGES};
 ghost use Rattle.kn_assert.specs.Reading.{assertion_of};
+ghost use Rattle.kn_store.specs.declared.fault.StoreFault.{StoreFault};
 ghost use Rattle.kn_store.specs.declared.fault.StoreFault.TheVariants.{NoMemory as Lacking};
+ghost use Rattle.kn_store.specs.Batches.{batch_by, refusal_of_items, RefusesBatch};
 ghost use Rattle.kn_store.specs.History.{all_changes, additions, credentials_of, text_bytes, is_valid_history, update_may_follow, updates_may_follow, refusal_of_text, refusal_of_id, addition_by, additions_by, removal_by, IsFirstRefused};
 ghost use Rattle.kn_store.specs.LiveView.{IdsAscend};
+ghost use Rattle.kn_store.specs.Retained.{AreEarlier, AreLeft};
 
 use crate::credential::{Credential, Ready};
-use crate::fault::StoreFault;
+use crate::earlier::Earlier;
+use crate::fault::{BatchFault, StoreFault};
+use crate::item::Item;
 use crate::live_set::LiveSet;
 use crate::log::Log;
 use crate::update::{Change, Numbered, Update};
-use kn_base::{List, NoMemory, Octets};
+use kn_base::limits::RETAINED_VERSIONS;
+use kn_base::{List, NoMemory, Octets, Reserved};
 use std::alloc::Global;
 use std::marker::Model;
 use std::sync::Arc;
@@ -91,6 +97,21 @@ impl Version {
         self.live.get(i).credential()
     }
 
+    /// The i-th update that made it, counted from 0. Takes no memory.
+    pub fn update(&self, i: u32) -> &Update
+        requires in_range { i < length self.now }
+        ensures update { slice_get self.now i ≡ Some result.now }
+    {
+        self.updates.get(i)
+    }
+
+    /// The id that the next addition has.
+    pub(crate) fn next_id(&self) -> u32
+        ensures { result ≡ additions (all_changes self.now) + 1 }
+    {
+        self.live.next_id()
+    }
+
     /// The same version, which shares all pages but the last ones.
     pub(crate) fn share(&self, alloc: Global) -> Result<Version, NoMemory>
         ensures { IfOk result (λ version. version ≡ self.now) }
@@ -140,31 +161,42 @@ impl Version {
         ))
     }
 
-    /// The version after updates that add these texts one after the other, or the place of the first that is refused,
-    /// counted from 0.
+    /// The version after updates that add these texts one after the other, with those before it that are retained, or the
+    /// place of the first text that is refused, counted from 0.
+    ///
+    /// One version is handed on in place, and is shared where it is one of the last before the newest.
     pub(crate) fn with_additions(
         self,
         alloc: Global,
         caller: u32,
         readies: Vec<Ready>,
-    ) -> Result<Version, (u32, StoreFault)>
-        ensures version { IfOk result (λ next. next ≡ self ++ additions_by caller (additions (all_changes self)) readies.items) }
+        earlier: Earlier,
+    ) -> Result<(Version, Earlier), (u32, StoreFault)>
+        requires earlier { AreLeft (length readies.items) self earlier }
+        ensures version { IfOk result (λ next. next.0 ≡ self ++ additions_by caller (additions (all_changes self)) readies.items) }
+        ensures earlier { IfOk result (λ next. AreEarlier next.0 next.1) }
         ensures follow { OnOk result (updates_may_follow (all_changes self) (additions_by caller (additions (all_changes self)) readies.items) ≡ true) }
         ensures refused { IfErr result (λ refused. (refused.1 ≡ Lacking) ⊎ IsFirstRefused self caller readies.items refused.0 refused.1) }
     {
         let before = self.number();
+        let mut left = readies.len();
         let mut next = self;
+        let mut earlier = earlier;
         for ready in readies {
             let place = next.number() - before;
             if let Some(fault) = next.refusal_of_size(ready.text().len()) {
                 return Err((place, fault));
             }
+            if left < RETAINED_VERSIONS as usize && earlier.keep(alloc, &next).is_err() {
+                return Err((place, StoreFault::NoMemory));
+            }
+            left -= 1;
             match next.with_addition(alloc, caller, ready) {
                 Ok((longer, _)) => next = longer,
                 Err(_) => return Err((place, StoreFault::NoMemory)),
             }
         }
-        Ok(next)
+        Ok((next, earlier))
     }
 
     /// The version after one more update, which removes this id.
@@ -186,6 +218,53 @@ impl Version {
             updates,
             number: self.number() + 1,
         })
+    }
+
+    /// The version after one more update, which makes the changes of these items, one behind the other.
+    pub(crate) fn with_items(
+        &self,
+        alloc: Global,
+        caller: u32,
+        items: List<Item>,
+    ) -> Result<Version, BatchFault>
+        requires some { 1 ≤ length items }
+        requires few { length items ≤ CHANGES }
+        ensures version { IfOk result (λ next. next ≡ self.now ++ batch_by caller (additions (all_changes self.now) + 1) items ∷ []) }
+        ensures follows { OnOk result (update_may_follow (all_changes self.now) (batch_by caller (additions (all_changes self.now) + 1) items) ≡ true) }
+        ensures refused { IfErr result (λ fault. RefusesBatch (refusal_of_items (all_changes self.now) items) fault) }
+    {
+        let mut items = items;
+        let mut live = self.live.share(alloc)?;
+        let mut changes = Reserved::new(alloc);
+        changes.reserve(items.len())?;
+        for place in 0..items.len() {
+            let item = items.replace(place, Item::Remove(0));
+            match live.with_item(alloc, item) {
+                Ok((next, change)) => {
+                    live = next;
+                    changes.put(change);
+                }
+                Err(fault) => return Err(refusal_of_item(place + 1, fault)),
+            }
+        }
+        let changes = changes.finish();
+        let update = Update { caller, changes };
+        let updates = self.updates.share(alloc)?.with_update(alloc, update)?;
+        Ok(Version {
+            live,
+            updates,
+            number: self.number() + 1,
+        })
+    }
+}
+
+/// Why a batch is refused whose first refused item is this, for this fault.
+fn refusal_of_item(item: u32, fault: StoreFault) -> BatchFault
+    ensures { (found : Option (ℕ × StoreFault)) → (fault ≡ Lacking) ⊎ (found ≡ Some (item, fault)) → RefusesBatch found result }
+{
+    match fault {
+        StoreFault::NoMemory => BatchFault::NoMemory,
+        _ => BatchFault::Item { item, fault },
     }
 }
 

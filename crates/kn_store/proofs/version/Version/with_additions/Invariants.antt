@@ -1,6 +1,12 @@
+use Rattle.std.proofs.Common.{◌≡◌, length}
 use Rattle.std.specs.Vec.Iter.{into_iter_items}
+use Rattle.kn_store.specs.Retained.{AreLeft}
 use Rattle.kn_store.proofs.Additions.{AreAddedUpTo}
 use Rattle.kn_store.proofs.version.Version.with_additions.Given as goal
 
 abbrev pub invariant-loop-ready : goal.invariant-loop-ready
-invariant-loop-ready l = AreAddedUpTo l.fn.self l.caller l.fn.readies.items l.next (into_iter_items l.ready-iterator)
+invariant-loop-ready l = record {
+  added : AreAddedUpTo l.fn.self l.caller l.fn.readies.items l.next (into_iter_items l.ready-iterator);
+  left : l.left ≡ length (into_iter_items l.ready-iterator);
+  earlier : AreLeft l.left l.next l.earlier;
+}
