@@ -5,10 +5,13 @@
 #![tactic(auto)]
 
 pub mod laws;
+mod log_printing;
 mod printer;
 mod printing;
 mod refusal;
 mod reply;
+#[cfg(test)]
+mod tests;
 pub mod worked;
 
 pub use printing::print;

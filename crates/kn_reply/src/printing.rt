@@ -1,15 +1,18 @@
 //! Replies as text (keynoted's own line protocol).
-ghost use Rattle.std.specs.Prelude.{◌≡◌, ◌+◌, ◌/◌, ◌%◌, ◌++◌, ◌∷◌, [], length, codes, decimal, flat_map};
+ghost use Rattle.std.specs.Prelude.{◌≡◌, ◌+◌, ◌/◌, ◌%◌, ◌++◌, ◌∷◌, [], codes, decimal, flat_map};
 ghost use Rattle.std.specs.List.{list_all};
+ghost use Rattle.std.specs.Arc.{arc_value};
 ghost use Rattle.kn_outside.specs.Printing.{Prints, is_whole};
 ghost use Rattle.kn_proof.specs.Texts.{id_text, quoted_byte, row_text, value_text};
 ghost use Rattle.kn_reply.specs.Gathering.{Puts};
 ghost use Rattle.kn_reply.specs.Plain.{is_plain};
-ghost use Rattle.kn_reply.specs.Replies.{refusal_text, reply_text, word_text};
+ghost use Rattle.kn_reply.specs.Logs.{log_text};
+ghost use Rattle.kn_reply.specs.Replies.{item_refusal_text, refusal_text, reply_text, word_text};
 ghost use Rattle.kn_reply.specs.Replies.{reply_of};
 
+use crate::log_printing::put_log;
 use crate::printer::Printer;
-use crate::refusal::{LimitWord, Refusal};
+use crate::refusal::{ItemRefusal, LimitWord, Refusal};
 use crate::reply::Reply;
 use itoa::Buffer;
 use kn_base::List;
@@ -19,7 +22,8 @@ use kn_proof::{Id, NamedRow};
 /// How many bytes are gathered of a reply that gives a value, before they are written.
 const LONG_BYTES: usize = 1_024;
 
-/// How many are of each other reply, of which all fits. They are cleared for each reply, so they are few.
+/// How many are of each other reply, of which all fits: the longest has 56. They are cleared for each reply, so they are
+/// few.
 const SHORT_BYTES: usize = 64;
 
 /// Writes a reply's text. Small parts of it are gathered into few writes.
@@ -85,7 +89,11 @@ fn put_reply<const N: usize, O: Sink>(printer: &mut Printer<N>, out: &mut O, rep
     }
 }
 
-fn put_number<const N: usize, O: Sink>(printer: &mut Printer<N>, out: &mut O, number: u32)
+pub(crate) fn put_number<const N: usize, O: Sink>(
+    printer: &mut Printer<N>,
+    out: &mut O,
+    number: u32,
+)
     ensures { Puts (decimal number) printer.old (O.seen out.old) printer.new (O.seen out.new) }
 {
     let mut buffer = Buffer::new();
@@ -93,7 +101,7 @@ fn put_number<const N: usize, O: Sink>(printer: &mut Printer<N>, out: &mut O, nu
 }
 
 /// A line with a number at its end.
-fn put_one<const N: usize, O: Sink>(
+pub(crate) fn put_one<const N: usize, O: Sink>(
     printer: &mut Printer<N>,
     out: &mut O,
     front: &[u8],
@@ -107,7 +115,7 @@ fn put_one<const N: usize, O: Sink>(
 }
 
 /// A line with two numbers at its end.
-fn put_two<const N: usize, O: Sink>(
+pub(crate) fn put_two<const N: usize, O: Sink>(
     printer: &mut Printer<N>,
     out: &mut O,
     front: &[u8],
@@ -121,6 +129,20 @@ fn put_two<const N: usize, O: Sink>(
     printer.put(out, b" ");
     put_number(printer, out, last);
     printer.put(out, b"\n");
+}
+
+/// The reply to an update of several changes.
+fn put_batched<const N: usize, O: Sink>(
+    printer: &mut Printer<N>,
+    out: &mut O,
+    first: u32,
+    added: u32,
+    version: u32,
+)
+    ensures { Puts (codes "OK a" ++ decimal first ++ 32 ∷ decimal added ++ 32 ∷ decimal version ++ 10 ∷ []) printer.old (O.seen out.old) printer.new (O.seen out.new) }
+{
+    put_behind(printer, out, b"OK a", first);
+    put_two(printer, out, b" ", added, version);
 }
 
 fn put_no<const N: usize, O: Sink>(printer: &mut Printer<N>, out: &mut O, refusal: Refusal)
@@ -150,6 +172,39 @@ fn put_refusal<const N: usize, O: Sink>(printer: &mut Printer<N>, out: &mut O, r
         Refusal::Limit { word, count } => put_limit(printer, out, word, count),
         Refusal::Long => printer.put(out, b"14 long"),
         Refusal::Block => printer.put(out, b"15 block"),
+        Refusal::Batch { item } => put_behind(printer, out, b"16 batch ", item),
+        Refusal::Item { item, inner } => put_item(printer, out, item, inner),
+        Refusal::Retained { newest } => put_behind(printer, out, b"18 retained ", newest),
+        Refusal::Ahead { newest } => put_behind(printer, out, b"19 ahead ", newest),
+    }
+}
+
+/// The item of a batch that is refused, and why.
+fn put_item<const N: usize, O: Sink>(
+    printer: &mut Printer<N>,
+    out: &mut O,
+    item: u32,
+    inner: ItemRefusal,
+)
+    ensures { Puts (codes "17 item " ++ decimal item ++ 32 ∷ item_refusal_text inner) printer.old (O.seen out.old) printer.new (O.seen out.new) }
+{
+    put_behind(printer, out, b"17 item ", item);
+    printer.put(out, b" ");
+    put_item_refusal(printer, out, inner);
+}
+
+fn put_item_refusal<const N: usize, O: Sink>(
+    printer: &mut Printer<N>,
+    out: &mut O,
+    inner: ItemRefusal,
+)
+    ensures { Puts (item_refusal_text inner) printer.old (O.seen out.old) printer.new (O.seen out.new) }
+{
+    match inner {
+        ItemRefusal::Read { fault, place } => put_read(printer, out, fault, place),
+        ItemRefusal::Auth { fault } => put_auth(printer, out, fault),
+        ItemRefusal::Unknown => printer.put(out, b"12 unknown"),
+        ItemRefusal::Limit { word, count } => put_limit(printer, out, word, count),
     }
 }
 
@@ -228,21 +283,21 @@ fn put_id<const N: usize, O: Sink>(printer: &mut Printer<N>, out: &mut O, id: Id
     ensures { Puts (id_text id) printer.old (O.seen out.old) printer.new (O.seen out.new) }
 {
     match id {
-        Id::Shared(number) => put_lettered(printer, out, b"a", number),
-        Id::Private(number) => put_lettered(printer, out, b"p", number),
+        Id::Shared(number) => put_behind(printer, out, b"a", number),
+        Id::Private(number) => put_behind(printer, out, b"p", number),
     }
 }
 
-/// A number behind a letter.
-fn put_lettered<const N: usize, O: Sink>(
+/// A number behind some bytes.
+pub(crate) fn put_behind<const N: usize, O: Sink>(
     printer: &mut Printer<N>,
     out: &mut O,
-    letter: &[u8],
+    front: &[u8],
     number: u32,
 )
-    ensures { Puts (letter.now ++ decimal number) printer.old (O.seen out.old) printer.new (O.seen out.new) }
+    ensures { Puts (front.now ++ decimal number) printer.old (O.seen out.old) printer.new (O.seen out.new) }
 {
-    printer.put(out, letter);
+    printer.put(out, front);
     put_number(printer, out, number);
 }
 

@@ -35,7 +35,8 @@ pub enum Reply<'a> {
         version: u32,
         rows: &'a List<NamedRow>,
     },
-    /// An update of several changes was made: the id of its first addition, if it has one, and how many it has.
+    /// An update of the items of a batch was made, `added` of them additions. `first` is the number of additions before
+    /// the update plus 1, also where it has none; where it has any, that is the id of its first.
     Batched {
         first: u32,
         added: u32,

@@ -30,18 +30,6 @@ pub returns-clause-pinned_at : goal.returns-clause-pinned_at
 unfolding digits
 returns-clause-pinned_at c = refl
 
-pub returns-clause-news : goal.returns-clause-news
-unfolding digits
-returns-clause-news c = refl
-
-pub returns-clause-critical : goal.returns-clause-critical
-unfolding digits
-returns-clause-critical c = refl
-
-pub returns-clause-uncritical : goal.returns-clause-uncritical
-unfolding digits
-returns-clause-uncritical c = refl
-
 pub returns-clause-log : goal.returns-clause-log
 unfolding digits
 returns-clause-log c = refl
@@ -65,7 +53,3 @@ returns-clause-retained c = refl
 pub returns-clause-ahead : goal.returns-clause-ahead
 unfolding digits
 returns-clause-ahead c = refl
-
-pub returns-clause-nodes : goal.returns-clause-nodes
-unfolding digits
-returns-clause-nodes c = refl
