@@ -1,13 +1,21 @@
 -- How the calls of a turn move a pass.
-use Rattle.std.proofs.Common.{◌≡◌, ℕ, ◌+◌, ◌==◌, ◌⊎◌, ⊎_elim, Some, List, [], ◌∷◌, ◌++◌, length, true, refl, ap, sym, ◌∙◌, subst, append_assoc, append-nil, arith, length-append, All}
+use Rattle.std.proofs.Common.{◌≡◌, ℕ, ◌+◌, ◌==◌, ◌⊎◌, ⊎_elim, inl, inr, Option, Some, None, List, [], ◌∷◌, ◌++◌, length, true, refl, ap, sym, ◌∙◌, subst, append_assoc, append-nil, arith, length-append, All}
 use Rattle.std.proofs.lemmas.List.Elements.{filter-append, All-nil, All-cons}
 use mathlib.Core.List.{IsPrefix}
 use Rattle.kn_store.specs.declared.update.Update.{Update}
 use Rattle.kn_store.specs.declared.fault.StoreFault.{StoreFault}
 use Rattle.kn_store.specs.declared.fault.StoreFault.TheVariants.{Unknown, LiveFull, BytesFull, HistoryFull, LogFull, NoMemory}
+use Rattle.kn_store.specs.declared.fault.BatchFault.{BatchFault}
+use Rattle.kn_store.specs.declared.fault.BatchFault.TheVariants as B
+use Rattle.kn_store.specs.declared.item.Item.{Item}
+use Rattle.kn_store.specs.Batches.{refusal_of_items, numbered_from, batch_by, RefusesBatch}
+use Rattle.kn_store.specs.Retained.{retained_version}
 use Rattle.kn_store.specs.History.{all_changes, additions, update_may_follow, updates_may_follow, refusal_of_text, refusal_of_id, addition_by, additions_by, removal_by, own_updates, IsFirstRefused}
 use Rattle.kn_turn.specs.Passes.{after_take, after_look, after_append, after_append_all, after_give}
-use Rattle.kn_registry.specs.Passes.{PassSeen, IsSoundPass, Moves, Looks, Stays, Commits, Adds, AddsAll, Removes, RefusesText, RefusesOne, RefusesId}
+use Rattle.kn_registry.specs.declared.answer.Batched.{Batched}
+use Rattle.kn_registry.specs.declared.answer.PinFault.{PinFault}
+use Rattle.kn_registry.specs.declared.answer.PinFault.TheVariants as P
+use Rattle.kn_registry.specs.Passes.{PassSeen, IsSoundPass, Moves, Looks, Stays, Commits, Adds, AddsAll, Removes, Batches, IsRefused, Refuses, RefusesText, IsOneRefused, RefusesOne, RefusesId, RefusesItems, RefusesVersion}
 
 append_left : {A : Type 0} (xs ys zs : List A) → xs ++ ys ≡ xs ++ zs → ys ≡ zs
 append_left [] ys zs e = e
@@ -106,6 +114,27 @@ pub adds_of : (v w : PassSeen) (before : List Update) (number id id' version : �
 adds_of v w before number id id' version text is number_is id_is p sound sound' follows version_is =
     subst (λ (x : ℕ × ℕ). Commits v w (addition_by x.0 text x.1) version) (λ i. (number_is i, sym id_is i)) (commits_of v w before (addition_by number text id) version is p sound sound' follows version_is)
 
+batches_once : (v : PassSeen) (before : List Update) (items : List Item) (batched : Batched) → IsPrefix v.seen before → IsSoundPass v → IsSoundPass (after_append (after_take v before) (batch_by v.number batched.first items))
+    → update_may_follow (all_changes before) (batch_by v.number batched.first items) ≡ true → batched.version ≡ length (before ++ batch_by v.number batched.first items ∷ [])
+    → batched.first ≡ additions (all_changes before) + 1 → batched.added ≡ additions (numbered_from batched.first items) → Batches v (after_give (after_append (after_take v before) (batch_by v.number batched.first items))) items batched
+unfolding commits_once
+batches_once v before items batched p sound sound' follows version_is first_is added_is = record {
+  commits = commits_once v before (batch_by v.number batched.first items) batched.version p sound sound' follows version_is;
+  first = first_is;
+  added = added_is;
+}
+
+-- a turn at which the pass made items one update
+pub batches_of : (v w : PassSeen) (before : List Update) (number : ℕ) (items : List Item) (batched : Batched) → w ≡ after_give (after_append (after_take v before) (batch_by number batched.first items)) → number ≡ v.number
+    → IsPrefix v.seen before → IsSoundPass v → IsSoundPass w → update_may_follow (all_changes before) (batch_by number batched.first items) ≡ true → batched.version ≡ length (before ++ batch_by number batched.first items ∷ [])
+    → batched.first ≡ additions (all_changes before) + 1 → batched.added ≡ additions (numbered_from batched.first items) → Batches v w items batched
+batches_of v w before number items batched is number_is p sound sound' follows version_is first_is added_is =
+    let update = λ (n : ℕ). batch_by n batched.first items in
+    let is' : w ≡ after_give (after_append (after_take v before) (update v.number)) = is ∙ ap (λ (n : ℕ). after_give (after_append (after_take v before) (update n))) number_is in
+    subst (λ (x : PassSeen). Batches v x items batched) (sym is')
+    (batches_once v before items batched p sound (subst IsSoundPass is' sound') (subst (λ (n : ℕ). update_may_follow (all_changes before) (update n) ≡ true) number_is follows)
+    (subst (λ (n : ℕ). batched.version ≡ length (before ++ update n ∷ [])) number_is version_is) first_is added_is)
+
 -- a turn at which the pass removed an id
 pub removes_of : (v w : PassSeen) (before : List Update) (number id version : ℕ) → w ≡ after_give (after_append (after_take v before) (removal_by number id)) → number ≡ v.number
     → IsPrefix v.seen before → IsSoundPass v → IsSoundPass w → update_may_follow (all_changes before) (removal_by number id) ≡ true → version ≡ length (before ++ removal_by number id ∷ []) → Removes v w id version
@@ -138,29 +167,39 @@ adds_all_of v w before number texts is number_is p sound sound' follow =
     subst (λ (x : PassSeen). AddsAll v x texts) (sym is')
     (adds_all_once v before texts p sound (subst IsSoundPass is' sound') (subst (λ (n : ℕ). updates_may_follow (all_changes before) (updates n) ≡ true) number_is follow))
 
+-- a turn at which a change was refused for what was found
+refuses_for : (Found IsFor : StoreFault → Type 0) (v w : PassSeen) (fault : StoreFault) → Looks v w → ((f : StoreFault) → Found f → IsFor f) → (fault ≡ NoMemory) ⊎ Found fault → Refuses IsFor v w fault
+refuses_for Found IsFor v w (Unknown id) l is_for why = ⊎_elim (λ (e : Unknown id ≡ NoMemory). absurd (cc e)) (is_for (Unknown id)) why
+refuses_for Found IsFor v w (LiveFull count) l is_for why = ⊎_elim (λ (e : LiveFull count ≡ NoMemory). absurd (cc e)) (is_for (LiveFull count)) why
+refuses_for Found IsFor v w (BytesFull bytes) l is_for why = ⊎_elim (λ (e : BytesFull bytes ≡ NoMemory). absurd (cc e)) (is_for (BytesFull bytes)) why
+refuses_for Found IsFor v w (HistoryFull updates) l is_for why = ⊎_elim (λ (e : HistoryFull updates ≡ NoMemory). absurd (cc e)) (is_for (HistoryFull updates)) why
+refuses_for Found IsFor v w (LogFull bytes) l is_for why = ⊎_elim (λ (e : LogFull bytes ≡ NoMemory). absurd (cc e)) (is_for (LogFull bytes)) why
+refuses_for Found IsFor v w NoMemory l is_for why = stays_of v w l
+
 -- a turn at which a text was refused
 pub refuses_text : (v w : PassSeen) (text : List ℕ) (fault : StoreFault) → Looks v w → (fault ≡ NoMemory) ⊎ (refusal_of_text (all_changes w.seen) text ≡ Some fault) → RefusesText v w text fault
-refuses_text v w text (Unknown id) l why = ⊎_elim (λ (e : Unknown id ≡ NoMemory). absurd (cc e)) (λ (r : refusal_of_text (all_changes w.seen) text ≡ Some (Unknown id)). record { refusal_is = r; looks = l }) why
-refuses_text v w text (LiveFull count) l why = ⊎_elim (λ (e : LiveFull count ≡ NoMemory). absurd (cc e)) (λ (r : refusal_of_text (all_changes w.seen) text ≡ Some (LiveFull count)). record { refusal_is = r; looks = l }) why
-refuses_text v w text (BytesFull bytes) l why = ⊎_elim (λ (e : BytesFull bytes ≡ NoMemory). absurd (cc e)) (λ (r : refusal_of_text (all_changes w.seen) text ≡ Some (BytesFull bytes)). record { refusal_is = r; looks = l }) why
-refuses_text v w text (HistoryFull updates) l why = ⊎_elim (λ (e : HistoryFull updates ≡ NoMemory). absurd (cc e)) (λ (r : refusal_of_text (all_changes w.seen) text ≡ Some (HistoryFull updates)). record { refusal_is = r; looks = l }) why
-refuses_text v w text (LogFull bytes) l why = ⊎_elim (λ (e : LogFull bytes ≡ NoMemory). absurd (cc e)) (λ (r : refusal_of_text (all_changes w.seen) text ≡ Some (LogFull bytes)). record { refusal_is = r; looks = l }) why
-refuses_text v w text NoMemory l why = stays_of v w l
+refuses_text v w text fault l why =
+    let refusal : Option StoreFault = refusal_of_text (all_changes w.seen) text in
+    refuses_for (λ f. refusal ≡ Some f) (λ f. IsRefused refusal f v w) v w fault l (λ f found. record { refusal_is = found; looks = l }) why
 
 -- a turn at which a removal was refused
 pub refuses_id : (v w : PassSeen) (id : ℕ) (fault : StoreFault) → Looks v w → (fault ≡ NoMemory) ⊎ (refusal_of_id (all_changes w.seen) id ≡ Some fault) → RefusesId v w id fault
-refuses_id v w id (Unknown other) l why = ⊎_elim (λ (e : Unknown other ≡ NoMemory). absurd (cc e)) (λ (r : refusal_of_id (all_changes w.seen) id ≡ Some (Unknown other)). record { refusal_is = r; looks = l }) why
-refuses_id v w id (LiveFull count) l why = ⊎_elim (λ (e : LiveFull count ≡ NoMemory). absurd (cc e)) (λ (r : refusal_of_id (all_changes w.seen) id ≡ Some (LiveFull count)). record { refusal_is = r; looks = l }) why
-refuses_id v w id (BytesFull bytes) l why = ⊎_elim (λ (e : BytesFull bytes ≡ NoMemory). absurd (cc e)) (λ (r : refusal_of_id (all_changes w.seen) id ≡ Some (BytesFull bytes)). record { refusal_is = r; looks = l }) why
-refuses_id v w id (HistoryFull updates) l why = ⊎_elim (λ (e : HistoryFull updates ≡ NoMemory). absurd (cc e)) (λ (r : refusal_of_id (all_changes w.seen) id ≡ Some (HistoryFull updates)). record { refusal_is = r; looks = l }) why
-refuses_id v w id (LogFull bytes) l why = ⊎_elim (λ (e : LogFull bytes ≡ NoMemory). absurd (cc e)) (λ (r : refusal_of_id (all_changes w.seen) id ≡ Some (LogFull bytes)). record { refusal_is = r; looks = l }) why
-refuses_id v w id NoMemory l why = stays_of v w l
+refuses_id v w id fault l why =
+    let refusal : Option StoreFault = refusal_of_id (all_changes w.seen) id in
+    refuses_for (λ f. refusal ≡ Some f) (λ f. IsRefused refusal f v w) v w fault l (λ f found. record { refusal_is = found; looks = l }) why
 
 -- a turn at which one of many texts was refused
 pub refuses_one : (v w : PassSeen) (texts : List (List ℕ)) (place : ℕ) (fault : StoreFault) → Looks v w → (fault ≡ NoMemory) ⊎ IsFirstRefused w.seen v.number texts place fault → RefusesOne v w texts place fault
-refuses_one v w texts place (Unknown id) l why = ⊎_elim (λ (e : Unknown id ≡ NoMemory). absurd (cc e)) (λ (r : IsFirstRefused w.seen v.number texts place (Unknown id)). record { first = r; looks = l }) why
-refuses_one v w texts place (LiveFull count) l why = ⊎_elim (λ (e : LiveFull count ≡ NoMemory). absurd (cc e)) (λ (r : IsFirstRefused w.seen v.number texts place (LiveFull count)). record { first = r; looks = l }) why
-refuses_one v w texts place (BytesFull bytes) l why = ⊎_elim (λ (e : BytesFull bytes ≡ NoMemory). absurd (cc e)) (λ (r : IsFirstRefused w.seen v.number texts place (BytesFull bytes)). record { first = r; looks = l }) why
-refuses_one v w texts place (HistoryFull updates) l why = ⊎_elim (λ (e : HistoryFull updates ≡ NoMemory). absurd (cc e)) (λ (r : IsFirstRefused w.seen v.number texts place (HistoryFull updates)). record { first = r; looks = l }) why
-refuses_one v w texts place (LogFull bytes) l why = ⊎_elim (λ (e : LogFull bytes ≡ NoMemory). absurd (cc e)) (λ (r : IsFirstRefused w.seen v.number texts place (LogFull bytes)). record { first = r; looks = l }) why
-refuses_one v w texts place NoMemory l why = stays_of v w l
+refuses_one v w texts place fault l why =
+    refuses_for (λ f. IsFirstRefused w.seen v.number texts place f) (λ f. IsOneRefused v w texts place f) v w fault l (λ f found. record { first = found; looks = l }) why
+
+-- a turn at which an item was refused
+pub refuses_items : (v w : PassSeen) (items : List Item) (fault : BatchFault) → Looks v w → RefusesBatch (refusal_of_items (all_changes w.seen) items) fault → RefusesItems v w items fault
+refuses_items v w items (B.Item number fault) l found = record { refusal_is = found; looks = l }
+refuses_items v w items B.NoMemory l found = stays_of v w l
+
+-- a turn at which no version was given
+pub refuses_version : (v w : PassSeen) (number : ℕ) (fault : PinFault) → Looks v w → (fault ≡ P.NoMemory) ⊎ ((fault ≡ P.Missing (length w.seen)) × (retained_version w.seen number ≡ None)) → RefusesVersion v w number fault
+refuses_version v w number (P.Missing newest) l (inl e) = absurd (cc e)
+refuses_version v w number (P.Missing newest) l (inr found) = record { missing = found.1; newest_is = cc found.0; looks = l }
+refuses_version v w number P.NoMemory l why = stays_of v w l

@@ -4,6 +4,7 @@ use denote.Param.Send.{IsSend, IsSync, sendable}
 use Rattle.std.proofs.Crossing.{crosses}
 use Rattle.kn_base.proofs.Crossing.{octets_send, octets_sync}
 use Rattle.kn_base.proofs.list.List.TheSendSync as list
+use Rattle.kn_base.proofs.reserved.Reserved.TheSendSync as reserved
 use Rattle.kn_trees.specs.contracts.formula.Formula as formula
 use Rattle.kn_trees.specs.contracts.program.Program as program
 use Rattle.kn_trees.specs.contracts.assertion.Assertion as assertion
@@ -18,6 +19,7 @@ use Rattle.kn_store.specs.contracts.live_set.LiveSet as set
 use Rattle.kn_store.specs.contracts.log.LogPage as page
 use Rattle.kn_store.specs.contracts.log.Log as log
 use Rattle.kn_store.specs.contracts.version.Version as version
+use Rattle.kn_store.specs.contracts.earlier.Earlier as earlier
 use Rattle.kn_store.specs.contracts.book.Book as book
 
 formula_send : IsSend (formula.the_field).row
@@ -80,8 +82,14 @@ version_send = search (sendable, set_send, log_send) depth 20
 pub version_sync : IsSync (version.the_field).row
 version_sync = search (sendable, set_sync, log_sync) depth 20
 
+earlier_send : IsSend (earlier.the_field).row
+earlier_send = search (sendable, crosses, version_send, version_sync, reserved.the_send) depth 20
+
+earlier_sync : IsSync (earlier.the_field).row
+earlier_sync = search (sendable, crosses, version_send, version_sync, reserved.the_sync) depth 20
+
 pub book_send : IsSend (book.the_field).row
-book_send = search (sendable, crosses, version_send, version_sync) depth 20
+book_send = search (sendable, crosses, version_send, version_sync, earlier_send) depth 20
 
 pub book_sync : IsSync (book.the_field).row
-book_sync = search (sendable, crosses, version_send, version_sync) depth 20
+book_sync = search (sendable, crosses, version_send, version_sync, earlier_sync) depth 20

@@ -1,12 +1,20 @@
 -- How a call of the registry moves a pass.
-use Rattle.std.specs.Prelude.{◌≡◌, ◌≤◌, ℕ, true, List, [], ◌∷◌, ◌++◌, length, Option, Some}
+use Rattle.std.specs.Prelude.{◌≡◌, ◌+◌, ◌≤◌, ℕ, true, List, [], ◌∷◌, ◌++◌, length, Option, Some, None}
 use Rattle.atomic_table.specs.Seated.{TableId}
 use Rattle.kn_store.specs.declared.update.Update.{Update}
 use Rattle.kn_store.specs.declared.fault.StoreFault.{StoreFault}
 use Rattle.kn_store.specs.declared.fault.StoreFault.TheVariants.{Unknown, LiveFull, BytesFull, HistoryFull, LogFull, NoMemory}
+use Rattle.kn_store.specs.declared.fault.BatchFault.{BatchFault}
+use Rattle.kn_store.specs.declared.fault.BatchFault.TheVariants as B
+use Rattle.kn_store.specs.declared.item.Item.{Item}
 use Rattle.kn_store.specs.History.{all_changes, additions, is_valid_history, update_may_follow, updates_may_follow, refusal_of_text, refusal_of_id, addition_by, additions_by, removal_by, own_updates, IsFirstRefused}
+use Rattle.kn_store.specs.Batches.{refusal_of_items, numbered_from, batch_by}
+use Rattle.kn_store.specs.Retained.{retained_version}
 use Rattle.kn_turn.specs.Passes.{PassView}
 use Rattle.kn_turn.specs.Passes as T
+use Rattle.kn_registry.specs.declared.answer.Batched.{Batched}
+use Rattle.kn_registry.specs.declared.answer.PinFault.{PinFault}
+use Rattle.kn_registry.specs.declared.answer.PinFault.TheVariants as P
 use Rattle.kn_registry.specs.Callers.{caller_of}
 
 abbrev pub PassSeen : Type 0
@@ -70,18 +78,23 @@ pub record AddsAll (old new : PassSeen) (texts : List (List ℕ)) : Type 0 where
   pub ends : new.seen ≡ before ++ additions_by old.number (additions (all_changes before)) texts
   pub follow : updates_may_follow (all_changes before) (additions_by old.number (additions (all_changes before)) texts) ≡ true
 
--- the change was refused at what is then seen; without memory it wasn't tried
-pub record IsRefused (refusal : Option StoreFault) (fault : StoreFault) (old new : PassSeen) : Type 0 where
+-- what was asked for was refused at what is then seen
+pub record IsRefused {F : Type 0} (refusal : Option F) (fault : F) (old new : PassSeen) : Type 0 where
   pub refusal_is : refusal ≡ Some fault
   pub looks : Looks old new
 
+-- this holds of the store's fault; without memory nothing was tried
+abbrev pub Refuses : (StoreFault → Type 0) → PassSeen → PassSeen → StoreFault → Type 0
+Refuses IsFor old new NoMemory = Stays old new
+Refuses IsFor old new (Unknown id) = IsFor (Unknown id)
+Refuses IsFor old new (LiveFull count) = IsFor (LiveFull count)
+Refuses IsFor old new (BytesFull bytes) = IsFor (BytesFull bytes)
+Refuses IsFor old new (HistoryFull updates) = IsFor (HistoryFull updates)
+Refuses IsFor old new (LogFull bytes) = IsFor (LogFull bytes)
+
+-- why the text wasn't added
 abbrev pub RefusesText : PassSeen → PassSeen → List ℕ → StoreFault → Type 0
-RefusesText old new text NoMemory = Stays old new
-RefusesText old new text (Unknown id) = IsRefused (refusal_of_text (all_changes new.seen) text) (Unknown id) old new
-RefusesText old new text (LiveFull count) = IsRefused (refusal_of_text (all_changes new.seen) text) (LiveFull count) old new
-RefusesText old new text (BytesFull bytes) = IsRefused (refusal_of_text (all_changes new.seen) text) (BytesFull bytes) old new
-RefusesText old new text (HistoryFull updates) = IsRefused (refusal_of_text (all_changes new.seen) text) (HistoryFull updates) old new
-RefusesText old new text (LogFull bytes) = IsRefused (refusal_of_text (all_changes new.seen) text) (LogFull bytes) old new
+RefusesText old new text fault = Refuses (λ f. IsRefused (refusal_of_text (all_changes new.seen) text) f old new) old new fault
 
 -- none of the texts was added, since the one at this place is the first that is refused at what is then seen
 pub record IsOneRefused (old new : PassSeen) (texts : List (List ℕ)) (place : ℕ) (fault : StoreFault) : Type 0 where
@@ -90,17 +103,31 @@ pub record IsOneRefused (old new : PassSeen) (texts : List (List ℕ)) (place : 
 
 -- why none of the texts was added, and the place of the refused one; without memory the place tells nothing
 abbrev pub RefusesOne : PassSeen → PassSeen → List (List ℕ) → ℕ → StoreFault → Type 0
-RefusesOne old new texts place NoMemory = Stays old new
-RefusesOne old new texts place (Unknown id) = IsOneRefused old new texts place (Unknown id)
-RefusesOne old new texts place (LiveFull count) = IsOneRefused old new texts place (LiveFull count)
-RefusesOne old new texts place (BytesFull bytes) = IsOneRefused old new texts place (BytesFull bytes)
-RefusesOne old new texts place (HistoryFull updates) = IsOneRefused old new texts place (HistoryFull updates)
-RefusesOne old new texts place (LogFull bytes) = IsOneRefused old new texts place (LogFull bytes)
+RefusesOne old new texts place fault = Refuses (λ f. IsOneRefused old new texts place f) old new fault
 
+-- why the id wasn't removed
 abbrev pub RefusesId : PassSeen → PassSeen → ℕ → StoreFault → Type 0
-RefusesId old new id NoMemory = Stays old new
-RefusesId old new id (Unknown other) = IsRefused (refusal_of_id (all_changes new.seen) id) (Unknown other) old new
-RefusesId old new id (LiveFull count) = IsRefused (refusal_of_id (all_changes new.seen) id) (LiveFull count) old new
-RefusesId old new id (BytesFull bytes) = IsRefused (refusal_of_id (all_changes new.seen) id) (BytesFull bytes) old new
-RefusesId old new id (HistoryFull updates) = IsRefused (refusal_of_id (all_changes new.seen) id) (HistoryFull updates) old new
-RefusesId old new id (LogFull bytes) = IsRefused (refusal_of_id (all_changes new.seen) id) (LogFull bytes) old new
+RefusesId old new id fault = Refuses (λ f. IsRefused (refusal_of_id (all_changes new.seen) id) f old new) old new fault
+
+-- the items were made one update, which is in this version; told are the id of its first addition, or the one that the next
+-- addition has, and how many additions it has
+pub record Batches (old new : PassSeen) (items : List Item) (batched : Batched) : Type 0 where
+  pub commits : Commits old new (batch_by old.number batched.first items) batched.version
+  pub first : batched.first ≡ additions (all_changes commits.before) + 1
+  pub added : batched.added ≡ additions (numbered_from batched.first items)
+
+-- why no item changed anything, and the number of the refused one, counted from 1
+abbrev pub RefusesItems : PassSeen → PassSeen → List Item → BatchFault → Type 0
+RefusesItems old new items B.NoMemory = Stays old new
+RefusesItems old new items (B.Item number fault) = IsRefused (refusal_of_items (all_changes new.seen) items) (number, fault) old new
+
+-- the version of this number isn't retained at what is then seen, of which this is the length
+pub record IsMissing (old new : PassSeen) (number newest : ℕ) : Type 0 where
+  pub missing : retained_version new.seen number ≡ None
+  pub newest_is : newest ≡ length new.seen
+  pub looks : Looks old new
+
+-- why the version of this number wasn't given
+abbrev pub RefusesVersion : PassSeen → PassSeen → ℕ → PinFault → Type 0
+RefusesVersion old new number P.NoMemory = Stays old new
+RefusesVersion old new number (P.Missing newest) = IsMissing old new number newest

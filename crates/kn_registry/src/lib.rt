@@ -3,6 +3,10 @@
 //! A snapshot is shared. It is read after the turn was given back, so no question holds anybody up.
 #![tactic(auto)]
 
+mod answer;
 mod registry;
+#[cfg(test)]
+mod tests;
 
+pub use answer::{Batched, PinFault};
 pub use registry::{Pass, Registry, SharedBook};

@@ -1,14 +1,18 @@
 //! The registry, and its calls.
-ghost use Rattle.std.specs.Prelude.{◌≡◌, ◌≢◌, ◌<◌, ◌++◌, ◌∷◌, [], List, true, false, All, IfOk, IfErr, OnOk, OnErr};
+ghost use Rattle.std.specs.Prelude.{◌≡◌, ◌≢◌, ◌<◌, ◌≤◌, ◌++◌, ◌∷◌, [], ◌⊎◌, List, length, Some, None, true, false, All, IfOk, IfErr, OnOk, OnErr};
 ghost use mathlib.Core.List.{IsPrefix};
 ghost use Rattle.std.specs.Arc.{arc_value};
+ghost use Rattle.kn_base.specs.declared.limits.TheConstants.{CHANGES};
 ghost use Rattle.kn_store.specs.declared.update.Update.{Update};
 ghost use Rattle.kn_store.specs.History.{is_valid_history};
+ghost use Rattle.kn_store.specs.Retained.{retained_version};
 ghost use Rattle.kn_turn.specs.Passes.{root_of, split_of, after_give, after_look, after_append, after_append_all, after_split, after_join, after_meet};
-ghost use Rattle.kn_registry.specs.Passes.{IsReady, IsSoundPass, Looks, Stays, Adds, AddsAll, Removes, RefusesText, RefusesOne, RefusesId};
+ghost use Rattle.kn_registry.specs.Passes.{IsReady, IsSoundPass, Looks, Stays, Adds, AddsAll, Removes, Batches, RefusesText, RefusesOne, RefusesId, RefusesItems, RefusesVersion};
+ghost use Rattle.kn_registry.specs.declared.answer.PinFault.TheVariants as P;
 
-use kn_base::NoMemory;
-use kn_store::{Book, Ready, Snapshot, StoreFault, Update};
+use crate::answer::{Batched, PinFault};
+use kn_base::{List, NoMemory};
+use kn_store::{BatchFault, Book, Item, Ready, Snapshot, StoreFault, Update, count_additions};
 use kn_turn::{Logged, Turn};
 use std::alloc::{AllocError, Global};
 use std::marker::Model;
@@ -91,6 +95,26 @@ impl Registry {
         }
     }
 
+    /// The version of this number, out of those that are retained at the turn. Missing where none of them has it.
+    pub fn pin_at<R: Wait>(
+        &self,
+        rt: &R,
+        pass: &mut Pass,
+        version: u32,
+    ) -> Result<Snapshot, PinFault>
+        requires ready { IsReady self.now pass.old }
+        ensures ready { IsReady self.now pass.new }
+        ensures sound { IsSoundPass pass.new }
+        ensures version { IfOk result (λ snapshot. retained_version pass.new.seen version ≡ Some (arc_value snapshot)) }
+        ensures looked { OnOk result (Looks pass.old pass.new) }
+        ensures refused { IfErr result (λ fault. RefusesVersion pass.old pass.new version fault) }
+    {
+        let shared = self.turn.take(rt, pass);
+        let retained = find_retained(&shared.book, version);
+        self.look(pass, shared);
+        retained
+    }
+
     /// Adds a text, and answers its id and the version with it.
     pub fn add<R: Wait>(
         &self,
@@ -162,6 +186,42 @@ impl Registry {
                 let done = shared.book.commit(prepared);
                 self.append(pass, shared);
                 Ok(done.version)
+            }
+            Err(fault) => {
+                self.look(pass, shared);
+                Err(fault)
+            }
+        }
+    }
+
+    /// Makes these changes one update, or none of them where one is refused: then its number is told, counted from 1.
+    ///
+    /// A refusal is that behind the changes in front of the refused one, so a limit's number counts them too.
+    pub fn batch<R: Wait>(
+        &self,
+        rt: &R,
+        pass: &mut Pass,
+        items: List<Item>,
+    ) -> Result<Batched, BatchFault>
+        requires ready { IsReady self.now pass.old }
+        requires some { 1 ≤ length items }
+        requires few { length items ≤ CHANGES }
+        ensures ready { IsReady self.now pass.new }
+        ensures sound { IsSoundPass pass.new }
+        ensures batched { IfOk result (λ batched. Batches pass.old pass.new items batched) }
+        ensures refused { IfErr result (λ fault. RefusesItems pass.old pass.new items fault) }
+    {
+        let added = count_additions(&items);
+        let mut shared = self.turn.take(rt, pass);
+        match shared.book.prepare_batch(pass.number(), items) {
+            Ok(prepared) => {
+                let done = shared.book.commit(prepared);
+                self.append(pass, shared);
+                Ok(Batched {
+                    first: done.id,
+                    added,
+                    version: done.version,
+                })
             }
             Err(fault) => {
                 self.look(pass, shared);
@@ -252,5 +312,22 @@ impl Registry {
         ensures seen { IsPrefix a.old.seen a.new.seen × IsPrefix b.old.seen a.new.seen }
     {
         self.turn.meet(a, b);
+    }
+}
+
+/// The version of this number, if the book retains it.
+fn find_retained(book: &Book, version: u32) -> Result<Snapshot, PinFault>
+    ensures version { IfOk result (λ snapshot. retained_version book.now version ≡ Some (arc_value snapshot)) }
+    ensures missing { IfErr result (λ fault. (fault ≡ P.NoMemory) ⊎ ((fault ≡ P.Missing (length book.now)) × (retained_version book.now version ≡ None))) }
+{
+    let Some(retained) = book.retained(version) else {
+        return Err(PinFault::Missing {
+            newest: book.length(),
+        });
+    };
+    let snapshot: Result<Snapshot, AllocError> = retained.clone();
+    match snapshot {
+        Ok(snapshot) => Ok(snapshot),
+        Err(_) => Err(PinFault::NoMemory),
     }
 }
