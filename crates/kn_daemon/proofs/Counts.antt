@@ -4,15 +4,16 @@ use Rattle.std.specs.List.{AllByRecursion}
 use Rattle.std.specs.Option.{option_map_or}
 use Rattle.kn_principal.specs.Principals.{normal_form}
 use Rattle.kn_store.specs.declared.update.Update.{Update}
+use Rattle.kn_store.specs.Retained.{retained_version}
 use Rattle.kn_reply.specs.declared.refusal.Refusal.{Refusal}
 use Rattle.kn_wire.specs.Requests.{Request}
 use Rattle.kn_reply.specs.Replies.{Reply, No, NoMemory}
-use Rattle.kn_daemon.specs.Daemon.{Grounds, State, first_state, with_session, own_refusal, looked, controlled, changed, Does, Permits}
+use Rattle.kn_daemon.specs.Daemon.{Grounds, State, first_state, with_session, own_refusal, pinned_to, looked, controlled, changed, Does, Permits}
 use Rattle.kn_daemon.specs.Played.{after_request, played}
 use Rattle.kn_session.specs.Sessions.{Session, started_session}
 use Rattle.kn_session.specs.Calls.{Call, add_requester, is_named, after_call}
 use Rattle.kn_session.specs.Calls as C
-use Rattle.kn_daemon.specs.Shapes.{Look, ForNew, ForOpen, Control, ShowSecret, Leave, Shape, Calls, Looks, Controls, shape_of}
+use Rattle.kn_daemon.specs.Shapes.{Look, ForNew, ForOpen, ForRetained, ForLog, Control, ShowSecret, Leave, Shape, Calls, Looks, Controls, shape_of}
 use Rattle.kn_daemon.specs.Linearized.{Exchange, Along}
 use Rattle.kn_wire.specs.Feeding.{Held}
 use Rattle.kn_daemon.specs.Underway.{IsUnderway, IsSmall}
@@ -69,6 +70,12 @@ made-called n s call xs h = made-map (λ x. x.number == s) _ n (λ x. omega arit
 few-looked : (n : ℕ) (past : List Update) (state : State) (look : Look) → AreFew n state → AreFew (n + 1) (looked past state look)
 few-looked n past state ForNew few = let s = few.started in record { started = omega (arith, s); made = made-push n state.sessions (started_session (state.started + 1) past) few.made (omega arith) }
 few-looked n past state (ForOpen s) few = few-with n state s _ (λ x. omega arith) few
+few-looked n past state (ForRetained s version) few = by (retained_version past version)
+  where
+    by : (kept : Option (List Update)) → AreFew (n + 1) (pinned_to state s kept)
+    by None = few-more n state few
+    by (Some kept) = few-with n state s _ (λ x. omega arith) few
+few-looked n past state (ForLog count) few = few-more n state few
 
 few-controlled : (n : ℕ) (state : State) (control : Control) → AreFew n state → AreFew (n + 1) (controlled state control)
 few-controlled n state (ShowSecret bytes) few = let s = few.started in record { started = omega (arith, s); made = made-more n state.sessions few.made }

@@ -6,3 +6,7 @@ pub mod Opening
 pub mod Counts
 pub mod Alone
 pub mod Reading
+pub mod Updates
+pub mod Logs
+pub mod Refusals
+pub mod Faults

@@ -1,17 +1,30 @@
 -- What the daemon permits changes the state as playing does.
-use Rattle.std.proofs.Common.{◌≡◌, ◌≢◌, ℕ, suc, Option, List, [], ◌∷◌, length, take, All, Some, None, refl, sym, ap, ◌∙◌, subst, arith, take_all, le_refl}
+use Rattle.std.proofs.Common.{◌≡◌, ◌≢◌, ℕ, suc, Option, List, [], ◌∷◌, length, take, All, Some, None, refl, sym, ap, ◌∙◌, subst, arith, take_all, le_refl, is_none}
 use Rattle.std.specs.Option.{option_or, option_map_or}
 use Rattle.kn_reply.specs.declared.refusal.Refusal.{Refusal}
 use Rattle.kn_store.specs.declared.update.Update.{Update}
 use Rattle.kn_wire.specs.Requests.{Request}
 use Rattle.kn_reply.specs.Replies.{Reply, No, NoMemory}
-use Rattle.kn_daemon.specs.Shapes.{Shape, Updates, shape_of}
-use Rattle.kn_daemon.specs.Daemon.{Grounds, State, own_refusal, placed_refusal, first_refusal, changed, Does, Permits}
+use Rattle.kn_reply.specs.declared.refusal.Refusal.TheVariants as R
+use Rattle.kn_store.specs.Retained.{retained_version}
+use Rattle.kn_daemon.specs.Shapes.{Look, ForNew, ForOpen, ForRetained, ForLog, Shape, Updates, Looks, shape_of}
+use Rattle.kn_daemon.specs.Daemon.{Grounds, State, refuse_if, own_refusal, placed_refusal, placed_refusal_of_look, first_refusal, pinned_to, looked, changed, Does, Permits}
 use Rattle.kn_daemon.specs.Linearized.{Exchange, Along, requests_in}
 use Rattle.kn_daemon.specs.Played.{after_request, played}
 
 accepted : (g : Grounds) (caller : ℕ) (past : List Update) (old : State) (request : Request) (reply : Reply) (new : State) → Does g caller past old (shape_of request) reply new → new ≡ after_request g past old request
 accepted g caller past old request reply new d = d.next ∙ ap (λ o. option_map_or (λ refusal. old) o (changed past old (shape_of request))) (sym d.accepted)
+
+-- a look for which the history hasn't what is asked changes no state
+refused-look : (past : List Update) (old : State) (look : Look) (refusal : Refusal) → placed_refusal_of_look past look ≡ Some refusal → old ≡ looked past old look
+refused-look past old ForNew refusal e = absurd (cc (e))
+refused-look past old (ForOpen s) refusal e = absurd (cc (e))
+refused-look past old (ForRetained s version) refusal e = by (retained_version past version) e
+  where
+    by : (kept : Option (List Update)) → refuse_if (is_none kept) (R.Retained (length past)) None ≡ Some refusal → old ≡ pinned_to old s kept
+    by None e = refl
+    by (Some kept) e = absurd (cc (e))
+refused-look past old (ForLog n) refusal e = refl
 
 -- a request that the history refuses changes no state
 refused : (g : Grounds) (past : List Update) (old : State) (request : Request) (refusal : Refusal) → first_refusal g past old (shape_of request) ≡ Some refusal → old ≡ after_request g past old request
@@ -19,6 +32,7 @@ refused g past old request refusal h = by (own_refusal g old (shape_of request))
   where
     placed : (shape : Shape) → placed_refusal past shape ≡ Some refusal → old ≡ changed past old shape
     placed (Updates update) e = refl
+    placed (Looks look) e = refused-look past old look refusal e
     placed shape e = absurd (cc (e))
 
     by : (own : Option Refusal) → option_or own (placed_refusal past (shape_of request)) ≡ Some refusal → old ≡ option_map_or (λ refusal. old) own (changed past old (shape_of request))

@@ -3,9 +3,10 @@ use Rattle.std.proofs.Common.{◌≡◌, ◌≢◌, ◌<◌, ◌≤◌, ◌+◌,
 use Rattle.std.specs.List.{list_any, last_or, cons_option}
 use Rattle.std.proofs.lemmas.List.{map_push, length_push, length-map, length-drop, flat_map_more, take-append-le, drop-append-le, drop_all, take_rest}
 use Rattle.std.proofs.lemmas.List.Elements.{filter-append, filter_map-append}
+use Rattle.kn_wire.specs.declared.fault.WireFault.{WireFault}
 use Rattle.kn_wire.specs.declared.fault.WireFault.TheVariants as F
 use Rattle.kn_store.specs.declared.update.Update.{Update}
-use Rattle.kn_wire.specs.Requests.{Request, Bye, Faulty, Takes, first_of, is_newline}
+use Rattle.kn_wire.specs.Requests.{Request, Content, BlockOf, DigitsOf, Plain, FaultOf, content_of, Bye, Faulty, Takes, first_of, is_newline}
 use Rattle.kn_reply.specs.Replies.{Reply, reply_text}
 use Rattle.kn_store.specs.History.{is_valid_history, own_updates}
 use Rattle.kn_daemon.specs.declared.ended.Ended.{Ended}
@@ -13,8 +14,8 @@ use Rattle.kn_daemon.specs.declared.ended.Ended.TheVariants as E
 use Rattle.kn_daemon.specs.Shapes.{shape_of}
 use Rattle.kn_daemon.specs.Daemon.{Grounds, State, first_state, Permits}
 use Rattle.kn_daemon.specs.Linearized.{Exchange, Along, InOrder, IsBehind, StopsAt, update_of, update_by, requests_in, texts_in}
-use Rattle.kn_wire.specs.Feeding.{Held, Bytes, InLong, Shut, held_bytes, pushed, held_after, next_of, is_shut}
-use Rattle.kn_daemon.specs.Served.{IsDrained, IsCut, IsWritten, HasEnd, IsServed, is_bye, is_block}
+use Rattle.kn_wire.specs.Feeding.{Held, Bytes, InLong, Shut, held_bytes, pushed, held_after, held_after_content, held_after_fault, next_of, is_shut}
+use Rattle.kn_daemon.specs.Served.{IsDrained, IsCut, IsWritten, HasEnd, IsServed, is_bye, is_block, is_block_content, is_block_fault}
 use Rattle.kn_daemon.specs.Underway.{IsUnderway, IsReplied}
 use Rattle.kn_daemon.specs.Laws.{IsDry}
 use Rattle.kn_wire.proofs.Growing.{no_request, same_first, next-grows, pushed-pushed, pushed-nothing, pushed-not_shut, none-left}
@@ -36,15 +37,23 @@ one-of (Some update) = refl
 
 -- after a request that goes on, more can be taken
 not_shut-after : (text : List ℕ) (request : Request) (left : List ℕ) → is_block request ≡ false → is_shut (held_after text request left) ≡ false
-not_shut-after text (Faulty F.Syntax) left h = refl
-not_shut-after text (Faulty F.Command) left h = refl
-not_shut-after text (Faulty F.Long) left h = by (list_any is_newline text)
+not_shut-after text request left h = by_content (content_of request) h
   where
-    by : (t : Bool) → is_shut (cond t (Bytes left) InLong) ≡ false
-    by true = refl
-    by false = refl
-not_shut-after text (Faulty (F.Block n)) left h = cc
-not_shut-after text request left h = refl
+    by_line : (t : Bool) → is_shut (cond t (Bytes left) InLong) ≡ false
+    by_line true = refl
+    by_line false = refl
+
+    by_fault : (fault : WireFault) → is_block_fault fault ≡ false → is_shut (held_after_fault text fault left) ≡ false
+    by_fault F.Syntax h = refl
+    by_fault F.Command h = refl
+    by_fault F.Long h = by_line (list_any is_newline text)
+    by_fault (F.Block n) h = cc
+
+    by_content : (content : Content) → is_block_content content ≡ false → is_shut (held_after_content text content left) ≡ false
+    by_content (BlockOf block) h = refl
+    by_content (DigitsOf digits) h = refl
+    by_content Plain h = refl
+    by_content (FaultOf fault) h = by_fault fault h
 
 pub next-not_shut : (held after : Held) (request : Request) → is_shut held ≡ false → is_block request ≡ false → next_of held ≡ Some (request, after) → is_shut after ≡ false
 next-not_shut (Bytes text) after request no_block goes_on e = by (first_of text) e

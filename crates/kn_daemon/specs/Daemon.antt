@@ -1,7 +1,7 @@
 -- The sequential specification: what a daemon of one thread may reply (keynoted's own; the calls are those of keynote(3)).
 -- Requests are known by their shape, and each shape has its cases in `own_refusal`, `placed_refusal`, `changed`, `Answers` and
 -- `may_lack_memory`.
-use Rattle.std.specs.Prelude.{ℕ, ◌≡◌, ◌+◌, Bool, true, false, ◌==◌, ◌&&◌, not, nat_lt, List, [], ◌∷◌, ◌++◌, length, flat_map, slice_index_or, Option, Some, None, option_map, option_and_then, is_none, IsSomeAnd, Result, Ok, Err, if◌then◌else◌}
+use Rattle.std.specs.Prelude.{ℕ, ◌≡◌, ◌+◌, ◌≤◌, Bool, true, false, ◌==◌, ◌&&◌, not, nat_lt, List, [], ◌∷◌, ◌++◌, length, map, flat_map, slice_index_or, Option, Some, None, option_map, option_and_then, is_none, IsSome, IsSomeAnd, Result, Ok, Err, if◌then◌else◌}
 use Rattle.std.specs.Option.{option_or}
 use Rattle.std.specs.Str.{bytes_eq}
 use Rattle.kn_env.specs.Environment.{Asked}
@@ -16,9 +16,12 @@ use Rattle.kn_proof.specs.declared.named.NamedRow.{NamedRow}
 use Rattle.kn_meaning.specs.Equations.{Equations, Part, equations_over, IsPolicyLevel}
 use Rattle.kn_meaning.specs.Proofs.{IsProof}
 use Rattle.kn_store.specs.declared.update.Update.{Update}
+use Rattle.kn_store.specs.declared.item.Item.{Item}
 use Rattle.kn_store.specs.declared.fault.StoreFault.{StoreFault}
 use Rattle.kn_store.specs.declared.fault.StoreFault.TheVariants as U
-use Rattle.kn_store.specs.History.{NumberedText, all_changes, credentials_of, refusal_of_text as fault_of_addition, refusal_of_id as fault_of_removal, update_may_follow, addition_by, removal_by}
+use Rattle.kn_store.specs.History.{NumberedText, all_changes, additions, credentials_of, refusal_of_text as fault_of_addition, refusal_of_id as fault_of_removal, update_may_follow, addition_by, removal_by}
+use Rattle.kn_store.specs.Batches.{refusal_of_items, numbered_from, batch_by}
+use Rattle.kn_store.specs.Retained.{retained_version}
 use Rattle.kn_session.specs.declared.fault.SessionFault.{SessionFault}
 use Rattle.kn_session.specs.declared.fault.SessionFault.TheVariants as S
 use Rattle.kn_session.specs.declared.fault.CallFault.{CallFault}
@@ -29,11 +32,17 @@ use Rattle.kn_session.specs.Sessions.{Session, session_in, with_changed, with_st
 use Rattle.kn_session.specs.Calls.{call_fault_in, after_call, call_answer, call_may_lack_memory}
 use Rattle.kn_wire.specs.declared.fault.WireFault.{WireFault}
 use Rattle.kn_wire.specs.declared.fault.WireFault.TheVariants as F
+use Rattle.kn_wire.specs.Items.{BatchItem, items_of}
+use Rattle.kn_wire.specs.Items as B
 use Rattle.kn_reply.specs.declared.refusal.Refusal.{Refusal}
 use Rattle.kn_reply.specs.declared.refusal.Refusal.TheVariants as R
+use Rattle.kn_reply.specs.declared.refusal.ItemRefusal.{ItemRefusal}
+use Rattle.kn_reply.specs.declared.refusal.ItemRefusal.TheVariants as I
+use Rattle.kn_reply.specs.declared.refusal.LimitWord.{LimitWord}
 use Rattle.kn_reply.specs.declared.refusal.LimitWord.TheVariants as W
-use Rattle.kn_daemon.specs.Shapes.{Updating, AddText, DropId, Look, ForNew, ForOpen, Control, ShowSecret, Leave, Shape, Calls, Updates, Looks, Asks, Controls, AtFault}
-use Rattle.kn_reply.specs.Replies.{Reply, Done, Started, Number, PrivateAdded, Added, Value, No, NoMemory}
+use Rattle.kn_reply.specs.Logs.{item_of}
+use Rattle.kn_daemon.specs.Shapes.{Updating, AddText, DropId, ApplyBlock, Look, ForNew, ForOpen, ForRetained, ForLog, Control, ShowSecret, Leave, Shape, Calls, Updates, Looks, Asks, Controls, AtFault}
+use Rattle.kn_reply.specs.Replies.{Reply, Done, Started, Number, PrivateAdded, Added, Value, Batched, PinnedAt, Log, No, NoMemory}
 
 -- what the daemon is started with: the administrators' secret, and the authenticator's number for a text, 0 where it is admitted
 pub record Grounds : Type 0 where
@@ -95,21 +104,50 @@ in_session (Some session) refusal = refusal session
 abbrev pub session_refusal : State → ℕ → (Session → Option SessionFault) → Option Refusal
 session_refusal state s fault = refusal_by (fault_in s (session_of state s) fault)
 
--- the refusal that the fault of a text is; want of memory is none
+-- The refusal that the fault of a text is, however it is told: of a request, or of an item of a batch. Want of memory is none.
+abbrev pub refusal_at_text : {X : Type 0} → (ℕ → ℕ → X) → ReadFault → Option X
+refusal_at_text told fault = option_map (λ number. told number (fault_place fault)) (fault_number fault)
+
 abbrev pub refusal_of_text : ReadFault → Option Refusal
-refusal_of_text fault = option_map (λ number. R.Read number (fault_place fault)) (fault_number fault)
+refusal_of_text fault = refusal_at_text R.Read fault
 
 -- a text that has no reading is refused by its first fault, which is never want of memory
+abbrev pub refusal_at_reading : {X : Type 0} → (ℕ → ℕ → X) → Result Assertion ReadFault → (Assertion → Option X) → Option X
+refusal_at_reading told (Ok assertion) next = next assertion
+refusal_at_reading told (Err fault) next = refusal_at_text told fault
+
 abbrev pub refusal_of_reading : Result Assertion ReadFault → (Assertion → Option Refusal) → Option Refusal
-refusal_of_reading (Ok assertion) next = next assertion
-refusal_of_reading (Err fault) next = refusal_of_text fault
+refusal_of_reading reading next = refusal_at_reading R.Read reading next
 
 abbrev pub is_secret : List ℕ → List ℕ → Bool
 is_secret secret bytes = nat_lt 0 (length secret) && bytes_eq secret bytes
 
--- what the authenticator's number refuses
+-- what the authenticator's number refuses, however it is told
+abbrev pub refusal_at_verdict : {X : Type 0} → (ℕ → X) → ℕ → Option X
+refusal_at_verdict told number = if not (number == 0) then Some (told number) else None
+
 abbrev pub refusal_of_verdict : ℕ → Option Refusal
-refusal_of_verdict number = refuse_if (not (number == 0)) (R.Auth number) None
+refusal_of_verdict number = refusal_at_verdict R.Auth number
+
+-- why an item of a batch isn't admitted: its text has a fault, or the authenticator has one
+abbrev pub item_refusal : Grounds → BatchItem → Option ItemRefusal
+item_refusal g (B.AddText text) = refusal_at_reading I.Read (reading_of text) (λ a. refusal_at_verdict I.Auth (g.verdict text a))
+item_refusal g (B.DropId k) = None
+
+-- the item of this number is refused for this, or else what comes later is
+abbrev pub found_item : ℕ → Option ItemRefusal → Option Refusal → Option Refusal
+found_item number None later = later
+found_item number (Some inner) later = Some (R.Item number inner)
+
+-- the first item that isn't admitted, where they are counted from this number
+abbrev pub refusal_from : Grounds → ℕ → List BatchItem → Option Refusal
+refusal_from g number [] = None
+refusal_from g number (item ∷ items) = found_item number (item_refusal g item) (refusal_from g (number + 1) items)
+
+-- a block that departs from the form of items is refused for that, and else for the first item that isn't admitted, counted from 1
+abbrev pub refusal_of_block : Grounds → Result (List BatchItem) ℕ → Option Refusal
+refusal_of_block g (Ok items) = refusal_from g 1 items
+refusal_of_block g (Err number) = Some (R.Batch number)
 
 -- the refusal that a fault of a call is; want of memory is none
 abbrev pub refusal_of_call : CallFault → Option Refusal
@@ -119,10 +157,14 @@ refusal_of_call (T.Session fault) = refusal_of_session fault
 abbrev pub refusal_of_update : Grounds → Updating → Option Refusal
 refusal_of_update g (AddText text) = refusal_of_reading (reading_of text) (λ a. refusal_of_verdict (g.verdict text a))
 refusal_of_update g (DropId k) = None
+refusal_of_update g (ApplyBlock block) = refusal_of_block g (items_of block)
 
+-- the updates themselves are shown to an administrator alone
 abbrev pub refusal_of_look : State → Look → Option Refusal
 refusal_of_look state ForNew = refusal_by (start_fault state.sessions)
 refusal_of_look state (ForOpen s) = session_refusal state s (λ x. None)
+refusal_of_look state (ForRetained s version) = session_refusal state s (λ x. None)
+refusal_of_look state (ForLog n) = refuse_if (not state.is_admin) R.Admin None
 
 abbrev pub refusal_of_control : Grounds → Control → Option Refusal
 refusal_of_control g (ShowSecret bytes) = refuse_if (not (is_secret g.secret bytes)) R.Admin None
@@ -138,24 +180,43 @@ own_refusal g state (AtFault fault) = Some (refusal_of_fault fault)
 
 -- Refusals by the history before the request.
 
--- the refusal that a fault of the store is; want of memory is none
-abbrev pub refusal_of_store : StoreFault → Option Refusal
-refusal_of_store (U.Unknown id) = Some R.Unknown
-refusal_of_store (U.LiveFull count) = Some (R.Limit W.Live count)
-refusal_of_store (U.BytesFull bytes) = Some (R.Limit W.LiveBytes bytes)
-refusal_of_store (U.HistoryFull updates) = Some (R.Limit W.Updates updates)
-refusal_of_store (U.LogFull bytes) = Some (R.Limit W.LogBytes bytes)
-refusal_of_store U.NoMemory = None
+-- the refusal that a fault of the store is, however it is told: of a request, or of an item of a batch; want of memory is none
+abbrev pub refusal_at_store : {X : Type 0} → X → (LimitWord → ℕ → X) → StoreFault → Option X
+refusal_at_store unknown limit (U.Unknown id) = Some unknown
+refusal_at_store unknown limit (U.LiveFull count) = Some (limit W.Live count)
+refusal_at_store unknown limit (U.BytesFull bytes) = Some (limit W.LiveBytes bytes)
+refusal_at_store unknown limit (U.HistoryFull updates) = Some (limit W.Updates updates)
+refusal_at_store unknown limit (U.LogFull bytes) = Some (limit W.LogBytes bytes)
+refusal_at_store unknown limit U.NoMemory = None
 
--- what the history refuses of an update
-abbrev pub fault_of_update : List Update → Updating → Option StoreFault
-fault_of_update past (AddText text) = fault_of_addition (all_changes past) text
-fault_of_update past (DropId k) = fault_of_removal (all_changes past) k
+abbrev pub refusal_of_store : StoreFault → Option Refusal
+refusal_of_store fault = refusal_at_store R.Unknown R.Limit fault
+
+-- the refusal that the fault of the item of this number is
+abbrev pub refusal_of_item_fault : ℕ → StoreFault → Option Refusal
+refusal_of_item_fault number fault = option_map (λ inner. R.Item number inner) (refusal_at_store I.Unknown I.Limit fault)
+
+-- the first item of a block that the history refuses behind those in front of it
+abbrev pub refusal_of_batch : List Update → Result (List BatchItem) ℕ → Option Refusal
+refusal_of_batch past (Ok items) = option_and_then (λ found. refusal_of_item_fault found.0 found.1) (refusal_of_items (all_changes past) (map item_of items))
+refusal_of_batch past (Err number) = None
+
+abbrev pub placed_refusal_of_update : List Update → Updating → Option Refusal
+placed_refusal_of_update past (AddText text) = option_and_then refusal_of_store (fault_of_addition (all_changes past) text)
+placed_refusal_of_update past (DropId k) = option_and_then refusal_of_store (fault_of_removal (all_changes past) k)
+placed_refusal_of_update past (ApplyBlock block) = refusal_of_batch past (items_of block)
+
+-- a version isn't retained, or there are fewer updates than that: the newest version is told
+abbrev pub placed_refusal_of_look : List Update → Look → Option Refusal
+placed_refusal_of_look past ForNew = None
+placed_refusal_of_look past (ForOpen s) = None
+placed_refusal_of_look past (ForRetained s version) = refuse_if (is_none (retained_version past version)) (R.Retained (length past)) None
+placed_refusal_of_look past (ForLog n) = refuse_if (nat_lt (length past) n) (R.Ahead (length past)) None
 
 abbrev pub placed_refusal : List Update → Shape → Option Refusal
 placed_refusal past (Calls s call) = None
-placed_refusal past (Updates update) = option_and_then refusal_of_store (fault_of_update past update)
-placed_refusal past (Looks look) = None
+placed_refusal past (Updates update) = placed_refusal_of_update past update
+placed_refusal past (Looks look) = placed_refusal_of_look past look
 placed_refusal past (Asks s names) = None
 placed_refusal past (Controls control) = None
 placed_refusal past (AtFault fault) = None
@@ -166,12 +227,19 @@ first_refusal g past state shape = option_or (own_refusal g state shape) (placed
 
 -- Changes.
 
+-- a session pinned to the version of these updates, where that is retained
+abbrev pub pinned_to : State → ℕ → Option (List Update) → State
+pinned_to state s None = state
+pinned_to state s (Some version) = with_session state s (pin_at version)
+
 abbrev pub looked : List Update → State → Look → State
 looked past state ForNew = record state {
   started = state.started + 1;
   sessions = with_started state.started state.sessions past;
 }
 looked past state (ForOpen s) = with_session state s (pin_at past)
+looked past state (ForRetained s version) = pinned_to state s (retained_version past version)
+looked past state (ForLog n) = state
 
 abbrev pub controlled : State → Control → State
 controlled state (ShowSecret bytes) = record state { is_admin = true }
@@ -229,25 +297,37 @@ pub record IsCommitted (past : List Update) (update : Update) : Type 0 where
   pub ends : past ≡ before ++ update ∷ []
   pub accepted : update_may_follow (all_changes before) update ≡ true
 
+-- The history ends with this caller's update that makes the changes of these items, which may follow what is before it. Told are
+-- the id that its first addition has, or would have, the number of its additions, and its place.
+pub record IsBatchCommitted (caller : ℕ) (past : List Update) (items : List Item) (reply : Reply) : Type 0 where
+  pub before : List Update
+  pub ends : past ≡ before ++ batch_by caller (additions (all_changes before) + 1) items ∷ []
+  pub accepted : update_may_follow (all_changes before) (batch_by caller (additions (all_changes before) + 1) items) ≡ true
+  pub told : reply ≡ Batched (additions (all_changes before) + 1) (additions (numbered_from (additions (all_changes before) + 1) items)) (length past)
+
 -- a new private assertion is told by its id
 abbrev pub reply_of_call : Applied → Reply
 reply_of_call A.Done = Done
 reply_of_call (A.Added k) = PrivateAdded k
 
--- an addition or a removal of this caller is the last update of the history
+-- an addition, a removal or a batch of this caller is the last update of the history
 abbrev pub IsUpdated : ℕ → List Update → Updating → Reply → Type 0
 IsUpdated caller past (AddText text) reply = (id : ℕ) × IsCommitted past (addition_by caller text id) × (reply ≡ Added id (length past))
 IsUpdated caller past (DropId k) reply = IsCommitted past (removal_by caller k) × (reply ≡ Number (length past))
+IsUpdated caller past (ApplyBlock block) reply = (items : List BatchItem) × (items_of block ≡ Ok items) × IsBatchCommitted caller past (map item_of items) reply
 
-abbrev pub reply_of_look : List Update → State → Look → Reply
-reply_of_look past old ForNew = Started (old.started + 1) (length past)
-reply_of_look past old (ForOpen s) = Number (length past)
+-- The reply to an accepted look. The version asked for is retained; LOG's n is no more than the number of updates.
+abbrev pub IsLooked : List Update → State → Look → Reply → Type 0
+IsLooked past old ForNew reply = reply ≡ Started (old.started + 1) (length past)
+IsLooked past old (ForOpen s) reply = reply ≡ Number (length past)
+IsLooked past old (ForRetained s version) reply = IsSome (retained_version past version) × (reply ≡ PinnedAt version (length past))
+IsLooked past old (ForLog n) reply = (n ≤ length past) × (reply ≡ Log n past)
 
 -- what an accepted request of this caller gives after this history
 abbrev pub Answers : ℕ → List Update → State → Shape → Reply → Type 0
 Answers caller past old (Calls s call) reply = IsSomeAnd (session_of old s) (λ session. reply ≡ reply_of_call (call_answer call session))
 Answers caller past old (Updates update) reply = IsUpdated caller past update reply
-Answers caller past old (Looks look) reply = reply ≡ reply_of_look past old look
+Answers caller past old (Looks look) reply = IsLooked past old look reply
 Answers caller past old (Asks s names) reply = IsAnswered old s names reply
 Answers caller past old (Controls control) reply = reply ≡ Done
 Answers caller past old (AtFault fault) reply = ⊥

@@ -1,5 +1,5 @@
 -- Laws of a connection that is being served, of requests, and of histories.
-use Rattle.std.specs.Prelude.{ℕ, ◌≡◌, ◌≢◌, ◌+◌, ◌<◌, Bool, true, false, List, [], ◌∷◌, ◌++◌, length, take, drop, All, Option, Some, None, option_map, codes}
+use Rattle.std.specs.Prelude.{ℕ, ◌≡◌, ◌≢◌, ◌+◌, ◌<◌, ◌≤◌, Bool, true, false, List, [], ◌∷◌, ◌++◌, length, take, drop, All, Option, Some, None, option_map, codes}
 use Rattle.kn_base.specs.declared.limits.TheConstants.{REQUESTS}
 use Rattle.kn_trees.specs.declared.assertion.Assertion.{Assertion}
 use Rattle.kn_assert.specs.Reading.{reading_of, assertion_of, fault_of}
@@ -8,16 +8,21 @@ use Rattle.kn_fields.specs.declared.fault.ReadFault.{ReadFault}
 use Rattle.kn_wire.specs.declared.fault.WireFault.TheVariants as F
 use Rattle.kn_reply.specs.declared.refusal.Refusal.{Refusal}
 use Rattle.kn_reply.specs.declared.refusal.Refusal.TheVariants as R
+use Rattle.kn_reply.specs.declared.refusal.ItemRefusal.TheVariants as I
 use Rattle.kn_store.specs.declared.update.Update.{Update}
 use Rattle.kn_wire.specs.Requests.{Request, Bye, Faulty}
-use Rattle.kn_reply.specs.Replies.{Reply, NoMemory, reply_text}
+use Rattle.kn_wire.specs.Items.{AddText}
+use Rattle.kn_reply.specs.Replies.{Reply, Log, No, NoMemory, reply_text}
 use Rattle.kn_store.specs.History.{is_valid_history, own_updates}
 use Rattle.kn_daemon.specs.declared.ended.Ended.{Ended}
 use Rattle.kn_daemon.specs.declared.ended.Ended.TheVariants as E
-use Rattle.kn_daemon.specs.Shapes.{shape_of}
-use Rattle.kn_daemon.specs.Daemon.{Grounds, State, first_state, refusal_of_reading, Permits}
-use Rattle.kn_daemon.specs.Linearized.{Exchange, Along, requests_in}
+use Rattle.kn_daemon.specs.Shapes.{ForLog, Shape, Looks, shape_of}
+use Rattle.kn_daemon.specs.Daemon.{Grounds, State, first_state, refusal_of_reading, refusal_at_verdict, item_refusal, own_refusal, placed_refusal, IsCommitted, Permits}
+use Rattle.kn_daemon.specs.Linearized.{Exchange, Along, requests_in, update_by, is_placed}
+use Rattle.kn_session.specs.declared.fault.CallFault.{CallFault}
+use Rattle.kn_session.specs.declared.fault.CallFault.TheVariants as T
 use Rattle.kn_session.specs.Sessions.{Session}
+use Rattle.kn_session.specs.Calls.{text_fault}
 use Rattle.kn_daemon.specs.Played.{after_request, played, IsMeant}
 use Rattle.kn_daemon.specs.Alone.{IsServedAlone}
 use Rattle.kn_wire.specs.Feeding.{Held, Bytes, held_bytes, pushed, next_of}
@@ -137,8 +142,45 @@ abbrev pub ReadingGoesOn : Type 0
 ReadingGoesOn = (text : List ℕ) (assertion : Assertion) (next : Assertion → Option Refusal) → assertion_of text ≡ Some assertion
     → refusal_of_reading (reading_of text) next ≡ next assertion
 
+-- an item of a batch that adds a text with a fault is refused for it, and one with a reading by what the authenticator says
+abbrev pub FaultRefusesItem : Type 0
+FaultRefusesItem = (g : Grounds) (text : List ℕ) (fault : ReadFault) → fault_of text ≡ Some fault
+    → item_refusal g (AddText text) ≡ option_map (λ number. I.Read number (fault_place fault)) (fault_number fault)
+
+abbrev pub ReadingAdmitsItem : Type 0
+ReadingAdmitsItem = (g : Grounds) (text : List ℕ) (assertion : Assertion) → assertion_of text ≡ Some assertion
+    → item_refusal g (AddText text) ≡ refusal_at_verdict I.Auth (g.verdict text assertion)
+
+-- a call that asserts a text with a fault has that fault, and one with a reading what its assertion has
+abbrev pub FaultRefusesCall : Type 0
+FaultRefusesCall = (text : List ℕ) (fault : ReadFault) (next : Assertion → Option CallFault) → fault_of text ≡ Some fault
+    → text_fault (reading_of text) next ≡ Some (T.Text fault)
+
+abbrev pub CallGoesOn : Type 0
+CallGoesOn = (text : List ℕ) (assertion : Assertion) (next : Assertion → Option CallFault) → assertion_of text ≡ Some assertion
+    → text_fault (reading_of text) next ≡ next assertion
+
 -- requests mean one query at most
 abbrev pub OneQueryIsMeant : Type 0
 OneQueryIsMeant = (history : List Update) (requests : List Request) (session other_session : Session) (values other_values : List (List ℕ))
     → IsMeant history requests session values → IsMeant history requests other_session other_values
     → (session ≡ other_session) × (values ≡ other_values)
+
+-- the caller's update that a request and its reply name is the last one of the history, and may follow what is before it
+abbrev pub UpdateIsCommitted : Type 0
+UpdateIsCommitted = (g : Grounds) (caller : ℕ) (past : List Update) (old : State) (shape : Shape) (reply : Reply) (new : State) (update : Update)
+    → Permits g caller past old shape reply new → update_by caller shape reply ≡ Some update → IsCommitted past update
+
+-- what refuses a request by the state alone doesn't depend on its place
+abbrev pub OwnIsUnplaced : Type 0
+OwnIsUnplaced = (g : Grounds) (state : State) (shape : Shape) (refusal : Refusal) → own_refusal g state shape ≡ Some refusal → is_placed shape (No refusal) ≡ false
+
+-- and what refuses it by the history does
+abbrev pub HistoryIsPlaced : Type 0
+HistoryIsPlaced = (past : List Update) (shape : Shape) (refusal : Refusal) → placed_refusal past shape ≡ Some refusal → is_placed shape (No refusal) ≡ true
+
+-- A reply to LOG that hands on updates tells what was asked for, of the history at its place, and changes nothing.
+abbrev pub LogIsOfPlace : Type 0
+LogIsOfPlace = (g : Grounds) (caller : ℕ) (past : List Update) (old : State) (n m : ℕ) (history : List Update) (new : State)
+    → Permits g caller past old (Looks (ForLog n)) (Log m history) new
+    → (m ≡ n) × (history ≡ past) × (n ≤ length past) × (new ≡ old)

@@ -1,12 +1,18 @@
 -- A caller's requests at legal places of one history (keynoted's own).
-use Rattle.std.specs.Prelude.{ℕ, ◌≡◌, ◌≤◌, ◌<◌, Bool, true, false, List, [], ◌∷◌, ◌++◌, length, map, take, filter_map, slice_range, Option, Some, None, option_map, option_and_then, is_some, ◌&&◌, ◌||◌}
+use Rattle.std.specs.Prelude.{ℕ, ◌≡◌, ◌≤◌, ◌<◌, Bool, true, false, List, [], ◌∷◌, ◌++◌, length, map, take, filter_map, slice_range, Option, Some, None, option_map, option_and_then, is_some, Result, Ok, Err, ◌||◌}
 use Rattle.kn_reply.specs.declared.refusal.Refusal.{Refusal}
 use Rattle.kn_reply.specs.declared.refusal.Refusal.TheVariants as R
+use Rattle.kn_reply.specs.declared.refusal.ItemRefusal.{ItemRefusal}
+use Rattle.kn_reply.specs.declared.refusal.ItemRefusal.TheVariants as I
 use Rattle.kn_store.specs.declared.update.Update.{Update}
+use Rattle.kn_store.specs.declared.item.Item.{Item}
 use Rattle.kn_wire.specs.Requests.{Request}
-use Rattle.kn_reply.specs.Replies.{Reply, Done, Started, Number, PrivateAdded, Added, Value, No, NoMemory, reply_text}
+use Rattle.kn_wire.specs.Items.{BatchItem, items_of}
+use Rattle.kn_reply.specs.Logs.{item_of}
+use Rattle.kn_reply.specs.Replies.{Reply, Done, Started, Number, PrivateAdded, Added, Value, Batched, PinnedAt, Log, No, NoMemory, reply_text}
+use Rattle.kn_store.specs.Batches.{batch_by}
 use Rattle.kn_store.specs.History.{is_valid_history, addition_by, removal_by, own_updates}
-use Rattle.kn_daemon.specs.Shapes.{Updating, AddText, DropId, Shape, Calls, Updates, Looks, Asks, Controls, AtFault, shape_of}
+use Rattle.kn_daemon.specs.Shapes.{Updating, AddText, DropId, ApplyBlock, Shape, Calls, Updates, Looks, Asks, Controls, AtFault, shape_of}
 use Rattle.kn_daemon.specs.Daemon.{Grounds, State, Permits}
 
 -- a request, its reply, and the place in the history where it stands: after so many updates
@@ -26,14 +32,25 @@ requests_in exchanges = map (λ e. e.request) exchanges
 abbrev pub texts_in : List Exchange → List (List ℕ)
 texts_in exchanges = map (λ e. reply_text e.reply) exchanges
 
--- the text that an update adds, and the id that it removes
+-- the text that an update adds, the id that it removes, and the items that it makes together
 abbrev pub added_text : Updating → Option (List ℕ)
 added_text (AddText text) = Some text
 added_text (DropId k) = None
+added_text (ApplyBlock block) = None
 
 abbrev pub dropped_id : Updating → Option ℕ
 dropped_id (AddText text) = None
 dropped_id (DropId k) = Some k
+dropped_id (ApplyBlock block) = None
+
+abbrev pub read_items : Result (List BatchItem) ℕ → Option (List Item)
+read_items (Ok items) = Some (map item_of items)
+read_items (Err number) = None
+
+abbrev pub applied_items : Updating → Option (List Item)
+applied_items (AddText text) = None
+applied_items (DropId k) = None
+applied_items (ApplyBlock block) = read_items (items_of block)
 
 -- what a request asks of the history
 abbrev pub updating : Shape → Option Updating
@@ -44,10 +61,14 @@ updating (Asks s names) = None
 updating (Controls control) = None
 updating (AtFault fault) = None
 
--- the caller's update that a request and its reply name: the reply says that it was accepted, and tells the id of an addition
+-- The caller's update that a request and its reply name: the reply says that it was accepted, and tells the id of an addition, or
+-- of a batch's first one.
 abbrev pub update_by : ℕ → Shape → Reply → Option Update
 update_by caller shape (Added id version) = option_map (λ text. addition_by caller text id) (option_and_then added_text (updating shape))
 update_by caller shape (Number version) = option_map (λ id. removal_by caller id) (option_and_then dropped_id (updating shape))
+update_by caller shape (Batched first added version) = option_map (λ items. batch_by caller first items) (option_and_then applied_items (updating shape))
+update_by caller shape (PinnedAt version newest) = None
+update_by caller shape (Log n history) = None
 update_by caller shape Done = None
 update_by caller shape (Started s version) = None
 update_by caller shape (PrivateAdded k) = None
@@ -71,7 +92,7 @@ InOrder caller low (e ∷ es) high = IsBehind (update_of caller e) low e.place �
 abbrev pub is_update : Shape → Bool
 is_update shape = is_some (updating shape)
 
--- a version is taken at the place
+-- a version or updates are taken at the place
 abbrev pub is_look : Shape → Bool
 is_look (Calls s call) = false
 is_look (Updates update) = false
@@ -80,31 +101,76 @@ is_look (Asks s names) = false
 is_look (Controls control) = false
 is_look (AtFault fault) = false
 
--- a refusal by the history: of an update this depends on the place
-abbrev pub is_by_history : Refusal → Bool
-is_by_history R.Unknown = true
-is_by_history (R.Limit word count) = true
-is_by_history R.Syntax = false
-is_by_history R.Command = false
-is_by_history R.Session = false
-is_by_history R.Admin = false
-is_by_history (R.Read fault place) = false
-is_by_history R.Policy = false
-is_by_history (R.Auth fault) = false
-is_by_history R.Name = false
-is_by_history R.Value = false
-is_by_history R.Values = false
-is_by_history R.Principal = false
-is_by_history R.Long = false
-is_by_history R.Block = false
+-- of an item of a batch: the history refuses it
+abbrev pub is_item_by_history : ItemRefusal → Bool
+is_item_by_history I.Unknown = true
+is_item_by_history (I.Limit word count) = true
+is_item_by_history (I.Read fault place) = false
+is_item_by_history (I.Auth fault) = false
 
--- whether the reply to a request of this shape depends on its place: a version was taken there, or an update was accepted, or
--- refused by the history
+-- of an update: the history refuses it, so this depends on the place
+abbrev pub is_update_by_history : Refusal → Bool
+is_update_by_history R.Unknown = true
+is_update_by_history (R.Limit word count) = true
+is_update_by_history (R.Item item inner) = is_item_by_history inner
+is_update_by_history R.Syntax = false
+is_update_by_history R.Command = false
+is_update_by_history R.Session = false
+is_update_by_history R.Admin = false
+is_update_by_history (R.Read fault place) = false
+is_update_by_history R.Policy = false
+is_update_by_history (R.Auth fault) = false
+is_update_by_history R.Name = false
+is_update_by_history R.Value = false
+is_update_by_history R.Values = false
+is_update_by_history R.Principal = false
+is_update_by_history R.Long = false
+is_update_by_history R.Block = false
+is_update_by_history (R.Batch item) = false
+is_update_by_history (R.Retained newest) = false
+is_update_by_history (R.Ahead newest) = false
+
+-- of a look: the history hasn't what is asked for, so this depends on the place
+abbrev pub is_look_by_history : Refusal → Bool
+is_look_by_history (R.Retained newest) = true
+is_look_by_history (R.Ahead newest) = true
+is_look_by_history R.Syntax = false
+is_look_by_history R.Command = false
+is_look_by_history R.Session = false
+is_look_by_history R.Admin = false
+is_look_by_history (R.Read fault place) = false
+is_look_by_history R.Policy = false
+is_look_by_history (R.Auth fault) = false
+is_look_by_history R.Name = false
+is_look_by_history R.Value = false
+is_look_by_history R.Values = false
+is_look_by_history R.Principal = false
+is_look_by_history R.Unknown = false
+is_look_by_history (R.Limit word count) = false
+is_look_by_history R.Long = false
+is_look_by_history R.Block = false
+is_look_by_history (R.Batch item) = false
+is_look_by_history (R.Item item inner) = false
+
+-- a request of this shape is refused by the history
+abbrev pub is_by_history : Shape → Refusal → Bool
+is_by_history (Calls s call) refusal = false
+is_by_history (Updates update) refusal = is_update_by_history refusal
+is_by_history (Looks look) refusal = is_look_by_history refusal
+is_by_history (Asks s names) refusal = false
+is_by_history (Controls control) refusal = false
+is_by_history (AtFault fault) refusal = false
+
+-- whether the reply to a request of this shape depends on its place: a version or updates were taken there, or an update was
+-- accepted, or the history refused it
 abbrev pub is_placed : Shape → Reply → Bool
 is_placed shape (Started s version) = is_look shape
 is_placed shape (Number version) = is_look shape || is_update shape
 is_placed shape (Added id version) = is_update shape
-is_placed shape (No refusal) = is_update shape && is_by_history refusal
+is_placed shape (Batched first added version) = is_update shape
+is_placed shape (PinnedAt version newest) = is_look shape
+is_placed shape (Log n history) = is_look shape
+is_placed shape (No refusal) = is_by_history shape refusal
 is_placed shape Done = false
 is_placed shape (PrivateAdded k) = false
 is_placed shape (Value index name version rows) = false

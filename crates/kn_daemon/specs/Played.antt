@@ -10,7 +10,8 @@ use Rattle.kn_daemon.specs.Daemon.{Grounds, State, first_state, session_of, own_
 use Rattle.kn_session.specs.Sessions.{Session}
 use Rattle.kn_daemon.specs.Served.{is_bye, is_block}
 
--- The state after a request: a refused one changes nothing. An update changes no state, so what refuses it by the history doesn't matter here.
+-- The state after a request: a refused one changes nothing. An update changes no state, LOG changes none either, and a version
+-- that isn't retained pins nothing, so what refuses these by the history doesn't matter here.
 abbrev pub after_request : Grounds → List Update → State → Request → State
 after_request g past state request = option_map_or (λ refusal. state) (own_refusal g state (shape_of request)) (changed past state (shape_of request))
 

@@ -1,11 +1,12 @@
--- Requests by shape (keynoted's own): what sort of thing each asks. All that the daemon says of requests it says by their shape.
+-- Requests by shape (keynoted's own): what sort of thing each asks. What may be replied to a request, and what it changes, is said
+-- by its shape.
 use Rattle.std.specs.Prelude.{ℕ, ◌≡◌, ◌≤◌, ⊤, true, List, length}
 use Rattle.kn_base.specs.declared.limits.TheConstants.{ASSERTION_BYTES}
 use Rattle.kn_session.specs.Calls.{Call, call_of, asserted}
 use Rattle.kn_session.specs.Calls as C
 use Rattle.kn_wire.specs.declared.fault.WireFault.{WireFault}
 use Rattle.kn_wire.specs.Digits.{bytes_of_digits}
-use Rattle.kn_wire.specs.Requests.{Request, Open, Close, Pin, Assert, Retract, Set, SetHex, Unset, Auth, Unauth, Clear, Query, Admin, Add, Drop, Bye, Faulty, are_digits}
+use Rattle.kn_wire.specs.Requests.{Request, Open, Close, Pin, Assert, Retract, Set, SetHex, Unset, Auth, Unauth, Clear, Query, Admin, Add, Drop, Batch, PinAt, Log, Bye, Faulty, are_digits}
 use Rattle.kn_daemon.specs.declared.shape.Shape.{Shape as Asked}
 use Rattle.kn_daemon.specs.declared.shape.Shape.TheVariants as S
 
@@ -13,11 +14,15 @@ use Rattle.kn_daemon.specs.declared.shape.Shape.TheVariants as S
 pub data Updating : Type 0 where
   AddText : List ℕ → Updating
   DropId : ℕ → Updating
+  ApplyBlock : List ℕ → Updating
 
--- a version that is taken as it stands at the place of the request: for a new session, or for an open one
+-- A look at the history at the place of the request: its version for a new session, or for an open one; for an open session a
+-- retained version, by its number; or the updates behind the first n.
 pub data Look : Type 0 where
   ForNew : Look
   ForOpen : ℕ → Look
+  ForRetained : ℕ → ℕ → Look
+  ForLog : ℕ → Look
 
 -- what concerns the connection itself
 pub data Control : Type 0 where
@@ -50,6 +55,9 @@ shape_of (Query s names) = Asks s names
 shape_of (Admin digits) = Controls (ShowSecret (bytes_of_digits digits))
 shape_of (Add text) = Updates (AddText text)
 shape_of (Drop k) = Updates (DropId k)
+shape_of (Batch block) = Updates (ApplyBlock block)
+shape_of (PinAt s version) = Looks (ForRetained s version)
+shape_of (Log n) = Looks (ForLog n)
 shape_of Bye = Controls Leave
 shape_of (Faulty fault) = AtFault fault
 
@@ -61,11 +69,15 @@ shape_in_code S.Open = Looks ForNew
 shape_in_code (S.Pin s) = Looks (ForOpen s)
 shape_in_code (S.Add block) = Updates (AddText block.now)
 shape_in_code (S.Remove k) = Updates (DropId k)
+shape_in_code (S.Batch block) = Updates (ApplyBlock block.now)
+shape_in_code (S.PinAt s version) = Looks (ForRetained s version)
+shape_in_code (S.Log n) = Looks (ForLog n)
 shape_in_code (S.Query s values) = Asks s values.now
 shape_in_code (S.Admin digits) = Controls (ShowSecret (bytes_of_digits digits.now))
 shape_in_code S.Bye = Controls Leave
 
--- its parts are of their form: digits are hexadecimal digits, an even number of them, and no text is too long
+-- its parts are of their form: digits are hexadecimal digits, an even number of them, and no text of an assertion and no block is
+-- too long
 abbrev pub IsFormed : Asked → Type 0
 IsFormed (S.Call s call) = length (asserted (call_of call)) ≤ ASSERTION_BYTES
 IsFormed (S.SetDigits s name digits) = are_digits digits.now ≡ true
@@ -73,6 +85,9 @@ IsFormed S.Open = ⊤
 IsFormed (S.Pin s) = ⊤
 IsFormed (S.Add block) = length block.now ≤ ASSERTION_BYTES
 IsFormed (S.Remove k) = ⊤
+IsFormed (S.Batch block) = length block.now ≤ ASSERTION_BYTES
+IsFormed (S.PinAt s version) = ⊤
+IsFormed (S.Log n) = ⊤
 IsFormed (S.Query s values) = ⊤
 IsFormed (S.Admin digits) = are_digits digits.now ≡ true
 IsFormed S.Bye = ⊤

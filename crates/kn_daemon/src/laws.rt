@@ -1,6 +1,6 @@
 //! Laws of a connection that is being served, and of playing, each of them the contract of a function that does nothing.
 
-ghost use Rattle.kn_daemon.specs.Laws.{Begins, TakesPiece, AnswersOne, EndsByBye, EndsByBlock, EndsByWrite, EndsDry, EndsByBudget, EndsByMemory, ServedLonger, PermittedIsPlayed, AlongIsPlayed, OneQueryIsMeant, OpeningIsServed, UnderwayIsSmall, ServedAlone, FaultRefuses, ReadingGoesOn};
+ghost use Rattle.kn_daemon.specs.Laws.{Begins, TakesPiece, AnswersOne, EndsByBye, EndsByBlock, EndsByWrite, EndsDry, EndsByBudget, EndsByMemory, ServedLonger, PermittedIsPlayed, AlongIsPlayed, OneQueryIsMeant, OpeningIsServed, UnderwayIsSmall, ServedAlone, FaultRefuses, ReadingGoesOn, FaultRefusesItem, ReadingAdmitsItem, FaultRefusesCall, CallGoesOn, UpdateIsCommitted, OwnIsUnplaced, HistoryIsPlaced, LogIsOfPlace};
 
 /// At first nothing is taken and nothing written.
 pub fn serving_begins()
@@ -59,13 +59,34 @@ pub fn served_alone()
     ensures { ServedAlone }
 {}
 
-/// A text with a fault is refused for it, and one with a reading by what its assertion is refused for.
+/// A text with a fault is refused for it, and one with a reading by what its assertion is refused for: as an addition,
+/// as an item of a batch, and as a private assertion.
 pub fn readings_decide()
     ensures fault { FaultRefuses }
     ensures assertion { ReadingGoesOn }
+    ensures item_fault { FaultRefusesItem }
+    ensures item { ReadingAdmitsItem }
+    ensures call_fault { FaultRefusesCall }
+    ensures call { CallGoesOn }
 {}
 
 /// Requests mean one query at most: one session as it then stands, and the values that were asked for.
 pub fn one_query_is_meant()
     ensures { OneQueryIsMeant }
+{}
+
+/// The update that a permitted reply says was made is the last one of the history.
+pub fn update_is_committed()
+    ensures { UpdateIsCommitted }
+{}
+
+/// A refusal counts as one of its place exactly where the history refuses, and not the state alone.
+pub fn refusals_are_placed()
+    ensures own { OwnIsUnplaced }
+    ensures history { HistoryIsPlaced }
+{}
+
+/// A reply to LOG that hands on updates tells what was asked for, of the history at its place, and changes nothing.
+pub fn log_is_of_place()
+    ensures { LogIsOfPlace }
 {}

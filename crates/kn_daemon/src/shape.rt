@@ -28,6 +28,11 @@ pub enum Shape<'a> {
     Pin {
         s: u32,
     },
+    /// Session `s` is pinned to the retained version of this number.
+    PinAt {
+        s: u32,
+        version: u32,
+    },
     /// An update that adds the credential of a text.
     Add {
         block: &'a [u8],
@@ -35,6 +40,14 @@ pub enum Shape<'a> {
     /// An update that removes the credential of an id.
     Remove {
         k: u32,
+    },
+    /// An update of several changes, the items of a block: all of them, or none.
+    Batch {
+        block: &'a [u8],
+    },
+    /// The updates behind the first `n`.
+    Log {
+        n: u32,
     },
     /// A question on session `s`.
     Query {
@@ -61,6 +74,7 @@ pub fn shape_of(request: Request<'_>) -> Shape<'_>
             call: Call::Close,
         },
         Request::Pin { s } => Shape::Pin { s },
+        Request::PinAt { s, version } => Shape::PinAt { s, version },
         Request::Assert { s, block } => Shape::Call {
             s,
             call: Call::Assert { text: block },
@@ -94,6 +108,8 @@ pub fn shape_of(request: Request<'_>) -> Shape<'_>
         Request::Admin { digits } => Shape::Admin { digits },
         Request::Add { block } => Shape::Add { block },
         Request::Remove { k } => Shape::Remove { k },
+        Request::Batch { block } => Shape::Batch { block },
+        Request::Log { n } => Shape::Log { n },
         Request::Bye => Shape::Bye,
     }
 }
