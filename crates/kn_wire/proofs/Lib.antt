@@ -8,3 +8,8 @@ pub mod Splits
 pub mod Heads
 pub mod Firsts
 pub mod Feeds
+pub mod Decimals
+pub mod ItemTexts
+pub mod ItemBlocks
+pub mod ItemSteps
+pub mod ItemParts

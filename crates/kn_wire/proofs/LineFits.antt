@@ -1,7 +1,11 @@
 -- What holds of each line that a command word and what follows it spell.
-use Rattle.std.proofs.Common.{◌≡◌, ◌≢◌, ◌≤◌, ℕ, Bool, true, false, ◌&&◌, nat_lt, ◌⊎◌, inl, inr, List, length, refl, sym, subst, Option, Some, None, Result, Ok, Err, option_and_then, option_map, is_some, not}
+use Rattle.std.proofs.Common.{◌≡◌, ◌≢◌, ◌≤◌, ℕ, Bool, true, false, ◌&&◌, nat_lt, ◌⊎◌, inl, inr, List, length, refl, sym, subst, Option, Some, None, Result, Ok, Err, option_and_then, option_map, is_some, not, cond, codes}
 use Rattle.std.specs.Prelude.{⊤, IfOk}
 use Rattle.std.specs.List.{before_first, after_first}
+use Rattle.std.specs.Str.{bytes_eq}
+use Rattle.std.proofs.lemmas.Option.{same_Some}
+use Rattle.std.proofs.lemmas.Slice.Eq.{bytes_eq-Decides}
+use Rattle.std.specs.Option.{option_or}
 use Rattle.kn_base.specs.Decimal.{decimal_of}
 use Rattle.kn_wire.specs.declared.fault.WireFault.{WireFault}
 use Rattle.kn_wire.specs.declared.fault.WireFault.TheVariants.{Syntax, Command}
@@ -11,7 +15,7 @@ use Rattle.kn_wire.specs.declared.word.Word.TheVariants as W
 use Rattle.kn_wire.specs.Digits.{IsWellFormed}
 use Rattle.kn_wire.specs.Feeding.{Bytes, held_after}
 use Rattle.kn_wire.specs.Lines.{blocked_of}
-use Rattle.kn_wire.specs.Requests.{Request, Open, Close, Pin, Assert, Retract, Set, SetHex, Unset, Auth, Unauth, Clear, Query, Admin, Add, Drop, Bye, Faulty, Line, Whole, Blocked, word_of, behind_space, with_number, number_after, is_space, is_word, are_digits, when, line_of_word, or_malformed, line_of_command, line_of}
+use Rattle.kn_wire.specs.Requests.{Request, Open, Close, Pin, Assert, Retract, Set, SetHex, Unset, Auth, Unauth, Clear, Query, Admin, Add, Drop, Batch, PinAt, Log, Bye, Faulty, Line, Whole, Blocked, word_of, behind_space, with_number, number_after, is_space, is_word, are_digits, when, pin_at_line, pin_line, line_of_word, or_malformed, line_of_command, line_of}
 use Rattle.kn_wire.specs.Wired.{request_of, request_or_fault}
 
 -- what this request leaves is held
@@ -27,9 +31,13 @@ abbrev pub OfForm : Line → Type 0
 OfForm (Whole request) = IsWellFormed request
 OfForm (Blocked n request) = (block : List ℕ) → length block ≤ 16384 → IsWellFormed (request block)
 
--- no block is named by these: nothing follows the word, or it is neither ADD nor ASSERT
+-- the word is none that a block follows
+abbrev IsOther : Word → Type 0
+IsOther word = (word ≢ W.Add) × (word ≢ W.Assert) × (word ≢ W.Batch)
+
+-- no block is named by these: nothing follows the word, or it is neither ADD nor ASSERT nor BATCH
 abbrev pub NamesNone : Option Word → Option (List ℕ) → Type 0
-NamesNone word rest = (rest ≡ None) ⊎ ((word ≢ Some W.Add) × (word ≢ Some W.Assert))
+NamesNone word rest = (rest ≡ None) ⊎ ((word ≢ Some W.Add) × (word ≢ Some W.Assert) × (word ≢ Some W.Batch))
 
 pub record Fits (word : Option Word) (rest : Option (List ℕ)) (line : Line) : Type 0 where
   pub kept : IsKeptLine line
@@ -39,7 +47,7 @@ pub record Fits (word : Option Word) (rest : Option (List ℕ)) (line : Line) : 
 whole-fits : (word : Option Word) (rest : Option (List ℕ)) (request : Request) → IsKept request → IsWellFormed request → Fits word rest (Whole request)
 whole-fits word rest request kept form = record { kept = kept; form = form; whole = λ names. refl }
 
-blocked-fits : (word : Word) (text : List ℕ) (n : ℕ) (request : List ℕ → Request) → (((word ≢ W.Add) × (word ≢ W.Assert)) → None ≡ Some (Blocked n request))
+blocked-fits : (word : Word) (text : List ℕ) (n : ℕ) (request : List ℕ → Request) → (IsOther word → None ≡ Some (Blocked n request))
     → ((block : List ℕ) → IsKept (request block)) → ((block : List ℕ) → length block ≤ 16384 → IsWellFormed (request block)) → Fits (Some word) (Some text) (Blocked n request)
 blocked-fits word text n request never kept form = record { kept = kept; form = form; whole = whole }
   where
@@ -48,7 +56,7 @@ blocked-fits word text n request never kept form = record { kept = kept; form = 
 
     whole : NamesNone (Some word) (Some text) → None ≡ Some (Blocked n request)
     whole (inl none) = cc
-    whole (inr other) = never (differ W.Add other.0, differ W.Assert other.1)
+    whole (inr other) = never (differ W.Add other.0, differ W.Assert other.1, differ W.Batch other.2)
 
 -- where it holds of each line that may be there, it holds of the one that is
 
@@ -73,6 +81,10 @@ of-number P text f each =
     of-and_then P (behind_space text) (λ rest. option_and_then (λ n. f n rest) (decimal_of (before_first is_space text)))
     (λ rest. of-and_then P (decimal_of (before_first is_space text)) (λ n. f n rest) (λ n. each n rest))
 
+of-or : (P : Line → Type 0) (first other : Option Line) → OfSome P first → OfSome P other → OfSome P (option_or first other)
+of-or P None other some more = more
+of-or P (Some line) other some more = some
+
 second : (a b : Bool) → (a && b) ≡ true → b ≡ true
 second true b e = e
 second false b e = cc
@@ -88,7 +100,11 @@ spelled : (word : Word) (rest : Option (List ℕ)) → Spelled word rest
 spelled W.Open rest = of-when _ (not (is_some rest)) Open (λ alone. simple W.Open rest Open (λ t l. refl) tt)
 spelled W.Bye rest = of-when _ (not (is_some rest)) Bye (λ alone. simple W.Bye rest Bye (λ t l. refl) tt)
 spelled W.Close rest = of-and_then (Fits (Some W.Close) rest) rest _ (λ text. of-map _ (decimal_of text) (λ s. Whole (Close s)) (λ s. simple W.Close rest (Close s) (λ t l. refl) tt))
-spelled W.Pin rest = of-and_then (Fits (Some W.Pin) rest) rest _ (λ text. of-map _ (decimal_of text) (λ s. Whole (Pin s)) (λ s. simple W.Pin rest (Pin s) (λ t l. refl) tt))
+spelled W.Pin rest =
+    of-and_then (Fits (Some W.Pin) rest) rest pin_line (λ text. of-or (Fits (Some W.Pin) rest) (option_map (λ s. Whole (Pin s)) (decimal_of text)) (pin_at_line text)
+    (of-map _ (decimal_of text) (λ s. Whole (Pin s)) (λ s. simple W.Pin rest (Pin s) (λ t l. refl) tt))
+    (of-number _ text _ (λ s more. of-map _ (decimal_of more) (λ v. Whole (PinAt s v)) (λ v. simple W.Pin rest (PinAt s v) (λ t l. refl) tt))))
+spelled W.Log rest = of-and_then (Fits (Some W.Log) rest) rest _ (λ text. of-map _ (decimal_of text) (λ n. Whole (Log n)) (λ n. simple W.Log rest (Log n) (λ t l. refl) tt))
 spelled W.Clear rest = of-and_then (Fits (Some W.Clear) rest) rest _ (λ text. of-map _ (decimal_of text) (λ s. Whole (Clear s)) (λ s. simple W.Clear rest (Clear s) (λ t l. refl) tt))
 spelled W.Remove rest = of-and_then (Fits (Some W.Remove) rest) rest _ (λ text. of-map _ (number_after 97 text) (λ k. Whole (Drop k)) (λ k. simple W.Remove rest (Drop k) (λ t l. refl) tt))
 spelled W.Retract rest =
@@ -109,6 +125,8 @@ spelled W.Admin rest =
     (λ both. simple W.Admin rest (Admin text) (λ t l. refl) (second (nat_lt 0 (length text)) (are_digits text) both)))
 spelled W.Add None = tt
 spelled W.Add (Some text) = of-map _ (decimal_of text) (λ n. Blocked n Add) (λ n. blocked-fits W.Add text n Add (λ other. absurd (other.0 refl)) (λ block t l. refl) (λ block short. short))
+spelled W.Batch None = tt
+spelled W.Batch (Some text) = of-map _ (decimal_of text) (λ n. Blocked n Batch) (λ n. blocked-fits W.Batch text n Batch (λ other. absurd (other.2 refl)) (λ block t l. refl) (λ block short. short))
 spelled W.Assert None = tt
 spelled W.Assert (Some text) =
     of-number (Fits (Some W.Assert) (Some text)) text _ (λ s more. of-map _ (decimal_of more) (λ n. Blocked n (Assert s))
@@ -124,6 +142,53 @@ command-fits (Some word) rest = malformed (Some word) rest (line_of_word word re
 
 line-fits : (text : List ℕ) → Fits (word_of (before_first is_space text)) (behind_space text) (line_of text)
 line-fits text = command-fits (word_of (before_first is_space text)) (behind_space text)
+
+-- A command word is spelled by its text.
+
+-- the text of a command word
+abbrev pub word_text : Word → List ℕ
+word_text W.Open = codes "OPEN"
+word_text W.Close = codes "CLOSE"
+word_text W.Pin = codes "PIN"
+word_text W.Assert = codes "ASSERT"
+word_text W.Retract = codes "RETRACT"
+word_text W.Set = codes "SET"
+word_text W.SetHex = codes "SETX"
+word_text W.Unset = codes "UNSET"
+word_text W.Auth = codes "AUTH"
+word_text W.Unauth = codes "UNAUTH"
+word_text W.Clear = codes "CLEAR"
+word_text W.Query = codes "QUERY"
+word_text W.Admin = codes "ADMIN"
+word_text W.Add = codes "ADD"
+word_text W.Remove = codes "DROP"
+word_text W.Batch = codes "BATCH"
+word_text W.Log = codes "LOG"
+word_text W.Bye = codes "BYE"
+
+no_word : (word : Word) → None ≡ Some word → ⊥
+no_word word e = cc
+
+abbrev IsText : List ℕ → Word → Type 0
+IsText text word = bytes_eq text (word_text word) ≡ true
+
+one_word : (text : List ℕ) (this word : Word) (others : Option Word) → (others ≡ Some word → IsText text word) → cond (bytes_eq text (word_text this)) (Some this) others ≡ Some word → IsText text word
+one_word text this word others more e = by (bytes_eq text (word_text this)) refl e
+  where
+    by : (t : Bool) → bytes_eq text (word_text this) ≡ t → cond t (Some this) others ≡ Some word → IsText text word
+    by true is e = subst (IsText text) (same_Some this word e) is
+    by false is e = more e
+
+is_text : (text : List ℕ) (word : Word) → word_of text ≡ Some word → IsText text word
+is_text text word =
+    one_word text W.Open word _ (one_word text W.Close word _ (one_word text W.Pin word _ (one_word text W.Assert word _
+    (one_word text W.Retract word _ (one_word text W.Set word _ (one_word text W.SetHex word _ (one_word text W.Unset word _
+    (one_word text W.Auth word _ (one_word text W.Unauth word _ (one_word text W.Clear word _ (one_word text W.Query word _
+    (one_word text W.Admin word _ (one_word text W.Add word _ (one_word text W.Remove word _ (one_word text W.Batch word _
+    (one_word text W.Log word _ (one_word text W.Bye word _ (λ none. absurd (no_word word none)))))))))))))))))))
+
+pub word_spelled : (text : List ℕ) (word : Word) → word_of text ≡ Some word → text ≡ word_text word
+word_spelled text word e = (bytes_eq-Decides text (word_text word)).0 (is_text text word e)
 
 -- What the proofs above take of it.
 

@@ -141,3 +141,18 @@ pub name_alone : (text name : List ℕ) → name ≡ before_first is_space text 
 name_alone text name e behind some =
     let size : length name ≡ length (before_first is_space text) = ap length e in
     name_and_rest_is text (omega arith) ∙ ap (λ n. Some (n, after_first is_space text)) (sym e) ∙ ap (λ r. Some (name, r)) (nothing_behind text (sym behind))
+
+-- a line is its first word, a space and what follows
+pub split_line : (line rest : List ℕ) → behind_space line ≡ Some rest → line ≡ before_first is_space line ++ 32 ∷ rest
+split_line [] rest e = cc
+split_line (b ∷ bs) rest e = by (is_space b) refl e (split_line bs rest)
+  where
+    by : (t : Bool) → is_space b ≡ t → (if t then Some bs else behind_space bs) ≡ Some rest → (behind_space bs ≡ Some rest → bs ≡ before_first is_space bs ++ 32 ∷ rest)
+        → b ∷ bs ≡ take (cond (not t) (1 + position_or_len is_space bs) 0) (b ∷ bs) ++ 32 ∷ rest
+    by true is e more =
+        let space : b ≡ 32 = (Decides-eqb b 32).0 is in
+        let left : bs ≡ rest = cc in
+        ap (λ n. n ∷ bs) space ∙ ap (λ (l : List ℕ). 32 ∷ l) left
+    by false is e more =
+        let place : suc (position_or_len is_space bs) ≡ 1 + position_or_len is_space bs = omega arith in
+        ap (λ (l : List ℕ). b ∷ l) (more e) ∙ ap (λ n. take n (b ∷ bs) ++ 32 ∷ rest) place

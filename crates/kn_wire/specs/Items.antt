@@ -1,6 +1,6 @@
 -- The items of a batch's block (keynoted's own line protocol).
-use Rattle.std.specs.Prelude.{ℕ, zero, suc, ◌≡◌, ◌≢◌, ◌⊎◌, ◌+◌, ◌<◌, ◌≤◌, Bool, true, List, [], ◌∷◌, ◌++◌, length, take, drop, flat_map, codes, decimal, slice_get, Option, Some, None, option_and_then, option_map, Result, Ok, Err, if◌then◌else◌}
-use Rattle.std.specs.List.{list_any, before_first, after_first}
+use Rattle.std.specs.Prelude.{ℕ, zero, suc, ◌≡◌, ◌≢◌, ◌⊎◌, ◌+◌, ◌<◌, ◌≤◌, List, [], ◌∷◌, ◌++◌, length, take, drop, flat_map, codes, decimal, slice_get, Option, Some, None, option_and_then, option_map, Result, Ok, Err, if◌then◌else◌}
+use Rattle.std.specs.List.{list_any, before_first, after_first, AllByRecursion}
 use Rattle.std.specs.Str.{bytes_eq}
 use Rattle.kn_base.specs.Decimal.{decimal_of}
 use Rattle.kn_base.specs.declared.limits.TheConstants.{CHANGES}
@@ -83,5 +83,6 @@ pub record DepartsAt (block : List ℕ) (number : ℕ) : Type 0 where
   pub cut : block ≡ flat_map item_text front ++ rest
   pub place : number ≡ length front + 1
   pub within : length front ≤ CHANGES
+  pub short : AllByRecursion IsShortItem front
   pub there : (rest ≢ []) ⊎ (front ≡ [])
   pub why : (length front ≡ CHANGES) ⊎ ((item : BatchItem) (left : List ℕ) → IsShortItem item → rest ≡ item_text item ++ left → ⊥)

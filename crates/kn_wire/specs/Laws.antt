@@ -1,9 +1,11 @@
 -- Laws of requests.
-use Rattle.std.specs.Prelude.{ℕ, ◌≡◌, ◌≤◌, List, [], ◌∷◌, ◌++◌, length, flat_map}
+use Rattle.std.specs.Prelude.{ℕ, ◌≡◌, ◌≤◌, List, [], ◌∷◌, ◌++◌, length, flat_map, Ok, Err}
+use Rattle.std.specs.List.{AllByRecursion}
 use Rattle.kn_base.specs.declared.limits.TheConstants.{LINE_BYTES}
 use Rattle.kn_wire.specs.Requests.{Request, Takes, AreRequests, first_of, first_of_line, line_of, line_length, without_return}
 use Rattle.kn_wire.specs.Feeding.{Held, Bytes, held_bytes}
 use Rattle.kn_wire.specs.Pieces.{Pieced}
+use Rattle.kn_wire.specs.Items.{BatchItem, items_of, IsShortItem, AreItems, DepartsAt}
 
 -- the first request of a text that begins with a line and a newline is that of the line
 abbrev pub LineIsFirst : Type 0
@@ -26,3 +28,19 @@ RequestsGrow = (text more : List ℕ) (requests : List Request) (rest : List ℕ
 abbrev pub PiecesAreRequests : Type 0
 PiecesAreRequests = (pieces : List (List ℕ)) (requests : List Request) (new : Held) → Pieced (Bytes []) pieces requests new
     → AreRequests (flat_map (λ piece. piece) pieces) requests (held_bytes new)
+
+-- the items that are read of a batch's block are those of which it is made
+abbrev pub BatchIsItems : Type 0
+BatchIsItems = (block : List ℕ) (items : List BatchItem) → items_of block ≡ Ok items → AreItems block items × AllByRecursion IsShortItem items
+
+-- and the items of which it is made are read
+abbrev pub ItemsAreRead : Type 0
+ItemsAreRead = (block : List ℕ) (items : List BatchItem) → AreItems block items → AllByRecursion IsShortItem items → items_of block ≡ Ok items
+
+-- a block of which none are read departs from the form at the item that is told
+abbrev pub BlockDeparts : Type 0
+BlockDeparts = (block : List ℕ) (number : ℕ) → items_of block ≡ Err number → DepartsAt block number
+
+-- and a block that departs from the form at an item is refused at that item
+abbrev pub DepartingIsRefused : Type 0
+DepartingIsRefused = (block : List ℕ) (number : ℕ) → DepartsAt block number → items_of block ≡ Err number

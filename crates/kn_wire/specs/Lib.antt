@@ -5,6 +5,7 @@ pub mod Feeding
 pub mod Pieces
 pub mod Laws
 pub mod Wired
+pub mod ItemsInCode
 pub mod Lines
 pub mod Parts
 pub mod Firsts

@@ -1,7 +1,7 @@
 //! Laws of requests, each of them the contract of a function that does nothing.
 
 ghost use Rattle.std.specs.Prelude.{◌≡◌};
-ghost use Rattle.kn_wire.specs.Laws.{LineIsFirst, SomeReading, OneReading, RequestsGrow, PiecesAreRequests};
+ghost use Rattle.kn_wire.specs.Laws.{LineIsFirst, SomeReading, OneReading, RequestsGrow, PiecesAreRequests, BatchIsItems, ItemsAreRead, BlockDeparts, DepartingIsRefused};
 
 use crate::feed::PIECE_BYTES;
 
@@ -24,6 +24,15 @@ pub fn requests_grow()
 /// The requests of a stream don't depend on how it is cut.
 pub fn pieces_are_requests()
     ensures { PiecesAreRequests }
+{}
+
+/// The items that are read of a batch's block are those of which it is made; a block of which none are read is refused
+/// at the item at which it departs from the form.
+pub fn batch_is_items()
+    ensures items { BatchIsItems }
+    ensures read { ItemsAreRead }
+    ensures departs { BlockDeparts }
+    ensures refused { DepartingIsRefused }
 {}
 
 /// The bytes of a piece that a feed takes at once.

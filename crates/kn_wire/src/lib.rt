@@ -11,6 +11,9 @@ mod fault;
 mod feed;
 mod first;
 mod head;
+mod items;
+#[cfg(test)]
+mod items_tests;
 pub mod laws;
 mod line;
 mod part;
@@ -22,4 +25,5 @@ pub mod worked;
 pub use digits::{are_digits_of, decode_digits};
 pub use fault::WireFault;
 pub use feed::{Feed, PIECE_BYTES};
+pub use items::{BatchItem, BatchText, batch_items};
 pub use request::Request;

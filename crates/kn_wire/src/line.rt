@@ -3,13 +3,13 @@ ghost use Rattle.std.specs.Prelude.{◌≡◌, not, option_map, option_and_then,
 ghost use Rattle.std.specs.List.{list_all};
 ghost use Rattle.kn_wire.specs.Lines.{blocked_of, name_and_rest, request_of_word, whole_of};
 ghost use Rattle.kn_wire.specs.Requests as D;
-ghost use Rattle.kn_wire.specs.Requests.{line_of, number_after, pin_at_line, is_space, is_word, are_digits};
+ghost use Rattle.kn_wire.specs.Requests.{line_of, pin_at_line, is_space, is_word, are_digits};
 ghost use Rattle.kn_wire.specs.Wired.{request_of, request_or_fault};
 
 use crate::digits::are_digits;
 use crate::fault::WireFault;
 use crate::request::Request;
-use crate::split::{split_number, split_word};
+use crate::split::{number_behind, split_number, split_word};
 use crate::word::Word;
 use kn_base::decimal;
 
@@ -194,16 +194,6 @@ fn split_name(text: &[u8]) -> Option<(&[u8], &[u8])>
     match rest {
         Some(rest) => Some((name, rest)),
         None => Some((name, b"")),
-    }
-}
-
-/// The number that stands behind this letter.
-fn number_behind(letter: u8, text: &[u8]) -> Option<u32>
-    ensures { result ≡ number_after letter text.now }
-{
-    match text.split_first() {
-        Some((first, rest)) if *first == letter => decimal(rest),
-        _ => None,
     }
 }
 

@@ -2,7 +2,7 @@
 ghost use Rattle.std.specs.Prelude.{◌≡◌, ◌≤◌, ◌==◌, length, option_map};
 ghost use Rattle.std.specs.List.{before_first, position_or_len};
 ghost use Rattle.kn_wire.specs.Lines.{number_and_rest};
-ghost use Rattle.kn_wire.specs.Requests.{behind_space, is_space, without_return};
+ghost use Rattle.kn_wire.specs.Requests.{behind_space, is_space, number_after, without_return};
 
 use kn_base::decimal;
 
@@ -53,4 +53,14 @@ pub(crate) fn split_number(text: &[u8]) -> Option<(u32, &[u8])>
     let rest = rest?;
     let number = decimal(word)?;
     Some((number, rest))
+}
+
+/// The number that stands behind this letter.
+pub(crate) fn number_behind(letter: u8, text: &[u8]) -> Option<u32>
+    ensures { result ≡ number_after letter text.now }
+{
+    match text.split_first() {
+        Some((first, rest)) if *first == letter => decimal(rest),
+        _ => None,
+    }
 }

@@ -18,9 +18,9 @@ pub(crate) enum Word {
     Admin,
     Add,
     Remove,
-    Bye,
     Batch,
     Log,
+    Bye,
 }
 
 impl Word {
@@ -61,12 +61,12 @@ impl Word {
             Some(Word::Add)
         } else if text == b"DROP".as_slice() {
             Some(Word::Remove)
-        } else if text == b"BYE".as_slice() {
-            Some(Word::Bye)
         } else if text == b"BATCH".as_slice() {
             Some(Word::Batch)
         } else if text == b"LOG".as_slice() {
             Some(Word::Log)
+        } else if text == b"BYE".as_slice() {
+            Some(Word::Bye)
         } else {
             None
         }

@@ -73,4 +73,8 @@ pub fn items_of_blocks()
     ensures unended { items_of (codes "DROP a1\nADD 2\nab") ≡ Err 2 }
     ensures above { items_of (codes "ADD 2\nabc\n") ≡ Err 1 }
     ensures blank { items_of (codes "DROP a1\n\n") ≡ Err 2 }
+    ensures no_bytes { items_of (codes "ADD 0\n\n") ≡ Ok (AddText [] ∷ []) }
+    ensures zero { items_of (codes "DROP a0\n") ≡ Ok (DropId 0 ∷ []) }
+    ensures leading_zero { items_of (codes "DROP a01\n") ≡ Err 1 }
+    ensures size_with_return { items_of (codes "ADD 2\r\nab\n") ≡ Err 1 }
 {}
