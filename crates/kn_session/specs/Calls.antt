@@ -142,8 +142,14 @@ session_fault (Unauth text) session = unauth_fault text session
 
 -- why a call of an open session is refused
 abbrev pub call_fault : Call → Session → Option CallFault
+call_fault Close session = own_fault (session_fault Close session)
+call_fault Clear session = own_fault (session_fault Clear session)
 call_fault (Assert text) session = text_fault (reading_of text) (λ assertion. own_fault (private_fault text assertion session))
-call_fault call session = own_fault (session_fault call session)
+call_fault (Retract k) session = own_fault (session_fault (Retract k) session)
+call_fault (Set name value) session = own_fault (session_fault (Set name value) session)
+call_fault (Unset name) session = own_fault (session_fault (Unset name) session)
+call_fault (Auth text) session = own_fault (session_fault (Auth text) session)
+call_fault (Unauth text) session = own_fault (session_fault (Unauth text) session)
 
 -- and why it is refused of the session of this number, which comes first where that isn't open
 abbrev pub call_fault_in : ℕ → Option Session → Call → Option CallFault
@@ -164,12 +170,24 @@ call_change (Unauth text) session = take_requester text session
 -- what an accepted call of the session of this number makes of those that are open
 abbrev pub after_call : List Session → ℕ → Call → List Session
 after_call sessions s Close = without_session sessions s
-after_call sessions s call = with_changed sessions s (call_change call)
+after_call sessions s Clear = with_changed sessions s (call_change Clear)
+after_call sessions s (Assert text) = with_changed sessions s (call_change (Assert text))
+after_call sessions s (Retract k) = with_changed sessions s (call_change (Retract k))
+after_call sessions s (Set name value) = with_changed sessions s (call_change (Set name value))
+after_call sessions s (Unset name) = with_changed sessions s (call_change (Unset name))
+after_call sessions s (Auth text) = with_changed sessions s (call_change (Auth text))
+after_call sessions s (Unauth text) = with_changed sessions s (call_change (Unauth text))
 
 -- what an accepted call gives: a private assertion's id, or nothing
 abbrev pub call_answer : Call → Session → Applied
+call_answer Close session = A.Done
+call_answer Clear session = A.Done
 call_answer (Assert text) session = A.Added (session.made + 1)
-call_answer call session = A.Done
+call_answer (Retract k) session = A.Done
+call_answer (Set name value) session = A.Done
+call_answer (Unset name) session = A.Done
+call_answer (Auth text) session = A.Done
+call_answer (Unauth text) session = A.Done
 
 -- the calls that may find no memory; then nothing has changed
 abbrev pub call_may_lack_memory : Call → Bool
@@ -195,8 +213,14 @@ place_of_fault (T.Session fault) = 0
 
 -- the text that is to be read as an assertion
 abbrev pub asserted : Call → List ℕ
+asserted Close = []
+asserted Clear = []
 asserted (Assert text) = text
-asserted call = []
+asserted (Retract k) = []
+asserted (Set name value) = []
+asserted (Unset name) = []
+asserted (Auth text) = []
+asserted (Unauth text) = []
 
 -- the open sessions after an accepted call
 abbrev pub with_call : OpenSessions → ℕ → Call → OpenSessions
@@ -225,8 +249,13 @@ answer_done (Err fault) = Err (T.Session fault)
 -- it changes a session that stays open, and gives nothing
 abbrev pub is_change : Call → Bool
 is_change Close = false
+is_change Clear = true
 is_change (Assert text) = false
-is_change call = true
+is_change (Retract k) = true
+is_change (Set name value) = true
+is_change (Unset name) = true
+is_change (Auth text) = true
+is_change (Unauth text) = true
 
 -- the fault that is due, or, where the call may find none, want of memory
 abbrev pub IsDue : Bool → Option SessionFault → SessionFault → Type 0

@@ -1,5 +1,5 @@
 //! The open sessions of a connection.
-ghost use Rattle.std.specs.Prelude.{◌≡◌, ◌⊎◌, ◌↔◌, ◌<◌, ◌+◌, ◌==◌, ◌^◌, true, [], length, position, Some, None, Option, IsTrue, IfOk, IfErr, OnOk, OnErr};
+ghost use Rattle.std.specs.Prelude.{◌≡◌, ◌⊎◌, ◌↔◌, ◌<◌, ◌+◌, ◌==◌, ◌^◌, ℕ, List, true, [], length, position, Some, None, Option, IsTrue, IfOk, IfErr, OnOk, OnErr};
 ghost use Rattle.std.specs.Option.{ForSome, IsSomeAnd};
 ghost use Rattle.std.specs.Arc.{arc_value};
 ghost use Rattle.kn_env.specs.Environment.{AreRequesters};
@@ -223,17 +223,31 @@ impl Sessions {
         self.change(s, Call::Unauth { principal })
     }
 
-    /// Answers a call of a session. An assertion is read once the session is found open.
+    /// Answers a call of a session. An assertion is read, by `alloc`, once the session is found open.
     pub fn apply(&mut self, alloc: Global, s: u32, call: Call<'_>) -> Result<Applied, CallFault>
-        requires few { ForSome (session_in self.old.sessions s) (λ x. x.made < 2 ^ 31) }
+        requires few { (text : List ℕ) → call_of call ≡ Assert text → ForSome (session_in self.old.sessions s) (λ x. x.made < 2 ^ 31) }
         ensures ok { IfOk result (Accepts self.old self.new s (call_of call.entry)) }
         ensures err { IfErr result (Refuses self.old self.new s (call_of call.entry)) }
     {
         match call {
             Call::Close => answer_done(self.close(s)),
             Call::Assert { text } => self.assert_text(alloc, s, text),
-            _ => answer_done(self.change(s, call)),
+            Call::Clear
+            | Call::Retract { .. }
+            | Call::Set { .. }
+            | Call::Unset { .. }
+            | Call::Auth { .. }
+            | Call::Unauth { .. } => self.answer_change(s, call),
         }
+    }
+
+    // Answers a call that changes a session and gives nothing.
+    fn answer_change(&mut self, s: u32, call: Call<'_>) -> Result<Applied, CallFault>
+        requires { is_change (call_of call) ≡ true }
+        ensures ok { IfOk result (Accepts self.old self.new s (call_of call.entry)) }
+        ensures err { IfErr result (Refuses self.old self.new s (call_of call.entry)) }
+    {
+        answer_done(self.change(s, call))
     }
 
     // Reads a text and adds its assertion.
