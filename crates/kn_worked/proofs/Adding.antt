@@ -1,28 +1,17 @@
 -- That the connection of an administrator who adds a credential is served as it says.
-use Rattle.std.proofs.Common.{ℕ, ◌≡◌, [], ◌∷◌, codes, refl, sym, ap, ◌∙◌, subst, inr, le_refl, zero-le, arith, Result, true, None, ◌==◌}
-use Rattle.std.proofs.lemmas.Bool.{eq-eqb}
+use Rattle.std.proofs.Common.{ℕ, [], ◌∷◌, codes, refl, sym, subst, inr, le_refl, zero-le, arith}
 use Rattle.std.specs.Fmt.{digits}
-use Rattle.std.specs.Prelude.{is_some}
-use Rattle.std.specs.Result.{result_ok}
-use Rattle.kn_trees.specs.declared.assertion.Assertion.{Assertion}
-use Rattle.kn_assert.specs.Reading.{reading_of}
-use Rattle.kn_fields.specs.declared.fault.ReadFault.{ReadFault}
 use Rattle.kn_meaning.specs.Equations.{Equations, IsPolicyLevel}
 use Rattle.kn_meaning.specs.Proofs.{IsProof}
 use Rattle.kn_wire.specs.Requests.{Open, Admin, Auth, Add, Query, Pin}
+use Rattle.kn_reply.specs.declared.refusal.Refusal.TheVariants as R
 use Rattle.kn_reply.specs.Replies.{Done, Started, Added, Value, Number}
 use Rattle.kn_daemon.specs.Shapes.{shape_of}
-use Rattle.kn_daemon.specs.Daemon.{Grounds, State, first_state, changed, refusal_of_reading, refusal_of_verdict}
-use Rattle.kn_worked.specs.Texts.{credential_text, credential_assertion}
+use Rattle.kn_daemon.specs.Daemon.{State, changed}
+use Rattle.kn_worked.specs.Texts.{credential_text}
 use Rattle.kn_worked.specs.Connections.{policy_history, longer_history, BobIsAnswered}
-use Rattle.kn_worked.proofs.Readings.{credential_reading}
 use Rattle.kn_worked.proofs.Levels.{two_values, policy_row, alice_row, bob_level, bob_proof, bob_session, bob_question, longer_level, longer_proof, later_session, later_question, policy_valid}
-
-after_open : State
-after_open = changed policy_history first_state (shape_of Open)
-
-after_admin : State
-after_admin = changed policy_history after_open (shape_of (Admin (codes "733363726574")))
+use Rattle.kn_worked.proofs.Admin.{after_open, after_admin, credential_valid, admitted, same_caller}
 
 after_auth : State
 after_auth = changed policy_history after_admin (shape_of (Auth 1 (codes "bob")))
@@ -30,19 +19,8 @@ after_auth = changed policy_history after_admin (shape_of (Auth 1 (codes "bob"))
 after_pin : ℕ → State
 after_pin caller = changed (longer_history caller) after_auth (shape_of (Pin 1))
 
-credential_valid : is_some (result_ok (reading_of credential_text)) ≡ true
-credential_valid = ap (λ (r : Result Assertion ReadFault). is_some (result_ok r)) credential_reading
-
-admitted : (g : Grounds) → g.verdict credential_text credential_assertion ≡ 0 → refusal_of_reading (reading_of credential_text) (λ a. refusal_of_verdict (g.verdict credential_text a)) ≡ None
-admitted g verdict =
-    ap (λ (r : Result Assertion ReadFault). refusal_of_reading r (λ a. refusal_of_verdict (g.verdict credential_text a))) credential_reading
-    ∙ ap refusal_of_verdict verdict
-
-same_caller : (caller : ℕ) → (caller == caller) ≡ true
-same_caller caller = eq-eqb caller caller refl
-
 pub bob_is_answered : BobIsAnswered
-unfolding digits after_open after_admin after_auth after_pin
+unfolding digits after_auth after_pin
 bob_is_answered g caller secret verdict = record {
   exchanges = record { request = Open; reply = Started 1 1; place = 1 }
       ∷ record { request = Admin (codes "733363726574"); reply = Done; place = 1 }
@@ -66,7 +44,7 @@ bob_is_answered g caller secret verdict = record {
         (
           after_auth,
           record {
-            accepted = admitted g verdict;
+            accepted = admitted R.Read R.Auth g verdict;
             answered = (2, record { before = policy_history; ends = refl; accepted = rw credential_valid refl }, refl);
             next = refl;
           },

@@ -1,26 +1,26 @@
 -- That nothing else is written for the bytes of a worked connection.
-use Rattle.std.proofs.Common.{◌≡◌, ◌≢◌, ℕ, zero, suc, ◌<◌, ◌≤◌, ◌⊎◌, ⊎_elim, inl, inr, ◌||◌, Bool, true, false, List, [], ◌∷◌, ◌++◌, length, take, get_or, codes, refl, sym, ap, ◌∙◌, subst, arith, Option, Some, None}
-use Rattle.std.specs.Prelude.{flat_map, map, option_and_then, option_map, slice_index_or}
+use Rattle.std.proofs.Common.{◌≡◌, ℕ, zero, suc, ◌<◌, ◌≤◌, ◌⊎◌, ⊎_elim, inl, inr, ◌||◌, Bool, true, false, List, [], ◌∷◌, ◌++◌, take, get_or, codes, refl, sym, ap, ◌∙◌, subst, arith, Option, Some, None}
+use Rattle.std.specs.Prelude.{flat_map, slice_index_or}
 use Rattle.std.specs.Fmt.{digits}
 use Rattle.std.specs.List.{list_any}
 use Rattle.std.specs.Str.{bytes_eq}
 use Rattle.kn_store.specs.declared.update.Update.{Update}
-use Rattle.kn_store.specs.History.{addition_by, removal_by}
 use Rattle.kn_proof.specs.declared.named.NamedRow.{NamedRow}
 use Rattle.kn_proof.specs.declared.named.Id.TheVariants.{Shared}
 use Rattle.kn_meaning.specs.Equations.{Equations, Statement, IsPolicyLevel}
 use Rattle.kn_meaning.specs.Examples as M
-use Rattle.kn_meaning.specs.Proofs.{IsRow, AreRows, IsProof}
+use Rattle.kn_meaning.specs.Proofs.{IsRow, IsProof}
 use Rattle.kn_meaning.proofs.Walks.{formula_level_who}
 use Rattle.kn_session.specs.Sessions.{Session}
 use Rattle.kn_wire.specs.Requests.{Request, Open, Auth, Query, Bye, Takes, first_of}
-use Rattle.kn_reply.specs.Replies.{Reply, Done, Started, Number, PrivateAdded, Added, Value, No, NoMemory, reply_text}
+use Rattle.kn_reply.specs.Replies.{Reply, Done, Started, Number, PrivateAdded, Added, Value, Batched, PinnedAt, Log, No, NoMemory, reply_text}
 use Rattle.kn_daemon.specs.declared.ended.Ended.TheVariants as E
-use Rattle.kn_daemon.specs.Shapes.{Updating, Shape, shape_of}
+use Rattle.kn_daemon.specs.Shapes.{shape_of}
 use Rattle.kn_daemon.specs.Daemon as D
 use Rattle.kn_daemon.specs.Daemon.{Grounds, State, first_state, Permits}
-use Rattle.kn_daemon.specs.Linearized.{Exchange, Along, InOrder, IsBehind, added_text, dropped_id, updating, update_by, requests_in, texts_in}
-use Rattle.kn_daemon.specs.Served.{IsServed, IsWritten, HasEnd}
+use Rattle.kn_daemon.specs.Linearized.{Exchange, Along, InOrder, IsBehind, updating, update_by, requests_in, texts_in}
+use Rattle.kn_daemon.specs.Served.{HasEnd}
+use Rattle.kn_daemon.proofs.Updates.{no-update}
 use Rattle.kn_worked.specs.Connections.{policy_history, alice_asks, alice_may, is_no_memory, AliceIsAnsweredSo}
 use Rattle.kn_worked.proofs.Levels.{two_values, policy_row, alice_equations, alice_session, alice_question}
 use Rattle.kn_worked.proofs.Asking.{after_open, after_auth}
@@ -72,6 +72,9 @@ module _ (g : Grounds) (caller : ℕ) where
   opened (PrivateAdded k) mid some p = absurd (cc p.answered)
   opened (Added k version) mid some p = absurd (cc p.answered)
   opened (Value index name version rows) mid some p = absurd (cc p.answered)
+  opened (Batched first added version) mid some p = absurd (cc p.answered)
+  opened (PinnedAt version newest) mid some p = absurd (cc p.answered)
+  opened (Log n history) mid some p = absurd (cc p.answered)
   opened (No refusal) mid some p = absurd (some_none p.0)
   opened NoMemory mid some p = absurd (cc some)
 
@@ -82,6 +85,9 @@ module _ (g : Grounds) (caller : ℕ) where
   authed (PrivateAdded k) mid some p = absurd (cc p.answered)
   authed (Added k version) mid some p = absurd (cc p.answered)
   authed (Value index name version rows) mid some p = absurd (cc p.answered)
+  authed (Batched first added version) mid some p = absurd (cc p.answered)
+  authed (PinnedAt version newest) mid some p = absurd (cc p.answered)
+  authed (Log n history) mid some p = absurd (cc p.answered)
   authed (No refusal) mid some p = absurd (some_none p.0)
   authed NoMemory mid some p = absurd (cc some)
 
@@ -111,6 +117,9 @@ module _ (g : Grounds) (caller : ℕ) where
         where
           on : D.IsAnswer alice_session two_values (Value index name version rows) → Value index name version rows ≡ told
           on is = is.told ∙ at_level is.level is.rows (subst (λ (e : Equations). IsPolicyLevel e is.level) alice_question is.least) (subst (λ (e : Equations). IsProof e is.rows is.level) alice_question is.proved)
+  queried (Batched first added version) mid some p = absurd (cc p.answered.answer.told)
+  queried (PinnedAt version newest) mid some p = absurd (cc p.answered.answer.told)
+  queried (Log n history) mid some p = absurd (cc p.answered.answer.told)
   queried (No refusal) mid some p = absurd (some_none p.0)
   queried NoMemory mid some p = absurd (cc some)
 
@@ -156,16 +165,10 @@ requests_are (a ∷ b ∷ c ∷ rs) rest takes end =
     by [] none x y z = ap (λ (r : Request). r ∷ b ∷ c ∷ []) x ∙ ap (λ (r : Request). Open ∷ r ∷ c ∷ []) y ∙ ap (λ (r : Request). Open ∷ Auth 1 (codes "alice") ∷ r ∷ []) z
     by (r ∷ more) none x y z = absurd (none_left r more rest none)
 
--- a request that asks nothing of the history makes no update
-no_update : (caller : ℕ) (shape : Shape) (reply : Reply) → updating shape ≡ None → update_by caller shape reply ≡ None
-no_update caller shape (Added id version) none = ap (λ (o : Option Updating). option_map (λ text. addition_by caller text id) (option_and_then added_text o)) none
-no_update caller shape (Number version) none = ap (λ (o : Option Updating). option_map (λ id. removal_by caller id) (option_and_then dropped_id o)) none
-no_update caller shape reply none = refl
-
 -- a request that makes no update stands no earlier than the one before it
 no_earlier : (caller low place : ℕ) (request known : Request) (reply : Reply) → request ≡ known → updating (shape_of known) ≡ None → IsBehind (update_by caller (shape_of request) reply) low place → low ≤ place
 no_earlier caller low place request known reply is none behind =
-    subst (λ (o : Option Update). IsBehind o low place) (no_update caller (shape_of known) reply none) (subst (λ (r : Request). IsBehind (update_by caller (shape_of r) reply) low place) is behind)
+    subst (λ (o : Option Update). IsBehind o low place) (no-update caller (shape_of known) reply none) (subst (λ (r : Request). IsBehind (update_by caller (shape_of r) reply) low place) is behind)
 
 -- a reply at the only place
 at_place : (g : Grounds) (caller place : ℕ) (old mid : State) (request known : Request) (reply : Reply) → place ≡ 1 → request ≡ known →

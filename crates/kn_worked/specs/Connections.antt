@@ -2,8 +2,10 @@
 use Rattle.std.specs.Prelude.{ℕ, ◌≡◌, ◌≤◌, Bool, true, false, List, [], ◌∷◌, ◌++◌, codes}
 use Rattle.std.specs.List.{list_any}
 use Rattle.kn_store.specs.declared.update.Update.{Update}
+use Rattle.kn_store.specs.declared.item.Item.TheVariants.{Add, Remove}
 use Rattle.kn_store.specs.History.{loaded_history, addition_by}
-use Rattle.kn_reply.specs.Replies.{Reply, Done, Started, Number, PrivateAdded, Added, Value, No, NoMemory}
+use Rattle.kn_store.specs.Batches.{batch_by}
+use Rattle.kn_reply.specs.Replies.{Reply, Done, Started, Number, PrivateAdded, Added, Value, Batched, PinnedAt, Log, No, NoMemory}
 use Rattle.kn_daemon.specs.declared.ended.Ended.TheVariants as E
 use Rattle.kn_daemon.specs.Daemon.{Grounds}
 use Rattle.kn_daemon.specs.Served.{IsServed}
@@ -31,6 +33,9 @@ is_no_memory (Number version) = false
 is_no_memory (PrivateAdded k) = false
 is_no_memory (Added k version) = false
 is_no_memory (Value index name version rows) = false
+is_no_memory (Batched first added version) = false
+is_no_memory (PinnedAt version newest) = false
+is_no_memory (Log n history) = false
 is_no_memory (No refusal) = false
 is_no_memory NoMemory = true
 
@@ -55,3 +60,64 @@ bob_may_then = codes "OK 1 1\nOK\nOK\nOK a2 2\nVALUE 0 no 1 0\nEND\nOK 2\nVALUE 
 abbrev pub BobIsAnswered : Type 0
 BobIsAnswered = (g : Grounds) (caller : ℕ) → g.secret ≡ codes "s3cret" → g.verdict credential_text credential_assertion ≡ 0
     → IsServed g bob_asks bob_may_then E.Done true (longer_history caller) 1 2 caller (1 ∷ 2 ∷ 2 ∷ [])
+
+-- an administrator opens a session
+abbrev pub admin_opens : List ℕ
+admin_opens = codes "OPEN\nADMIN 733363726574\n"
+
+-- a block of 53 bytes that adds the credential and removes an id of one digit, and the newline behind it
+abbrev pub batch_removing : List ℕ → List ℕ
+batch_removing id = codes "BATCH 53\nADD 37\n" ++ credential_text ++ codes "\nDROP a" ++ id ++ codes "\n\n"
+
+-- there is no assertion of the id 9
+abbrev pub refused_batch_asks : List ℕ
+refused_batch_asks = admin_opens ++ batch_removing (codes "9") ++ codes "PIN 1\n"
+
+abbrev pub refused_batch_told : List ℕ
+refused_batch_told = codes "OK 1 1\nOK\nNO 17 item 2 12 unknown\nOK 1\n"
+
+-- the history refuses the second item of a batch, and then the first is not made either
+abbrev pub BatchIsRefused : Type 0
+BatchIsRefused = (g : Grounds) (caller : ℕ) → g.secret ≡ codes "s3cret" → g.verdict credential_text credential_assertion ≡ 0
+    → IsServed g refused_batch_asks refused_batch_told E.Done true policy_history 1 1 caller (1 ∷ 1 ∷ 1 ∷ [])
+
+-- the history with a batch of this caller that adds the credential and removes the policy's assertion
+abbrev pub batched_history : ℕ → List Update
+batched_history caller = policy_history ++ batch_by caller 2 (Add credential_text ∷ Remove 1 ∷ []) ∷ []
+
+abbrev pub batch_asks : List ℕ
+batch_asks = admin_opens ++ batch_removing (codes "1") ++ codes "DROP a1\nPIN 1\n"
+
+abbrev pub batch_told : List ℕ
+batch_told = codes "OK 1 1\nOK\nOK a2 1 2\nNO 12 unknown\nOK 2\n"
+
+-- both items of a batch are made by one update
+abbrev pub BatchIsMade : Type 0
+BatchIsMade = (g : Grounds) (caller : ℕ) → g.secret ≡ codes "s3cret" → g.verdict credential_text credential_assertion ≡ 0
+    → IsServed g batch_asks batch_told E.Done true (batched_history caller) 1 2 caller (1 ∷ 2 ∷ 2 ∷ 2 ∷ [])
+
+-- an administrator opens a session and adds the credential
+abbrev pub admin_adds : List ℕ
+admin_adds = admin_opens ++ codes "ADD 37\n" ++ credential_text ++ codes "\n"
+
+abbrev pub version_asks : List ℕ
+version_asks = admin_adds ++ codes "PIN 1 1\nPIN 1 3\n"
+
+abbrev pub version_told : List ℕ
+version_told = codes "OK 1 1\nOK\nOK a2 2\nOK 1 2\nNO 18 retained 2\n"
+
+-- a session is pinned to the version before the newest one, and not to one that isn't there
+abbrev pub VersionIsPinned : Type 0
+VersionIsPinned = (g : Grounds) (caller : ℕ) → g.secret ≡ codes "s3cret" → g.verdict credential_text credential_assertion ≡ 0
+    → IsServed g version_asks version_told E.Done true (longer_history caller) 1 2 caller (1 ∷ 2 ∷ 2 ∷ 2 ∷ [])
+
+abbrev pub log_asks : List ℕ
+log_asks = admin_adds ++ codes "LOG 1\nLOG 3\n"
+
+abbrev pub log_told : List ℕ
+log_told = codes "OK 1 1\nOK\nOK a2 2\nLOG 1 1 2\nUPDATE 0 1\nADD 37\n" ++ credential_text ++ codes "\nEND\nNO 19 ahead 2\n"
+
+-- the update behind the first one is handed on with its caller's number, here 0; a third one isn't there
+abbrev pub UpdateIsHandedOn : Type 0
+UpdateIsHandedOn = (g : Grounds) → g.secret ≡ codes "s3cret" → g.verdict credential_text credential_assertion ≡ 0
+    → IsServed g log_asks log_told E.Done true (longer_history 0) 1 2 0 (1 ∷ 2 ∷ 2 ∷ 2 ∷ [])

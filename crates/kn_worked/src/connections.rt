@@ -1,6 +1,6 @@
 //! Worked examples of connections. The functions have no body: their clauses are what they say.
 
-ghost use Rattle.kn_worked.specs.Connections.{AliceIsAnswered, AliceIsAnsweredSo, BobIsAnswered};
+ghost use Rattle.kn_worked.specs.Connections.{AliceIsAnswered, AliceIsAnsweredSo, BobIsAnswered, BatchIsRefused, BatchIsMade, VersionIsPinned, UpdateIsHandedOn};
 
 /// A session that asks whether a principal may is answered with the value and the row that proves it, and by no other bytes.
 pub fn question_is_answered()
@@ -11,4 +11,20 @@ pub fn question_is_answered()
 /// An administrator adds a credential. A session's answer changes with it only where the session pins the new version.
 pub fn addition_counts_when_pinned()
     ensures { BobIsAnswered }
+{}
+
+/// A batch is one update of all its items, or none where the history refuses an item: the first such one is told.
+pub fn batch_is_one_update()
+    ensures refused { BatchIsRefused }
+    ensures made { BatchIsMade }
+{}
+
+/// A session is pinned to an earlier version by its number. Where that version isn't there, the newest one is told.
+pub fn version_is_pinned()
+    ensures { VersionIsPinned }
+{}
+
+/// The updates behind the first ones, by their number, are handed on. Where there are fewer, the newest version is told.
+pub fn update_is_handed_on()
+    ensures { UpdateIsHandedOn }
 {}
