@@ -68,6 +68,21 @@ looks_once v log p sound sound' = record {
 pub looks_of : (v w : PassSeen) (log : List Update) → w ≡ after_give (after_look (after_take v log)) → IsPrefix v.seen log → IsSoundPass v → IsSoundPass w → Looks v w
 looks_of v w log is p sound sound' = subst (Looks v) (sym is) (looks_once v log p sound (subst IsSoundPass is sound'))
 
+-- a turn at which the pass looked, and from which the value wasn't given back
+pub looks_held : (v w : PassSeen) → Looks v (after_give w) → Looks v w
+looks_held v w l = record {
+  more = l.more;
+  moves = record {
+    number = l.moves.number;
+    seen = l.moves.seen;
+    named = l.moves.named;
+    mine = l.moves.mine;
+    stops = l.moves.stops;
+    splits = l.moves.splits;
+    ended = l.moves.ended;
+  };
+}
+
 pub stays_of : (v w : PassSeen) → Looks v w → Stays v w
 stays_of v w l = record {
   more = l.more;

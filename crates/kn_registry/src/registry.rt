@@ -313,6 +313,19 @@ impl Registry {
     {
         self.turn.meet(a, b);
     }
+
+    /// The book, taken out for good: its updates are all that the pass has then seen.
+    pub fn into_book<R: Wait>(self, rt: &R, pass: &mut Pass) -> Book
+        requires ready { IsReady self pass.old }
+        ensures sound { IsSoundPass pass.new }
+        ensures book { result ≡ pass.new.seen }
+        ensures looked { Looks pass.old pass.new }
+    {
+        let shared = self.turn.take(rt, pass);
+        self.turn.look(pass, &shared);
+        let SharedBook { book } = shared;
+        book
+    }
 }
 
 /// The version of this number, if the book retains it.
