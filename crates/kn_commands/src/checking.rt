@@ -74,7 +74,7 @@ pub fn check<R: Threads + Wait + Sync, F: Files>(
         Err(stop) => return Ending::Stopped { source, stop },
     };
     match load_file(rt, alloc, file.as_slice()) {
-        Ok((registry, root)) => check_script(rt, alloc, &registry, root, names, files),
+        Ok((registry, root)) => check_script(rt, alloc, registry, root, names, files),
         Err(fault) => {
             let stop = Stop::from(fault);
             Ending::Stopped { source, stop }
@@ -82,17 +82,17 @@ pub fn check<R: Threads + Wait + Sync, F: Files>(
     }
 }
 
-/// Checks the reply to the query that the script means over the version that the root has seen.
+/// Checks the reply to the query that the script means over the updates that the root has seen.
 fn check_script<R: Wait, F: Files>(
     rt: &R,
     alloc: Global,
-    registry: &Registry,
+    registry: Registry,
     root: Pass,
     names: &CheckFiles<'_>,
     files: &mut F,
 ) -> Ending
-    requires loaded { (texts : Of (Of ℕ)) × IsLoaded texts registry.now root }
-    ensures { (f : FilesSeen) (bytes : Of ℕ) → HasContent f names.now.policy bytes → IsLoaded (pieces_of bytes) registry.now root
+    requires loaded { (texts : Of (Of ℕ)) × IsLoaded texts registry root }
+    ensures { (f : FilesSeen) (bytes : Of ℕ) → HasContent f names.now.policy bytes → IsLoaded (pieces_of bytes) registry root
         → HasAsked (take 1 (in_order names.now)) f (F.seen files.old) → CheckCause f (F.seen files.new) names.now result }
 {
     let mut root = root;
@@ -101,12 +101,9 @@ fn check_script<R: Wait, F: Files>(
         Ok(script) => script,
         Err(stop) => return Ending::Stopped { source, stop },
     };
+    let book = registry.into_book(rt, &mut root);
     let stop = Stop::Memory;
-    let snapshot = match registry.pin(rt, &mut root) {
-        Ok(snapshot) => snapshot,
-        Err(NoMemory) => return Ending::Stopped { source, stop },
-    };
-    let query = match find_query(alloc, &snapshot, script.as_slice()) {
+    let query = match find_query(alloc, &book, script.as_slice()) {
         Ok(query) => query,
         Err(NoMemory) => return Ending::Stopped { source, stop },
     };

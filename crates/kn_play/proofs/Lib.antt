@@ -2,3 +2,4 @@ pub mod Requests
 pub mod Underway
 pub mod Finding
 pub mod Refused
+pub mod Retained

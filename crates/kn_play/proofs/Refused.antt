@@ -1,30 +1,17 @@
 -- A call of a session that is accepted or refused.
 use Rattle.std.proofs.Common.{◌≡◌, ◌∙◌, ◌⊎◌, inl, inr, ℕ, true, false, Option, Some, None, List, refl, sym, ap}
-use Rattle.std.specs.Prelude.{option_map, option_and_then, is_none, is_some}
+use Rattle.std.specs.Prelude.{option_and_then, is_some}
 use Rattle.std.specs.Option.{option_map_or}
-use Rattle.kn_fields.specs.Numbers.{fault_number, fault_place}
 use Rattle.kn_store.specs.declared.update.Update.{Update}
 use Rattle.kn_session.specs.declared.call.Applied.{Applied}
 use Rattle.kn_session.specs.declared.fault.CallFault.{CallFault}
-use Rattle.kn_session.specs.declared.fault.CallFault.TheVariants as T
-use Rattle.kn_session.specs.declared.fault.SessionFault.TheVariants as S
 use Rattle.kn_session.specs.Sessions.{OpenSessions, session_in}
 use Rattle.kn_session.specs.Calls.{Call, call_fault_in, lacks_memory, Accepts, Refuses}
 use Rattle.kn_reply.specs.declared.refusal.Refusal.{Refusal}
-use Rattle.kn_reply.specs.declared.refusal.Refusal.TheVariants as R
 use Rattle.kn_daemon.specs.Shapes.{Calls}
 use Rattle.kn_daemon.specs.Daemon.{State, refusal_of_call, changed}
+use Rattle.kn_daemon.proofs.Faults.{fault-told}
 use Rattle.kn_play.specs.Playing.{state_of_sessions, applied}
-
--- a fault is told as a refusal, unless it is want of memory
-is_told : (fault : CallFault) → lacks_memory fault ≡ false → is_some (refusal_of_call fault) ≡ true
-is_told (T.Text fault) e = by (fault_number fault) e
-  where
-    by : (number : Option ℕ) → is_none number ≡ false → is_some (option_map (λ n. R.Read n (fault_place fault)) number) ≡ true
-    by None e = cc
-    by (Some n) e = refl
-is_told (T.Session S.NoMemory) e = cc
-is_told (T.Session fault) e = refl
 
 -- a refusal changes nothing
 kept : (refusal : Option Refusal) (old new : State) → is_some refusal ≡ true → old ≡ option_map_or (λ r. old) refusal new
@@ -50,5 +37,5 @@ refused history old new s call fault refuses memory = ap state_of_sessions refus
     by : (lacks_memory fault ≡ true) ⊎ (call_fault_in s (session_in old.sessions s) call ≡ Some fault) → state_of_sessions old ≡ after history old s call (call_fault_in s (session_in old.sessions s) call)
     by (inl lacks) = cc
     by (inr why) =
-        kept (refusal_of_call fault) (state_of_sessions old) (changed history (state_of_sessions old) (Calls s call)) (is_told fault memory)
+        kept (refusal_of_call fault) (state_of_sessions old) (changed history (state_of_sessions old) (Calls s call)) (fault-told fault memory)
         ∙ sym (ap (after history old s call) why)

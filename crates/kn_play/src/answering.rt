@@ -1,6 +1,5 @@
 //! The next request of a feed, played.
 ghost use Rattle.std.specs.Prelude.{◌≡◌, IfOk};
-ghost use Rattle.std.specs.Arc.{arc_value};
 ghost use Rattle.kn_wire.specs.Digits.{IsWellFormed};
 ghost use Rattle.kn_wire.specs.Requests.{Faulty};
 ghost use Rattle.kn_wire.specs.Feeds.{held};
@@ -13,7 +12,7 @@ use crate::asking::{Asked, read_asked};
 use kn_base::NoMemory;
 use kn_daemon::shape::shape_of;
 use kn_session::Sessions;
-use kn_store::Snapshot;
+use kn_store::Book;
 use kn_wire::{Feed, Request, WireFault};
 use std::alloc::Global;
 
@@ -29,17 +28,17 @@ pub(crate) struct Step {
 /// Plays the next request, if a whole one is held.
 pub(crate) fn answer_next(
     alloc: Global,
-    snapshot: &Snapshot,
+    book: &Book,
     sessions: &mut Sessions,
     feed: &mut Feed,
 ) -> Result<Option<Step>, NoMemory>
     requires room { NumbersGoOn sessions.old }
-    ensures { IfOk result (PlaysNext (arc_value snapshot.now) sessions.old (held feed.old) sessions.new (held feed.new)) }
+    ensures { IfOk result (PlaysNext book.now sessions.old (held feed.old) sessions.new (held feed.new)) }
 {
     match feed.next() {
         Ok(None) => Ok(None),
         Ok(Some(request)) => {
-            let step = answer(alloc, snapshot, sessions, request)?;
+            let step = answer(alloc, book, sessions, request)?;
             Ok(Some(step))
         }
         Err(fault) => Ok(Some(Step {
@@ -52,18 +51,18 @@ pub(crate) fn answer_next(
 /// Plays a request.
 fn answer(
     alloc: Global,
-    snapshot: &Snapshot,
+    book: &Book,
     sessions: &mut Sessions,
     request: Request<'_>,
 ) -> Result<Step, NoMemory>
     requires room { NumbersGoOn sessions.old }
     requires form { IsWellFormed (request_of request) }
-    ensures { IfOk result (IsRequestPlayed (arc_value snapshot.now) sessions.old (request_of request.entry) sessions.new) }
+    ensures { IfOk result (IsRequestPlayed book.now sessions.old (request_of request.entry) sessions.new) }
 {
     let is_last = is_bye(&request);
     let shape = shape_of(request);
     let asked = read_asked(alloc, sessions, shape)?;
-    apply(alloc, snapshot, sessions, shape)?;
+    apply(alloc, book, sessions, shape)?;
     Ok(Step { asked, is_last })
 }
 

@@ -6,46 +6,50 @@ ghost use Rattle.kn_session.specs.Calls.{Set, call_of};
 ghost use Rattle.kn_session.specs.declared.fault.SessionFault.TheVariants as F;
 ghost use Rattle.kn_wire.specs.Digits.{bytes_of_digits};
 ghost use Rattle.kn_wire.specs.Requests.{are_digits};
-ghost use Rattle.kn_daemon.specs.Shapes.{Calls, Looks, ForNew, ForOpen, shape_in_code, IsFormed};
+ghost use Rattle.kn_daemon.specs.Shapes.{Calls, Looks, ForNew, ForOpen, ForRetained, shape_in_code, IsFormed};
 ghost use Rattle.kn_play.specs.Playing.{state_of_sessions, applied, NumbersGoOn};
 
 use kn_base::NoMemory;
 use kn_daemon::shape::Shape;
 use kn_session::{Call, SessionFault, Sessions};
-use kn_store::Snapshot;
+use kn_store::{Book, Snapshot};
 use kn_wire::decode_digits;
 use std::alloc::Global;
 
-/// Applies a request of this shape. ADMIN, ADD and DROP are always refused, and a QUERY, as BYE, changes nothing.
+/// Applies a request of this shape. ADMIN, ADD, DROP, BATCH and LOG are always refused. A QUERY changes nothing, nor does
+/// BYE.
 pub(crate) fn apply(
     alloc: Global,
-    snapshot: &Snapshot,
+    book: &Book,
     sessions: &mut Sessions,
     shape: Shape<'_>,
 ) -> Result<(), NoMemory>
     requires room { NumbersGoOn sessions.old }
     requires form { IsFormed shape }
-    ensures { OnOk result (state_of_sessions sessions.new ≡ applied (arc_value snapshot.now) sessions.old (shape_in_code shape.entry)) }
+    ensures { OnOk result (state_of_sessions sessions.new ≡ applied book.now sessions.old (shape_in_code shape.entry)) }
 {
     match shape {
-        Shape::Open => start(snapshot, sessions),
-        Shape::Pin { s } => repin(snapshot, sessions, s),
+        Shape::Open => start(book, sessions),
+        Shape::Pin { s } => repin(book, sessions, s),
+        Shape::PinAt { s, version } => repin_at(book, sessions, s, version),
         Shape::Call { s, call } => apply_call(alloc, sessions, s, call),
         Shape::SetDigits { s, name, digits } => set_digits(alloc, sessions, s, name, digits),
         Shape::Add { .. }
         | Shape::Remove { .. }
+        | Shape::Batch { .. }
+        | Shape::Log { .. }
         | Shape::Query { .. }
         | Shape::Admin { .. }
         | Shape::Bye => Ok(()),
     }
 }
 
-/// Starts a session at the version.
-fn start(snapshot: &Snapshot, sessions: &mut Sessions) -> Result<(), NoMemory>
+/// Starts a session at the newest version.
+fn start(book: &Book, sessions: &mut Sessions) -> Result<(), NoMemory>
     requires room { NumbersGoOn sessions.old }
-    ensures { OnOk result (state_of_sessions sessions.new ≡ applied (arc_value snapshot.now) sessions.old (Looks ForNew)) }
+    ensures { OnOk result (state_of_sessions sessions.new ≡ applied book.now sessions.old (Looks ForNew)) }
 {
-    let Ok(pinned) = snapshot.clone() else {
+    let Ok(pinned) = book.snapshot().clone() else {
         return Err(NoMemory);
     };
     match sessions.start(pinned) {
@@ -65,8 +69,25 @@ fn pass_refusal(fault: SessionFault) -> Result<(), NoMemory>
     }
 }
 
-/// Pins a session to the version.
-fn repin(snapshot: &Snapshot, sessions: &mut Sessions, s: u32) -> Result<(), NoMemory>
+/// Pins a session to the newest version.
+fn repin(book: &Book, sessions: &mut Sessions, s: u32) -> Result<(), NoMemory>
+    ensures { OnOk result (state_of_sessions sessions.new ≡ applied book.now sessions.old (Looks (ForOpen s))) }
+{
+    pin_to(book.snapshot(), sessions, s)
+}
+
+/// Pins a session to a version that is retained. Another one is refused.
+fn repin_at(book: &Book, sessions: &mut Sessions, s: u32, version: u32) -> Result<(), NoMemory>
+    ensures { OnOk result (state_of_sessions sessions.new ≡ applied book.now sessions.old (Looks (ForRetained s version))) }
+{
+    match book.retained(version) {
+        Some(retained) => pin_to(retained, sessions, s),
+        None => Ok(()),
+    }
+}
+
+/// Pins a session to a version, as if that were the newest one.
+fn pin_to(snapshot: &Snapshot, sessions: &mut Sessions, s: u32) -> Result<(), NoMemory>
     ensures { OnOk result (state_of_sessions sessions.new ≡ applied (arc_value snapshot.now) sessions.old (Looks (ForOpen s))) }
 {
     let Ok(pinned) = snapshot.clone() else {

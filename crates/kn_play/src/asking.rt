@@ -30,8 +30,11 @@ pub(crate) fn read_asked(
         | Shape::SetDigits { .. }
         | Shape::Open
         | Shape::Pin { .. }
+        | Shape::PinAt { .. }
+        | Shape::Log { .. }
         | Shape::Add { .. }
         | Shape::Remove { .. }
+        | Shape::Batch { .. }
         | Shape::Admin { .. }
         | Shape::Bye => Ok(None),
     }

@@ -1,7 +1,7 @@
-//! Playing a script of the line protocol offline: the query that it means over a version of the shared credentials.
+//! Playing a script of the line protocol offline: the query that it means over a book of the shared credentials.
 //!
-//! The script is played on a daemon of one thread without a secret, so ADMIN, ADD and DROP are always refused, and each
-//! session stays at the one version.
+//! The script is played on a daemon of one thread without a secret, so ADMIN, ADD, DROP, BATCH and LOG are always refused.
+//! A session is pinned to the newest version, unless it asks for another one that the book retains.
 #![tactic(auto)]
 
 mod answering;
@@ -12,6 +12,8 @@ mod meant;
 mod playing;
 mod query;
 mod script;
+#[cfg(test)]
+mod tests;
 
 pub use meant::Meant;
 pub use query::find_query;

@@ -1,6 +1,5 @@
 //! A script played, request by request.
 ghost use Rattle.std.specs.Prelude.{◌≡◌, ◌≤◌, IfOk};
-ghost use Rattle.std.specs.Arc.{arc_value};
 ghost use Rattle.kn_base.specs.declared.limits.TheConstants.{FILE_BYTES};
 ghost use Rattle.kn_play.specs.Playing.{IsPlayed, later_of};
 
@@ -8,7 +7,7 @@ use crate::asking::Asked;
 use crate::script::play_next;
 use kn_base::NoMemory;
 use kn_session::Sessions;
-use kn_store::Snapshot;
+use kn_store::Book;
 use kn_wire::Feed;
 use std::alloc::Global;
 
@@ -29,19 +28,19 @@ pub(crate) struct Played {
 /// Plays the requests of a script up to their end, but at most so many.
 pub(crate) fn play(
     alloc: Global,
-    snapshot: &Snapshot,
+    book: &Book,
     script: &[u8],
     most: usize,
 ) -> Result<Played, NoMemory>
     requires { most ≤ FILE_BYTES }
-    ensures { IfOk result (IsPlayed (arc_value snapshot.now) script.now most) }
+    ensures { IfOk result (IsPlayed book.now script.now most) }
 {
     let mut feed = Feed::new(alloc)?;
     let mut sessions = Sessions::new(alloc);
     let mut from = 0;
     let mut last = None;
     for before in 0..most {
-        match play_next(alloc, snapshot, &mut sessions, script, &mut feed, &mut from)? {
+        match play_next(alloc, book, &mut sessions, script, &mut feed, &mut from)? {
             None => return Ok(Played { sessions, last }),
             Some(step) => {
                 last = later(last, before, step.asked);

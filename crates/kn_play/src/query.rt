@@ -1,6 +1,5 @@
 //! The query that a script means.
 ghost use Rattle.std.specs.Prelude.{◌≤◌, ℕ, List, length, IfOk, IfSome, IfNone};
-ghost use Rattle.std.specs.Arc.{arc_value};
 ghost use Rattle.kn_base.specs.declared.limits.TheConstants.{FILE_BYTES};
 ghost use Rattle.kn_session.specs.Sessions.{Session};
 ghost use Rattle.kn_play.specs.Meaning.{Means, IsMeantQuery};
@@ -9,30 +8,26 @@ use crate::asking::Asked;
 use crate::meant::Meant;
 use crate::playing::{LastQuery, Played, play};
 use kn_base::NoMemory;
-use kn_store::Snapshot;
+use kn_store::Book;
 use std::alloc::Global;
 
-/// The query that a script means over a version, with which each of its sessions starts; None where it means none.
+/// The query that a script means where each of its requests stands behind all updates of a book; None where it means none.
 ///
 /// It is the last QUERY, up to BYE, a refused block or the last whole request, on an open session and for well-formed
-/// compliance values (keynoted's own). A refused request changes nothing, as on the daemon. `NoMemory` comes only for
-/// want of memory.
-pub fn find_query(
-    alloc: Global,
-    snapshot: &Snapshot,
-    script: &[u8],
-) -> Result<Option<Meant>, NoMemory>
+/// compliance values (keynoted's own). A refused request changes nothing, as on the daemon. A session starts with the
+/// newest version, and may pin another one that the book retains. `NoMemory` comes only for want of memory.
+pub fn find_query(alloc: Global, book: &Book, script: &[u8]) -> Result<Option<Meant>, NoMemory>
     requires short { length script.now ≤ FILE_BYTES }
-    ensures some { IfOk result (λ found. IfSome found (IsMeantQuery (arc_value snapshot.now) script.now)) }
+    ensures some { IfOk result (λ found. IfSome found (IsMeantQuery book.now script.now)) }
     ensures none { IfOk result (λ found. IfNone found ((session : Session) (values : List (List ℕ))
-        → ¬ Means (arc_value snapshot.now) script.now session values)) }
+        → ¬ Means book.now script.now session values)) }
 {
-    let Played { sessions: _, last } = play(alloc, snapshot, script, script.len())?;
+    let Played { sessions: _, last } = play(alloc, book, script, script.len())?;
     let Some(LastQuery { before, asked }) = last else {
         return Ok(None);
     };
     let Asked { session, values } = asked;
-    let Played { sessions, last: _ } = play(alloc, snapshot, script, before)?;
+    let Played { sessions, last: _ } = play(alloc, book, script, before)?;
     Ok(Some(Meant {
         sessions,
         session,

@@ -1,6 +1,5 @@
 //! The bytes of a script as a stream of requests.
 ghost use Rattle.std.specs.Prelude.{◌≡◌, ◌<◌, ◌≤◌, List, None, length, IfOk};
-ghost use Rattle.std.specs.Arc.{arc_value};
 ghost use Rattle.kn_wire.specs.Requests.{Request};
 ghost use Rattle.kn_wire.specs.Feeding.{next_of};
 ghost use Rattle.kn_wire.specs.Feeds.{held};
@@ -9,14 +8,14 @@ ghost use Rattle.kn_play.specs.Playing.{NumbersGoOn, IsFed, Next};
 use crate::answering::{Step, answer_next};
 use kn_base::NoMemory;
 use kn_session::Sessions;
-use kn_store::Snapshot;
+use kn_store::Book;
 use kn_wire::{Feed, PIECE_BYTES};
 use std::alloc::Global;
 
 /// Plays the next request of a script, of which so many bytes were fed; None where no whole one is left.
 pub(crate) fn play_next(
     alloc: Global,
-    snapshot: &Snapshot,
+    book: &Book,
     sessions: &mut Sessions,
     script: &[u8],
     feed: &mut Feed,
@@ -25,10 +24,10 @@ pub(crate) fn play_next(
     requires room { NumbersGoOn sessions.old }
     requires within { from.old ≤ length script.now }
     ensures { (requests : List Request) → IsFed script.now from.old (held feed.old) requests
-        → IfOk result (Next (arc_value snapshot.now) script.now requests sessions.old from.new (held feed.new) sessions.new) }
+        → IfOk result (Next book.now script.now requests sessions.old from.new (held feed.new) sessions.new) }
 {
     'pieces: loop {
-        match answer_next(alloc, snapshot, sessions, feed)? {
+        match answer_next(alloc, book, sessions, feed)? {
             Some(step) => return Ok(Some(step)),
             None => {
                 if *from == script.len() {

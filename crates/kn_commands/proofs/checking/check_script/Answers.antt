@@ -1,5 +1,4 @@
 use Rattle.std.proofs.Common.{◌≡◌, ◌∙◌, ◌∷◌, [], List as Of, ℕ, take, subst}
-use Rattle.std.specs.Arc.{arc_value}
 use Rattle.kn_outside.specs.Asked.{HasAsked}
 use Rattle.kn_files.specs.Pieces.{pieces_of}
 use Rattle.kn_session.specs.Sessions.{Session}
@@ -21,10 +20,10 @@ returns-in-Some g c = λ f bytes has loaded before.
     let names = c.args.names.now in
     let asked : HasAsked (names.script ∷ []) mid (g.F.Files.seen c.read_file.new.files) = rw c.name.ensures at c.in-Ok.ensures.asked in
     let content : HasContent mid names.script c.in-Ok.script = rw c.name.ensures at c.in-Ok.ensures.content in
-    let seen : arc_value c.in-Ok-pin.snapshot ≡ loaded_history (pieces_of bytes) =
-    c.in-Ok-pin.ensures.version ∙ looks_alone c.args.root c.pin.new.pass loaded.root.number loaded.root.unsplit c.in-Ok-pin.ensures.sound c.in-Ok-pin.ensures.looked ∙ loaded.seen in
-    let first : IsMeantQuery (arc_value c.in-Ok-pin.snapshot) c.as_slice.result.now c.in-Some.meant = rw c.in-Some.is at c.in-Ok-find_query.ensures.some in
-    let second : IsMeantQuery (arc_value c.in-Ok-pin.snapshot) c.in-Ok.script c.in-Some.meant = rw c.as_slice.ensures at first in
+    let seen : c.into_book-book.result ≡ loaded_history (pieces_of bytes) =
+    c.into_book-book.ensures.book ∙ looks_alone c.args.root c.into_book-book.new.pass loaded.root.number loaded.root.unsplit c.into_book-book.ensures.sound c.into_book-book.ensures.looked ∙ loaded.seen in
+    let first : IsMeantQuery c.into_book-book.result c.as_slice.result.now c.in-Some.meant = rw c.in-Some.is at c.in-Ok-find_query.ensures.some in
+    let second : IsMeantQuery c.into_book-book.result c.in-Ok.script c.in-Some.meant = rw c.as_slice.ensures at first in
     let found : IsMeantQuery (loaded_history (pieces_of bytes)) c.in-Ok.script c.in-Some.meant =
     subst (λ (h : Of Update). IsMeantQuery h c.in-Ok.script c.in-Some.meant) seen second in
     let query : HasQuery f names found.0 c.in-Some.meant.values = record {
@@ -42,10 +41,10 @@ returns g c = λ f bytes has loaded before.
     let names = c.args.names.now in
     let asked : HasAsked (names.script ∷ []) mid (g.F.Files.seen c.read_file.new.files) = rw c.name.ensures at c.in-Ok.ensures.asked in
     let content : HasContent mid names.script c.in-Ok.script = rw c.name.ensures at c.in-Ok.ensures.content in
-    let seen : arc_value c.in-Ok-pin.snapshot ≡ loaded_history (pieces_of bytes) =
-    c.in-Ok-pin.ensures.version ∙ looks_alone c.args.root c.pin.new.pass loaded.root.number loaded.root.unsplit c.in-Ok-pin.ensures.sound c.in-Ok-pin.ensures.looked ∙ loaded.seen in
-    let first : (session : Session) (values : Of (Of ℕ)) → ¬ Means (arc_value c.in-Ok-pin.snapshot) c.as_slice.result.now session values = rw c.in-None.is at c.in-Ok-find_query.ensures.none in
-    let second : (session : Session) (values : Of (Of ℕ)) → ¬ Means (arc_value c.in-Ok-pin.snapshot) c.in-Ok.script session values = rw c.as_slice.ensures at first in (
+    let seen : c.into_book-book.result ≡ loaded_history (pieces_of bytes) =
+    c.into_book-book.ensures.book ∙ looks_alone c.args.root c.into_book-book.new.pass loaded.root.number loaded.root.unsplit c.into_book-book.ensures.sound c.into_book-book.ensures.looked ∙ loaded.seen in
+    let first : (session : Session) (values : Of (Of ℕ)) → ¬ Means c.into_book-book.result c.as_slice.result.now session values = rw c.in-None.is at c.in-Ok-find_query.ensures.none in
+    let second : (session : Session) (values : Of (Of ℕ)) → ¬ Means c.into_book-book.result c.in-Ok.script session values = rw c.as_slice.ensures at first in (
       read_more f mid _ names TheScript before asked,
       record {
         bytes = bytes;

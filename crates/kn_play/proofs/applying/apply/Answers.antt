@@ -1,8 +1,7 @@
-use Rattle.std.specs.Arc.{arc_value}
 use Rattle.kn_play.proofs.applying.apply.Goals as goal
 
 pub returns-in-Call : goal.returns-in-Call
-returns-in-Call c = rw c.in-Call.is (c.apply_call.ensures (arc_value c.args.snapshot.now))
+returns-in-Call c = rw c.in-Call.is (c.apply_call.ensures c.args.book.now)
 
 pub returns-in-SetDigits : goal.returns-in-SetDigits
-returns-in-SetDigits c = rw c.in-SetDigits.is (c.set_digits.ensures (arc_value c.args.snapshot.now))
+returns-in-SetDigits c = rw c.in-SetDigits.is (c.set_digits.ensures c.args.book.now)
