@@ -8,6 +8,11 @@
 #
 # At 2,048 live credentials an update should take at most 50,000 ns and 8,192 bytes beyond its text, and at most three
 # times what it takes at 64.
+#
+# Then, at 2,048, what a batch of 256 additions costs, and one of 256 removals, and the bytes that a version keeps behind
+# one: between two runs that keep 40 and 240 versions, every second of them made by 256 additions of 37 bytes, without these
+# texts, each of which is held twice. Last the bytes of the 15 versions that a book retains before its newest, each made by
+# one update: the growth of peak memory from 64 newest versions to 64 books.
 set -eu
 
 TIME=/usr/bin/time
@@ -16,17 +21,25 @@ rt run -- lexer >/dev/null # builds it
 program=./out/kn_bench
 
 "$program" updates time
+"$program" batches time
 
+# the peak memory of a run with these words
 peak_kib() {
-    "$TIME" -f %M "$program" keep "$1" "$2" 2>&1 >/dev/null | tail -n 1
+    "$TIME" -f %M "$program" "$@" 2>&1 >/dev/null | tail -n 1
 }
 
 if [[ -x $TIME ]]; then
     for live in 1 64 512 2048; do
-        few=$(peak_kib "$live" 2000)
-        many=$(peak_kib "$live" 10000)
+        few=$(peak_kib keep "$live" 2000)
+        many=$(peak_kib keep "$live" 10000)
         echo "$live live: $(((many - few) * 1024 / 8000)) bytes a version"
     done
+    few=$(peak_kib keep-batches 2048 40)
+    many=$(peak_kib keep-batches 2048 240)
+    echo "2048 live: $(((many - few) * 1024 / 200 - 256 * 37)) bytes a version of a batch beyond its texts"
+    few=$(peak_kib newest 2048 16)
+    many=$(peak_kib books 2048 16)
+    echo "2048 live: $(((many - few) * 1024 / 64)) bytes of 15 retained versions"
 else
     echo "bytes weren't measured: there is no $TIME"
 fi

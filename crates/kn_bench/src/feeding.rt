@@ -11,7 +11,7 @@ use std::rt::Clock;
 use std::time::Instant;
 
 const REQUESTS: &[u8] =
-    b"OPEN\nSET 1 app_domain doors\nSETX 1 hour 3132\nAUTH 1 alice\nQUERY 1 no,ring,open\nUNAUTH 1 alice\nASSERT 1 23\nAuthorizer: \"director\"\n\nRETRACT 1 p1\nCLOSE 1\nOPEN 1\n";
+    b"OPEN\nSET 1 app_domain doors\nSETX 1 hour 3132\nAUTH 1 alice\nQUERY 1 no,ring,open\nUNAUTH 1 alice\nASSERT 1 23\nAuthorizer: \"director\"\n\nRETRACT 1 p1\nCLOSE 1\nOPEN 1\nPIN 1 2\nLOG 0\nBATCH 8\nDROP a1\n\n";
 
 /// The bytes of a stream.
 const STREAM_BYTES: usize = 262_144;

@@ -1,10 +1,13 @@
 //! What parts of keynoted take by themselves: the lexer, the feed of requests, an update of the book, and settling a system.
 //!
 //! Without words each part is run once, and what it gives is printed, which is the same on each machine. `PART` does that
-//! for one of `lexer`, `feed`, `updates` and `settling`, and `PART time` prints what it takes.
-//! `keep LIVE COUNT` makes so many updates at so many live credentials and keeps each version.
+//! for one of `lexer`, `feed`, `updates`, `batches` and `settling`, and `PART time` prints what it takes.
+//! `keep LIVE COUNT` makes so many updates at so many live credentials and keeps each version, and `keep-batches LIVE COUNT`
+//! so many batches. `books LIVE COUNT` makes 64 books of so many updates and keeps them, and `newest LIVE COUNT` the newest
+//! version of each alone.
 #![tactic(auto)]
 
+mod batching;
 mod clock;
 mod feeding;
 mod lexing;
@@ -12,6 +15,7 @@ mod settling;
 mod stated;
 mod updating;
 
+use batching::{keep_batches, keep_books, measure_batches};
 use feeding::measure_feeding;
 use kn_base::decimal;
 use lexing::measure_lexing;
@@ -24,7 +28,13 @@ fn show_all(rt: &HostRuntime) -> io::Result<()> {
     measure_lexing(rt, false)?;
     measure_feeding(rt, false)?;
     measure_updates(rt, false)?;
+    measure_batches(rt, false)?;
     measure_settling(rt, false)
+}
+
+/// The number that a word spells, if there is one.
+fn number_of(word: Option<String>) -> Option<u32> {
+    word.and_then(|word| decimal(word.as_bytes()))
 }
 
 fn main(rt: HostRuntime) -> io::Result<()> {
@@ -35,16 +45,18 @@ fn main(rt: HostRuntime) -> io::Result<()> {
     };
     let second = words.next();
     let is_timed = second.is_some();
+    let live = number_of(second).unwrap_or(1);
+    let count = number_of(words.next()).unwrap_or(1);
     match part.as_str() {
         "lexer" => measure_lexing(&rt, is_timed),
         "feed" => measure_feeding(&rt, is_timed),
         "updates" => measure_updates(&rt, is_timed),
+        "batches" => measure_batches(&rt, is_timed),
         "settling" => measure_settling(&rt, is_timed),
-        "keep" => {
-            let live = second.and_then(|word| decimal(word.as_bytes()));
-            let count = words.next().and_then(|word| decimal(word.as_bytes()));
-            keep_versions(&rt, live.unwrap_or(1), count.unwrap_or(1))
-        }
+        "keep" => keep_versions(&rt, live, count),
+        "keep-batches" => keep_batches(&rt, live, count),
+        "books" => keep_books(&rt, live, count, false),
+        "newest" => keep_books(&rt, live, count, true),
         _ => Err(io::Error::from(io::ErrorKind::InvalidInput)),
     }
 }

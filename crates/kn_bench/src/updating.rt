@@ -1,7 +1,7 @@
 //! What one update of the book costs at 1, 64, 512 and 2,048 live credentials.
 //!
 //! Untimed, one update is made at each size and its version is printed; then books are filled up to each limit, and the
-//! fault of one update more is printed: by the count of live credentials and by their bytes, by the count of updates and by
+//! fault of one update more is printed: by the count of live credentials and by their bytes, by the count of changes and by
 //! the bytes of all texts; and of three texts at once, where there is room for one, the place of the first that is refused.
 
 use kn_assert::read;
@@ -13,7 +13,7 @@ use std::sync::Arc;
 use std::time::Instant;
 
 /// 37 bytes.
-const TEXT: &[u8] = b"Authorizer: \"alice\"\nLicensees: \"bob\"\n";
+pub(crate) const TEXT: &[u8] = b"Authorizer: \"alice\"\nLicensees: \"bob\"\n";
 
 const SIZES: [u32; 4] = [1, 64, 512, 2_048];
 
@@ -23,7 +23,7 @@ const PAIRS: u32 = 500;
 /// Measurements, of which the least counts.
 const ROUNDS: u32 = 20;
 
-fn make_ready(alloc: Global, text: &[u8]) -> Result<Ready, StoreFault> {
+pub(crate) fn make_ready(alloc: Global, text: &[u8]) -> Result<Ready, StoreFault> {
     match read(alloc, text) {
         Ok(assertion) => Ok(Ready::of(alloc, text, assertion)?),
         Err(_) => Err(StoreFault::NoMemory),
@@ -62,7 +62,7 @@ fn remove(book: &mut Book, id: u32) -> Result<u32, StoreFault> {
 }
 
 /// A book with so many live credentials.
-fn fill_book(alloc: Global, live: u32) -> Result<Book, StoreFault> {
+pub(crate) fn fill_book(alloc: Global, live: u32) -> Result<Book, StoreFault> {
     let mut book = Book::empty(alloc)?;
     match add_at_once(alloc, &mut book, live) {
         Ok(()) => Ok(book),
@@ -120,7 +120,7 @@ fn least(clock: &impl Clock, alloc: Global, book: &mut Book) -> io::Result<(u128
 }
 
 /// Makes so many updates, of which every second one adds, and keeps each version.
-fn keep(
+pub(crate) fn keep(
     alloc: Global,
     book: &mut Book,
     count: u32,
@@ -241,7 +241,7 @@ fn show_limit_of_log(rt: &HostRuntime, text: &[u8]) -> io::Result<()> {
 
 /// Three texts at once where there is room for one.
 fn show_refused_place(rt: &HostRuntime) -> io::Result<()> {
-    if let Ok(mut book) = fill_book(rt.alloc(), 2_047)
+    if let Ok(mut book) = fill_book(rt.alloc(), 4_095)
         && let Err((place, fault)) = add_at_once(rt.alloc(), &mut book, 3)
     {
         println!(rt;
