@@ -25,7 +25,7 @@ module _ (g : Grounds) (old : State) (secret digits : List ℕ) (whole : Bool) (
   own b e = ap (λ (x : List ℕ). refuse_if (not (is_secret x (bytes_of_digits digits))) R.Admin None) same ∙ ap (λ (x : Bool). refuse_if (not x) R.Admin None) e
 
   pub admin_refused : is_secret secret (bytes_of_digits digits) ≡ false → Prints whole (reply_text (No R.Admin)) l l' → Tells g old old (Controls (ShowSecret (bytes_of_digits digits))) whole l l'
-  admin_refused wrong prints = told_refused g old (Controls (ShowSecret (bytes_of_digits digits))) R.Admin whole l l' (own false wrong) refl prints
+  admin_refused wrong prints = told_refused g old (Controls (ShowSecret (bytes_of_digits digits))) R.Admin whole l l' (own false wrong) prints
 
   pub admin_done : is_secret secret (bytes_of_digits digits) ≡ true → Prints whole (reply_text Done) l l' → Tells g old (record old { is_admin = true }) (Controls (ShowSecret (bytes_of_digits digits))) whole l l'
   admin_done right prints =

@@ -1,23 +1,20 @@
 -- Calls of a session.
 use Rattle.std.proofs.Common.{◌≡◌, ℕ, ◌<◌, ◌≤◌, ◌^◌, Bool, true, false, refl, sym, ap, ◌∙◌, arith, Option, Some, None, subst, inl, inr}
-use Rattle.std.specs.Prelude.{◌⊎◌, option_map, option_and_then, is_none, IsSomeAnd}
+use Rattle.std.specs.Prelude.{◌⊎◌, option_and_then, IsSomeAnd}
 use Rattle.kn_outside.specs.Seen.{LinkSeen}
 use Rattle.kn_outside.specs.Printing.{Prints}
-use Rattle.kn_fields.specs.Numbers.{fault_number, fault_place}
 use Rattle.kn_session.specs.declared.fault.SessionFault.{SessionFault}
-use Rattle.kn_session.specs.declared.fault.SessionFault.TheVariants as S
 use Rattle.kn_session.specs.declared.fault.CallFault.{CallFault}
-use Rattle.kn_session.specs.declared.fault.CallFault.TheVariants as T
 use Rattle.kn_session.specs.declared.call.Applied.{Applied}
 use Rattle.kn_session.specs.declared.call.Applied.TheVariants as A
 use Rattle.kn_session.specs.Sessions.{Session, OpenSessions, session_in, fault_in}
 use Rattle.kn_session.specs.Calls.{Call, call_fault_in, call_answer, lacks_memory, with_call, Accepts, Refuses}
 use Rattle.kn_reply.specs.declared.refusal.Refusal.{Refusal}
-use Rattle.kn_reply.specs.declared.refusal.Refusal.TheVariants as R
 use Rattle.kn_reply.specs.Replies.{reply_text}
 use Rattle.kn_daemon.specs.Shapes.{Calls}
 use Rattle.kn_daemon.specs.Daemon.{Grounds, State, session_of, own_refusal, refusal_of_call, reply_of_call}
 use Rattle.kn_daemon.specs.Linearized.{update_by, is_placed}
+use Rattle.kn_daemon.proofs.Faults.{untold-lacks, lacking-untold}
 use Rattle.kn_serve.specs.Handling.{HasRoom, Tells, refused_reply}
 use Rattle.kn_serve.proofs.HandlingLaws.{is_acceptance, told_refused, told_memory, told_done}
 
@@ -50,26 +47,6 @@ unplaced : (applied : Applied) (s : ℕ) (call : Call) → is_placed (Calls s ca
 unplaced A.Done s call = refl
 unplaced (A.Added k) s call = refl
 
--- what is told of no fault is want of memory
-untold : (fault : CallFault) → refusal_of_call fault ≡ None → lacks_memory fault ≡ true
-untold (T.Text fault) e = by (fault_number fault) e
-  where
-    by : (number : Option ℕ) → option_map (λ n. R.Read n (fault_place fault)) number ≡ None → is_none number ≡ true
-    by None e = refl
-    by (Some n) e = absurd (cc (e))
-untold (T.Session S.NoMemory) e = refl
-untold (T.Session fault) e = absurd (cc (e))
-
--- and want of memory is told of no refusal
-memory_untold : (fault : CallFault) → lacks_memory fault ≡ true → refusal_of_call fault ≡ None
-memory_untold (T.Text fault) e = by (fault_number fault) e
-  where
-    by : (number : Option ℕ) → is_none number ≡ true → option_map (λ n. R.Read n (fault_place fault)) number ≡ None
-    by None e = refl
-    by (Some n) e = absurd (cc (e))
-memory_untold (T.Session S.NoMemory) e = refl
-memory_untold (T.Session fault) e = absurd (cc (e))
-
 module _ (g : Grounds) (a b : OpenSessions) (is_admin : Bool) (s : ℕ) (call : Call) (whole : Bool) (l l' : LinkSeen) where
   pub call_done : (applied : Applied) → Accepts a b s call applied → Prints whole (reply_text (reply_of_call applied)) l l'
       → Tells g (state_with a is_admin) (state_with b is_admin) (Calls s call) whole l l'
@@ -95,9 +72,9 @@ module _ (g : Grounds) (a b : OpenSessions) (is_admin : Bool) (s : ℕ) (call : 
       due refusal e = from k.why
         where
           from : (lacks_memory fault ≡ true) ⊎ (call_fault_in s (session_in a.sessions s) call ≡ Some fault) → own_refusal g (state_with a is_admin) (Calls s call) ≡ Some refusal
-          from (inl memory) = absurd (let none = memory_untold fault memory in cc (e, none))
+          from (inl memory) = absurd (let none = lacking-untold fault memory in cc (e, none))
           from (inr why) = ap (λ (f : Option CallFault). option_and_then refusal_of_call f) why ∙ sym e
 
       by : (o : Option Refusal) → o ≡ refusal_of_call fault → Prints whole (reply_text (refused_reply o)) l l' → Tells g (state_with a is_admin) (state_with a is_admin) (Calls s call) whole l l'
-      by None e p = told_memory g (state_with a is_admin) (Calls s call) whole l l' (k.memory (untold fault (sym e))) p
-      by (Some refusal) e p = told_refused g (state_with a is_admin) (Calls s call) refusal whole l l' (due refusal e) refl p
+      by None e p = told_memory g (state_with a is_admin) (Calls s call) whole l l' (k.memory (untold-lacks fault (sym e))) p
+      by (Some refusal) e p = told_refused g (state_with a is_admin) (Calls s call) refusal whole l l' (due refusal e) p

@@ -1,31 +1,28 @@
 -- Adding a shared credential, and removing one.
-use Rattle.std.proofs.Common.{◌≡◌, ℕ, ◌<◌, Bool, true, false, List, [], ◌∷◌, length, refl, sym, ap, ◌∙◌, arith, Option, Some, None, subst, inl, inr}
-use Rattle.std.specs.Prelude.{◌⊎◌, Result, Ok, Err, ◌==◌}
-use Rattle.std.proofs.lemmas.Option.{none-some}
-use Rattle.std.specs.Option.{unwrap_or, option_or}
-use Rattle.std.proofs.lemmas.Bool.Decides.{nat_tests}
-use Rattle.std.specs.Result.{result_err, result_ok}
-use Rattle.kn_assert.specs.Reading.{reading_of, assertion_of, fault_of}
+use Rattle.std.proofs.Common.{◌≡◌, ℕ, Bool, true, false, List, [], ◌∷◌, length, refl, sym, ap, ◌∙◌, Option, Some, None, subst, inl, inr}
+use Rattle.std.specs.Prelude.{Result, Ok, Err, ◌==◌, not, option_map, if◌then◌else◌}
+use Rattle.std.specs.Option.{option_or}
+use Rattle.kn_assert.specs.Reading.{reading_of}
 use Rattle.kn_fields.specs.Numbers.{fault_number, fault_place}
 use Rattle.kn_fields.specs.declared.fault.ReadFault.{ReadFault}
-use Rattle.kn_fields.specs.declared.fault.ReadFault.TheVariants as RF
 use Rattle.kn_trees.specs.declared.assertion.Assertion.{Assertion}
-use Rattle.kn_auth.specs.declared.fault.AuthFault.{AuthFault}
-use Rattle.kn_auth.specs.declared.fault.AuthFault.TheVariants.{Unsigned, Algorithm, Key, Mac, NotListed}
-use Rattle.kn_auth.specs.Numbers.{number_of}
 use Rattle.kn_outside.specs.Seen.{LinkSeen}
 use Rattle.kn_outside.specs.Printing.{Prints}
 use Rattle.kn_store.specs.declared.fault.StoreFault.{StoreFault}
 use Rattle.kn_store.specs.declared.fault.StoreFault.TheVariants as S
 use Rattle.kn_store.specs.History.{all_changes, refusal_of_text, refusal_of_id, addition_by, removal_by}
+use Rattle.kn_wire.specs.Items.{AddText as ItemText}
 use Rattle.kn_reply.specs.declared.refusal.Refusal.{Refusal}
 use Rattle.kn_reply.specs.declared.refusal.Refusal.TheVariants as R
+use Rattle.kn_reply.specs.declared.refusal.ItemRefusal.{ItemRefusal}
+use Rattle.kn_reply.specs.declared.refusal.ItemRefusal.TheVariants as I
 use Rattle.kn_reply.specs.declared.refusal.LimitWord.TheVariants as W
 use Rattle.kn_daemon.specs.Shapes.{Shape, Updates, AddText, DropId}
 use Rattle.kn_reply.specs.Replies.{Number, Added, No, NoMemory, reply_text}
-use Rattle.kn_daemon.specs.Daemon.{Grounds, State, own_refusal, placed_refusal, refusal_of_text as refusal_of_fault_text, refusal_of_store}
+use Rattle.kn_daemon.specs.Daemon.{Grounds, State, own_refusal, placed_refusal, refusal_of_store, refusal_of_update, refusal_of_reading, refusal_of_verdict, refusal_at_reading, refusal_at_verdict, refusal_at_store, item_refusal}
 use Rattle.kn_registry.specs.Passes.{PassSeen, Looks as PassLooks, Adds, Removes, IsRefused, RefusesText, RefusesId}
-use Rattle.kn_serve.specs.Handling.{Handles, Tells, refused_reply}
+use Rattle.kn_serve.specs.Admission.{Admits, RefusesItem}
+use Rattle.kn_serve.specs.Handling.{Handles, Tells, request_refusal, refused_reply}
 use Rattle.kn_serve.proofs.HandlingLaws.{handled_by, looked_handled, stayed_handled, unrefused, told_refused, told_memory}
 
 -- the text was added
@@ -51,7 +48,7 @@ removed_handled g v w old id version whole l l' a own prints =
     }) refl (unrefused (own_refusal g old (Updates (DropId id))) own) prints
 
 -- the history refused the change
-refused_handled : (g : Grounds) (v w : PassSeen) (old : State) (shape : Shape) (refusal : Refusal) (whole : Bool) (l l' : LinkSeen) →
+pub refused_handled : (g : Grounds) (v w : PassSeen) (old : State) (shape : Shape) (refusal : Refusal) (whole : Bool) (l l' : LinkSeen) →
     PassLooks v w → own_refusal g old shape ≡ None → placed_refusal w.seen shape ≡ Some refusal → Prints whole (reply_text (No refusal)) l l' →
     Handles g v w old old shape whole l l'
 refused_handled g v w old shape refusal whole l l' looks own placed prints =
@@ -96,73 +93,58 @@ unremoved_handled g v w old id fault refusal whole l l' refuses own told prints 
 
 -- the secret wasn't shown
 pub add_unshown : (g : Grounds) (old : State) (text : List ℕ) (whole : Bool) (l l' : LinkSeen) → old.is_admin ≡ false → Prints whole (reply_text (No R.Admin)) l l' → Tells g old old (Updates (AddText text)) whole l l'
-add_unshown g old text whole l l' out prints = told_refused g old (Updates (AddText text)) R.Admin whole l l' (rw out refl) refl prints
+add_unshown g old text whole l l' out prints = told_refused g old (Updates (AddText text)) R.Admin whole l l' (rw out refl) prints
 
 pub drop_unshown : (g : Grounds) (old : State) (id : ℕ) (whole : Bool) (l l' : LinkSeen) → old.is_admin ≡ false → Prints whole (reply_text (No R.Admin)) l l' → Tells g old old (Updates (DropId id)) whole l l'
-drop_unshown g old id whole l l' out prints = told_refused g old (Updates (DropId id)) R.Admin whole l l' (rw out refl) refl prints
+drop_unshown g old id whole l l' out prints = told_refused g old (Updates (DropId id)) R.Admin whole l l' (rw out refl) prints
 
 pub drop_shown : (g : Grounds) (old : State) (id : ℕ) → old.is_admin ≡ true → own_refusal g old (Updates (DropId id)) ≡ None
 drop_shown g old id admin = rw admin refl
 
-fault_reading : (read : Result Assertion ReadFault) (fault : ReadFault) → result_err read ≡ Some fault → read ≡ Err fault
-fault_reading (Ok a) fault e = absurd (none-some _ e)
-fault_reading (Err other) fault e = ap (λ (x : ReadFault). Err x) (ap (λ (o : Option ReadFault). unwrap_or o other) e)
-
-reading_is : (read : Result Assertion ReadFault) (a : Assertion) → result_ok read ≡ Some a → read ≡ Ok a
-reading_is (Ok b) a e = ap (λ (x : Assertion). Ok x) (ap (λ (o : Option Assertion). unwrap_or o b) e)
-reading_is (Err fault) a e = absurd (none-some _ e)
-
--- the text has a fault, or there was no memory to read it
-pub add_unread : (g : Grounds) (old : State) (text : List ℕ) (fault : ReadFault) (refusal : Option Refusal) (whole : Bool) (l l' : LinkSeen) → old.is_admin ≡ true →
-    (fault ≡ RF.NoMemory) ⊎ (fault_of text ≡ Some fault) → refusal ≡ refusal_of_fault_text fault → Prints whole (reply_text (refused_reply refusal)) l l' → Tells g old old (Updates (AddText text)) whole l l'
-add_unread g old text fault refusal whole l l' admin (inl none) told prints =
-    told_memory g old (Updates (AddText text)) whole l l' refl (subst (λ (o : Option Refusal). Prints whole (reply_text (refused_reply o)) l l') (told ∙ ap refusal_of_fault_text none) prints)
-add_unread g old text fault refusal whole l l' admin (inr faulty) told prints = by_number (fault_number fault) refl
+-- what refuses a text is what refuses the item that adds it
+refusal_of_addition : (g : Grounds) (text : List ℕ) → refusal_of_update g (AddText text) ≡ option_map request_refusal (item_refusal g (ItemText text))
+refusal_of_addition g text = by (reading_of text)
   where
-    reading : reading_of text ≡ Err fault
-    reading = fault_reading (reading_of text) fault faulty
+    at_verdict : (number : ℕ) (b : Bool) → (if not b then Some (R.Auth number) else None) ≡ option_map request_refusal (if not b then Some (I.Auth number) else None)
+    at_verdict number true = refl
+    at_verdict number false = refl
 
-    by_number : (n : Option ℕ) → fault_number fault ≡ n → Tells g old old (Updates (AddText text)) whole l l'
-    by_number None e =
-        let is : refusal_of_fault_text fault ≡ None = rw e refl in
-        let said : refusal ≡ None = told ∙ is in
-        told_memory g old (Updates (AddText text)) whole l l' refl (subst (λ (o : Option Refusal). Prints whole (reply_text (refused_reply o)) l l') said prints)
-    by_number (Some n) e =
-        let is : refusal_of_fault_text fault ≡ Some (R.Read n (fault_place fault)) = rw e refl in
-        let said : refusal ≡ Some (R.Read n (fault_place fault)) = told ∙ is in
-        told_refused g old (Updates (AddText text)) (R.Read n (fault_place fault)) whole l l' (rw admin (rw reading (rw e refl))) refl
-        (subst (λ (o : Option Refusal). Prints whole (reply_text (refused_reply o)) l l') said prints)
+    at_fault : (number : Option ℕ) (place : ℕ) → option_map (λ n. R.Read n place) number ≡ option_map request_refusal (option_map (λ n. I.Read n place) number)
+    at_fault None place = refl
+    at_fault (Some n) place = refl
 
-number_positive : (fault : AuthFault) → 0 < number_of fault
-number_positive Unsigned = omega arith
-number_positive Algorithm = omega arith
-number_positive Key = omega arith
-number_positive Mac = omega arith
-number_positive NotListed = omega arith
+    by : (r : Result Assertion ReadFault) → refusal_of_reading r (λ a. refusal_of_verdict (g.verdict text a)) ≡ option_map request_refusal (refusal_at_reading I.Read r (λ a. refusal_at_verdict I.Auth (g.verdict text a)))
+    by (Ok a) = at_verdict (g.verdict text a) (g.verdict text a == 0)
+    by (Err fault) = at_fault (fault_number fault) (fault_place fault)
 
--- the authenticator refused the text
-pub add_unadmitted : (g : Grounds) (old : State) (text : List ℕ) (a : Assertion) (verdict : List ℕ → Assertion → ℕ) (fault : AuthFault) (number : ℕ) (whole : Bool) (l l' : LinkSeen) → g.verdict ≡ verdict →
-    old.is_admin ≡ true → assertion_of text ≡ Some a → number ≡ number_of fault → number_of fault ≡ verdict text a → Prints whole (reply_text (No (R.Auth number))) l l' → Tells g old old (Updates (AddText text)) whole l l'
-add_unadmitted g old text a verdict fault number whole l l' grounds admin reads is judged prints =
-    let judged' : number_of fault ≡ g.verdict text a = judged ∙ sym (ap (λ (f : List ℕ → Assertion → ℕ). f text a) grounds) in
-    let same : number ≡ g.verdict text a = is ∙ judged' in
-    let above : 0 < g.verdict text a = subst (λ (n : ℕ). 0 < n) judged' (number_positive fault) in
-    let reading : reading_of text ≡ Ok a = reading_is (reading_of text) a reads in
-    let other : (g.verdict text a == 0) ≡ false = grind (arith, nat_tests, above) in
-    told_refused g old (Updates (AddText text)) (R.Auth (g.verdict text a)) whole l l' (rw admin (rw reading (rw other refl))) refl
-    (subst (λ (n : ℕ). Prints whole (reply_text (No (R.Auth n))) l l') same prints)
+-- what the store refuses of a request it refuses of an item
+pub refusal_of_store-request : (fault : StoreFault) → refusal_of_store fault ≡ option_map request_refusal (refusal_at_store I.Unknown I.Limit fault)
+refusal_of_store-request (S.Unknown id) = refl
+refusal_of_store-request (S.LiveFull count) = refl
+refusal_of_store-request (S.BytesFull bytes) = refl
+refusal_of_store-request (S.HistoryFull updates) = refl
+refusal_of_store-request (S.LogFull bytes) = refl
+refusal_of_store-request S.NoMemory = refl
 
--- the text was admitted
-add_admitted : (g : Grounds) (old : State) (text : List ℕ) (a : Assertion) → old.is_admin ≡ true → assertion_of text ≡ Some a → 0 ≡ g.verdict text a → own_refusal g old (Updates (AddText text)) ≡ None
-add_admitted g old text a admin reads judged =
-    let reading : reading_of text ≡ Ok a = reading_is (reading_of text) a reads in
-    rw admin (rw reading (rw (← judged) refl))
+-- the text isn't admitted
+pub add_unadmitted : (g : Grounds) (old : State) (text : List ℕ) (verdict : List ℕ → Assertion → ℕ) (refusal : Option ItemRefusal) (told : Option Refusal) (whole : Bool) (l l' : LinkSeen) → g.verdict ≡ verdict →
+    old.is_admin ≡ true → RefusesItem verdict (ItemText text) refusal → told ≡ option_map request_refusal refusal → Prints whole (reply_text (refused_reply told)) l l' → Tells g old old (Updates (AddText text)) whole l l'
+add_unadmitted g old text verdict refusal told whole l l' grounds admin refused is prints =
+    by refusal refused (subst (λ (o : Option Refusal). Prints whole (reply_text (refused_reply o)) l l') is prints)
+  where
+    by : (o : Option ItemRefusal) → RefusesItem verdict (ItemText text) o → Prints whole (reply_text (refused_reply (option_map request_refusal o))) l l' → Tells g old old (Updates (AddText text)) whole l l'
+    by None refused p = told_memory g old (Updates (AddText text)) whole l l' refl p
+    by (Some inner) (inl none) p = absurd (cc none)
+    by (Some inner) (inr refused) p =
+        let own : refusal_of_update g (AddText text) ≡ Some (request_refusal inner) = refusal_of_addition g text ∙ ap (option_map request_refusal) (refused g grounds) in
+        told_refused g old (Updates (AddText text)) (request_refusal inner) whole l l' (rw admin own) p
 
 -- what was admitted is the text that was asked for
-pub added_as : (g : Grounds) (v w : PassSeen) (old : State) (text ready : List ℕ) (a : Assertion) (verdict : List ℕ → Assertion → ℕ) (whole : Bool) (l l' : LinkSeen) → g.verdict ≡ verdict →
-    old.is_admin ≡ true → assertion_of text ≡ Some a → 0 ≡ verdict text a → ready ≡ text → (own_refusal g old (Updates (AddText ready)) ≡ None → Handles g v w old old (Updates (AddText ready)) whole l l') →
+pub added_as : (g : Grounds) (v w : PassSeen) (old : State) (text ready : List ℕ) (verdict : List ℕ → Assertion → ℕ) (whole : Bool) (l l' : LinkSeen) → g.verdict ≡ verdict →
+    old.is_admin ≡ true → Admits verdict (ItemText text) → ready ≡ text → (own_refusal g old (Updates (AddText ready)) ≡ None → Handles g v w old old (Updates (AddText ready)) whole l l') →
     Handles g v w old old (Updates (AddText text)) whole l l'
-added_as g v w old text ready a verdict whole l l' grounds admin reads judged same handled =
-    let judged' : 0 ≡ g.verdict text a = judged ∙ sym (ap (λ (f : List ℕ → Assertion → ℕ). f text a) grounds) in
+added_as g v w old text ready verdict whole l l' grounds admin admitted same handled =
+    let none : refusal_of_update g (AddText text) ≡ None = refusal_of_addition g text ∙ ap (option_map request_refusal) (admitted g grounds) in
+    let own : own_refusal g old (Updates (AddText text)) ≡ None = rw admin none in
     subst (λ (x : List ℕ). Handles g v w old old (Updates (AddText x)) whole l l') same
-    (handled (subst (λ (x : List ℕ). own_refusal g old (Updates (AddText x)) ≡ None) (sym same) (add_admitted g old text a admin reads judged')))
+    (handled (subst (λ (x : List ℕ). own_refusal g old (Updates (AddText x)) ≡ None) (sym same) own))

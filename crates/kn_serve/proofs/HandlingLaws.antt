@@ -9,9 +9,10 @@ use Rattle.kn_wire.specs.declared.fault.WireFault.{WireFault}
 use Rattle.kn_reply.specs.declared.refusal.Refusal.{Refusal}
 use Rattle.kn_daemon.specs.declared.shape.Shape.{Shape as Asked}
 use Rattle.kn_daemon.specs.Shapes.{Shape, Controls, Leave, AtFault, shape_in_code}
-use Rattle.kn_reply.specs.Replies.{Reply, Done, Started, Number, PrivateAdded, Added, Value, No, NoMemory, reply_text}
+use Rattle.kn_reply.specs.Replies.{Reply, Done, Started, Number, PrivateAdded, Added, Value, Batched, PinnedAt, Log, No, NoMemory, reply_text}
 use Rattle.kn_daemon.specs.Daemon.{Grounds, State, Permits, Answers, own_refusal, placed_refusal, changed, may_lack_memory, refusal_of_fault}
 use Rattle.kn_daemon.specs.Linearized.{update_by, is_placed, StandsFor}
+use Rattle.kn_daemon.proofs.Refusals.{own-unplaced}
 use Rattle.kn_registry.specs.Passes.{PassSeen, Moves, Looks, Stays}
 use Rattle.kn_registry.proofs.PassMoves.{moves-nothing}
 use Rattle.kn_serve.specs.Handling.{Handles, Tells}
@@ -83,12 +84,12 @@ stayed_handled g v w old new shape reply whole l l' k own none unplaced permitte
 
 -- the state refuses the request
 pub told_refused : (g : Grounds) (old : State) (shape : Shape) (refusal : Refusal) (whole : Bool) (l l' : LinkSeen) →
-    own_refusal g old shape ≡ Some refusal → is_placed shape (No refusal) ≡ false → Prints whole (reply_text (No refusal)) l l' → Tells g old old shape whole l l'
-told_refused g old shape refusal whole l l' refused unplaced prints = record {
+    own_refusal g old shape ≡ Some refusal → Prints whole (reply_text (No refusal)) l l' → Tells g old old shape whole l l'
+told_refused g old shape refusal whole l l' refused prints = record {
   reply = No refusal;
   permitted = λ caller past. (ap (λ (o : Option Refusal). option_or o (placed_refusal past shape)) refused, refl);
   no_update = λ caller. refl;
-  unplaced = unplaced;
+  unplaced = own-unplaced g old shape refusal refused;
   prints = prints;
 }
 
@@ -111,6 +112,9 @@ is_acceptance (Number version) = true
 is_acceptance (PrivateAdded k) = true
 is_acceptance (Added k version) = true
 is_acceptance (Value index name version rows) = true
+is_acceptance (Batched first added version) = true
+is_acceptance (PinnedAt version newest) = true
+is_acceptance (Log n history) = true
 is_acceptance (No refusal) = false
 is_acceptance NoMemory = false
 
@@ -123,6 +127,9 @@ does_permitted g caller past old new shape (Number version) is accepted answered
 does_permitted g caller past old new shape (PrivateAdded k) is accepted answered next = record { accepted = accepted; answered = answered; next = next }
 does_permitted g caller past old new shape (Added k version) is accepted answered next = record { accepted = accepted; answered = answered; next = next }
 does_permitted g caller past old new shape (Value index name version rows) is accepted answered next = record { accepted = accepted; answered = answered; next = next }
+does_permitted g caller past old new shape (Batched first added version) is accepted answered next = record { accepted = accepted; answered = answered; next = next }
+does_permitted g caller past old new shape (PinnedAt version newest) is accepted answered next = record { accepted = accepted; answered = answered; next = next }
+does_permitted g caller past old new shape (Log n history) is accepted answered next = record { accepted = accepted; answered = answered; next = next }
 does_permitted g caller past old new shape (No refusal) is accepted answered next = absurd (cc is)
 does_permitted g caller past old new shape NoMemory is accepted answered next = absurd (cc is)
 
@@ -145,4 +152,4 @@ bye_told g now whole l l' prints = told_done g now now (Controls Leave) Done who
 -- a fault is answered by its refusal
 pub faulty_told : (g : Grounds) (now : State) (fault : WireFault) (refusal : Refusal) (whole : Bool) (l l' : LinkSeen) → refusal ≡ refusal_of_fault fault → Prints whole (reply_text (No refusal)) l l' →
     Tells g now now (AtFault fault) whole l l'
-faulty_told g now fault refusal whole l l' same prints = told_refused g now (AtFault fault) refusal whole l l' (ap (λ (r : Refusal). Some r) (sym same)) refl prints
+faulty_told g now fault refusal whole l l' same prints = told_refused g now (AtFault fault) refusal whole l l' (ap (λ (r : Refusal). Some r) (sym same)) prints

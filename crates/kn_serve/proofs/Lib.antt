@@ -8,3 +8,6 @@ pub mod CompletenessLaws
 pub mod OpeningLaws
 pub mod QueryingLaws
 pub mod ChangingLaws
+pub mod AdmissionLaws
+pub mod BatchLaws
+pub mod LogLaws

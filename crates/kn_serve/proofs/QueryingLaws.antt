@@ -27,12 +27,12 @@ pub query_unknown : (g : Grounds) (old : State) (s : ℕ) (names : List ℕ) (fa
     Prints whole (reply_text (No R.Session)) l l' → Tells g old old (Asks s names) whole l l'
 query_unknown g old s names fault whole l l' why prints =
     let none : session_of old s ≡ None = none_found s (session_of old s) fault why in
-    told_refused g old (Asks s names) R.Session whole l l' (rw none refl) refl prints
+    told_refused g old (Asks s names) R.Session whole l l' (rw none refl) prints
 
 -- the names are no values
 query_unnamed : (g : Grounds) (old : State) (s : ℕ) (names : List ℕ) (session : Session) (whole : Bool) (l l' : LinkSeen) → session_of old s ≡ Some session → values_of names ≡ None →
     Prints whole (reply_text (No R.Values)) l l' → Tells g old old (Asks s names) whole l l'
-query_unnamed g old s names session whole l l' there none prints = told_refused g old (Asks s names) R.Values whole l l' (rw there (rw none refl)) refl prints
+query_unnamed g old s names session whole l l' there none prints = told_refused g old (Asks s names) R.Values whole l l' (rw there (rw none refl)) prints
 
 pub query_faulty : (g : Grounds) (old : State) (s : ℕ) (names : List ℕ) (session : Session) (fault : ValuesFault) (refusal : Option Refusal) (whole : Bool) (l l' : LinkSeen) → session_of old s ≡ Some session →
     (fault ≡ V.NoMemory) ⊎ (values_fault names ≡ Some fault) → refusal ≡ refusal_of_values fault → Prints whole (reply_text (refused_reply refusal)) l l' → Tells g old old (Asks s names) whole l l'

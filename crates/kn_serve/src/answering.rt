@@ -8,11 +8,13 @@ ghost use Rattle.kn_daemon.specs.Daemon.{Grounds, State};
 ghost use Rattle.kn_serve.specs.Handling.{state_of, HasRoom, Handles, Tells};
 
 use crate::admitting::show_secret;
+use crate::batching::batch;
 use crate::calling::{call as answer_call, set_digits};
 use crate::changing::{add, remove};
 use crate::config::DaemonConfig;
 use crate::connection::Connection;
-use crate::opening::{open, pin};
+use crate::logging::log;
+use crate::opening::{open, pin, pin_at};
 use crate::querying::query;
 use crate::refusals::refusal_of_fault;
 use kn_auth::Authenticator;
@@ -43,8 +45,13 @@ pub(crate) fn answer<R: Wait, A: Authenticator, L: Link, G: Gate>(
     match shape_of(request) {
         Shape::Open => open(rt, config.registry, pass, connection, link),
         Shape::Pin { s } => pin(rt, config.registry, pass, connection, s, link),
+        Shape::PinAt { s, version } => {
+            pin_at(rt, config.registry, pass, connection, s, version, link)
+        }
         Shape::Add { block } => add(rt, alloc, config, pass, connection, block, link),
         Shape::Remove { k } => remove(rt, config.registry, pass, connection, k, link),
+        Shape::Batch { block } => batch(rt, alloc, config, pass, connection, block, link),
+        Shape::Log { n } => log(rt, config.registry, pass, connection, n, link),
         Shape::Call { s, call } => answer_call(alloc, connection, s, call, link),
         Shape::SetDigits { s, name, digits } => set_digits(
             alloc, connection, s, name, digits, link,

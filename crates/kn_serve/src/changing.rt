@@ -9,10 +9,9 @@ ghost use Rattle.kn_serve.specs.Handling.{state_of, Handles};
 
 use crate::config::DaemonConfig;
 use crate::connection::Connection;
-use crate::refusals::{print_refusal, refusal_of_store, refusal_of_text};
-use kn_assert::read;
+use crate::judging::admit_text;
+use crate::refusals::{print_refusal, refusal_as_request, refusal_of_store};
 use kn_auth::Authenticator;
-use kn_base::NoMemory;
 use kn_outside::{Failed, Gate, Link};
 use kn_registry::{Pass, Registry};
 use kn_reply::{Refusal, Reply, print};
@@ -38,20 +37,9 @@ pub(crate) fn add<R: Wait, A: Authenticator, L: Link, G: Gate>(
     if !connection.is_admin {
         return print(&Reply::No(Refusal::Admin), link);
     }
-    let assertion = match read(alloc, block) {
-        Ok(assertion) => assertion,
-        Err(fault) => return print_refusal(refusal_of_text(&fault), link),
-    };
-    match config.authenticator.admit(block, &assertion) {
-        Ok(()) => {}
-        Err(fault) => {
-            let fault = fault.number();
-            return print(&Reply::No(Refusal::Auth { fault }), link);
-        }
-    }
-    match Ready::of(alloc, block, assertion) {
+    match admit_text(alloc, config.authenticator, block) {
         Ok(ready) => add_ready(rt, config.registry, pass, ready, link),
-        Err(NoMemory) => print(&Reply::NoMemory, link),
+        Err(refusal) => print_refusal(refusal_as_request(refusal), link),
     }
 }
 

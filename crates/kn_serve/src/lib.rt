@@ -5,16 +5,21 @@
 
 mod admitting;
 mod answering;
+mod batching;
 mod calling;
 mod changing;
 mod config;
 mod connection;
 mod filling;
+mod judging;
+mod logging;
 mod opening;
 mod querying;
 mod refusals;
 mod serving;
 mod step;
+#[cfg(test)]
+mod tests;
 
 pub use kn_daemon::ended::Ended;
 pub use serving::serve_connection;

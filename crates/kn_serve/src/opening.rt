@@ -1,11 +1,12 @@
-//! Opening a session, and pinning one to the newest version.
+//! Opening a session, and pinning one to the newest version or to a retained one.
 ghost use Rattle.kn_outside.specs.Printing.{is_whole};
 ghost use Rattle.kn_registry.specs.Passes.{IsReady};
-ghost use Rattle.kn_daemon.specs.Shapes.{Looks, ForNew, ForOpen};
+ghost use Rattle.kn_daemon.specs.Shapes.{Looks, ForNew, ForOpen, ForRetained};
 ghost use Rattle.kn_daemon.specs.Daemon.{Grounds};
 ghost use Rattle.kn_serve.specs.Handling.{state_of, HasRoom, Handles};
 
 use crate::connection::Connection;
+use crate::refusals::{print_refusal, refusal_of_version};
 use kn_base::NoMemory;
 use kn_base::limits::SESSIONS;
 use kn_outside::{Failed, Link};
@@ -66,6 +67,35 @@ pub(crate) fn pin<R: Wait, L: Link>(
     let version = snapshot.number();
     match connection.sessions.repin(s, snapshot) {
         Ok(()) => print(&Reply::Number { version }, link),
+        Err(_) => unreachable!(),
+    }
+}
+
+/// Answers PIN of a version.
+pub(crate) fn pin_at<R: Wait, L: Link>(
+    rt: &R,
+    reg: &Registry,
+    pass: &mut Pass,
+    connection: &mut Connection,
+    s: u32,
+    version: u32,
+    link: &mut L,
+) -> Result<(), Failed>
+    requires ready { IsReady reg.now pass.old }
+    ensures ready { IsReady reg.now pass.new }
+    ensures handled { (g : Grounds) → Handles g pass.old pass.new (state_of connection.old) (state_of connection.new) (Looks (ForRetained s version)) (is_whole result) (L.seen link.old) (L.seen link.new) }
+{
+    match connection.sessions.view(s) {
+        Ok(_) => {}
+        Err(_) => return print(&Reply::No(Refusal::Session), link),
+    }
+    let snapshot = match reg.pin_at(rt, pass, version) {
+        Ok(snapshot) => snapshot,
+        Err(fault) => return print_refusal(refusal_of_version(fault), link),
+    };
+    let newest = pass.seen_length();
+    match connection.sessions.repin(s, snapshot) {
+        Ok(()) => print(&Reply::PinnedAt { version, newest }, link),
         Err(_) => unreachable!(),
     }
 }

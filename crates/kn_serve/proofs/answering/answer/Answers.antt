@@ -28,3 +28,12 @@ returns-in-Add-clause-handled g c = handles_as _ _ _ _ _ _ _ _ _ _ _ c.shape_of.
 
 pub returns-in-Remove-clause-handled : goal.returns-in-Remove-clause-handled
 returns-in-Remove-clause-handled g c = handles_as _ _ _ _ _ _ _ _ _ _ _ c.shape_of.ensures.shape c.in-Remove.is (c.remove.ensures.handled _)
+
+pub returns-in-PinAt-clause-handled : goal.returns-in-PinAt-clause-handled
+returns-in-PinAt-clause-handled g c = handles_as _ _ _ _ _ _ _ _ _ _ _ c.shape_of.ensures.shape c.in-PinAt.is (c.pin_at.ensures.handled _)
+
+pub returns-in-Batch-clause-handled : goal.returns-in-Batch-clause-handled
+returns-in-Batch-clause-handled g c = handles_as _ _ _ _ _ _ _ _ _ _ _ c.shape_of.ensures.shape c.in-Batch.is (c.batch.ensures.handled _ refl)
+
+pub returns-in-Log-clause-handled : goal.returns-in-Log-clause-handled
+returns-in-Log-clause-handled g c = handles_as _ _ _ _ _ _ _ _ _ _ _ c.shape_of.ensures.shape c.in-Log.is (c.log.ensures.handled _)
