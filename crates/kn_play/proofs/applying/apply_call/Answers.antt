@@ -4,7 +4,7 @@ use Rattle.kn_play.proofs.Refused.{accepted, refused}
 use Rattle.kn_play.proofs.applying.apply_call.Goals as goal
 
 pub apply-requires : goal.apply-requires
-apply-requires c = record { few = c.requires.room.made c.args.s }
+apply-requires c = record { few = λ text is. c.requires.room.made c.args.s }
 
 pub returns-in-Ok : goal.returns-in-Ok
 returns-in-Ok c = λ history. accepted history c.args.sessions.now c.apply.new.self c.args.s (call_of c.args.call) c.in-Ok.field-0 c.in-Ok.ensures.ok

@@ -2,7 +2,7 @@ use Rattle.kn_serve.proofs.CallingLaws.{state_with, private_few, call_done, call
 use Rattle.kn_serve.proofs.calling.call.Goals as goal
 
 pub apply-requires : goal.apply-requires
-apply-requires g c = record { few = private_few (state_with c.args.connection.now.sessions c.args.connection.now.is_admin) c.args.s c.requires.room }
+apply-requires g c = record { few = λ text is. private_few (state_with c.args.connection.now.sessions c.args.connection.now.is_admin) c.args.s c.requires.room }
 
 pub returns-in-Ok : goal.returns-in-Ok
 returns-in-Ok g c = record {
