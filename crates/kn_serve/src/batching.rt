@@ -68,9 +68,9 @@ fn admit_items<A: Authenticator>(
     ensures refused { IfErr result (RefusesOneItem (A.verdict authenticator.now) (map C.item_of items.now)) }
 {
     let mut admitted = List::new(alloc);
-    for item in items.as_slice() {
+    for part in items.as_slice() {
         let number = admitted.len() + 1;
-        let asked = match admit_item(alloc, authenticator, item) {
+        let asked = match admit_item(alloc, authenticator, part) {
             Ok(asked) => asked,
             Err(refusal) => return Err(refusal_of_item(number, refusal)),
         };
