@@ -37,7 +37,11 @@ fn pins<R: Abort>(
         let version: &Version = meant.view().snapshot;
         version.number()
     });
-    assert_eq!(rt; pinned, Some(expected), "{updates} updates, version {expected}");
+    assert_eq!(rt;
+        pinned,
+        Some(expected),
+        "{updates} updates, version {expected}"
+    );
     Ok(())
 }
 

@@ -55,7 +55,14 @@ fn served<R: Wait>(rt: &R, alloc: Global, input: &[u8]) -> Result<MemLink, Fail>
     let input = Octets::from_slice(alloc, input)?;
     let mut link = MemLink::of(alloc, input, List::new(alloc), List::new(alloc));
     let _ended = serve_connection(
-        rt, alloc, &registry, &mut root, &Everything, SECRET, &mut link, &Passing,
+        rt,
+        alloc,
+        &registry,
+        &mut root,
+        &Everything,
+        SECRET,
+        &mut link,
+        &Passing,
     );
     Ok(link)
 }

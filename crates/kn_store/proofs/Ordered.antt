@@ -133,5 +133,6 @@ retained-are_newest history kept number = (there, back)
             let high : length history < number + 16 = ltb-true (length history) (number + 16) parts.1 in
             (low, omega arith, sym (same_Some (take number history) kept e))
         by false is e = cc
+
     back : (number ≤ length history) × (length history ≤ number + 15) × (kept ≡ take number history) → retained_version history number ≡ Some kept
     back (low, high, same) = rw (le-leb number (length history) low, lt-ltb (length history) (number + 16) (omega arith)) (ap Some (sym same))
