@@ -1,5 +1,5 @@
 -- That nothing else is written for the bytes of a worked connection.
-use Rattle.std.proofs.Common.{◌≡◌, ℕ, zero, suc, ◌<◌, ◌≤◌, ◌⊎◌, ⊎_elim, inl, inr, ◌||◌, Bool, true, false, List, [], ◌∷◌, ◌++◌, take, get_or, codes, refl, sym, ap, ◌∙◌, subst, arith, Option, Some, None}
+use Rattle.std.proofs.Common.{◌≡◌, ℕ, zero, suc, ◌<◌, ◌≤◌, ⊎_elim, inl, inr, ◌||◌, Bool, true, false, List, [], ◌∷◌, ◌++◌, take, get_or, codes, refl, sym, ap, ◌∙◌, subst, arith, Option, Some, None}
 use Rattle.std.specs.Prelude.{flat_map, slice_index_or}
 use Rattle.std.specs.Fmt.{digits}
 use Rattle.std.specs.List.{list_any}
