@@ -91,29 +91,26 @@ refuses_next verdict front rest item number (Some inner) told before at (inr ref
 
 -- The same of items in code.
 
-module _ (items : List ItemInCode) (i : ℕ) (x : ItemInCode) (within : i < length items) (here : x ≡ get_or items i x) where
+-- so many are in front of the next
+pub in_front : (items : List ItemInCode) (i : ℕ) → i < length items → length (map item_in_code (take i items)) ≡ i
+in_front items i within = length-map (take i items) item_in_code ∙ length-take-le i items (omega (arith, within))
+
+module _ (items : List ItemInCode) (i : ℕ) (x other : ItemInCode) (within : i < length items) (here : x ≡ get_or items i other) where
   pub one_more : map item_in_code (take (i + 1) items) ≡ map item_in_code (take i items) ++ item_in_code x ∷ []
   one_more =
-      ap (map item_in_code) (take_more items i x within ∙ ap (λ (y : ItemInCode). take i items ++ y ∷ []) (sym here))
+      ap (map item_in_code) (take_more items i other within ∙ ap (λ (y : ItemInCode). take i items ++ y ∷ []) (sym here))
       ∙ map-append item_in_code (take i items) (x ∷ [])
 
   halves : map item_in_code items ≡ map item_in_code (take i items) ++ item_in_code x ∷ map item_in_code (drop (i + 1) items)
   halves =
-      ap (map item_in_code) (sym (take-append-drop i items) ∙ ap (λ rest. take i items ++ rest) (drop_more items i x within ∙ ap (λ (y : ItemInCode). y ∷ drop (i + 1) items) (sym here)))
+      ap (map item_in_code) (sym (take-append-drop i items) ∙ ap (λ rest. take i items ++ rest) (drop_more items i other within ∙ ap (λ (y : ItemInCode). y ∷ drop (i + 1) items) (sym here)))
       ∙ map-append item_in_code (take i items) (x ∷ drop (i + 1) items)
-
-  -- so many are in front of it
-  pub in_front : length (map item_in_code (take i items)) ≡ i
-  in_front =
-      let mapped = length-map (take i items) item_in_code in
-      let taken = length-take-le i items (omega (arith, within)) in
-      mapped ∙ taken
 
   -- it is the first that isn't admitted
   pub refuses_here : (verdict : List ℕ → Assertion → ℕ) (number : ℕ) (refusal : Option ItemRefusal) (told : Option Refusal) → AdmitsAll verdict (map item_in_code (take i items)) → number ≡ i + 1 →
       RefusesItem verdict (item_in_code x) refusal → told ≡ option_map (λ inner. R.Item number inner) refusal → RefusesOneItem verdict (map item_in_code items) told
   refuses_here verdict number refusal told before at refused is =
-      let placed : number ≡ length (map item_in_code (take i items)) + 1 = let front = in_front in omega (arith, at, front) in
+      let placed : number ≡ length (map item_in_code (take i items)) + 1 = let front = in_front items i within in omega (arith, at, front) in
       subst (λ (l : List BatchItem). RefusesOneItem verdict l told) (sym halves)
       (refuses_next verdict (map item_in_code (take i items)) (map item_in_code (drop (i + 1) items)) (item_in_code x) number refusal told before placed refused is)
 
