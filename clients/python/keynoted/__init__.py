@@ -19,17 +19,21 @@ from .answers import Answer, Row
 from .asynchronous import AsyncConnection, AsyncPool, connect_async
 from .connection import Connection, Session, connect, start
 from .errors import (
-    KeynotedError, LinkEnded, NoAdmin, NoAuth, NoBlock, NoCommand, NoLimit, NoLong, NoMemory, NoName, NoPolicy,
-    NoPrincipal, NoRead, NoSession, NoSyntax, NoUnknown, NoValue, NoValues, Refusal, TimedOut,
+    KeynotedError, LinkEnded, NoAdmin, NoAhead, NoAuth, NoBatch, NoBlock, NoCommand, NoItem, NoLimit, NoLong, NoMemory,
+    NoName, NoPolicy, NoPrincipal, NoRead, NoRetained, NoSession, NoSyntax, NoUnknown, NoValue, NoValues, Refusal,
+    TimedOut,
 )
 from .explaining import explain
 from .linting import lint
 from .pool import Pool
+from .updates import Batch, Credential, credentials_of
 from .version import __version__
+from .wire import Added, Dropped, Update
 
 __all__ = [
-    "Answer", "AsyncConnection", "AsyncPool", "Connection", "KeynotedError", "LinkEnded", "NoAdmin", "NoAuth",
-    "NoBlock", "NoCommand", "NoLimit", "NoLong", "NoMemory", "NoName", "NoPolicy", "NoPrincipal", "NoRead",
-    "NoSession", "NoSyntax", "NoUnknown", "NoValue", "NoValues", "Pool", "Refusal", "Row", "Session", "TimedOut",
-    "__version__", "connect", "connect_async", "explain", "lint", "start",
+    "Added", "Answer", "AsyncConnection", "AsyncPool", "Batch", "Connection", "Credential", "Dropped", "KeynotedError",
+    "LinkEnded", "NoAdmin", "NoAhead", "NoAuth", "NoBatch", "NoBlock", "NoCommand", "NoItem", "NoLimit", "NoLong",
+    "NoMemory", "NoName", "NoPolicy", "NoPrincipal", "NoRead", "NoRetained", "NoSession", "NoSyntax", "NoUnknown",
+    "NoValue", "NoValues", "Pool", "Refusal", "Row", "Session", "TimedOut", "Update", "__version__", "connect",
+    "connect_async", "credentials_of", "explain", "lint", "start",
 ]

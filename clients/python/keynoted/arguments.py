@@ -60,6 +60,15 @@ def order_of(values: Sequence[str]) -> Optional[Tuple[str, ...]]:
     return values_of(values, None) if values else None
 
 
+def number_of(number: int, name: str) -> int:
+    """A number of the protocol, which has at most nine digits."""
+    if not isinstance(number, int) or isinstance(number, bool):
+        refuse(name, "a number is", number)
+    if not 0 <= number < 1_000_000_000:
+        raise ValueError(f"{name}: a number from 0 to 999,999,999 is wanted, and this is {number}")
+    return number
+
+
 def limit_of(timeout: Optional[float], name: str) -> Optional[float]:
     if timeout is not None and (not isinstance(timeout, (int, float)) or isinstance(timeout, bool)):
         refuse(name, "a number of seconds or None is", timeout)

@@ -5,17 +5,19 @@ from __future__ import annotations
 import os
 import subprocess
 import threading
-from typing import Callable, Iterable, List, Mapping, Optional, Sequence, Tuple
+from typing import Callable, Iterable, List, Mapping, Optional, Sequence, Tuple, Union, overload
 
 from .answers import Answer
-from .arguments import Path, Text, bytes_of, limit_of, order_of, path_of, refuse, values_of
+from .arguments import Path, Text, bytes_of, limit_of, number_of, order_of, path_of, refuse, values_of
 from .errors import KeynotedError, LinkEnded, NoSession, TimedOut
 from .explaining import explain
 from .link import Link, dial, host_and_port
 from .question import Desk, Question
 from .recording import Transcript
+from .updates import Batch, Credential, credentials_of
 from .wire import (
-    ADDED, ANY, OK, OPENED, PRIVATE, REQUESTS, VERSION, Replies, Reply, Request, answer_of, query_of, words_of,
+    ADDED, ANY, OK, OPENED, PINNED, PRIVATE, REQUESTS, VERSION, Replies, Reply, Request, Update, answer_of, log_of,
+    query_of, words_of,
 )
 
 LIMIT = 5.0  # seconds, where nothing is said
@@ -86,7 +88,7 @@ class Connection:
         return Session(self, *self._open())
 
     def admin(self, secret: bytes) -> None:
-        """Shows the administrators' secret, after which `add` and `drop` are allowed."""
+        """Shows the administrators' secret, after which `add`, `drop`, `batch` and `log` are allowed."""
         if not isinstance(secret, bytes):
             refuse("secret", "bytes are", secret)
         if not secret:
@@ -102,6 +104,27 @@ class Connection:
     def drop(self, name: str) -> int:
         """Takes a shared credential away: the version that this makes."""
         return int(self.parts(Request(words_of(b"DROP", bytes_of(name, "name")), None, VERSION))[0])
+
+    def batch(self) -> Batch:
+        """Changes that are made together, or not at all, at the end of a `with`: `add(text)` and `drop(id)`."""
+        return Batch(self)
+
+    def log(self, length: int = 0) -> List[Update]:
+        """The updates of the shared credentials behind the first ones, of which there are so many, to the newest."""
+        updates: List[Update] = []
+        held = number_of(length, "length")
+        while True:
+            request = log_of(held)
+            reply = self.exchange([request])[0]
+            newest = int(reply.parts(request)[1])
+            updates += reply.updates
+            held += len(reply.updates)
+            if held == newest:
+                return updates
+
+    def credentials(self) -> List[Credential]:
+        """All shared credentials that were ever added, by the log from its beginning."""
+        return credentials_of(self.log())
 
     def request(self, line: bytes, block: Optional[bytes] = None) -> Tuple[bytes, ...]:
         """Sends a request as it stands, with its block, and answers the lines of its reply."""
@@ -249,10 +272,24 @@ class Session:
     def close(self) -> None:
         self._ok(b"CLOSE")
 
-    def pin(self) -> int:
-        """Pins the session to the newest version of the credentials, which is answered."""
-        self.version = int(self._connection.parts(Request(self._line(b"PIN"), None, VERSION))[0])
-        return self.version
+    @overload
+    def pin(self) -> int: ...
+
+    @overload
+    def pin(self, version: int) -> Tuple[int, int]: ...
+
+    def pin(self, version: Optional[int] = None) -> Union[int, Tuple[int, int]]:
+        """Pins the session to the newest version of the credentials, which is answered.
+
+        Where a version is named, one of the newest 16, it is pinned to that, and the answer is this one and the newest.
+        """
+        if version is None:
+            self.version = int(self._connection.parts(Request(self._line(b"PIN"), None, VERSION))[0])
+            return self.version
+        line = self._line(b"PIN", b"%d" % number_of(version, "version"))
+        pinned, newest = self._connection.parts(Request(line, None, PINNED))
+        self.version = int(pinned)
+        return self.version, int(newest)
 
     def auth(self, principal: Text) -> None:
         """Names a requesting principal."""

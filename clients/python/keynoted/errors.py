@@ -47,7 +47,7 @@ class Refusal(KeynotedError):
 class NoSyntax(Refusal, code=1): "the line hasn't the form of its command"
 class NoCommand(Refusal, code=2): "the first word is no command; commands are in upper case"
 class NoSession(Refusal, code=3): "no such session is open on this connection"
-class NoAdmin(Refusal, code=4): "the secret is wrong, or ADD or DROP came before a right one"
+class NoAdmin(Refusal, code=4): "the secret is wrong, or a right one must come before this request"
 class NoRead(Refusal, code=5): "the text is no assertion; `parts` are the fault and its place"
 class NoPolicy(Refusal, code=6): "the authorizer of a private assertion is POLICY"
 class NoAuth(Refusal, code=7): "it isn't admitted: 1 no signature, 2 another algorithm, 3 no key, 4 another code"
@@ -59,11 +59,26 @@ class NoUnknown(Refusal, code=12): "the assertion, credential, attribute or requ
 class NoLimit(Refusal, code=13): "a limit is met; `parts` are its word and what there is"
 class NoLong(Refusal, code=14): "the line has more than 8,192 bytes"
 class NoBlock(Refusal, code=15): "the text has over 16,384 bytes, or isn't as long as was said; the connection ends"
+class NoBatch(Refusal, code=16): "a batch has 1 to 256 items; `parts` are the number of the first that isn't of its form"
 
 
+class NoItem(Refusal, code=17):
+    """an item of the batch is refused, and none is done; `item` is its number, `reason` the refusal of it alone"""
+
+    def __init__(self, line: str, what: str = "") -> None:
+        _, _, _, number, rest = line.split(" ", 4)
+        self.item, self.reason = int(number), refusal_of(f"NO {rest}")
+        super().__init__(line, what or f"item {number}: {self.reason.__doc__}")
+
+
+class NoRetained(Refusal, code=18): "this version isn't among the newest 16; `parts` are the newest one"
+class NoAhead(Refusal, code=19): "there aren't so many updates; `parts` are how many there are"
+
+
+ITEM = r"5 read (?:0|[1-9]\d*) (?:0|[1-9]\d*)|7 auth [1-9]\d*|12 unknown|13 limit [a-z-]+ (?:0|[1-9]\d*)"
 REFUSAL = re.compile(
-    r"NO (?:1 syntax|2 command|3 session|4 admin|5 read (?:0|[1-9]\d*) (?:0|[1-9]\d*)|6 policy|7 auth [1-9]\d*|8 name"
-    r"|9 value|10 values|11 principal|12 unknown|13 limit [a-z-]+ (?:0|[1-9]\d*)|14 long|15 block)"
+    rf"NO (?:1 syntax|2 command|3 session|4 admin|6 policy|8 name|9 value|10 values|11 principal|14 long|15 block|{ITEM}"
+    rf"|16 batch [1-9]\d*|17 item [1-9]\d* (?:{ITEM})|18 retained (?:0|[1-9]\d*)|19 ahead (?:0|[1-9]\d*))"
 )
 
 

@@ -6,7 +6,7 @@ import difflib
 import re
 from typing import Dict, Tuple
 
-from .errors import REFUSAL, refusal_of
+from .errors import REFUSAL, NoItem, Refusal, refusal_of
 from .keyfiles import fault_of
 from .reader import Reader, Wrong
 from .texts import FIELDS, Field, Token, constants_of, fields_of, place_of, read_file, split_file
@@ -111,6 +111,16 @@ def fault_in_keys(file: str, number: int) -> str:
     return fault_of(lines[number - 1].rstrip(b"\r")) if number <= len(lines) else ""
 
 
+def words_of_refusal(refusal: Refusal) -> str:
+    if isinstance(refusal, NoItem):
+        return f"item {refusal.item}: {words_of_refusal(refusal.reason)}; nothing of the batch was done"
+    if refusal.code == 7:
+        return AUTHS.get(refusal.parts[0], "it isn't admitted")
+    if refusal.code == 13:
+        return f"the limit of {refusal.parts[0]} is met: {refusal.parts[-1]}"
+    return refusal.__doc__ or ""
+
+
 def explain(line: str, file: str = "") -> str:
     """The words of a line `error ..` or `NO ..` of the daemon's, or nothing for another line.
 
@@ -136,11 +146,5 @@ def explain(line: str, file: str = "") -> str:
     if file and re.fullmatch(r"NO 5 read \d+ \d+", line):
         return f"{file}:{explain_text(read_file(file), line)}"
     if REFUSAL.fullmatch(line):
-        refusal = refusal_of(line)
-        what = refusal.__doc__
-        if refusal.code == 7:
-            what = AUTHS.get(refusal.parts[0])
-        elif refusal.code == 13:
-            what = f"the limit of {refusal.parts[0]} is met: {refusal.parts[-1]}"
-        return f"{line}: {what}"
+        return f"{line}: {words_of_refusal(refusal_of(line))}"
     return "out of memory for this request: no answer" if line == "NOMEM" else ""

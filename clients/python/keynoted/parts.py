@@ -12,7 +12,8 @@ from .trees import Clause, Node, clauses_of, formula_of
 
 SPECIAL = (b"_MIN_TRUST", b"_MAX_TRUST", b"_VALUES", b"_ACTION_AUTHORIZERS")
 Found = Tuple[str, int, str]  # a warning: the rule's word, the place in the assertion, and what is wrong
-BLOCK = re.compile(rb"(?:ADD|ASSERT %b) %b" % (NUMBER, NUMBER))
+BLOCK = re.compile(rb"(?:ADD|BATCH|ASSERT %b) %b" % (NUMBER, NUMBER))
+ITEM = re.compile(rb"ADD %b\n|DROP a%b\n" % (NUMBER, NUMBER))
 
 
 class Part:
@@ -135,6 +136,18 @@ def requests_of(script: bytes) -> Iterator[Tuple[int, bytes, int, int]]:
         size = int(block[2]) if block else 0
         yield at, line, end + 1, end + 1 + size
         at = end + 1 + (size + 1 if block else 0)
+
+
+def texts_in(script: bytes, at: int, end: int) -> Iterator[Tuple[int, int]]:
+    """Where in the block of a batch the texts begin and end that it adds."""
+    while True:
+        item = ITEM.match(script, at, end)
+        if not item:
+            return
+        at = item.end()
+        if item[1]:
+            yield at, min(at + int(item[1]), end)
+            at += int(item[1]) + 1
 
 
 def parts_of(policy: str) -> List[Part]:

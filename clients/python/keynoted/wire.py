@@ -3,22 +3,30 @@
 from __future__ import annotations
 
 import re
-from typing import List, NamedTuple, NoReturn, Optional, Sequence, Tuple
+from typing import List, NamedTuple, NoReturn, Optional, Sequence, Tuple, Union
 
 from .answers import NUMBER, Answer, Row
 from .errors import REFUSAL, LinkEnded, NoMemory, NoRead, refusal_of
 from .explaining import explain_text
 
 REQUESTS = 1_000_000  # of a connection, after which the daemon ends it
+BLOCK_BYTES = 16384
+CHANGES = 256  # of an update
+LOG_UPDATES = 16  # of a reply to LOG
 LINE_BYTES = 131072  # longer than any line of a reply: a principal has at most 4,096 bytes, each told by four at most
 OK = re.compile(rb"OK")
 OPENED = re.compile(rb"OK %b %b" % (NUMBER, NUMBER))
 VERSION = re.compile(rb"OK %b" % NUMBER)
 ADDED = re.compile(rb"OK (a%b) %b" % (NUMBER, NUMBER))
 PRIVATE = re.compile(rb"OK (p%b)" % NUMBER)
+BATCHED = re.compile(rb"OK (a%b) %b %b" % (NUMBER, NUMBER, NUMBER))
+PINNED = re.compile(rb"OK %b %b" % (NUMBER, NUMBER))
 VALUE = re.compile(rb"VALUE %b ([!-+\--~]{1,128}) %b %b" % (NUMBER, NUMBER, NUMBER))
 ROW = re.compile(rb'ROW %b ([ap]%b) "((?:[ !#-\[\]-~]|\\["\\]|\\[0-7]{3})*)"' % (NUMBER, NUMBER))
-ANY = re.compile(rb"OK(?: [ap]?%b)*|VALUE .*" % NUMBER)
+LOG = re.compile(rb"LOG %b %b %b" % (NUMBER, NUMBER, NUMBER))
+UPDATE = re.compile(rb"UPDATE %b %b" % (NUMBER, NUMBER))
+ITEM = re.compile(rb"ADD %b|DROP (a%b)" % (NUMBER, NUMBER))
+ANY = re.compile(rb"OK(?: [ap]?%b)*|(?:VALUE|LOG) .*" % NUMBER)
 
 
 class Request(NamedTuple):
@@ -34,11 +42,34 @@ class Request(NamedTuple):
         return self.line + b"\n" if self.block is None else b"%b\n%b\n" % (self.line, self.block)
 
 
+class Added(NamedTuple):
+    """The addition of a credential."""
+
+    text: bytes
+
+
+class Dropped(NamedTuple):
+    """The removal of a credential."""
+
+    id: str
+
+
+Change = Union[Added, Dropped]
+
+
+class Update(NamedTuple):
+    """What made a version of another one: who made it (0 is the policy file), and the changes."""
+
+    caller: int
+    changes: Tuple[Change, ...]
+
+
 class Reply(NamedTuple):
-    """The lines of a reply, without their ends, and the rows among them."""
+    """The lines of a reply, without their ends, and the rows or the updates among them."""
 
     lines: Tuple[bytes, ...]
     rows: Tuple[Row, ...] = ()
+    updates: Tuple[Update, ...] = ()
 
     def text(self) -> bytes:
         """What came."""
@@ -78,16 +109,14 @@ class Replies:
 
     def __init__(self, requests: Sequence[Request]) -> None:
         self._requests, self._rest = requests, b""
-        self._lines: List[bytes] = []  # of a reply of several lines that has begun
-        self._rows: List[Row] = []
-        self._due = 0  # its lines that are still to come
+        self._begun: Union[RowLines, LogLines, None] = None  # a reply of several lines
         self.whole: List[Reply] = []
         self.ended = False  # by a refusal after which the daemon ends the connection
 
     def feed(self, data: bytes) -> bool:
         """Takes what came, and answers whether all replies are there."""
         if not data:
-            raise LinkEnded("the connection ended within a reply" if self._rest or self._due
+            raise LinkEnded("the connection ended within a reply" if self._rest or self._begun
                             else "the connection ended without a reply", self._rest.decode("utf-8", "replace"))
         lines = (self._rest + data).split(b"\n")
         self._rest = lines.pop()
@@ -101,12 +130,14 @@ class Replies:
         return done
 
     def _take(self, line: bytes) -> None:
-        if self._due:
-            self._take_row(line)
+        if self._begun:
+            if self._begun.take(line):
+                self.whole.append(self._begun.reply())
+                self._begun = None
         elif len(self.whole) == len(self._requests):
             fail(line)
-        elif line.startswith(b"VALUE "):
-            self._begin_value(line)
+        elif line.startswith((b"VALUE ", b"LOG ")):
+            self._begun = self._begin(line)
         elif line.startswith(b"NO "):
             if not REFUSAL.fullmatch(line.decode("utf-8", "replace")):
                 fail(line)
@@ -117,24 +148,104 @@ class Replies:
         else:
             fail(line)
 
-    def _begin_value(self, line: bytes) -> None:
-        request, match = self._requests[len(self.whole)], VALUE.fullmatch(line)
-        if not match or not request.form.fullmatch(line):
+    def _begin(self, line: bytes) -> Union[RowLines, LogLines]:
+        request = self._requests[len(self.whole)]
+        if not request.form.fullmatch(line):
             fail(line)
-        index, values = int(match[1]), request.values
+        return RowLines(line, request.values) if line.startswith(b"VALUE ") else LogLines(line)
+
+
+class RowLines:
+    """The lines of a reply to QUERY, of which the first one is there."""
+
+    def __init__(self, line: bytes, values: Tuple[str, ...]) -> None:
+        match = VALUE.fullmatch(line)
+        if not match:
+            fail(line)
+        index = int(match[1])
         if values and (index >= len(values) or match[2] != values[index].encode()):
             fail(line)
-        self._lines, self._rows, self._due = [line], [], int(match[4]) + 1
+        self._lines, self._due = [line], int(match[4])
+        self._rows: List[Row] = []
 
-    def _take_row(self, line: bytes) -> None:
+    def take(self, line: bytes) -> bool:
+        """Takes the next line, and answers whether it is the last one."""
         self._lines.append(line)
-        self._due -= 1
-        if self._due:
-            self._rows.append(row_of(line))
-        elif line != b"END":
+        if self._due == 0 and line != b"END":
             fail(line)
+        if self._due == 0:
+            return True
+        self._due -= 1
+        self._rows.append(row_of(line))
+        return False
+
+    def reply(self) -> Reply:
+        return Reply(tuple(self._lines), tuple(self._rows))
+
+
+class LogLines:
+    """The lines of a reply to LOG, of which the first one is there."""
+
+    def __init__(self, line: bytes) -> None:
+        match = LOG.fullmatch(line)
+        if not match or int(match[2]) != min(LOG_UPDATES, int(match[3]) - int(match[1])):
+            fail(line)
+        self._lines, self._text = [line], b""
+        self._updates: List[Update] = []
+        self._changes: List[Change] = []  # of the update that has begun
+        self._caller = 0
+        # what is still to come: updates, changes of the one that has begun, bytes of a text with the newline behind it
+        self._updates_due, self._changes_due, self._bytes_due = int(match[2]), 0, 0
+
+    def take(self, line: bytes) -> bool:
+        """Takes the next line, and answers whether it is the last one."""
+        self._lines.append(line)
+        if self._bytes_due:
+            self._take_text(line)
+        elif self._changes_due:
+            self._take_item(line)
+        elif self._updates_due:
+            self._take_update(line)
+        elif line == b"END":
+            return True
         else:
-            self.whole.append(Reply(tuple(self._lines), tuple(self._rows)))
+            fail(line)
+        return False
+
+    def _take_update(self, line: bytes) -> None:
+        match = UPDATE.fullmatch(line)
+        if not match or not 1 <= int(match[2]) <= CHANGES:
+            fail(line)
+        self._updates_due -= 1
+        self._caller, self._changes_due = int(match[1]), int(match[2])
+
+    def _take_item(self, line: bytes) -> None:
+        match = ITEM.fullmatch(line)
+        if not match or not match[2] and int(match[1]) > BLOCK_BYTES:
+            fail(line)
+        if match[2]:
+            self._put(Dropped(match[2].decode()))
+        else:
+            self._bytes_due = int(match[1]) + 1
+
+    def _take_text(self, line: bytes) -> None:
+        self._text += line + b"\n"
+        self._bytes_due -= len(line) + 1
+        if self._bytes_due < 0:
+            fail(line)
+        if not self._bytes_due:
+            self._put(Added(self._text[:-1]))
+            self._text = b""
+
+    def _put(self, change: Change) -> None:
+        self._changes.append(change)
+        self._changes_due -= 1
+        if not self._changes_due:
+            self._updates.append(Update(self._caller, tuple(self._changes)))
+            self._changes = []
+
+    def reply(self) -> Reply:
+        return Reply(tuple(self._lines), updates=tuple(self._updates))
 
 
 def fail(line: bytes) -> NoReturn:
@@ -170,3 +281,8 @@ def words_of(*parts: bytes) -> bytes:
 def query_of(session: bytes, values: Tuple[str, ...]) -> Request:
     listed = ",".join(values).encode("utf-8", "surrogateescape")
     return Request(words_of(b"QUERY", session, listed), None, VALUE, values)
+
+
+def log_of(length: int) -> Request:
+    """The request for the updates behind the first ones, of which there are so many."""
+    return Request(b"LOG %d" % length, None, re.compile(rb"LOG %d %b %b" % (length, NUMBER, NUMBER)))
