@@ -47,8 +47,8 @@ class Refusals(Room):
             with self.assertRaises(keynoted.LinkEnded):
                 daemon.session()
 
-    def test_there_are_fifteen(self):
-        self.assertEqual(sorted(keynoted.Refusal.of_code), list(range(1, 16)))
+    def test_there_are_nineteen(self):
+        self.assertEqual(sorted(keynoted.Refusal.of_code), list(range(1, 20)))
 
     def test_what_would_be_another_request_is_not_sent(self):
         with keynoted.start("p.kn") as daemon, daemon.session() as session:
@@ -92,6 +92,7 @@ class Replies(Room):
             b"", b"OK", b"VALUE 1 yes 1 1\nROW 1 a1 \"POLICY\"\n", b"VALUE 1 yes 1 0\nROW", b"VALUE 2 yes 1 0\nEND\n",
             b"VALUE 0 yes 1 0\nEND\n", b"VALUE 1 YES 1 0\nEND\n", b"VALUE 01 yes 1 0\nEND\n", b"OK\n", b"NO 3 limit\n",
             b"VALUE 1 yes 1 1\nROW 1 a1 POLICY\nEND\n", b"VALUE 1 yes 1 0\nOK\n", b"NO 16 batch\n", b"yes\n",
+            b"NO 17 item 1 8 name\n", b"NO 17 item 0 12 unknown\n", b"NO 17 item 1 12\n", b"NO 18 retained\n", b"NO 20 x\n",
             b'VALUE 1 yes 1 0\nROW 1 a1 "POLICY"\nEND\n', b"error link budget\n", b"VALUE 1 yes 1 0 \nEND\n",
         ):
             # what stands behind it would be taken for the reply to the next request

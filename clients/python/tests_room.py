@@ -115,18 +115,18 @@ class Fake:
             sessions, count = {}, 0
             for line in lines:
                 line, count = line.rstrip(b"\r\n"), count + 1
-                words = line.split(b" ")
-                if words[0] in (b"ASSERT", b"ADD"):
-                    lines.read(int(words[-1]) + 1)
+                words, block = line.split(b" "), b""
+                if words[0] in (b"ASSERT", b"ADD", b"BATCH"):
+                    block = lines.read(int(words[-1]) + 1)[:-1]
                 self.requests.append(line)
-                reply = self.say.get(words[0]) or self.reply(sessions, words, line)
+                reply = self.say.get(words[0]) or self.reply(sessions, words, line, block)
                 if self.delay:
                     time.sleep(self.delay)
                 link.sendall(reply + (b"\nerror link budget\n" if count == self.most else b"\n"))
                 if words[0] == b"BYE" or count == self.most:
                     return
 
-    def reply(self, sessions, words, line):
+    def reply(self, sessions, words, line, _):
         if words[0] == b"OPEN":
             sessions[b"%d" % (len(sessions) + 1)] = {"who": set(), "made": 0, "private": set()}
             return b"OK %d 1" % len(sessions)

@@ -13,6 +13,7 @@ from .errors import KeynotedError, LinkEnded
 from .explaining import explain
 from .linting import lint, lint_values
 from .pages import run_drawing
+from .rotating import add_rotating
 from .sending import add_record
 from .texts import place_of, read_file, split_file
 from .why import add_commands as add_why
@@ -82,7 +83,7 @@ def run_lint(args: argparse.Namespace) -> int:
 def main(words: Optional[Sequence[str]] = None) -> int:
     """Runs the command with these words, or those of the process, and answers its status."""
     parser = argparse.ArgumentParser(prog="keynoted.py", description="Asks keynoted, explains its errors, and warns of what is surely not meant.")
-    commands = parser.add_subparsers(required=True, metavar="query|why|explain|lint")
+    commands = parser.add_subparsers(required=True, metavar="query|why|explain|lint|list|rotate|drop")
     query = commands.add_parser("query", help="asks once: 0 at least the value named, 1 less, 2 an error")
     query.add_argument("policy", nargs="?", help="the policy file, unless --connect is given")
     query.add_argument("--connect", metavar="HOST:PORT", help="a daemon that serves, as localhost or [::1]:2704")
@@ -106,6 +107,7 @@ def main(words: Optional[Sequence[str]] = None) -> int:
     warned.set_defaults(run=run_lint)
     add_record(commands, connected)
     add_why(commands)
+    add_rotating(commands)
     args = parser.parse_args(words)
     try:
         return int(args.run(args))
