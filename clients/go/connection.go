@@ -177,7 +177,7 @@ func (connection *Connection) readOpened() (number, version int, err error) {
 	return connection.opened, numberOf(numbers[2]), nil
 }
 
-// Admin shows the administrators' secret, after which Add and Drop are allowed.
+// Admin shows the administrators' secret, after which Add, Drop, Batch and Log are allowed.
 func (connection *Connection) Admin(secret []byte) error {
 	_, err := connection.askForm(okForm, nil, "ADMIN", fmt.Sprintf("%x", secret))
 	return err

@@ -165,7 +165,7 @@ func TestRefusalsHaveTheirCodes(t *testing.T) {
 	if err := session.Clear(); !errors.Is(err, LinkEnded) {
 		t.Error(err)
 	}
-	if len(causes) != 15 {
+	if len(causes) != 19 {
 		t.Error(len(causes))
 	}
 }

@@ -30,13 +30,17 @@ const (
 	NoLimit
 	NoLong
 	NoBlock
+	NoBatch
+	NoItem
+	NoRetained
+	NoAhead
 )
 
 var causes = map[Code]string{
 	NoSyntax:    "the line hasn't the form of its command",
 	NoCommand:   "the first word is no command; commands are in upper case",
 	NoSession:   "no such session is open on this connection",
-	NoAdmin:     "the secret is wrong, or ADD or DROP came before a right one",
+	NoAdmin:     "the secret is wrong, or a right one must come before this request",
 	NoRead:      "the text is no assertion; Parts are the fault and its place",
 	NoPolicy:    "the authorizer of a private assertion is POLICY",
 	NoAuth:      "the credential isn't admitted: 1 no signature, 2 another algorithm, 3 no key, 4 another code",
@@ -48,18 +52,37 @@ var causes = map[Code]string{
 	NoLimit:     "a limit is met; Parts are its word and what there is",
 	NoLong:      "the line has more than 8,192 bytes",
 	NoBlock:     "the text has more than 16,384 bytes, or isn't as long as was said; the connection ends",
+	NoBatch:     "a batch has 1 to 256 items; Parts are the number of the first that isn't of its form",
+	NoItem:      "an item of the batch is refused, and none is done; Item is its number, Reason its own refusal",
+	NoRetained:  "this version isn't among the newest 16; Parts are the newest one",
+	NoAhead:     "there aren't so many updates; Parts are how many there are",
 }
 
 func (code Code) Error() string { return causes[code] }
 
 // Refusal is a line NO of the daemon's.
 type Refusal struct {
-	Line  string   // the whole line
-	Code  Code     // its number
-	Parts []string // the words behind the first three
+	Line   string   // the whole line
+	Code   Code     // its number
+	Parts  []string // the words behind the first three
+	Item   int      // of NoItem, the number of the item, from 1
+	Reason *Refusal // of NoItem, the refusal of the item alone
 }
 
-func (refusal *Refusal) Error() string { return refusal.Line + ": " + refusal.Code.Error() }
+func (refusal *Refusal) Error() string {
+	if refusal.Reason != nil {
+		return fmt.Sprintf("%s: item %d: %s", refusal.Line, refusal.Item, refusal.Reason.Code.Error())
+	}
+	return refusal.Line + ": " + refusal.Code.Error()
+}
+
+// Unwrap is the refusal of an item of a batch, so that errors.Is finds its code too.
+func (refusal *Refusal) Unwrap() error {
+	if refusal.Reason == nil {
+		return nil
+	}
+	return refusal.Reason
+}
 
 // Is says whether target is the code of the refusal.
 func (refusal *Refusal) Is(target error) bool { return target == refusal.Code }
@@ -76,9 +99,14 @@ var (
 	WrongArgument = errors.New("wrong argument")
 )
 
-var refusalForm = regexp.MustCompile(`^NO (?:1 syntax|2 command|3 session|4 admin` +
-	`|5 read (?:0|[1-9]\d*) (?:0|[1-9]\d*)|6 policy|7 auth [1-9]\d*|8 name|9 value|10 values|11 principal` +
-	`|12 unknown|13 limit [a-z-]+ (?:0|[1-9]\d*)|14 long|15 block)$`)
+const (
+	count       = `(?:0|[1-9]\d*)`
+	itemRefusal = `5 read ` + count + ` ` + count + `|7 auth [1-9]\d*|12 unknown|13 limit [a-z-]+ ` + count
+)
+
+var refusalForm = regexp.MustCompile(`^NO (?:1 syntax|2 command|3 session|4 admin|6 policy|8 name|9 value|10 values` +
+	`|11 principal|14 long|15 block|` + itemRefusal + `|16 batch [1-9]\d*|17 item [1-9]\d* (?:` + itemRefusal + `)` +
+	`|18 retained ` + count + `|19 ahead ` + count + `)$`)
 
 // refusalOf is the error of a line NO; nil where the line is none.
 func refusalOf(line string) error {
@@ -87,7 +115,12 @@ func refusalOf(line string) error {
 	}
 	words := strings.Fields(line)
 	code, _ := strconv.Atoi(words[1])
-	return &Refusal{Line: line, Code: Code(code), Parts: words[3:]}
+	refusal := &Refusal{Line: line, Code: Code(code), Parts: words[3:]}
+	if refusal.Code == NoItem {
+		refusal.Item = numberOf(words[3])
+		refusal.Reason, _ = refusalOf("NO " + strings.Join(words[4:], " ")).(*Refusal)
+	}
+	return refusal
 }
 
 func wrongArgument(form string, arguments ...any) error {

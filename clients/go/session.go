@@ -49,6 +49,18 @@ func (session *Session) Pin() (version int, err error) {
 	return session.version, nil
 }
 
+// PinVersion pins the session to this version, which is one of the newest 16: the newest one.
+func (session *Session) PinVersion(version int) (newest int, err error) {
+	parts, err := session.ask(openedForm, nil, "PIN", strconv.Itoa(version))
+	if err != nil {
+		return 0, err
+	}
+	session.connection.mutex.Lock()
+	defer session.connection.mutex.Unlock()
+	session.version = numberOf(parts[1])
+	return numberOf(parts[2]), nil
+}
+
 // Auth names a requesting principal.
 func (session *Session) Auth(principal string) error { return session.expectOK("AUTH", principal) }
 
