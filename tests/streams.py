@@ -32,6 +32,17 @@ def block(rng, word):
     return word + b"%d" % count + b"\n" + text + rng.choice([b"\n"] * 8 + [b"", b"\r\n", b"x\n"])
 
 
+def batch(rng):
+    """A block of items, and nearly items."""
+    items = b"".join(rng.choice([
+        b"ADD %d\n" % len(ASSERTION) + ASSERTION + rng.choice([b"\n"] * 8 + [b"", b"\r\n"]),
+        b"DROP a" + number(rng) + rng.choice([b"\n"] * 8 + [b"", b"\r\n"]),
+        b"ADD 0\n\n",
+    ]) for _ in range(rng.choice([0, 1, 2, 5, 300])))[:rng.choice([16384] * 8 + [40])]
+    count = rng.choice([len(items)] * 6 + [len(items) + 1, 16385])
+    return b"BATCH %d\n" % count + items + rng.choice([b"\n"] * 8 + [b"", b"x\n"])
+
+
 def line(rng):
     s = rng.choice([b"1"] * 5 + [number(rng)])
     end = rng.choice([b"\n"] * 8 + [b"\r\n", b"\r\r\n", b" \n"])
@@ -39,6 +50,8 @@ def line(rng):
         lambda: b"OPEN" + end,
         lambda: b"CLOSE " + s + end,
         lambda: b"PIN " + s + end,
+        lambda: b"PIN " + s + b" " + number(rng) + end,
+        lambda: b"LOG " + number(rng) + end,
         lambda: b"CLEAR " + s + end,
         lambda: b"RETRACT " + s + b" p" + number(rng) + end,
         lambda: b"SET " + s + b" " + name(rng) + b" " + rest(rng) + end,
@@ -51,6 +64,7 @@ def line(rng):
         lambda: b"ADMIN " + rng.choice([digits(rng), b"733363726574"]) + end,
         lambda: b"DROP a" + number(rng) + end,
         lambda: block(rng, b"ADD "),
+        lambda: batch(rng),
         lambda: block(rng, b"ASSERT " + s + b" "),
         lambda: b"A" * rng.choice([8191, 8192, 8193, 20000]) + end,
         lambda: bytes(rng.randrange(256) for _ in range(rng.randint(0, 30))) + end,

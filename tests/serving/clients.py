@@ -78,6 +78,10 @@ class Clients:
     def add(self, client):
         return conduct.block(b"ADD", client.credential())
 
+    def batch(self, client):
+        texts = [client.credential() for _ in range(3)]
+        return conduct.block(b"BATCH", b"".join(b"ADD %d\n%s\n" % (len(text), text) for text in texts))
+
     def cut_off(self):
         """Those who break off in the middle of a block, with and without an answered and an unread update before."""
         for number in range(CUTS):
@@ -86,7 +90,7 @@ class Clients:
             talk, client = self.other()
             talk.ask([ADMIN, b"OPEN\n", self.add(client), b"PIN 1\n"])
             half = conduct.block(b"ADD", client.credential())
-            unread = [self.add(client)] if number % 2 else []
+            unread = [self.add(client) if number % 3 else self.batch(client)] if number % 2 else []
             talk.leave_unread(unread)
             talk.send(half[:len(half) // 2])
             time.sleep(0.01 * (number % 3))

@@ -67,7 +67,7 @@ class Conduct:
         self.connect()
 
     def connect(self):
-        self.started, self.open, self.admin = 0, {}, False
+        self.started, self.open, self.admin, self.newest = 0, {}, False, len(LOADED)
 
     # -- what it says
 
@@ -133,9 +133,29 @@ class Conduct:
         name = self.own.pop(0) if self.own and self.rng.random() < 0.8 else self.rng.choice(self.texts.told[-20:] or [999999])
         return b"DROP a%d\n" % name
 
+    def ask_batch(self):
+        """Some additions and some of its own to drop; now and then with an item that is refused."""
+        items = []
+        for _ in range(self.rng.randint(1, 5)):
+            if self.own and self.rng.random() < 0.45:
+                items.append(b"DROP a%d\n" % self.own.pop(0))
+            else:
+                text = self.credential() if self.rng.random() < 0.97 else self.refused_credential()
+                items.append(b"ADD %d\n%s\n" % (len(text), text))
+        if self.rng.random() < 0.05:
+            items.insert(self.rng.randint(0, len(items)), b"DROP a999999\n")
+        self.updates += len(items)
+        return block(b"BATCH", b"".join(items))
+
+    def ask_log(self):
+        """What made the last versions, or a little more than there is."""
+        return b"LOG %d\n" % max(0, self.newest - self.rng.randint(-1, 20))
+
     def ask_update(self):
         if self.updates >= UPDATES:
             return b"ADMIN 00\n"
+        if self.rng.random() < 0.25:
+            return self.ask_batch()
         return self.ask_drop() if len(self.own) >= LIVE or (self.own and self.rng.random() < 0.3) else self.ask_add()
 
     def ask_assert(self, s):
@@ -163,12 +183,13 @@ class Conduct:
             lambda: b"SET %d level %d\n" % (s, rng.randrange(10)),
             lambda: b"SETX %d level 3%d\n" % (s, rng.randrange(10)),
             lambda: b"PIN %d\n" % s,
+            lambda: b"PIN %d %d\n" % (s, max(0, self.newest - rng.randint(-1, 17))),
             lambda: b"UNAUTH %d %s\n" % (s, user),
             lambda: b"UNSET %d level\n" % s,
             lambda: b"CLEAR %d\n" % s,
             lambda: self.ask_assert(s),
             lambda: b"RETRACT %d p%d\n" % (s, rng.randint(1, max(1, self.open[s]))),
-        ], [30, 8, 8, 6, 3, 14, 3, 1, 1, 5, 3])[0]()
+        ], [30, 8, 8, 6, 3, 14, 6, 3, 1, 1, 5, 3])[0]()
 
     def draw(self):
         draw = self.rng.random()
@@ -179,6 +200,8 @@ class Conduct:
             return self.ask_close(session)
         if draw < 0.09:
             return self.ask_refused(session)
+        if draw < 0.11:
+            return self.ask_log()
         return self.ask_update() if draw < 0.25 else self.ask_about(session)
 
     def burst(self, most):
@@ -186,8 +209,12 @@ class Conduct:
 
     def learn(self, request, reply):
         if reply.startswith(b"OK a"):
-            self.own.append(int(reply.split()[1][1:]))
-            self.texts.told.append(self.own[-1])
+            first, *added = (int(part.lstrip(b"a")) for part in reply.split()[1:-1])
+            ids = range(first, first + (added[0] if added else 1))
+            self.own += ids
+            self.texts.told += ids
+        if reply.startswith(b"OK ") and request.split(None, 1)[0] in (b"OPEN", b"PIN", b"ADD", b"DROP", b"BATCH"):
+            self.newest = int(reply.split()[-1])
 
 
 def probes(credentials):

@@ -9,12 +9,17 @@ import hashlib
 import hmac
 import re
 
+import protocol
+
 ALGORITHM = b"sig-hmac-sha256-hex:"
 SECRET = b"733363726574"
 SESSIONS = 16
 LINE_BYTES = 8192
+# items of a batch, versions that PIN can name, updates of a reply to LOG
+ITEMS, RETAINED, LOGGED = 256, 16, 16
 VALUE = re.compile(rb"VALUE (\d+) (\S+) (\d+) (\d+)\n((?:ROW [^\n]*\n)*)END\n")
 ROW = re.compile(rb'ROW (\d+) ([ap])(\d+) "([^"\n]*)"\n')
+LOG = re.compile(rb"LOG \d+ \d+ (\d+)\n")
 
 # `formula` is a name, or a pair (how many parts it needs, its parts); `clauses` are pairs (number, value), or None
 Assertion = collections.namedtuple("Assertion", "text authorizer formula clauses")
@@ -143,7 +148,7 @@ Asked = collections.namedtuple("Asked", "version script reply")
 
 
 class Connection:
-    """What a connection holds. `told` finds the version that a reply to OPEN, PIN, ADD or DROP tells, as bytes."""
+    """What a connection holds."""
 
     def __init__(self, texts, credentials):
         # the assertion of a block, or its refusal; the credentials of a version
@@ -161,7 +166,7 @@ class Connection:
         handler = getattr(self, "on_" + word.decode("latin-1").lower(), None)
         if not word.isupper() or handler is None:
             return b"NO 2 command\n"
-        if word in (b"OPEN", b"BYE", b"ADMIN", b"ADD", b"DROP"):
+        if word in (b"OPEN", b"BYE", b"ADMIN", b"ADD", b"DROP", b"BATCH", b"LOG"):
             return handler(rest, block[:-1], reply)
         number, _, rest = rest.partition(b" ")
         session = self.sessions.get(number)
@@ -200,13 +205,43 @@ class Connection:
             return b"NO 4 admin\n"
         return reply if re.fullmatch(rb"OK \d+\n|NO 12 unknown\n", reply) else b"OK version\n"
 
+    def on_batch(self, rest, block, reply):
+        if not self.admin:
+            return b"NO 4 admin\n"
+        items, end = protocol.split_items(block, 0, ITEMS)
+        if not items or end < len(block):
+            return b"NO 16 batch %d\n" % (len(items) + 1)
+        for at, (text, _) in enumerate(items, 1):
+            if text is not None and not isinstance(self.texts[text], Assertion):
+                return b"NO 17 item %d " % at + self.texts[text][3:]
+        unknown = re.fullmatch(rb"NO 17 item (\d+) 12 unknown\n", reply)
+        if unknown and int(unknown[1]) <= len(items) and items[int(unknown[1]) - 1][0] is None:
+            return reply
+        added = sum(text is not None for text, _ in items)
+        return reply if re.fullmatch(rb"OK a\d+ %d \d+\n" % added, reply) else b"OK aF %d version\n" % added
+
+    def on_log(self, rest, block, reply):
+        if not self.admin:
+            return b"NO 4 admin\n"
+        ahead, log = re.fullmatch(rb"NO 19 ahead (\d+)\n", reply), LOG.match(reply)
+        newest = int((ahead or log or [0, 0])[1])
+        if int(rest) > newest:
+            return b"NO 19 ahead %d\n" % newest
+        head = b"LOG %s %d %d\n" % (rest, min(LOGGED, newest - int(rest)), newest)
+        return reply if reply.startswith(head) else head
+
     def on_close(self, number, session, rest, block, reply):
         del self.sessions[number]
         return b"OK\n"
 
     def on_pin(self, number, session, rest, block, reply):
-        session.version = last_number(reply)
-        return b"OK %d\n" % session.version
+        refused = re.fullmatch(rb"NO 18 retained (\d+)\n", reply)
+        newest = int(refused[1]) if refused else last_number(reply)
+        version = int(rest or newest)
+        if not newest - RETAINED < version <= newest:
+            return b"NO 18 retained %d\n" % newest
+        session.version = version
+        return b"OK %d %d\n" % (version, newest) if rest else b"OK %d\n" % newest
 
     def on_assert(self, number, session, rest, block, reply):
         assertion = self.texts[block]

@@ -9,7 +9,9 @@ came. Each connection is then replayed over the credentials that its versions ha
 import bisect
 import collections
 import itertools
+import re
 
+import protocol
 from serving import daemon
 from serving.daemon import Fault
 
@@ -18,6 +20,11 @@ Exchange = collections.namedtuple("Exchange", "request reply sent heard")
 # the exchanges of one connection of a client
 Transcript = collections.namedtuple("Transcript", "client exchanges")
 Update = collections.namedtuple("Update", "client exchange")
+UPDATE = re.compile(rb"UPDATE (\d+) (\d+)\n")
+# where a reply that isn't OK tells the newest version
+NEWEST = re.compile(rb"(?:NO 18 retained|NO 19 ahead|LOG \d+ \d+) (\d+)\n")
+# an item that was refused because what it names isn't there
+UNKNOWN = re.compile(rb"NO (?:17 item (\d+) )?12 unknown\n")
 # the most faults that are told
 SHOWN = 10
 
@@ -35,14 +42,30 @@ def block_of(exchange):
 
 
 def is_update(exchange):
-    return word_of(exchange) in (b"ADD", b"DROP")
+    return word_of(exchange) in (b"ADD", b"DROP", b"BATCH")
+
+
+def is_placed(exchange):
+    return word_of(exchange) in (b"OPEN", b"PIN", b"LOG") or is_update(exchange)
+
+
+def items_of(exchange):
+    """The changes that an update asks for: each a text and None, or None and a number."""
+    if word_of(exchange) == b"ADD":
+        return [(block_of(exchange), None)]
+    if word_of(exchange) == b"DROP":
+        return [(None, int(exchange.request[6:-1]))]
+    return protocol.split_items(block_of(exchange), 0, daemon.ITEMS)[0]
 
 
 def told_version(exchange):
-    """The version that this exchange tells, or None."""
-    if is_ok(exchange) and word_of(exchange) in (b"OPEN", b"PIN", b"ADD", b"DROP"):
-        return daemon.last_number(exchange.reply)
-    return None
+    """The newest version as this exchange tells it, or None."""
+    if exchange.reply is None or not is_placed(exchange):
+        return None
+    other = NEWEST.match(exchange.reply)
+    if other and word_of(exchange) in (b"PIN", b"LOG"):
+        return int(other[1])
+    return daemon.last_number(exchange.reply) if is_ok(exchange) else None
 
 
 class History:
@@ -61,27 +84,34 @@ class History:
         return len(self.updates)
 
     def credentials(self, version):
-        if not self.loaded <= version <= self.length():
+        if not 0 <= version <= self.length():
             raise Fault(f"version {version} is told, and there are {self.length()}")
         return self.versions[version]
 
     def append(self, update):
-        version, request = self.length() + 1, update.exchange.request
-        live = dict(self.versions[-1])
-        if request.startswith(b"ADD "):
-            self.additions += 1
-            name = f"a{self.additions}"
-            if is_ok(update.exchange) and update.exchange.reply != b"OK %s %d\n" % (name.encode(), version):
-                raise Fault(f"{update.client} is told {update.exchange.reply!r}, and it is addition {self.additions}")
-            live[name] = self.texts[block_of(update.exchange)]
-            self.born[name] = version
-        else:
-            name = request[5:-1].decode()
-            if live.pop(name, None) is None:
-                raise Fault(f"version {version} drops {name}, which isn't there")
-            self.gone[name] = version
+        version, live, first = self.length() + 1, dict(self.versions[-1]), self.additions + 1
+        for text, number in items_of(update.exchange):
+            if text is not None:
+                self.additions += 1
+                name = f"a{self.additions}"
+                live[name] = self.texts[text]
+                self.born[name] = version
+            else:
+                name = f"a{number}"
+                if live.pop(name, None) is None:
+                    raise Fault(f"version {version} drops {name}, which isn't there")
+                self.gone[name] = version
+        told = {b"ADD": b"OK a%d %d\n" % (first, version), b"DROP": b"OK %d\n" % version}
+        due = told.get(word_of(update.exchange), b"OK a%d %d %d\n" % (first, self.additions + 1 - first, version))
+        if is_ok(update.exchange) and update.exchange.reply != due:
+            raise Fault(f"{update.client} is told {update.exchange.reply!r}, and {due!r} is due")
         self.updates.append(update)
         self.versions.append(live)
+
+    def items(self, version):
+        """The changes of the update that made this version."""
+        update = self.updates[version - 1]
+        return items_of(update.exchange) if update else [(self.versions[version][f"a{version}"].text, None)]
 
     def is_always_live(self, name, least, most):
         """Whether this credential is in each version between these two."""
@@ -122,11 +152,19 @@ class Unread:
         ]
 
     def fits(self, update, history):
-        if not update.exchange.request.startswith(b"ADD "):
-            return update.exchange.request[5:-1].decode() in history.versions[-1]
-        assertion = history.texts[block_of(update.exchange)]
-        author = self.authors.get(f"a{history.additions + 1}")
-        return isinstance(assertion, daemon.Assertion) and author in (None, assertion.authorizer)
+        live, additions = set(history.versions[-1]), history.additions
+        for text, number in items_of(update.exchange):
+            if text is None and f"a{number}" not in live:
+                return False
+            if text is None:
+                live.remove(f"a{number}")
+                continue
+            additions += 1
+            live.add(f"a{additions}")
+            assertion, author = history.texts[text], self.authors.get(f"a{additions}")
+            if not isinstance(assertion, daemon.Assertion) or author not in (None, assertion.authorizer):
+                return False
+        return True
 
     def take(self, history):
         """The one update that can be the next of the history."""
@@ -203,14 +241,40 @@ def time_faults(transcripts, history):
     clock = Clock(transcripts, history)
     for transcript in transcripts:
         for exchange in transcript.exchanges:
-            if exchange.reply is None or word_of(exchange) not in (b"OPEN", b"PIN", b"ADD", b"DROP"):
+            if exchange.reply is None or not is_placed(exchange):
                 continue
             version = told_version(exchange)
             least, most = clock.bounds(exchange)
             if version is not None and not least <= version <= most:
                 yield f"{transcript.client} is told version {version} where {least} to {most} is due"
-            if exchange.reply == b"NO 12 unknown\n" and history.is_always_live(exchange.request[5:-1].decode(), least, most):
-                yield f"{transcript.client} is refused {exchange.request!r}, which is there from version {least} to {most}"
+            name = refused_name(exchange)
+            if name and history.is_always_live(name, least, most):
+                yield f"{transcript.client} is refused {name}, which is there from version {least} to {most}"
+
+
+def refused_name(exchange):
+    """The id that this update is told isn't there, where no item before it in its batch drops it too."""
+    unknown = UNKNOWN.fullmatch(exchange.reply) if is_update(exchange) else None
+    if not unknown:
+        return None
+    items, at = items_of(exchange), int(unknown[1] or 1) - 1
+    return f"a{items[at][1]}" if items[at] not in items[:at] else None
+
+
+def log_faults(transcripts, history):
+    """Each log tells the updates of the history, those of the policy file by caller 0 and no others."""
+    for transcript in transcripts:
+        for exchange in transcript.exchanges:
+            if word_of(exchange) != b"LOG" or not exchange.reply or not exchange.reply.startswith(b"LOG "):
+                continue
+            version, at = int(exchange.request[4:-1]), exchange.reply.index(b"\n") + 1
+            while update := UPDATE.match(exchange.reply, at):
+                version += 1
+                items, at = protocol.split_items(exchange.reply, update.end(), int(update[2]))
+                if version > history.length() or items != history.items(version):
+                    yield f"{transcript.client} is told another update of version {version} than made it"
+                elif (update[1] == b"0") != (version <= history.loaded):
+                    yield f"{transcript.client} is told that caller {update[1].decode()} made version {version}"
 
 
 def replay(transcript, history):
@@ -234,7 +298,8 @@ def judge(transcripts, loaded, texts, last=None):
         history = read_history(transcripts, loaded, texts, last)
     except Fault as why:
         return [str(why)], None, []
-    told = itertools.chain(order_faults(transcripts), fall_faults(transcripts), time_faults(transcripts, history))
+    parts = order_faults(transcripts), fall_faults(transcripts), time_faults(transcripts, history), log_faults(transcripts, history)
+    told = itertools.chain(*parts)
     faults = list(itertools.islice(told, SHOWN))
     asked = []
     for transcript in transcripts:

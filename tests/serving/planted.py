@@ -3,6 +3,7 @@
 import collections
 import random
 
+import protocol
 from serving import conduct, daemon, history
 from serving.daemon import Fault
 from serving.history import Exchange, Transcript
@@ -19,23 +20,33 @@ class Caller:
         self.model = daemon.Connection(simulated.texts, lambda version: simulated.versions[version])
 
 
+def pinned_version(request):
+    """The version that a PIN names, or None."""
+    return int(request.split()[2]) if request.startswith(b"PIN ") and request.count(b" ") == 2 else None
+
+
 class Simulated:
     """A daemon of one thread in memory, without a fault."""
 
     def __init__(self, texts):
         first = {f"a{i}": assertion for i, assertion in enumerate(conduct.LOADED, 1)}
-        self.texts, self.additions = texts, len(first)
+        self.texts, self.additions, self.has_come = texts, len(first), False
         self.versions = [dict(list(first.items())[:n]) for n in range(len(first) + 1)]
+        # of each version the changes that made it
+        self.changes = [None] + [[(assertion.text, None)] for assertion in conduct.LOADED]
 
     def newest(self):
         return len(self.versions) - 1
 
     def is_due(self):
-        """Whether a fault that comes once is to come now."""
-        return self.newest() == len(conduct.LOADED) + PLANTED_AT
+        """Whether a fault that comes once is to come now, at the first addition from some version on."""
+        due = not self.has_come and self.newest() >= len(conduct.LOADED) + PLANTED_AT
+        self.has_come |= due
+        return due
 
-    def append(self, live):
+    def append(self, live, changes=()):
         self.versions.append(live)
+        self.changes.append(changes)
         return self.newest()
 
     def pin(self, caller):
@@ -43,14 +54,37 @@ class Simulated:
 
     def add(self, caller, assertion):
         self.additions += 1
-        version = self.append({**self.versions[-1], f"a{self.additions}": assertion})
+        version = self.append({**self.versions[-1], f"a{self.additions}": assertion}, [(assertion.text, None)])
         return b"OK a%d %d\n" % (self.additions, version)
 
     def drop(self, caller, name):
         live = dict(self.versions[-1])
         if live.pop(name, None) is None:
             return b"NO 12 unknown\n"
-        return b"OK %d\n" % self.append(live)
+        return b"OK %d\n" % self.append(live, [(None, int(name[1:]))])
+
+    def batch(self, caller, items):
+        live, additions = dict(self.versions[-1]), self.additions
+        for at, (text, number) in enumerate(items, 1):
+            if text is not None:
+                additions += 1
+                live[f"a{additions}"] = self.texts[text]
+            elif live.pop(f"a{number}", None) is None:
+                return b"NO 17 item %d 12 unknown\n" % at
+        first, self.additions = self.additions + 1, additions
+        return b"OK a%d %d %d\n" % (first, additions + 1 - first, self.append(live, items))
+
+    def log(self, held):
+        told = self.changes[held + 1:held + 17]
+        text = b"LOG %d %d %d\n" % (held, len(told), self.newest())
+        for version, items in enumerate(told, held + 1):
+            text += b"UPDATE %d %d\n" % (version > len(conduct.LOADED), len(items))
+            text += b"".join(b"DROP a%d\n" % number if text is None else b"ADD %d\n%s\n" % (len(text), text) for text, number in items)
+        return text + b"END\n" if held <= self.newest() else b"NO 19 ahead %d\n" % self.newest()
+
+    def pin_at(self, caller, version):
+        kept = self.newest() - 16 < version <= self.newest()
+        return b"OK %d %d\n" % (version, self.newest()) if kept else b"NO 18 retained %d\n" % self.newest()
 
     def half_block(self, caller, assertion):
         """A connection ended within the block of an ADD."""
@@ -68,6 +102,15 @@ class Simulated:
 
     def reply(self, caller, request):
         word, model = request.split(b" ")[0].strip(), caller.model
+        if pinned_version(request) is not None:
+            return model.expected(request, self.pin_at(caller, pinned_version(request)))
+        if word == b"LOG":
+            return model.expected(request, self.log(int(request[4:-1])))
+        if word == b"BATCH":
+            items, _ = protocol.split_items(request.partition(b"\n")[2], 0, 256)
+            due = b"OK a1 %d 1\n" % sum(text is not None for text, _ in items)
+            permitted = model.expected(request, due)
+            return permitted if permitted != due else self.batch(caller, items)
         if word in (b"OPEN", b"PIN"):
             return model.expected(request, b"OK %d\n" % self.pin(caller))
         if word == b"ADD":
@@ -218,8 +261,81 @@ class LeavesOutARow(Simulated):
         return daemon.spell_value(index, name, version, rows[1:])
 
 
+class MakesABatchInParts(Simulated):
+    """a batch makes a version for each of its changes"""
+
+    def batch(self, caller, items):
+        if len(items) < 2 or super().batch(caller, items).startswith(b"NO"):
+            return b"NO 17 item 1 12 unknown\n"
+        whole, before = self.versions.pop(), self.versions[-1]
+        self.append({name: it for name, it in whole.items() if name in before}, self.changes.pop())
+        return b"OK a%d %d %d\n" % (self.additions + 1 - len(whole.keys() - before.keys()), len(whole.keys() - before.keys()), self.append(whole))
+
+
+class DoesARefusedBatchInPart(Simulated):
+    """of a batch that is refused the first changes are made"""
+
+    def batch(self, caller, items):
+        reply = super().batch(caller, items)
+        if reply.startswith(b"NO") and items[0][0] is not None:
+            self.add(caller, self.texts[items[0][0]])
+        return reply
+
+
+class RefusesABatch(Simulated):
+    """a batch is refused for an item that is there"""
+
+    def batch(self, caller, items):
+        known = [at for at, (text, number) in enumerate(items, 1) if text is None and number < 999999]
+        late = known and self.newest() > len(conduct.LOADED) + PLANTED_AT
+        return b"NO 17 item %d 12 unknown\n" % known[0] if late else super().batch(caller, items)
+
+
+class LogsInAnotherOrder(Simulated):
+    """the log tells the changes of a batch in another order"""
+
+    def append(self, live, changes=()):
+        return super().append(live, list(changes)[::-1])
+
+
+class LogsAnotherText(Simulated):
+    """the log tells another text than was added"""
+
+    def log(self, held):
+        return super().log(held).replace(b" makes its number 1\n", b" makes its number 2\n")
+
+
+class PinsTheNewest(Simulated):
+    """a session is pinned to the newest version in place of the one that it named"""
+
+    def reply(self, caller, request):
+        reply = super().reply(caller, request)
+        if pinned_version(request) is not None and reply.startswith(b"OK"):
+            caller.model.sessions[request.split()[1]].version = self.newest()
+        return reply
+
+
+class RetainsFewer(Simulated):
+    """a version is refused that is one of the newest 16"""
+
+    def reply(self, caller, request):
+        reply, version = super().reply(caller, request), pinned_version(request)
+        old = version is not None and reply.startswith(b"OK") and version < self.newest() - 9
+        return b"NO 18 retained %d\n" % self.newest() if old else reply
+
+
+class RetainsMore(Simulated):
+    """a version is pinned that is older than the newest 16"""
+
+    def reply(self, caller, request):
+        reply, version = super().reply(caller, request), pinned_version(request)
+        gone = reply.startswith(b"NO 18 ") and version < self.newest()
+        return b"OK %d %d\n" % (version, self.newest()) if gone else reply
+
+
 FAULTS = [
-    LosesAnUpdate, TellsTwoSets, GivesAVersionTwice, SkipsAVersion, AddsTwice, PinsBack, PinsLate, AnswersNewest, TellsNewest,
+    MakesABatchInParts, DoesARefusedBatchInPart, RefusesABatch, LogsInAnotherOrder, LogsAnotherText, PinsTheNewest, RetainsFewer,
+    RetainsMore, LosesAnUpdate, TellsTwoSets, GivesAVersionTwice, SkipsAVersion, AddsTwice, PinsBack, PinsLate, AnswersNewest, TellsNewest,
     DropsTheGone, KeepsTheDropped, RefusesADrop, ForgetsPrivate, CountsHalfABlock, TellsAnotherId, LeavesOutARow,
 ]
 
@@ -279,7 +395,7 @@ class Run:
             if self.time % 200 == 0:
                 self.simulated.half_block(Caller("c0", self.simulated), conduct.LOADED[2])
         # what was drawn and not answered is never sent
-        self.speak_alone("prober", [b"OPEN\n", b"SET 1 level 9\n", *conduct.probes(self.texts.signed()[-20:])])
+        self.speak_alone("prober", [b"OPEN\n", b"SET 1 level 9\n", *conduct.probes(self.texts.signed())])
 
     def faults(self):
         transcripts = list(self.transcripts.values())

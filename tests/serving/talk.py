@@ -9,6 +9,7 @@ import subprocess
 import threading
 import time
 
+import protocol
 from serving.daemon import Fault
 from serving.history import Exchange, Transcript
 
@@ -26,9 +27,8 @@ def free_port(host=HOST):
 
 def take_reply(heard):
     """The first reply of these bytes and the rest; no reply where it isn't whole yet."""
-    ending = b"\nEND\n" if heard.startswith(b"VALUE ") else b"\n"
-    at = heard.find(ending)
-    return (None, heard) if at < 0 else (heard[:at + len(ending)], heard[at + len(ending):])
+    end = protocol.end_of_reply(heard, 0)
+    return (heard[:end], heard[end:]) if end else (None, heard)
 
 
 def open_socket(address, receive):
