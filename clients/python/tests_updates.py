@@ -128,7 +128,7 @@ class Batches(Room):
         keeper, daemon = self.keeper()
         for item, wanted, told in (
             (lambda it: it.drop("a9"), keynoted.NoUnknown, "NO 17 item 2 12 unknown: item 2: the assertion, credential"),
-            (lambda it: it.add(STRANGER), keynoted.NoAuth, "NO 17 item 2 7 auth 1: item 2: it isn't admitted"),
+            (lambda it: it.add(STRANGER), keynoted.NoAuth, "NO 17 item 2 7 auth 1: item 2: it has no signature"),
             (lambda it: it.add('Authorizer: "a"\nLicensees: 2-of("b")\n'), keynoted.NoRead,
              "NO 17 item 2 5 read 18 5: item 2, 2:12: a threshold over 1"),
         ):

@@ -9,7 +9,7 @@ from typing import TYPE_CHECKING, Dict, Iterable, List, NamedTuple, Optional, Tu
 from .answers import NUMBER
 from .arguments import Text, bytes_of
 from .errors import NoItem, NoRead
-from .explaining import explain_text
+from .explaining import explain_text, words_of_refusal
 from .wire import BATCHED, BLOCK_BYTES, CHANGES, Added, Change, Dropped, Request, Update, words_of
 
 if TYPE_CHECKING:
@@ -97,7 +97,7 @@ class Batch:
         change = self._changes[refused.item - 1] if refused.item <= len(self._changes) else None
         if isinstance(refused.reason, NoRead) and isinstance(change, Added):
             return NoItem(refused.line, f"item {refused.item}, {explain_text(change.text, refused.reason.line)}")
-        return refused
+        return NoItem(refused.line, f"item {refused.item}: {words_of_refusal(refused.reason)}")
 
 
 def item_of(change: Change) -> bytes:
