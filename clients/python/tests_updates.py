@@ -6,7 +6,7 @@ import subprocess
 import unittest
 
 import keynoted
-from keynoted import wire
+from keynoted import parts, sending, wire
 from keynoted.errors import refusal_of
 from tests_room import CREDENTIAL, POLICY, PROGRAM, Fake, Room, talk
 
@@ -245,6 +245,28 @@ class Logs(Room):
             self.assertEqual(requests.read(), b"ADMIN 00\nLOG 0\nBATCH 8\nDROP a1\n\nBYE\n")
             self.assertEqual(replies.read(), b"OK\n" + keeper.log(0).replace(b"\n3\n", b"\n2\n").replace(b"LOG 0 3 3", b"LOG 0 2 2")
                              .replace(b"UPDATE 1 1\nDROP a1\n", b"") + b"\nOK a3 0 3\nOK\n")
+
+
+class Scripts(Room):
+    def test_what_a_batch_of_a_script_adds_is_linted(self):
+        wrong = CREDENTIAL + b"Conditions: name == \"x\" -> yes;\n"
+        block = ADD % (len(OTHER), OTHER) + DROP % 1 + ADD % (len(wrong), wrong)
+        script = b"OPEN\nBATCH %d\n%b\nQUERY 1 no,yes\n" % (len(block), block)
+        found = [script[start:end] for _, line, at, to in parts.requests_of(script) if line.startswith(b"BATCH")
+                 for start, end in parts.texts_in(script, at, to)]
+        self.assertEqual(found, [OTHER, wrong])
+        self.write("script", script)
+        told = [str(it) for it in keynoted.lint("p.kn", ["script"])]
+        self.assertTrue(any(it.startswith("script:11:") for it in told), told)
+        for broken in (b"", b"x", b"ADD 9\nx", b"ADD 3\nx\n\nADD", b"ADD 01\nx\n"):
+            self.assertLess(len(list(parts.texts_in(broken, 0, len(broken)))), 2)
+
+    def test_a_batch_is_sent_as_it_stands(self):
+        block = ADD % (37, CREDENTIAL) + b"DROP a9\n"
+        script = b"LOG 0\nBATCH %d\r\n%b\nBYE\n" % (len(block), block)
+        sent = list(sending.requests_in(script))
+        self.assertEqual([it.line for it in sent], [b"LOG 0", b"BATCH %d" % len(block), b"BYE"])
+        self.assertEqual(sent[1].block, block)
 
 
 class Pins(Room):
