@@ -5,8 +5,6 @@
 
 mod answer;
 mod registry;
-#[cfg(test)]
-mod tests;
 
 pub use answer::{Batched, PinFault};
 pub use registry::{Pass, Registry, SharedBook};

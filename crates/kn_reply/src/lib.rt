@@ -10,8 +10,6 @@ mod printer;
 mod printing;
 mod refusal;
 mod reply;
-#[cfg(test)]
-mod tests;
 pub mod worked;
 
 pub use printing::print;

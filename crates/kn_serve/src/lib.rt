@@ -18,8 +18,6 @@ mod querying;
 mod refusals;
 mod serving;
 mod step;
-#[cfg(test)]
-mod tests;
 
 pub use kn_daemon::ended::Ended;
 pub use serving::serve_connection;
