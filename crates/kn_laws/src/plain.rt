@@ -5,6 +5,7 @@ ghost use Rattle.std.specs.Bool.{Decides};
 ghost use Rattle.std.specs.List.{list_any};
 ghost use Rattle.kn_meaning.specs.Proofs.{IsProof};
 ghost use Rattle.kn_meaning.specs.Tables.{level_in, statement_in, equations_from, entry_of, entries_of};
+ghost use Rattle.kn_meaning.specs.Critical as C;
 ghost use Rattle.kn_laws.specs.Tested as T;
 
 use kn_base::{List, NoMemory, Octets};
@@ -59,7 +60,7 @@ pub fn has_entry(table: &[Level], name: &[u8]) -> bool
 }
 
 fn is_same_id(left: Id, right: Id) -> bool
-    ensures { result ≡ T.is_same_id left right }
+    ensures { result ≡ C.is_same_id left right }
 {
     match (left, right) {
         (Id::Shared(left), Id::Shared(right)) => left == right,
