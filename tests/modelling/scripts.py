@@ -28,7 +28,7 @@ BATCH_SIZES = [1, 1, 1, 2, 2, 3, 4, 6, 10, 20, 60, 256, 256, 257]
 KINDS = {
     "open": 3, "close": 1.5, "pin": 3, "pin_at": 10, "assert": 6, "retract": 3, "set": 5, "setx": 2, "unset": 3,
     "auth": 12, "unauth": 2, "clear": 1, "query": 12, "admin": 1, "add": 8, "drop": 7, "batch": 14, "log": 8,
-    "strange": 5, "long": 1, "fill": 0.25,
+    "strange": 5, "long": 1, "fill": 0.4,
 }
 
 
@@ -217,8 +217,8 @@ class Script:
         s = self.any_session()
         ways = [
             [self.line(b"OPEN") for _ in range(18)],
-            [self.line(b"SET %d n%d x", s, i) for i in range(258)],
-            [self.line(b"AUTH %d who%d", s, i) for i in range(66)],
+            [self.line(b"SET %d n%d x", s, i) for i in [*range(258), 1]],
+            [self.line(b"AUTH %d who%d", s, i) for i in [*range(66), 1]],
             [self.block(b"ASSERT %d %d", s, b'Authorizer:"q%d"\n' % i) for i in range(66)],
             [self.block(b"ASSERT %d %d", s, self.texts.sized(16384)) for i in range(17)],
             [self.line(b"ADD 15") + b'Authorizer:"a"\n\n' for i in range(20)],
