@@ -11,8 +11,10 @@ from typing import Optional, Sequence
 from .connection import Connection, connect, program_of, start
 from .errors import KeynotedError, LinkEnded
 from .explaining import explain
+from .keeping import add_log
 from .linting import lint, lint_values
 from .pages import run_drawing
+from .restoring import add_restore
 from .rotating import add_rotating
 from .sending import add_record
 from .texts import place_of, read_file, split_file
@@ -83,7 +85,7 @@ def run_lint(args: argparse.Namespace) -> int:
 def main(words: Optional[Sequence[str]] = None) -> int:
     """Runs the command with these words, or those of the process, and answers its status."""
     parser = argparse.ArgumentParser(prog="keynoted.py", description="Asks keynoted, explains its errors, and warns of what is surely not meant.")
-    commands = parser.add_subparsers(required=True, metavar="query|why|explain|lint|list|rotate|drop")
+    commands = parser.add_subparsers(required=True, metavar="query|why|explain|lint|list|rotate|drop|log|restore")
     query = commands.add_parser("query", help="asks once: 0 at least the value named, 1 less, 2 an error")
     query.add_argument("policy", nargs="?", help="the policy file, unless --connect is given")
     query.add_argument("--connect", metavar="HOST:PORT", help="a daemon that serves, as localhost or [::1]:2704")
@@ -108,6 +110,8 @@ def main(words: Optional[Sequence[str]] = None) -> int:
     add_record(commands, connected)
     add_why(commands)
     add_rotating(commands)
+    add_log(commands)
+    add_restore(commands)
     args = parser.parse_args(words)
     try:
         return int(args.run(args))

@@ -4,10 +4,11 @@ from __future__ import annotations
 
 import argparse
 import re
+import time
 from typing import Iterator, List, Sequence, Tuple
 
 from .connection import Connection, connect
-from .errors import NoItem
+from .errors import LinkEnded, NoItem
 from .explaining import explain, words_of_refusal
 from .texts import read_file
 from .updates import Credential
@@ -16,18 +17,29 @@ SECRET = re.compile(rb"^secret ((?:[0-9A-Fa-f]{2})+)\r?$", re.M)
 LONGEST = 100  # characters of what is told of a text
 
 
-def administrator(args: argparse.Namespace) -> Connection:
-    """A connection to the daemon that has shown the secret of the key file."""
+def administrator(args: argparse.Namespace, seconds: float = 0.0) -> Connection:
+    """A connection to the daemon that has shown the secret of the key file; it is waited for where it isn't there yet."""
     match = SECRET.search(read_file(args.keys))
     if not match:
         raise ValueError(f"{args.keys} has no secret")
-    daemon = connect(args.connect)
+    daemon = connect_within(args.connect, seconds)
     try:
         daemon.admin(bytes.fromhex(match[1].decode()))
     except BaseException:
         daemon.close()
         raise
     return daemon
+
+
+def connect_within(address: str, seconds: float) -> Connection:
+    deadline = time.monotonic() + seconds
+    while True:
+        try:
+            return connect(address)
+        except LinkEnded:
+            if time.monotonic() >= deadline:
+                raise
+            time.sleep(0.1)
 
 
 def summary_of(text: bytes) -> str:

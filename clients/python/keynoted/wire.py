@@ -26,6 +26,7 @@ ROW = re.compile(rb'ROW %b ([ap]%b) "((?:[ !#-\[\]-~]|\\["\\]|\\[0-7]{3})*)"' % 
 LOG = re.compile(rb"LOG %b %b %b" % (NUMBER, NUMBER, NUMBER))
 UPDATE = re.compile(rb"UPDATE %b %b" % (NUMBER, NUMBER))
 ITEM = re.compile(rb"ADD %b|DROP (a%b)" % (NUMBER, NUMBER))
+DIGITS = re.compile(rb"\d+")
 ANY = re.compile(rb"OK(?: [ap]?%b)*|(?:VALUE|LOG) .*" % NUMBER)
 
 
@@ -244,8 +245,22 @@ class LogLines:
             self._updates.append(Update(self._caller, tuple(self._changes)))
             self._changes = []
 
+    def can_begin(self, part: bytes) -> bool:
+        """Whether the next line, of which this part is there, can begin so."""
+        if self._bytes_due:
+            return len(part) < self._bytes_due
+        if self._changes_due:
+            return is_begun(part, b"ADD 0", b"DROP a0")
+        return is_begun(part, b"UPDATE 0 0" if self._updates_due else b"END")
+
     def reply(self) -> Reply:
         return Reply(tuple(self._lines), updates=tuple(self._updates))
+
+
+def is_begun(part: bytes, *forms: bytes) -> bool:
+    """Whether a line of one of these forms, with any numbers in place of each 0, can begin so."""
+    plain = DIGITS.sub(b"0", part)
+    return any(form.startswith(plain) for form in forms)
 
 
 def fail(line: bytes) -> NoReturn:
