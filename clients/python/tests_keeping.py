@@ -14,14 +14,16 @@ from keynoted.logfile import LogFile, LogText
 from tests_room import CREDENTIAL, HERE, POLICY, Room
 from tests_updates import ADD, OTHER, SECRET, STRANGER, Keeper, has_batches
 
+NOTHING = "updates that were restored: 0\n"
+
 
 def update(*texts, caller=1):
     return b"UPDATE %d %d\n" % (caller, len(texts)) + b"".join(ADD % (len(it), it) for it in texts)
 
 
 def reply(start, *updates, newest=None):
-    count = len(updates)
-    return b"LOG %d %d %d\n" % (start, count, start + count if newest is None else newest) + b"".join(updates) + b"END\n"
+    newest = start + len(updates) if newest is None else newest
+    return b"LOG %d %d %d\n" % (start, len(updates), newest) + b"".join(updates) + b"END\n"
 
 
 WHOLE = reply(0, update(POLICY, caller=0)) + reply(1, update(CREDENTIAL, b"END\n\n"), b"UPDATE 2 1\nDROP a3\n")
@@ -46,11 +48,13 @@ class Texts(Room):
     def test_what_is_no_such_file_is_told_by_its_place(self):
         lines = WHOLE.count(b"\n")
         for text, told in (
-            (b"hello", "f:1:1: no reply"), (b"\n", "f:1:1: no reply"), (b"\0", "f:1:1: no reply"), (b"LOG 0 1\n", "f:1:1: no reply"),
-            (b"LOG x", "f:1:1: no reply"), (b"LOG 0 2 1\n", "f:1:1: no reply"), (b"LOG 0 1 1\nEND\n", "f:2:1: no reply"),
+            (b"hello", "f:1:1: no reply"), (b"\n", "f:1:1: no reply"), (b"\0", "f:1:1: no reply"),
+            (b"LOG 0 1\n", "f:1:1: no reply"), (b"LOG x", "f:1:1: no reply"), (b"LOG 0 2 1\n", "f:1:1: no reply"),
+            (b"LOG 0 1 1\nEND\n", "f:2:1: no reply"),
             (b"LOG 0 1 1\nDROP", "f:2:1: no reply"), (b"LOG 0 1 1\nUPDATE 0 1\nEND", "f:3:1: no reply"),
             (b"LOG 0 0 0\nUP", "f:2:1: no reply"), (WHOLE + b"NO 19 ahead 1\n", f"f:{lines + 1}:1: no reply"),
-            (WHOLE + b"OK", f"f:{lines + 1}:1: no reply"), (WHOLE + WHOLE, f"f:{lines + 1}:1: this reply tells what is behind 0 updates, and 3"),
+            (WHOLE + b"OK", f"f:{lines + 1}:1: no reply"),
+            (WHOLE + WHOLE, f"f:{lines + 1}:1: this reply tells what is behind 0 updates, and 3"),
             (WHOLE + reply(4), f"f:{lines + 1}:1: this reply tells what is behind 4 updates, and 3"),
             (WHOLE[:60] + b"\0" + WHOLE[61:] + reply(3, *[update(b"x" * 16000)] * 16, newest=99) * 2, "this reply"),
         ):
@@ -179,10 +183,9 @@ class Kept(Room):
             wanted = (0, f"updates that were restored: {4 - there}\nversion 5\n", "")
             self.assertEqual(self.run_on(fresh, "restore", "f"), wanted)
             self.assertEqual(fresh.updates, self.keeper.updates)
-            again = (0, "updates that were restored: 0\nversion 5\n", "")
-            self.assertEqual(self.run_on(fresh, "restore", "f"), again)
+            self.assertEqual(self.run_on(fresh, "restore", "f"), (0, f"{NOTHING}version 5\n", ""))
         fresh.change([(OTHER, None)])
-        self.assertEqual(self.run_on(fresh, "restore", "f"), (0, "updates that were restored: 0\nversion 6\n", ""))
+        self.assertEqual(self.run_on(fresh, "restore", "f"), (0, f"{NOTHING}version 6\n", ""))
         words = [it.split()[0] for it in fresh.requests if it.split()[0] in (b"ADD", b"DROP", b"BATCH")]
         self.assertEqual(words, [])
         self.write("f", self.content() + b"LOG 5 1 6\nUPDATE")
@@ -222,7 +225,7 @@ class Kept(Room):
         first = reply(0, update(POLICY, caller=0), update(CREDENTIAL))
         for bad, told in (
             (update(STRANGER), "update 3 of f: NO 7 auth 1: it has no signature: stopped at version 2"),
-            (update(OTHER, STRANGER), "update 3 of f: NO 17 item 2 7 auth 1: item 2: it has no signature; nothing of the batch"),
+            (update(OTHER, STRANGER), "update 3 of f: NO 17 item 2 7 auth 1: item 2: it has no signature; nothing of"),
             (b"UPDATE 1 1\nDROP a7\n", "update 3 of f: NO 12 unknown"),
         ):
             fresh = self.keep()

@@ -15,6 +15,7 @@ from .rotating import administrator
 from .wire import log_of
 
 PAUSE = 1.0  # seconds between two looks
+PATIENCE = 60.0  # seconds for a reply: nobody waits for it, and a busy machine may be slow
 SPARE = 10_000  # requests of a connection with which a new one is made: more than the longest log takes
 
 
@@ -46,7 +47,7 @@ def follow(args: argparse.Namespace, file: LogFile) -> int:
     """Reads on every second until it is interrupted; the end of the connection is raised."""
     try:
         while True:
-            with administrator(args) as daemon:
+            with administrator(args, timeout=PATIENCE) as daemon:
                 check_same(file, daemon)
                 keep_reading(file, daemon)
     except KeyboardInterrupt:
@@ -67,7 +68,7 @@ def run_log(args: argparse.Namespace) -> int:
         begin(file, args.start)
         if args.follow:
             return follow(args, file)
-        with administrator(args) as daemon:
+        with administrator(args, timeout=PATIENCE) as daemon:
             check_same(file, daemon)
             read_on(file, daemon)
     print(f"{args.file}: version {file.text.held()}")

@@ -63,7 +63,7 @@ class LogText:
 
 
 def without_zeros(data: bytes) -> bytes:
-    """The text before the bytes 0 of its last reply, which a machine that stops may leave of what wasn't written yet."""
+    """The text before the bytes 0 of its last reply, as a machine that stops leaves where it hadn't written."""
     zero = data.find(b"\0", max(0, len(data) - REPLY_BYTES))
     return data[:zero] if b"\n" in data[:max(0, zero)] else data
 

@@ -10,6 +10,7 @@ from typing import List, Sequence, Tuple
 from .connection import Connection
 from .errors import KeynotedError, NoMemory, Refusal
 from .explaining import words_of_refusal
+from .keeping import PATIENCE
 from .logfile import LogText, refuse_difference
 from .rotating import administrator
 from .texts import read_file
@@ -68,7 +69,7 @@ def restore(daemon: Connection, text: LogText, name: str) -> Tuple[int, int]:
             raise KeynotedError(f"update {version + 1} of {name}: {told(why)}: stopped at version {version}") from None
         made, version = made + len(ids), version + 1
         if found != (ids, version):
-            raise KeynotedError(f"update {version} of {name} is version {found[1]} now: somebody else makes updates too")
+            raise KeynotedError(f"update {version} of {name} is version {found[1]}: somebody else makes updates too")
     return len(due), version
 
 
@@ -103,7 +104,7 @@ def add_again(daemon: Connection, credential: Credential) -> bool:
 
 def run_restore(args: argparse.Namespace) -> int:
     text = LogText(read_file(args.file), args.file)
-    with administrator(args, WAIT) as daemon:
+    with administrator(args, WAIT, PATIENCE) as daemon:
         if args.live:
             refused = restore_live(daemon, text, args.file)
             if refused:

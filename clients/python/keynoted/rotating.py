@@ -7,7 +7,7 @@ import re
 import time
 from typing import Iterator, List, Sequence, Tuple
 
-from .connection import Connection, connect
+from .connection import LIMIT, Connection, connect
 from .errors import LinkEnded, NoItem
 from .explaining import explain, words_of_refusal
 from .texts import read_file
@@ -17,12 +17,12 @@ SECRET = re.compile(rb"^secret ((?:[0-9A-Fa-f]{2})+)\r?$", re.M)
 LONGEST = 100  # characters of what is told of a text
 
 
-def administrator(args: argparse.Namespace, seconds: float = 0.0) -> Connection:
-    """A connection to the daemon that has shown the secret of the key file; it is waited for where it isn't there yet."""
+def administrator(args: argparse.Namespace, seconds: float = 0.0, timeout: float = LIMIT) -> Connection:
+    """A connection that has shown the secret of the key file, to a daemon that is waited for where it isn't there yet."""
     match = SECRET.search(read_file(args.keys))
     if not match:
         raise ValueError(f"{args.keys} has no secret")
-    daemon = connect_within(args.connect, seconds)
+    daemon = connect_within(args.connect, seconds, timeout)
     try:
         daemon.admin(bytes.fromhex(match[1].decode()))
     except BaseException:
@@ -31,11 +31,11 @@ def administrator(args: argparse.Namespace, seconds: float = 0.0) -> Connection:
     return daemon
 
 
-def connect_within(address: str, seconds: float) -> Connection:
+def connect_within(address: str, seconds: float, timeout: float) -> Connection:
     deadline = time.monotonic() + seconds
     while True:
         try:
-            return connect(address)
+            return connect(address, timeout=timeout)
         except LinkEnded:
             if time.monotonic() >= deadline:
                 raise
