@@ -44,6 +44,7 @@ class Texts(Room):
             for end in range(first, len(WHOLE)):
                 read = LogText(WHOLE[:end] + zeros, "f")
                 self.assertEqual((read.whole, read.held()), (whole[0], 1) if end >= whole[0] else (0, 0))
+                self.assertEqual(read.start, 0 if end >= whole[0] else None)
 
     def test_what_is_no_such_file_is_told_by_its_place(self):
         lines = WHOLE.count(b"\n")

@@ -19,8 +19,9 @@ NO_LINE = "no reply to LOG goes on so"
 class LogText:
     """The updates of replies that stand one after the other, each of which tells what is behind the former one.
 
-    `start` is how many updates there are before the first of them, `whole` how many bytes are whole replies; what
-    stands behind these is the beginning of a reply. Anything else is a ValueError, with its place.
+    `start` is how many updates there are before the first of them, where a reply is whole, and `whole` how many bytes
+    are whole replies. What stands behind these is the beginning of a reply. Anything else is a ValueError that says
+    where.
     """
 
     def __init__(self, data: bytes, name: str) -> None:
@@ -38,6 +39,9 @@ class LogText:
         except (LinkEnded, ValueError) as why:
             told = NO_LINE if isinstance(why, LinkEnded) else why
             raise ValueError(f"{name}:{place_of(data, self._at)}: {told}") from None
+
+        if not self.whole:
+            self.start = None
 
     def held(self) -> int:
         """The number of the last update, counted from 1."""
