@@ -8,6 +8,7 @@ import subprocess
 import sys
 from typing import Optional, Sequence
 
+from .agent import add_agent
 from .connection import Connection, connect, program_of, start
 from .errors import KeynotedError, LinkEnded
 from .explaining import explain
@@ -85,7 +86,7 @@ def run_lint(args: argparse.Namespace) -> int:
 def main(words: Optional[Sequence[str]] = None) -> int:
     """Runs the command with these words, or those of the process, and answers its status."""
     parser = argparse.ArgumentParser(prog="keynoted.py", description="Asks keynoted, explains its errors, and warns of what is surely not meant.")
-    commands = parser.add_subparsers(required=True, metavar="query|why|explain|lint|list|rotate|drop|log|restore")
+    commands = parser.add_subparsers(required=True, metavar="query|why|explain|lint|list|rotate|drop|log|restore|agent|submit")
     query = commands.add_parser("query", help="asks once: 0 at least the value named, 1 less, 2 an error")
     query.add_argument("policy", nargs="?", help="the policy file, unless --connect is given")
     query.add_argument("--connect", metavar="HOST:PORT", help="a daemon that serves, as localhost or [::1]:2704")
@@ -112,6 +113,7 @@ def main(words: Optional[Sequence[str]] = None) -> int:
     add_rotating(commands)
     add_log(commands)
     add_restore(commands)
+    add_agent(commands)
     args = parser.parse_args(words)
     try:
         return int(args.run(args))

@@ -19,11 +19,15 @@ LONGEST = 100  # characters of what is told of a text
 
 def administrator(args: argparse.Namespace, seconds: float = 0.0, timeout: float = LIMIT) -> Connection:
     """A connection that has shown the secret of the key file, to a daemon that is waited for where it isn't there yet."""
-    match = SECRET.search(read_file(args.keys))
-    if not match:
-        raise ValueError(f"{args.keys} has no secret")
-    daemon = connect_within(args.connect, seconds, timeout)
+    return shown_to(connect_within(args.connect, seconds, timeout), args.keys)
+
+
+def shown_to(daemon: Connection, keys: str) -> Connection:
+    """The connection, which has shown the secret of the key file."""
     try:
+        match = SECRET.search(read_file(keys))
+        if not match:
+            raise ValueError(f"{keys} has no secret")
         daemon.admin(bytes.fromhex(match[1].decode()))
     except BaseException:
         daemon.close()

@@ -57,6 +57,11 @@ class Batch:
     def __len__(self) -> int:
         return len(self._changes)
 
+    @property
+    def block(self) -> bytes:
+        """The changes as they stand in the block of the request."""
+        return self._block
+
     def add(self, text: Text) -> None:
         """Adds a credential."""
         self._put(Added(bytes_of(text, "text")))
@@ -98,6 +103,11 @@ class Batch:
         if isinstance(refused.reason, NoRead) and isinstance(change, Added):
             return NoItem(refused.line, f"item {refused.item}, {explain_text(change.text, refused.reason.line)}")
         return NoItem(refused.line, f"item {refused.item}: {words_of_refusal(refused.reason)}")
+
+
+def block_of(update: Update) -> bytes:
+    """The changes of an update as they stand in a block of BATCH."""
+    return b"".join(item_of(it) for it in update.changes)
 
 
 def item_of(change: Change) -> bytes:
