@@ -72,8 +72,9 @@ class FakeEtcd:
             if done and self.lost and len(wanted["compare"]) > 1:
                 self.lost -= 1
                 return None
-            rest = [] if done else [{"response_range": self.range(it["request_range"])} for it in wanted.get("failure", ())]
-            return {"succeeded": True} if done else {"responses": rest}
+            if done:
+                return {"succeeded": True}
+            return {"responses": [{"response_range": self.range(it["request_range"])} for it in wanted.get("failure", ())]}
 
     def holds(self, compare):
         value, version = self.kept.get(text_of(compare["key"]), (b"", 0))
@@ -88,7 +89,8 @@ class FakeEtcd:
         key = text_of(wanted["key"])
         end = text_of(wanted["range_end"]) if "range_end" in wanted else key + b"\0"
         found = sorted(it for it in self.kept if key <= it < end)[:int(wanted.get("limit", 1))]
-        return {"kvs": [{"key": coded(it), "value": coded(self.kept[it][0]), "version": str(self.kept[it][1])} for it in found]}
+        return {"kvs": [{"key": coded(it), "value": coded(value), "version": str(version)}
+                        for it, (value, version) in ((it, self.kept[it]) for it in found)]}
 
     def updates(self):
         return [value for key, (value, _) in sorted(self.kept.items()) if b"/updates/" in key]
@@ -111,7 +113,8 @@ class Agents(Room):
             self.write(f"{who.decode()}.kn", signed(who))
 
     def submit(self, *words, wait="20"):
-        return self.command("submit", "--etcd", self.etcd.address, "--policy", "p.kn", "--keys", "keys", "--wait", wait, *words)
+        return self.command("submit", "--etcd", self.etcd.address, "--policy", "p.kn", "--keys", "keys", "--wait", wait,
+                            *words)
 
     def agent(self, address, name="agent"):
         """An agent of this daemon, which ends with the test; what it prints is in a file of this name."""
@@ -146,7 +149,7 @@ class Agents(Room):
         return False
 
     def ends(self, process, *words):
-        """An agent ends with status 2, and says this."""
+        """An agent ends with status 2, and says these words."""
         self.assertEqual(process.wait(SECONDS), 2)
         for word in words:
             self.assertIn(word, self.said())
@@ -167,12 +170,12 @@ class Agents(Room):
         names = [f"many{number}.kn" for number in range(6)]
         for name in names:
             self.write(name, signed(name.encode()))
-        words = [sys.executable, os.path.join(HERE, "keynoted.py"), "submit", "--etcd", self.etcd.address, "--policy", "p.kn",
-                 "--keys", "keys"]
+        words = [sys.executable, os.path.join(HERE, "keynoted.py"), "submit", "--etcd", self.etcd.address,
+                 "--policy", "p.kn", "--keys", "keys"]
         writers = [subprocess.Popen([*words, it], stdout=subprocess.DEVNULL) for it in names]
         self.assertEqual([it.wait(SECONDS) for it in writers], [0] * 6)
-        self.assertEqual({it for it in self.etcd.updates()}, {b"ADD %d\n%b\n" % (len(it), it) for it in
-                                                             (signed(name.encode()) for name in names)})
+        texts = [signed(name.encode()) for name in names]
+        self.assertEqual(sorted(self.etcd.updates()), sorted(b"ADD %d\n%b\n" % (len(it), it) for it in texts))
 
     def test_what_the_daemon_refuses_is_not_written(self):
         self.write("wrong.kn", signed(b"mallory", b"another"))
@@ -245,7 +248,8 @@ class Agents(Room):
         self.submit("bob.kn")
         self.write("p.kn", POLICY + b"\n" + POLICY)
         _, address = self.serve()
-        self.ends(self.agent(address)[0], "the log in etcd is for another policy file", "it has 1 assertions", "here is 2 assertions")
+        self.ends(self.agent(address)[0], "the log in etcd is for another policy file: there it is 1 assertions",
+                  "here 2 assertions")
         self.assertIn("another policy file", self.submit("carol.kn")[2])
 
     def test_another_administrator_ends_the_agent(self):

@@ -20,6 +20,8 @@ from .updates import block_of
 from .wire import BATCHED, Request, Update
 
 PAUSE = 0.1  # seconds between two looks at the log, and at the daemon
+PATIENCE = 1.0  # seconds for an answer of etcd's, during which an agent doesn't look at its daemon
+PATIENCE_OF_WRITERS = 5.0
 
 
 class Differs(KeynotedError):
@@ -110,8 +112,8 @@ class Agent:
             version = int(daemon.parts(request)[3])
         except Refusal as refused:
             reason = refused.reason if isinstance(refused, NoItem) else refused
-            raise Differs(f"the daemon at {self._address} refuses update {number}, which the log in etcd has, and stays at "
-                          f"version {number - 1}: {refused.line}: {words_of_refusal(reason)}") from None
+            raise Differs(f"the daemon at {self._address} refuses update {number}, which the log in etcd has, and stays "
+                          f"at version {number - 1}: {refused.line}: {words_of_refusal(reason)}") from None
         if version != number:
             raise self._changed(version)
 
@@ -124,7 +126,7 @@ class Agent:
             self._door.greet()
 
     def _changed(self, version: int) -> Differs:
-        return Differs(f"another administrator has changed the daemon at {self._address}, which is at version {version}")
+        return Differs(f"another administrator has changed the daemon at {self._address}: it is at version {version}")
 
     def _say(self, what: str, file: TextIO) -> None:
         """Says what hasn't just been said."""
@@ -167,7 +169,7 @@ class Door:
 
 
 def run_agent(args: argparse.Namespace) -> int:
-    Agent(log_of_words(args), args.connect, args.keys, args.ready).run()
+    Agent(log_of_words(args, PATIENCE), args.connect, args.keys, args.ready).run()
     return 0
 
 
@@ -238,7 +240,7 @@ def write(log: UpdateLog, update: Judged, end: float) -> bool:
 def run_submit(args: argparse.Namespace) -> int:
     if not (args.add or args.drop):
         raise ValueError("a file to add, or --drop FILE, is wanted")
-    log, end = log_of_words(args), time.monotonic() + args.wait
+    log, end = log_of_words(args, PATIENCE_OF_WRITERS), time.monotonic() + args.wait
     while True:
         try:
             update = judge(log, args)
@@ -256,16 +258,16 @@ def run_submit(args: argparse.Namespace) -> int:
     return 0
 
 
-def log_of_words(args: argparse.Namespace) -> UpdateLog:
-    return UpdateLog(args.etcd.split(","), args.prefix)
+def log_of_words(args: argparse.Namespace, patience: float) -> UpdateLog:
+    return UpdateLog(args.etcd.split(","), args.prefix, patience)
 
 
 def add_agent(commands: argparse._SubParsersAction[argparse.ArgumentParser]) -> None:
-    agent = commands.add_parser("agent", help="applies the log of updates in etcd to a daemon, as its only administrator")
+    agent = commands.add_parser("agent", help="applies the log of updates in etcd to a daemon that serves")
     agent.add_argument("--connect", required=True, metavar="HOST:PORT", help="the daemon")
     agent.add_argument("--ready", metavar="HOST:PORT", help="takes connections there while the daemon has all updates")
     agent.set_defaults(run=run_agent)
-    submit = commands.add_parser("submit", help="writes the next update into the log in etcd: additions and removals, at one moment")
+    submit = commands.add_parser("submit", help="writes the next update into the log in etcd")
     submit.add_argument("add", nargs="*", metavar="NEW", help="a file with a text that is added")
     submit.add_argument("--drop", nargs="+", default=[], metavar="OLD", help="a file whose text is dropped")
     submit.add_argument("--policy", required=True, help="the policy file, which all nodes have")

@@ -47,7 +47,7 @@ class UpdateLog:
             return
         found = decoded(reply["responses"][0]["response_range"]["kvs"][0]["value"])
         if found != policy:
-            raise WrongLog(f"the log in etcd is for another policy file: it has {shown(found)}, and here is {shown(policy)}")
+            raise WrongLog(f"the log in etcd is for another policy file: there it is {shown(found)}, here {shown(policy)}")
 
     def blocks(self, held: int) -> List[bytes]:
         """The updates behind version `held`, in order; no more than a page of them."""
@@ -61,7 +61,7 @@ class UpdateLog:
         return [decoded(pair.get("value", "")) for pair in found]
 
     def put(self, number: int, block: bytes, first: bool, policy: bytes) -> bool:
-        """Writes an update where it is the next one, and answers whether it was; `first` is the first behind the policy."""
+        """Writes an update where it is the next one, and answers whether it was; the first one has none before it."""
         key, before = coded(self._key(number)), coded(self._key(number - 1))
         compare: List[Json] = [
             {"target": "VALUE", "result": "EQUAL", "key": coded(self._policy), "value": coded(policy)},
