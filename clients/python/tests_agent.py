@@ -11,8 +11,10 @@ import subprocess
 import sys
 import threading
 import time
+import unittest.mock
 
 import keynoted
+from keynoted.agent import Agent
 from keynoted.etcd import UpdateLog, WrongLog
 from keynoted.link import address_of
 from keynoted.updates import block_of
@@ -74,7 +76,8 @@ class FakeEtcd:
                 return None
             if done:
                 return {"succeeded": True}
-            return {"responses": [{"response_range": self.range(it["request_range"])} for it in wanted.get("failure", ())]}
+            others = [self.range(it["request_range"]) for it in wanted.get("failure", ())]
+            return {"responses": [{"response_range": it} for it in others]}
 
     def holds(self, compare):
         value, version = self.kept.get(text_of(compare["key"]), (b"", 0))
@@ -259,10 +262,29 @@ class Agents(Room):
         with keynoted.connect(address) as daemon:
             daemon.admin(b"s3cret")
             daemon.add(signed(b"bob"))
-        self.ends(process, "another administrator has changed the daemon", "version 2")
+        self.ends(process, "another administrator has changed the daemon", "its version is 2")
         self.ends(self.agent(address)[0], "has update 2, which the log in etcd hasn't")
         self.submit("carol.kn")
         self.ends(self.agent(address)[0], "update 2 of the daemon", "isn't that of the log")
+
+    def test_a_log_that_lost_an_update_ends_the_agent(self):
+        self.submit("bob.kn")
+        self.submit("carol.kn")
+        _, address = self.serve()
+        process, ready = self.agent(address)
+        self.wait_for(lambda: self.is_open(ready))
+        self.etcd.kept.pop(b"/keynoted/updates/00000003")
+        self.ends(process, "the log in etcd has lost update 3")
+        self.ends(self.agent(address)[0], "has update 3, which the log in etcd hasn't")
+
+    def test_an_agent_connects_anew_before_its_requests_are_used_up(self):
+        _, address = self.serve()
+        with unittest.mock.patch("keynoted.agent.LEFT", keynoted.wire.REQUESTS - 20):
+            agent = Agent(UpdateLog([self.etcd.address]), address, "keys", None)
+            with keynoted.connect(address) as daemon:
+                daemon.admin(b"s3cret")
+                agent._follow(daemon)
+                self.assertGreater(daemon.left(), keynoted.wire.REQUESTS - 30)
 
     def test_a_refused_update_ends_the_agent(self):
         self.submit("bob.kn")

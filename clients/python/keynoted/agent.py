@@ -21,7 +21,8 @@ from .wire import BATCHED, Request, Update
 
 PAUSE = 0.1  # seconds between two looks at the log, and at the daemon
 PATIENCE = 1.0  # seconds for an answer of etcd's, during which an agent doesn't look at its daemon
-PATIENCE_OF_WRITERS = 5.0
+LEFT = 1000  # requests of a connection, more than a page of the log takes
+PAUSE_OF_WRITERS, PATIENCE_OF_WRITERS = 0.5, 5.0
 
 
 class Differs(KeynotedError):
@@ -51,6 +52,8 @@ class Agent:
         self._log, self._address, self._keys = log, address, keys
         self._door = Door(ready) if ready else None
         self._told = ""
+        self._held = 0  # the daemon's version
+        self._last: Optional[bytes] = None  # the update that made it, unless that is of the policy file
 
     def run(self) -> None:
         """Goes on until the daemon differs from the log. While the daemon or etcd isn't there it waits."""
@@ -60,26 +63,28 @@ class Agent:
                     self._follow(daemon)
             except (LinkEnded, NoMemory) as why:
                 self._say(f"no daemon at {self._address}, waiting for it: {why}", sys.stderr)
-            finally:
-                self._close()
-            time.sleep(PAUSE)
+                if self._door:
+                    self._door.close()
+                time.sleep(PAUSE)
 
     def _follow(self, daemon: Connection) -> None:
-        updates = daemon.log()
-        policy, held, compared = policy_of(updates), len(updates), False
-        while True:
+        """Goes on until the requests of the connection are nearly used up."""
+        updates, compared = daemon.log(), False
+        policy, self._held = policy_of(updates), len(updates)
+        self._last = block_of(updates[-1]) if self._held > policy.length else None
+        while daemon.left() > LEFT:
             try:
                 if not compared:
                     self._compare(updates, policy)
                     compared = True
-                blocks = self._log.blocks(held)
+                blocks = self._news()
             except NoEtcd as why:
-                self._say(f"no etcd, so updates wait and version {held} stays: {why}", sys.stderr)
+                self._say(f"no etcd, so updates wait and version {self._held} stays: {why}", sys.stderr)
                 blocks = []
             else:
-                held = self._apply_all(daemon, held, blocks)
+                self._apply_all(daemon, blocks)
             if not blocks:
-                self._look(daemon, held)
+                self._look(daemon)
                 time.sleep(PAUSE)
 
     def _compare(self, updates: Sequence[Update], policy: Policy) -> None:
@@ -95,16 +100,24 @@ class Agent:
                 if block != block_of(update):
                     raise Differs(f"update {at} of the daemon at {self._address} isn't that of the log in etcd")
 
-    def _apply_all(self, daemon: Connection, held: int, blocks: List[bytes]) -> int:
-        """Applies these updates, and answers the version. Where there are none all of them have been applied."""
+    def _news(self) -> List[bytes]:
+        """The updates of the log that the daemon hasn't, where the log still has the last one that it has."""
+        if self._last is None:
+            return self._log.blocks(self._held)
+        blocks = self._log.blocks(self._held - 1)
+        if blocks[:1] != [self._last]:
+            raise Differs(f"the log in etcd has lost update {self._held}, which the daemon at {self._address} has")
+        return blocks[1:]
+
+    def _apply_all(self, daemon: Connection, blocks: List[bytes]) -> None:
+        """Applies these updates. Where there are none all of them have been applied."""
         for block in blocks:
-            self._apply(daemon, held + 1, block)
-            held += 1
+            self._apply(daemon, self._held + 1, block)
+            self._held, self._last = self._held + 1, block
         if not blocks:
-            self._say(f"version {held}", sys.stdout)
+            self._say(f"version {self._held}", sys.stdout)
             if self._door:
                 self._door.open()
-        return held
 
     def _apply(self, daemon: Connection, number: int, block: bytes) -> None:
         request = Request(b"BATCH %d" % len(block), block, BATCHED)
@@ -112,31 +125,28 @@ class Agent:
             version = int(daemon.parts(request)[3])
         except Refusal as refused:
             reason = refused.reason if isinstance(refused, NoItem) else refused
-            raise Differs(f"the daemon at {self._address} refuses update {number}, which the log in etcd has, and stays "
-                          f"at version {number - 1}: {refused.line}: {words_of_refusal(reason)}") from None
+            what = f"{refused.line}: {words_of_refusal(reason)}"
+            raise Differs(f"the daemon at {self._address} refuses update {number} of the log in etcd, and stays at "
+                          f"version {number - 1}: {what}") from None
         if version != number:
             raise self._changed(version)
 
-    def _look(self, daemon: Connection, held: int) -> None:
+    def _look(self, daemon: Connection) -> None:
         """Sees that the daemon is there, and that nobody else has changed it."""
-        more = daemon.log(held)
+        more = daemon.log(self._held)
         if more:
-            raise self._changed(held + len(more))
+            raise self._changed(self._held + len(more))
         if self._door:
             self._door.greet()
 
     def _changed(self, version: int) -> Differs:
-        return Differs(f"another administrator has changed the daemon at {self._address}: it is at version {version}")
+        return Differs(f"another administrator has changed the daemon at {self._address}: its version is {version}")
 
     def _say(self, what: str, file: TextIO) -> None:
         """Says what hasn't just been said."""
         if what != self._told:
             self._told = what
             print(what, file=file, flush=True)
-
-    def _close(self) -> None:
-        if self._door:
-            self._door.close()
 
 
 class Door:
@@ -251,7 +261,7 @@ def run_submit(args: argparse.Namespace) -> int:
         except NoEtcd as why:
             if time.monotonic() > end:
                 raise NoEtcd(f"no etcd, and nothing was written: {why}") from None
-            time.sleep(PAUSE)
+            time.sleep(PAUSE_OF_WRITERS)
     for line in update.told:
         print(line)
     print(f"version {update.number}")

@@ -42,16 +42,19 @@ class UpdateLog:
         """Makes sure that this is the log for this policy; a log that is for none yet is for this one from now on."""
         absent = {"target": "CREATE", "result": "EQUAL", "key": coded(self._policy), "create_revision": "0"}
         read = {"request_range": {"key": coded(self._policy)}}
-        reply = self._ask("txn", {"compare": [absent], "success": [self._put(self._policy, policy)], "failure": [read]})
+        put = self._put(self._policy, policy)
+        reply = self._ask("txn", {"compare": [absent], "success": [put], "failure": [read]})
         if reply.get("succeeded"):
             return
         found = decoded(reply["responses"][0]["response_range"]["kvs"][0]["value"])
         if found != policy:
-            raise WrongLog(f"the log in etcd is for another policy file: there it is {shown(found)}, here {shown(policy)}")
+            raise WrongLog("the log in etcd is for another policy file: "
+                           f"there it is {shown(found)}, here {shown(policy)}")
 
     def blocks(self, held: int) -> List[bytes]:
         """The updates behind version `held`, in order; no more than a page of them."""
-        wanted = {"key": coded(self._key(held + 1)), "range_end": coded(self._updates[:-1] + b"0"), "limit": str(PAGE)}
+        end = self._updates[:-1] + b"0"  # the sign behind /
+        wanted = {"key": coded(self._key(held + 1)), "range_end": coded(end), "limit": str(PAGE)}
         found = self._ask("range", wanted).get("kvs", [])
         for number, pair in enumerate(found, held + 1):
             if decoded(pair["key"]) != self._key(number):
