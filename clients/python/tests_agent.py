@@ -5,6 +5,7 @@ import contextlib
 import hashlib
 import hmac
 import http.server
+import io
 import json
 import os
 import subprocess
@@ -283,7 +284,8 @@ class Agents(Room):
             agent = Agent(UpdateLog([self.etcd.address]), address, "keys", None)
             with keynoted.connect(address) as daemon:
                 daemon.admin(b"s3cret")
-                agent._follow(daemon)
+                with contextlib.redirect_stdout(io.StringIO()):
+                    agent._follow(daemon)
                 self.assertGreater(daemon.left(), keynoted.wire.REQUESTS - 30)
 
     def test_a_refused_update_ends_the_agent(self):
