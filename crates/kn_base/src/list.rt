@@ -1,5 +1,7 @@
 //! Lists.
-ghost use Rattle.std.specs.Prelude.{◌≡◌, ◌<◌, ◌+◌, ◌≤◌, [], ◌∷◌, ◌++◌, length, vec_len, ◌^◌, slice_get, slice_set, remove, ◌↔◌, IsTrue, IfOk, IfErr, OnOk, OnErr, MatchOption};
+ghost use Rattle.std.specs.Prelude.{◌≡◌, ◌<◌, ◌≤◌, ◌+◌, ◌^◌, ◌↔◌};
+ghost use Rattle.std.specs.Prelude.{[], ◌∷◌, ◌++◌, length, vec_len, slice_get, slice_set, remove};
+ghost use Rattle.std.specs.Prelude.{IsTrue, IfOk, IfErr, OnOk, OnErr, MatchOption};
 ghost use Rattle.std.specs.Option.{option_copied};
 
 use crate::memory::NoMemory;

@@ -1,5 +1,7 @@
 //! Lists with room.
-ghost use Rattle.std.specs.Prelude.{◌≡◌, ◌<◌, ◌+◌, ◌-◌, ◌≤◌, [], ◌∷◌, ◌++◌, length, vec_len, ◌^◌, slice_get, slice_set, remove, IsOk, IfErr, OnOk, OnErr, MatchOption};
+ghost use Rattle.std.specs.Prelude.{◌≡◌, ◌<◌, ◌≤◌, ◌+◌, ◌-◌, ◌^◌};
+ghost use Rattle.std.specs.Prelude.{[], ◌∷◌, ◌++◌, length, vec_len, slice_get, slice_set, remove};
+ghost use Rattle.std.specs.Prelude.{IsOk, IfErr, OnOk, OnErr, MatchOption};
 ghost use Rattle.std.specs.Option.{option_copied};
 
 use crate::list::List;
@@ -26,7 +28,10 @@ impl<T> Model for Reserved<T> {
 
     ghost coded = { coded_list_with_room T.code };
 
-    ghost view = { λ r. record { items = r.items.items; spare = min (vec_capacity r.items) (2 ^ 32 - 1) - vec_len r.items } };
+    ghost view = { λ r. record {
+      items = r.items.items;
+      spare = min (vec_capacity r.items) (2 ^ 32 - 1) - vec_len r.items;
+    } };
 
     ghost invariant = { λ r. vec_len r.items < 2 ^ 32 };
 }
@@ -122,8 +127,12 @@ impl<T> Reserved<T> {
 
     /// Takes the last item, or None from an empty list.
     pub fn pop(&mut self) -> Option<T>
-        ensures some { MatchOption result ((self.old.items ≡ []) × (self.new ≡ self.old)) (λ last. self.old.items ≡ self.new.items ++ last ∷ []) }
-        ensures spare { MatchOption result (self.new.spare ≡ self.old.spare) (λ _. self.new.spare ≡ self.old.spare + 1) }
+        ensures some { MatchOption result
+            ((self.old.items ≡ []) × (self.new ≡ self.old))
+            (λ last. self.old.items ≡ self.new.items ++ last ∷ []) }
+        ensures spare { MatchOption result
+            (self.new.spare ≡ self.old.spare)
+            (λ _. self.new.spare ≡ self.old.spare + 1) }
     {
         self.items.pop()
     }
