@@ -11,3 +11,4 @@ pub mod Words
 pub mod Steps
 pub mod Levels
 pub mod Nesting
+pub mod Firsts

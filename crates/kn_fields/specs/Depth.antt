@@ -1,5 +1,5 @@
 -- How deep the tokens of a field go. Both bounds are keynoted's own.
-use Rattle.std.specs.Prelude.{◌≡◌, ℕ, ◌+◌, ◌-◌, ◌<◌, ◌⊎◌, Bool, true, ◌&&◌, ◌||◌, List, ◌++◌, All, fold, length, codes, if◌then◌else◌}
+use Rattle.std.specs.Prelude.{◌≡◌, ℕ, ◌+◌, ◌-◌, ◌<◌, ◌⊎◌, ◌==◌, Bool, true, false, ◌&&◌, ◌||◌, List, [], ◌∷◌, ◌++◌, All, fold, length, codes, if◌then◌else◌}
 use Rattle.std.specs.List.{filter}
 use Rattle.std.specs.Str.{bytes_eq}
 use Rattle.kn_base.specs.declared.limits.TheConstants.{OPEN_BRACKETS, PREFIX_SIGNS}
@@ -9,6 +9,14 @@ use Rattle.kn_fields.specs.Constants.{is_sign_sort}
 -- the token is this sign
 abbrev pub is_sign : List ℕ → Seen → Bool
 is_sign text token = is_sign_sort token.sort && bytes_eq token.text text
+
+-- the token is the sign of this byte alone
+abbrev pub IsSignOfByte : ℕ → Seen → Type 0
+IsSignOfByte byte token = (other : ℕ) → is_sign (other ∷ []) token ≡ (byte == other)
+
+-- the token is no sign of one byte
+abbrev pub IsNoSignOfOneByte : Seen → Type 0
+IsNoSignOfOneByte token = (byte : ℕ) → is_sign (byte ∷ []) token ≡ false
 
 abbrev pub is_opening : Seen → Bool
 is_opening token = is_sign (codes "(") token || is_sign (codes "{") token

@@ -64,6 +64,10 @@ signed_to text tokens = label_place (length text) (field_with 7 tokens)
 unfoldable pub between : ℕ → ℕ → List Seen → List Seen
 between from to tokens = take (to - from) (drop from tokens)
 
+-- the tokens of the field that stands here, behind its label
+abbrev pub tokens_of_part : Part → List Seen → List Seen
+tokens_of_part part tokens = between (part.label + 1) part.end tokens
+
 -- the label stands at one place of the list, and the field's tokens from the next place up to another
 pub record IsPart (tokens : List Seen) (part : Part) (field : Field) : Type 0 where
   pub label : slice_get tokens part.label ≡ Some field.label

@@ -1,5 +1,6 @@
 //! The field Local-Constants.
-ghost use Rattle.std.specs.Prelude.{◌≡◌, ◌+◌, ◌<◌, ◌≤◌, ◌^◌, Some, None, [], ◌∷◌, ◌++◌, length, slice_get, slice_index, IfOk, OnOk};
+ghost use Rattle.std.specs.Prelude.{◌≡◌, ◌+◌, ◌<◌, ◌≤◌, ◌^◌, [], ◌∷◌, ◌++◌};
+ghost use Rattle.std.specs.Prelude.{Some, None, length, slice_get, slice_index, IfOk, OnOk};
 ghost use Rattle.std.specs.List.{list_any};
 ghost use Rattle.kn_lex.specs.Cutting.{Seen};
 ghost use Rattle.kn_lex.specs.Seeing.{seen};
@@ -104,7 +105,7 @@ fn end_place(label: Option<u32>, turn: Turn) -> Option<u32>
 }
 
 /// Where a list of constants departs, or `label` where it breaks off at its end.
-#[tactic(auto, using(crate::proofs::Lists::turns), unfolding(crate::specs::Scanning::first_place, crate::specs::Scanning::departure))]
+#[tactic(auto, using(crate::proofs::Firsts::departure_steps))]
 fn departure(tokens: &Tokens<'_>, from: u32, to: u32, label: Option<u32>) -> Option<u32>
     requires ordered { from ≤ to }
     requires within { to ≤ length tokens.now }
@@ -131,7 +132,9 @@ fn push_constant(
 ) -> Result<(), NoMemory>
     requires fits { at + 2 < 2 ^ 32 }
     requires literal { (value : Seen) → slice_get tokens.now (at + 2) ≡ Some value → value.sort ≡ Sort.Text }
-    ensures { (name value : Seen) → slice_get tokens.now at ≡ Some name → slice_get tokens.now (at + 2) ≡ Some value → OnOk result (list.new ≡ list.old ++ constant_of name value ∷ []) }
+    ensures { (name value : Seen)
+        → slice_get tokens.now at ≡ Some name → slice_get tokens.now (at + 2) ≡ Some value
+        → OnOk result (list.new ≡ list.old ++ constant_of name value ∷ []) }
 {
     let Some(name) = tokens.get(at) else {
         return Ok(());

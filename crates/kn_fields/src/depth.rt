@@ -1,9 +1,9 @@
 //! How deep the tokens of a field go.
-ghost use Rattle.std.specs.Prelude.{◌≡◌, ◌==◌, ℕ, false, [], ◌∷◌, ◌+◌, ◌<◌, ◌≤◌, ◌^◌, length, MatchOption};
+ghost use Rattle.std.specs.Prelude.{◌≡◌, ◌+◌, ◌<◌, ◌≤◌, ◌^◌, length, MatchOption};
 ghost use Rattle.kn_lex.specs.Cutting.{Seen};
 ghost use Rattle.kn_lex.specs.Seeing.{seen};
 ghost use Rattle.kn_fields.specs.Constants.{is_sign_sort};
-ghost use Rattle.kn_fields.specs.Depth.{is_sign, depth_behind, run_behind};
+ghost use Rattle.kn_fields.specs.Depth.{IsNoSignOfOneByte, IsSignOfByte, depth_behind, run_behind};
 ghost use Rattle.kn_fields.specs.Fields.{between};
 ghost use Rattle.kn_fields.specs.Scanning.{is_past, goes_deep};
 
@@ -14,7 +14,7 @@ use kn_lex::{Sort, Token, Tokens};
 #[inline(always)]
 #[tactic(auto, using(crate::proofs::Deep::one_byte))]
 fn sign_byte(token: &Token<'_>) -> Option<u8>
-    ensures { MatchOption result ((byte : ℕ) → is_sign (byte ∷ []) (seen token.now) ≡ false) (λ byte. (other : ℕ) → is_sign (other ∷ []) (seen token.now) ≡ (byte == other)) }
+    ensures { MatchOption result (IsNoSignOfOneByte (seen token.now)) (λ byte. IsSignOfByte byte (seen token.now)) }
 {
     if matches!(token.sort, Sort::Sign) && token.text.len() == 1 {
         Some(token.text[0])
@@ -28,7 +28,7 @@ fn sign_byte(token: &Token<'_>) -> Option<u8>
 #[tactic(auto, unfolding(crate::specs::Depth::depth_behind))]
 fn depth_behind(depth: u32, byte: u8) -> u32
     requires { depth + 1 < 2 ^ 32 }
-    ensures { (token : Seen) → ((other : ℕ) → is_sign (other ∷ []) token ≡ (byte == other)) → result ≡ depth_behind depth token }
+    ensures { (token : Seen) → IsSignOfByte byte token → result ≡ depth_behind depth token }
 {
     match byte {
         b'(' | b'{' => depth + 1,
@@ -42,7 +42,7 @@ fn depth_behind(depth: u32, byte: u8) -> u32
 #[tactic(auto, unfolding(crate::specs::Depth::run_behind))]
 fn run_behind(run: u32, byte: u8) -> u32
     requires { run + 1 < 2 ^ 32 }
-    ensures { (token : Seen) → ((other : ℕ) → is_sign (other ∷ []) token ≡ (byte == other)) → result ≡ run_behind run token }
+    ensures { (token : Seen) → IsSignOfByte byte token → result ≡ run_behind run token }
 {
     match byte {
         b'!' | b'-' | b'@' | b'$' => run + 1,

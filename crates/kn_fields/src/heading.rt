@@ -58,7 +58,9 @@ impl<'a> Model for LabelledTokens<'a> {
 
     ghost view = { λ l. l.tokens };
 
-    ghost invariant = { λ l. AreHeadings l.tokens (fields_of l.tokens) l.headings.items × (l.has_stray ≡ list_any is_stray l.tokens) };
+    ghost invariant = { λ l.
+        AreHeadings l.tokens (fields_of l.tokens) l.headings.items
+        × (l.has_stray ≡ list_any is_stray l.tokens) };
 }
 
 impl<'a> LabelledTokens<'a> {

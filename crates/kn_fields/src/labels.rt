@@ -32,7 +32,9 @@ fn stands_among(headings: &[Heading], number: u8) -> bool
 /// Whether a label is wrong behind others.
 #[tactic(auto, using(crate::proofs::Headings::numbered))]
 fn is_wrong(wrong: Wrong, before: &[Heading], heading: &Heading) -> bool
-    ensures { (labels : List Seen) (label : Seen) → AreNumbered labels before.now → AreNumbered (label ∷ []) (heading.now ∷ []) → result ≡ is_wrong wrong labels label }
+    ensures { (labels : List Seen) (label : Seen)
+        → AreNumbered labels before.now → AreNumbered (label ∷ []) (heading.now ∷ [])
+        → result ≡ is_wrong wrong labels label }
 {
     match wrong {
         Wrong::Second => match heading.number {

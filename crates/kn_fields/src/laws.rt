@@ -16,7 +16,8 @@ ghost use Rattle.kn_fields.specs.declared.fault.ReadFault.{ReadFault};
 pub fn no_fault_or_first_fault()
     ensures some { (text : List ℕ) → IsWellFielded text ⊎ ((fault : ReadFault) × IsFirstFault text fault) }
     ensures not_both { (text : List ℕ) (fault : ReadFault) → IsWellFielded text → IsFirstFault text fault → ⊥ }
-    ensures one_fault { (text : List ℕ) (fault other : ReadFault) → IsFirstFault text fault → IsFirstFault text other → fault ≡ other }
+    ensures one_fault { (text : List ℕ) (fault other : ReadFault)
+        → IsFirstFault text fault → IsFirstFault text other → fault ≡ other }
 {
     kn_lex::laws::tokens_or_first_fault();
     kn_lex::laws::tokens_are_computed();
@@ -25,7 +26,8 @@ pub fn no_fault_or_first_fault()
 /// What is computed of a text is the list of its tokens where it has none of the faults, and else its first
 /// fault.
 pub fn fields_are_computed()
-    ensures tokens { (text : List ℕ) (tokens : List Seen) → (fields_or_fault text ≡ Ok tokens) ↔ (Cuts text tokens × IsWellFielded text) }
+    ensures tokens { (text : List ℕ) (tokens : List Seen)
+        → (fields_or_fault text ≡ Ok tokens) ↔ (Cuts text tokens × IsWellFielded text) }
     ensures fault { (text : List ℕ) (fault : ReadFault) → (fields_or_fault text ≡ Err fault) ↔ IsFirstFault text fault }
 {
     kn_lex::laws::tokens_or_first_fault();
@@ -47,9 +49,13 @@ pub fn depth_by_stretches()
 /// In a text without these faults each field is the one of its number, there is an Authorizer, and the tokens
 /// of Local-Constants are a list of constants.
 pub fn one_field_of_each_number()
-    ensures one { (text : List ℕ) (tokens : List Seen) → Cuts text tokens → IsWellFielded text → (before : List Field) (field : Field) (behind : List Field) → fields_of tokens ≡ before ++ field ∷ behind → (number : ℕ) → field_of field.label ≡ Some number → field_with number tokens ≡ Some field }
-    ensures constants { (text : List ℕ) (tokens : List Seen) → Cuts text tokens → IsWellFielded text → (field : Field) → field_with 6 tokens ≡ Some field → IsConstantList field.tokens }
-    ensures authorizer { (text : List ℕ) (tokens : List Seen) → Cuts text tokens → IsWellFielded text → field_with 1 tokens ≡ None → ⊥ }
+    ensures one { (text : List ℕ) (tokens : List Seen) → Cuts text tokens → IsWellFielded text
+        → (before : List Field) (field : Field) (behind : List Field) → fields_of tokens ≡ before ++ field ∷ behind
+        → (number : ℕ) → field_of field.label ≡ Some number → field_with number tokens ≡ Some field }
+    ensures constants { (text : List ℕ) (tokens : List Seen) → Cuts text tokens → IsWellFielded text
+        → (field : Field) → field_with 6 tokens ≡ Some field → IsConstantList field.tokens }
+    ensures authorizer { (text : List ℕ) (tokens : List Seen) → Cuts text tokens → IsWellFielded text
+        → field_with 1 tokens ≡ None → ⊥ }
 {
     kn_lex::laws::tokens_or_first_fault();
 }

@@ -52,7 +52,7 @@ fn wrong_fault(tokens: &LabelledTokens<'_>) -> Option<ReadFault>
 }
 
 /// The first fault that tokens show, if there is one.
-#[tactic(auto, unfolding(crate::specs::Scanning::fault_in, crate::specs::Scanning::fault_at, crate::specs::Scanning::fault_without))]
+#[tactic(auto, using(crate::proofs::Firsts::first_faults))]
 fn fault_in(alloc: Global, tokens: &LabelledTokens<'_>) -> Result<Option<ReadFault>, NoMemory>
     ensures { IfOk result (λ fault. fault ≡ fault_in tokens.now) }
 {

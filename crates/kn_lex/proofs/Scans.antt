@@ -176,3 +176,10 @@ too_large digits i value within e over =
     let le : value * 10 + (get_or digits i 0 - 48) ≤ (value * 10 + (get_or digits i 0 - 48)) * 10 ^ k = le-mul_of_pos_right _ (omega arith) in
     let above : number_max < digits_value digits = omega (arith, read, le, over) in
     lt-ltb _ _ above
+
+-- what a walk over a literal, over a blank line and over a body goes by
+pub ruleset quote_steps = (quote_len_at, quote_len_end, more_len_twice, more_len_none)
+
+pub ruleset blank_steps = (blank_by_run, line_end_at, line_end_end)
+
+pub ruleset body_steps = (body_by_line, body_at_line, body_len_end)

@@ -1,5 +1,5 @@
 -- What the functions of the scanner compute, from the front of what is left of a text.
-use Rattle.std.specs.Prelude.{ℕ, ◌+◌, Bool, true, false, not, ◌&&◌, ◌||◌, ◌==◌, nat_lt, List, [], ◌∷◌, take, drop, Option, Some, None, if◌then◌else◌}
+use Rattle.std.specs.Prelude.{ℕ, ◌≡◌, ◌+◌, Bool, true, false, not, ◌&&◌, ◌||◌, ◌==◌, nat_lt, List, [], ◌∷◌, take, drop, Option, Some, None, MatchOption, if◌then◌else◌}
 use Rattle.std.specs.List.{prefix_len}
 use Rattle.kn_base.specs.Decimal.{is_digit, digits_value}
 use Rattle.kn_lex.specs.Bytes.{is_gap, is_white, is_letter, begins_name, continues_name, continues_label, is_short_sign, is_long_sign}
@@ -97,6 +97,11 @@ abbrev pub piece_at : Context → List ℕ → Option (Piece × ℕ)
 piece_at LineStart left = plain_piece true left
 piece_at WithinLine left = plain_piece false left
 piece_at CommentBody left = Some (Token Body, body_len left)
+
+-- what was found is the label or body that begins here; where nothing was, the piece here is the one within a line
+abbrev pub IsFoundAt : Context → List ℕ → Option (Piece × ℕ) → Type 0
+IsFoundAt context left found =
+    MatchOption found (piece_at context left ≡ plain_piece false left) (λ p. piece_at context left ≡ Some p)
 
 unfoldable pub stuck_fault : ℕ → List ℕ → Option LexFault
 stuck_fault at [] = None

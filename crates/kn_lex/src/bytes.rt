@@ -2,7 +2,8 @@
 
 ghost use Rattle.std.specs.Prelude.{◌≡◌, ◌≤◌, ◌<◌, ◌==◌, true, length, drop};
 ghost use Rattle.std.specs.List.{prefix_len};
-ghost use Rattle.kn_lex.specs.Bytes.{is_gap, is_white, is_letter, begins_name, continues_name, continues_label, is_octal_digit, is_short_sign, is_long_sign, has_class, begins_with, kind_of};
+ghost use Rattle.kn_lex.specs.Bytes.{is_gap, is_white, is_letter, begins_name, continues_name, continues_label};
+ghost use Rattle.kn_lex.specs.Bytes.{is_octal_digit, is_short_sign, is_long_sign, has_class, begins_with, kind_of};
 ghost use Rattle.kn_base.specs.Decimal.{is_digit};
 
 pub(crate) fn is_gap(byte: u8) -> bool

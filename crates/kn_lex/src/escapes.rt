@@ -1,7 +1,8 @@
 //! The value of a literal.
 
 ghost use Rattle.std.specs.Prelude.{◌≡◌, ◌≤◌, ◌<◌, length, drop, slice_index, IfOk};
-ghost use Rattle.kn_lex.specs.Literal.{octal_value, begins_octal, begins_low, escape, with_front, value_behind, inside, literal_value};
+ghost use Rattle.kn_lex.specs.Literal.{octal_value, begins_octal, begins_low, escape};
+ghost use Rattle.kn_lex.specs.Literal.{with_front, value_behind, inside, literal_value};
 
 use crate::bytes::{Class, is_octal_digit, run_len};
 use crate::token::{Sort, Token};

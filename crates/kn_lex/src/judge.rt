@@ -1,9 +1,11 @@
 //! The fault that a place in a text shows.
 
-ghost use Rattle.std.specs.Prelude.{◌≡◌, ◌+◌, ◌<◌, ◌≤◌, ◌^◌, true, false, nat_lt, ◌==◌, None, Some, length, take, drop, IfSome, IfOk, IfErr, OnOk, MatchOption};
+ghost use Rattle.std.specs.Prelude.{◌≡◌, ◌+◌, ◌<◌, ◌≤◌, ◌^◌, ◌==◌, nat_lt, true, false};
+ghost use Rattle.std.specs.Prelude.{None, Some, length, take, drop, IfSome, IfOk, IfErr, OnOk};
 ghost use Rattle.kn_base.specs.Decimal.{digits_value};
 ghost use Rattle.kn_lex.specs.Faults.{begins_fraction, begins_match, number_max, goes_on};
-ghost use Rattle.kn_lex.specs.Scanning.{stuck_fault, number_fault, zero_place, piece_fault, fault_by, plain_piece, piece_at, is_bad_blank, fault_at};
+ghost use Rattle.kn_lex.specs.Scanning.{piece_at, IsFoundAt, zero_place, is_bad_blank};
+ghost use Rattle.kn_lex.specs.Scanning.{stuck_fault, number_fault, piece_fault, fault_by, fault_at};
 
 use crate::bytes::{is_digit, is_white};
 use crate::fault::LexFault;
@@ -158,7 +160,7 @@ struct Beginning {
 #[inline(always)]
 fn begin_line(place: Place, at: u32, rest: &[u8], settled: bool) -> Result<Beginning, LexFault>
     requires { settled ≡ true → goes_on false rest.now ≡ false }
-    ensures piece { IfOk result (λ begun. MatchOption begun.found (piece_at place.context rest.now ≡ plain_piece false rest.now) (λ p. piece_at place.context rest.now ≡ Some p)) }
+    ensures piece { IfOk result (λ begun. IsFoundAt place.context rest.now begun.found) }
     ensures within { IfOk result (λ begun. IfSome begun.found (λ p. p.1 ≤ length rest.now)) }
     ensures ok { OnOk result (is_bad_blank place rest.now ≡ false) }
     ensures known { IfOk result (λ begun. begun.settled ≡ true → goes_on false rest.now ≡ false) }
@@ -191,10 +193,13 @@ fn clean_piece(
     requires short { at + length rest.now < 2 ^ 32 }
     requires no_zero { has_zero ≡ false → zero_place rest.now ≡ None }
     requires within { IfSome found (λ p. p.1 ≤ length rest.now) }
-    ensures piece { (context : Context) → MatchOption found (piece_at context rest.now ≡ plain_piece false rest.now) (λ p. piece_at context rest.now ≡ Some p) → IfOk result (λ p. piece_at context rest.now ≡ Some p) }
-    ensures clean { (context : Context) → MatchOption found (piece_at context rest.now ≡ plain_piece false rest.now) (λ p. piece_at context rest.now ≡ Some p) → IfOk result (λ p. fault_by at rest.now (piece_at context rest.now) ≡ None) }
+    ensures piece { (context : Context) → IsFoundAt context rest.now found
+        → IfOk result (λ p. piece_at context rest.now ≡ Some p) }
+    ensures clean { (context : Context) → IsFoundAt context rest.now found
+        → IfOk result (λ p. fault_by at rest.now (piece_at context rest.now) ≡ None) }
     ensures within { IfOk result (λ p. p.1 ≤ length rest.now) }
-    ensures err { (context : Context) → MatchOption found (piece_at context rest.now ≡ plain_piece false rest.now) (λ p. piece_at context rest.now ≡ Some p) → IfErr result (λ fault. fault_by at rest.now (piece_at context rest.now) ≡ Some fault) }
+    ensures err { (context : Context) → IsFoundAt context rest.now found
+        → IfErr result (λ fault. fault_by at rest.now (piece_at context rest.now) ≡ Some fault) }
 {
     let Some((piece, len)) = piece_at(found, rest) else {
         return Err(stuck_fault(at, rest));

@@ -15,10 +15,14 @@ ghost use Rattle.kn_lex.specs.declared.fault.LexFault.{LexFault};
 /// Every text has either tokens that cut it and no fault, or a first fault; never both; and at most one
 /// list of tokens cuts it, and it has one first fault at most.
 pub fn tokens_or_first_fault()
-    ensures some { (text : List ℕ) → ((tokens : List Seen) × Cuts text tokens × IsFaultless text) ⊎ ((fault : LexFault) × IsFirstLexicalFault text fault) }
+    ensures some { (text : List ℕ)
+        → ((tokens : List Seen) × Cuts text tokens × IsFaultless text)
+        ⊎ ((fault : LexFault) × IsFirstLexicalFault text fault) }
     ensures not_both { (text : List ℕ) (fault : LexFault) → IsFaultless text → IsFirstLexicalFault text fault → ⊥ }
-    ensures one_list { (text : List ℕ) (tokens other : List Seen) → Cuts text tokens → Cuts text other → tokens ≡ other }
-    ensures one_fault { (text : List ℕ) (fault other : LexFault) → IsFirstLexicalFault text fault → IsFirstLexicalFault text other → fault ≡ other }
+    ensures one_list { (text : List ℕ) (tokens other : List Seen)
+        → Cuts text tokens → Cuts text other → tokens ≡ other }
+    ensures one_fault { (text : List ℕ) (fault other : LexFault)
+        → IsFirstLexicalFault text fault → IsFirstLexicalFault text other → fault ≡ other }
 {}
 
 /// The tokens of a text without faults: each has some bytes, which are those of the text at its span and
@@ -30,7 +34,8 @@ pub fn token_facts()
 /// The tokens that cut a text stand in their order, and `first` tells of each whether a line begins where it does.
 pub fn tokens_in_order()
     ensures order { (text : List ℕ) (tokens : List Seen) → Cuts text tokens → StandInOrder 0 tokens }
-    ensures first { (text : List ℕ) (tokens : List Seen) → Cuts text tokens → All (λ token. token.first ≡ begins_line text token.span.start) tokens }
+    ensures first { (text : List ℕ) (tokens : List Seen) → Cuts text tokens
+        → All (λ token. token.first ≡ begins_line text token.span.start) tokens }
 {}
 
 /// Before the first of the tokens that cut a text, between two of them and behind the last stand white space and
@@ -42,8 +47,10 @@ pub fn between_tokens()
 /// What is computed of a text is the list of tokens that cuts it where it has no fault, and else its first
 /// fault.
 pub fn tokens_are_computed()
-    ensures tokens { (text : List ℕ) (tokens : List Seen) → (tokens_or_fault text ≡ Ok tokens) ↔ (Cuts text tokens × IsFaultless text) }
-    ensures fault { (text : List ℕ) (fault : LexFault) → (tokens_or_fault text ≡ Err fault) ↔ IsFirstLexicalFault text fault }
+    ensures tokens { (text : List ℕ) (tokens : List Seen)
+        → (tokens_or_fault text ≡ Ok tokens) ↔ (Cuts text tokens × IsFaultless text) }
+    ensures fault { (text : List ℕ) (fault : LexFault)
+        → (tokens_or_fault text ≡ Err fault) ↔ IsFirstLexicalFault text fault }
 {}
 
 /// A list of tokens cuts a text exactly where each is whole, they stand in order with white space and comments alone
@@ -61,5 +68,6 @@ pub fn no_more_tokens_than_bytes()
 /// row gives the same value of every literal.
 pub fn value_by_table()
     ensures rows { EscapeTable (value_behind 0) }
-    ensures only { (value : List ℕ → List ℕ) → EscapeTable value → (text : List ℕ) → IsLiteral text → literal_value text ≡ value (inside text) }
+    ensures only { (value : List ℕ → List ℕ) → EscapeTable value
+        → (text : List ℕ) → IsLiteral text → literal_value text ≡ value (inside text) }
 {}

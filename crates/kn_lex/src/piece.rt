@@ -1,7 +1,8 @@
 //! Pieces of a text, and the places before and behind them.
 
 ghost use Rattle.std.specs.Prelude.{◌≡◌, length};
-ghost use Rattle.kn_lex.specs.Cutting.{is_token, is_comment_label, ends_line, context_after, is_line_start, place_after, start};
+ghost use Rattle.kn_lex.specs.Cutting.{is_token, is_comment_label, ends_line};
+ghost use Rattle.kn_lex.specs.Cutting.{context_after, is_line_start, place_after, start};
 ghost use Rattle.kn_lex.specs.Scanning.{is_number};
 
 use crate::token::Sort;

@@ -64,7 +64,7 @@ fn stay_len(quote: Quote, rest: &[u8]) -> usize
 }
 
 /// The bytes of the literal that begins here, or None where it isn't closed.
-#[tactic(auto, using(crate::proofs::Scans::quote_len_at, crate::proofs::Scans::quote_len_end, crate::proofs::Scans::more_len_twice, crate::proofs::Scans::more_len_none))]
+#[tactic(auto, using(crate::proofs::Scans::quote_steps))]
 pub(crate) fn quote_len(rest: &[u8]) -> Option<usize>
     ensures len { result ≡ quote_len Quote.Opening rest.now }
     ensures within { IfSome result (λ len. len ≤ length rest.now) }

@@ -1,8 +1,9 @@
 //! Which piece begins at a place, and how long it is.
 
-ghost use Rattle.std.specs.Prelude.{◌≡◌, ◌≤◌, ◌<◌, false, Some, length, IfSome, MatchOption};
+ghost use Rattle.std.specs.Prelude.{◌≡◌, ◌≤◌, ◌<◌, false, Some, length, IfSome};
 ghost use Rattle.kn_lex.specs.Spelling.{is_blank, is_continuation};
-ghost use Rattle.kn_lex.specs.Scanning.{white_len, line_len, label_len, colon_len, body_len, sign_len, with_sort, plain_piece, piece_at};
+ghost use Rattle.kn_lex.specs.Scanning.{white_len, line_len, label_len, colon_len, body_len, sign_len};
+ghost use Rattle.kn_lex.specs.Scanning.{with_sort, plain_piece, piece_at, IsFoundAt};
 
 use crate::bytes::{Class, Kind, has_at, is_letter, is_long_sign, is_short_sign, kind_of, run_len};
 use crate::piece::{Context, Piece};
@@ -60,7 +61,7 @@ fn label_len(rest: &[u8]) -> Option<usize>
 }
 
 /// Whether a blank line begins here.
-#[tactic(auto, using(crate::proofs::Scans::blank_by_run, crate::proofs::Scans::line_end_at, crate::proofs::Scans::line_end_end))]
+#[tactic(auto, using(crate::proofs::Scans::blank_steps))]
 pub fn is_blank(rest: &[u8]) -> bool
     ensures { result ≡ is_blank rest.now }
 {
@@ -79,7 +80,7 @@ pub fn is_continuation(rest: &[u8]) -> bool
 }
 
 #[inline(never)]
-#[tactic(auto, using(crate::proofs::Scans::body_by_line, crate::proofs::Scans::body_at_line, crate::proofs::Scans::body_len_end))]
+#[tactic(auto, using(crate::proofs::Scans::body_steps))]
 fn body_len(rest: &[u8]) -> usize
     ensures len { result ≡ body_len rest.now }
     ensures within { result ≤ length rest.now }
@@ -145,7 +146,7 @@ fn plain_piece(rest: &[u8]) -> Option<(Piece, usize)>
 #[inline(always)]
 #[tactic(auto, using(crate::proofs::Pieces::label_here, crate::proofs::Pieces::no_label))]
 pub(crate) fn starting_piece(context: Context, rest: &[u8]) -> Option<(Piece, usize)>
-    ensures piece { MatchOption result (piece_at context rest.now ≡ plain_piece false rest.now) (λ p. piece_at context rest.now ≡ Some p) }
+    ensures piece { IsFoundAt context rest.now result }
     ensures within { IfSome result (λ p. p.1 ≤ length rest.now) }
 {
     match context {
@@ -160,7 +161,7 @@ pub(crate) fn starting_piece(context: Context, rest: &[u8]) -> Option<(Piece, us
 pub(crate) fn piece_at(found: Option<(Piece, usize)>, rest: &[u8]) -> Option<(Piece, usize)>
     requires some { 0 < length rest.now }
     requires within { IfSome found (λ p. p.1 ≤ length rest.now) }
-    ensures piece { (context : Context) → MatchOption found (piece_at context rest.now ≡ plain_piece false rest.now) (λ p. piece_at context rest.now ≡ Some p) → result ≡ piece_at context rest.now }
+    ensures piece { (context : Context) → IsFoundAt context rest.now found → result ≡ piece_at context rest.now }
     ensures within { IfSome result (λ p. p.1 ≤ length rest.now) }
 {
     match found {

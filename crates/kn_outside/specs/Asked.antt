@@ -1,9 +1,19 @@
 -- What reading files changes.
-use Rattle.std.specs.Prelude.{ℕ, ◌≡◌, List, [], ◌∷◌, ◌++◌, Result, Ok, Err}
+use Rattle.std.specs.Prelude.{ℕ, ◌≡◌, ◌<◌, List, [], ◌∷◌, ◌++◌, length, IfSome, IsSomeAnd, Some, Result, Ok, Err}
+use Rattle.kn_base.specs.declared.limits.TheConstants.{FILE_BYTES}
 use Rattle.kn_outside.specs.Faults.{Rose}
 use Rattle.kn_outside.specs.Seen.{FilesSeen}
 use Rattle.kn_outside.specs.declared.files.FileFault.{FileFault}
 use Rattle.kn_outside.specs.declared.files.FileFault.TheVariants.{Failed, TooLarge, NoMemory}
+
+-- the file of this name has these bytes, where contents are told
+abbrev pub TellsContent : List ℕ → FilesSeen → List ℕ → Type 0
+TellsContent name f bytes = IfSome f.content (λ content_of. content_of name ≡ Some bytes)
+
+-- the file of this name has more than FILE_BYTES, where contents are told
+abbrev pub TellsTooLarge : List ℕ → FilesSeen → Type 0
+TellsTooLarge name f =
+    IfSome f.content (λ content_of. IsSomeAnd (content_of name) (λ bytes. FILE_BYTES < length bytes))
 
 -- files of these names were asked for, and nothing else changed
 abbrev pub HasAsked : List (List ℕ) → FilesSeen → FilesSeen → Type 0

@@ -1,5 +1,5 @@
 -- What is seen of sinks, links and files in memory.
-use Rattle.std.specs.Prelude.{ℕ, Bool, List, [], ◌∷◌, ◌++◌, ◌≡◌, ◌==◌, nat_lt, nat_le, min, max, length, slice_index, Option, Some, None, Result, Ok, Err, if◌then◌else◌}
+use Rattle.std.specs.Prelude.{ℕ, Bool, List, [], ◌∷◌, ◌++◌, ◌≡◌, ◌==◌, nat_lt, nat_le, min, max, length, take, drop, slice_index, Option, Some, None, Result, Ok, Err, if◌then◌else◌}
 use Rattle.std.specs.List.{list_any}
 use Rattle.std.specs.Str.{bytes_eq}
 use Rattle.kn_base.specs.declared.limits.TheConstants.{FILE_BYTES}
@@ -39,6 +39,50 @@ pub record FilesInMemory : Type 0 where
 -- whether the call of this number fails
 abbrev pub is_failing : List ℕ → ℕ → Bool
 is_failing failing number = list_any (λ other. other == number) failing
+
+-- the sink once this piece was written to it
+abbrev pub sink_after_write : List ℕ → SinkInMemory → SinkInMemory
+sink_after_write piece sink = record sink { written = sink.written ++ piece; calls = raised sink.calls }
+
+-- the sink once a write to it failed
+abbrev pub sink_after_failed_write : SinkInMemory → SinkInMemory
+sink_after_failed_write sink = record sink { calls = raised sink.calls; faults = raised sink.faults }
+
+-- a link with this input, of which nothing was read and to which nothing was written, whose reads are cut so and
+-- of which these calls fail
+abbrev pub new_link : List ℕ → List ℕ → List ℕ → LinkInMemory
+new_link input cuts failing = record {
+  taken = [];
+  left = input;
+  written = [];
+  reads = 0;
+  calls = 0;
+  faults = 0;
+  cuts = cuts;
+  failing = failing;
+}
+
+-- the link once this piece was written to it
+abbrev pub link_after_write : List ℕ → LinkInMemory → LinkInMemory
+link_after_write piece link = record link { written = link.written ++ piece; calls = raised link.calls }
+
+-- the link once a write to it failed
+abbrev pub link_after_failed_write : LinkInMemory → LinkInMemory
+link_after_failed_write link = record link { calls = raised link.calls; faults = raised link.faults }
+
+-- the link once so many bytes of its input were read
+abbrev pub link_after_read : ℕ → LinkInMemory → LinkInMemory
+link_after_read n link = record link {
+  taken = link.taken ++ take n link.left;
+  left = drop n link.left;
+  reads = raised link.reads;
+  calls = raised link.calls;
+}
+
+-- the link once a read of it failed
+abbrev pub link_after_failed_read : LinkInMemory → LinkInMemory
+link_after_failed_read link =
+    record link { reads = raised link.reads; calls = raised link.calls; faults = raised link.faults }
 
 -- how many of so many bytes the read at this place gives: at most its cut, where a cut of 0 counts as 1,
 -- and all of them once the cuts have ended

@@ -1,6 +1,6 @@
 //! Files that are read whole.
-ghost use Rattle.std.specs.Prelude.{◌≡◌, ◌<◌, ◌≤◌, length, IfOk, IfSome, IsSomeAnd};
-ghost use Rattle.kn_outside.specs.Asked.{Leaves};
+ghost use Rattle.std.specs.Prelude.{◌≡◌, ◌≤◌, length, IfOk};
+ghost use Rattle.kn_outside.specs.Asked.{Leaves, TellsContent, TellsTooLarge};
 
 use kn_base::limits::FILE_BYTES;
 use kn_base::{NoMemory, Octets};
@@ -35,9 +35,9 @@ pub trait Files {
 
     /// The whole content of a file. A read that answers anything but `Failed` has failed at nothing.
     fn read(&mut self, name: &[u8]) -> Result<Octets, FileFault>
-        ensures whole { IfOk result (λ octets. IfSome (seen self.old).content (λ content_of. content_of name.now ≡ Some octets)) }
+        ensures whole { IfOk result (λ octets. TellsContent name.now (seen self.old) octets) }
         ensures within { IfOk result (λ octets. length octets ≤ FILE_BYTES) }
-        ensures large { result ≡ Err FileFault.TooLarge → IfSome (seen self.old).content (λ content_of. IsSomeAnd (content_of name.now) (λ bytes. FILE_BYTES < length bytes)) }
+        ensures large { result ≡ Err FileFault.TooLarge → TellsTooLarge name.now (seen self.old) }
         ensures leaves { Leaves result name.now (seen self.old) (seen self.new) }
         ensures later { (seen self.old).faults ≤ (seen self.new).faults };
 }

@@ -17,7 +17,8 @@ pub trait Link: Sink {
         ensures ok { IfOk result (λ n. Reads (take n buf.new) (Self.seen self.old) (Self.seen self.new)) }
         ensures behind { IfOk result (λ n. drop n buf.new ≡ drop n buf.old) }
         ensures end { IfOk result (λ n. n ≡ 0 → IfSome (Self.seen self.new).left (λ left. left ≡ [])) }
-        ensures err { OnErr result (Self.seen self.new ≡ record (Self.seen self.old) { faults = (Self.seen self.new).faults }) }
+        ensures err { OnErr result (Self.seen self.new
+            ≡ record (Self.seen self.old) { faults = (Self.seen self.new).faults }) }
         ensures buffer { OnErr result (buf.new ≡ buf.old) }
         ensures failed { OnErr result (Rose (Self.seen self.old).faults (Self.seen self.new).faults) }
         ensures later { (Self.seen self.old).faults ≤ (Self.seen self.new).faults };

@@ -1,5 +1,6 @@
 //! A folder of files in memory.
-ghost use Rattle.std.specs.Prelude.{◌≡◌, ◌+◌, ◌-◌, ◌^◌, ◌<◌, ◌≤◌, [], ◌++◌, true, false, min, length, IfOk, IfSome, IsSomeAnd, OnOk, OnErr};
+ghost use Rattle.std.specs.Prelude.{◌≡◌, ◌+◌, ◌-◌, ◌^◌, ◌<◌, ◌≤◌, [], ◌++◌, true, false, min, length};
+ghost use Rattle.std.specs.Prelude.{IfOk, IfSome, IsSomeAnd, OnOk, OnErr};
 ghost use Rattle.std.specs.Option.{option_copied};
 ghost use Rattle.kn_outside.specs.InMemory.{IsAnswer, answer_of, asked_for, content_of, files_after, next_answer};
 
@@ -27,7 +28,13 @@ impl Model for MemFiles {
 
     ghost Value = { FilesInMemory };
 
-    ghost view = { λ f. record { entries = f.entries; asked = f.asked; calls = f.calls; faults = f.faults; failing = f.failing } };
+    ghost view = { λ f. record {
+      entries = f.entries;
+      asked = f.asked;
+      calls = f.calls;
+      faults = f.faults;
+      failing = f.failing;
+    } };
 }
 
 impl MemFiles {

@@ -1,7 +1,10 @@
 //! A connection in memory.
-ghost use Rattle.std.specs.Prelude.{◌≡◌, ◌+◌, ◌-◌, ◌^◌, ◌<◌, ◌≤◌, [], ◌++◌, true, false, min, length, take, drop, IfOk, OnOk, OnErr, IsErr, IsTrue, ◌↔◌};
+ghost use Rattle.std.specs.Prelude.{◌≡◌, ◌+◌, ◌-◌, ◌^◌, ◌<◌, ◌≤◌, [], ◌++◌, true, false, min, length, take, drop};
+ghost use Rattle.std.specs.Prelude.{IfOk, OnOk, OnErr, IsErr, IsTrue, ◌↔◌};
 ghost use Rattle.kn_outside.specs.Faults.{raised};
-ghost use Rattle.kn_outside.specs.InMemory.{is_failing, cut_of};
+ghost use Rattle.kn_outside.specs.InMemory.{is_failing, cut_of, new_link};
+ghost use Rattle.kn_outside.specs.InMemory.{link_after_write, link_after_failed_write};
+ghost use Rattle.kn_outside.specs.InMemory.{link_after_read, link_after_failed_read};
 
 use crate::failed::Failed;
 use crate::link::Link;
@@ -31,7 +34,16 @@ impl Model for MemLink {
 
     ghost Value = { LinkInMemory };
 
-    ghost view = { λ m. record { taken = take m.at m.input; left = drop m.at m.input; written = m.written; reads = m.reads; calls = m.calls; faults = m.faults; cuts = m.cuts; failing = m.failing } };
+    ghost view = { λ m. record {
+      taken = take m.at m.input;
+      left = drop m.at m.input;
+      written = m.written;
+      reads = m.reads;
+      calls = m.calls;
+      faults = m.faults;
+      cuts = m.cuts;
+      failing = m.failing;
+    } };
 
     ghost invariant = { λ m. m.at ≤ length m.input };
 }
@@ -43,7 +55,7 @@ impl MemLink {
     /// counts as 1, and all that fits once the cuts have ended. The calls with the numbers in `failing`
     /// fail; reads and writes are numbered together from 1.
     pub fn of(alloc: Global, input: Octets, cuts: List<u32>, failing: List<u32>) -> MemLink
-        ensures { result ≡ record { taken = []; left = input; written = []; reads = 0; calls = 0; faults = 0; cuts = cuts; failing = failing } }
+        ensures { result ≡ new_link input cuts failing }
     {
         MemLink {
             input,
@@ -74,12 +86,17 @@ impl MemLink {
 impl Sink for MemLink {
     ghost use Rattle.std.specs.Prelude.{Some};
 
-    ghost seen = { λ m. record { written = Some m.written; taken = Some m.taken; left = Some m.left; faults = m.faults } };
+    ghost seen = { λ m. record {
+      written = Some m.written;
+      taken = Some m.taken;
+      left = Some m.left;
+      faults = m.faults;
+    } };
 
     fn write(&mut self, piece: &[u8]) -> Result<usize, Failed>
         ensures whole { IfOk result (λ n. n ≡ length piece.now) }
-        ensures ok { OnOk result (self.new ≡ record self.old { written = self.old.written ++ piece.now; calls = raised self.old.calls }) }
-        ensures err { OnErr result (self.new ≡ record self.old { calls = raised self.old.calls; faults = raised self.old.faults }) }
+        ensures ok { OnOk result (self.new ≡ link_after_write piece.now self.old) }
+        ensures err { OnErr result (self.new ≡ link_after_failed_write self.old) }
         ensures later { self.old.faults ≤ self.new.faults }
         ensures chosen { IsTrue (is_failing self.old.failing (raised self.old.calls)) → IsErr result }
     {
@@ -95,13 +112,14 @@ impl Sink for MemLink {
 impl Link for MemLink {
     fn read(&mut self, buf: &mut [u8]) -> Result<usize, Failed>
         requires { 0 < length buf.old }
-        ensures bytes { IfOk result (λ n. n ≡ cut_of self.old.cuts self.old.reads (min (length self.old.left) (length buf.old))) }
+        ensures bytes { IfOk result (λ n. n
+            ≡ cut_of self.old.cuts self.old.reads (min (length self.old.left) (length buf.old))) }
         ensures within { IfOk result (λ n. n ≤ length buf.new) }
         ensures end { IfOk result (λ n. n ≡ 0 → self.new.left ≡ []) }
         ensures front { IfOk result (λ n. take n buf.new ≡ take n self.old.left) }
         ensures behind { IfOk result (λ n. drop n buf.new ≡ drop n buf.old) }
-        ensures ok { IfOk result (λ n. self.new ≡ record self.old { taken = self.old.taken ++ take n self.old.left; left = drop n self.old.left; reads = raised self.old.reads; calls = raised self.old.calls }) }
-        ensures err { OnErr result (self.new ≡ record self.old { reads = raised self.old.reads; calls = raised self.old.calls; faults = raised self.old.faults }) }
+        ensures ok { IfOk result (λ n. self.new ≡ link_after_read n self.old) }
+        ensures err { OnErr result (self.new ≡ link_after_failed_read self.old) }
         ensures buffer { OnErr result (buf.new ≡ buf.old) }
         ensures later { self.old.faults ≤ self.new.faults }
         ensures chosen { IsErr result ↔ IsTrue (is_failing self.old.failing (raised self.old.calls)) }

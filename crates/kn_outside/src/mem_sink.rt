@@ -1,6 +1,7 @@
 //! A sink in memory.
-ghost use Rattle.std.specs.Prelude.{◌≡◌, ◌+◌, ◌-◌, ◌^◌, ◌<◌, ◌≤◌, [], ◌++◌, true, false, min, length, IfOk, OnOk, OnErr, IsErr, IsTrue, ◌↔◌};
-ghost use Rattle.kn_outside.specs.InMemory.{is_failing};
+ghost use Rattle.std.specs.Prelude.{◌≡◌, ◌+◌, ◌-◌, ◌^◌, ◌<◌, ◌≤◌, [], ◌++◌, true, false, min, length};
+ghost use Rattle.std.specs.Prelude.{IfOk, OnOk, OnErr, IsErr, IsTrue, ◌↔◌};
+ghost use Rattle.kn_outside.specs.InMemory.{is_failing, sink_after_write, sink_after_failed_write};
 ghost use Rattle.kn_outside.specs.Faults.{raised, Rose};
 
 use crate::failed::Failed;
@@ -54,8 +55,8 @@ impl Sink for MemSink {
 
     fn write(&mut self, piece: &[u8]) -> Result<usize, Failed>
         ensures whole { IfOk result (λ n. n ≡ length piece.now) }
-        ensures ok { OnOk result (self.new ≡ record self.old { written = self.old.written ++ piece.now; calls = raised self.old.calls }) }
-        ensures err { OnErr result (self.new ≡ record self.old { calls = raised self.old.calls; faults = raised self.old.faults }) }
+        ensures ok { OnOk result (self.new ≡ sink_after_write piece.now self.old) }
+        ensures err { OnErr result (self.new ≡ sink_after_failed_write self.old) }
         ensures later { self.old.faults ≤ self.new.faults }
         ensures chosen { IsTrue (is_failing self.old.failing (raised self.old.calls)) → IsErr result }
     {

@@ -18,7 +18,8 @@ pub trait Sink {
     fn write(&mut self, piece: &[u8]) -> Result<usize, Failed>
         requires { 0 < length piece.now }
         ensures count { IfOk result (λ n. (0 < n) × (n ≤ length piece.now)) }
-        ensures ok { IfOk result (λ n. seen self.new ≡ record (seen self.old) { written = more (take n piece.now) (seen self.old).written }) }
+        ensures ok { IfOk result (λ n. seen self.new
+            ≡ record (seen self.old) { written = more (take n piece.now) (seen self.old).written }) }
         ensures err { OnErr result (seen self.new ≡ record (seen self.old) { faults = (seen self.new).faults }) }
         ensures failed { OnErr result (Rose (seen self.old).faults (seen self.new).faults) }
         ensures later { (seen self.old).faults ≤ (seen self.new).faults };

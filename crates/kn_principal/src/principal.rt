@@ -1,5 +1,6 @@
 //! Principals and their normal form (RFC 2704, section 4).
-ghost use Rattle.std.specs.Prelude.{◌≡◌, ◌↔◌, ◌<◌, ◌≤◌, ℕ, [], ◌++◌, length, map, take, drop, codes, nat_eq, bytes_eq, IfOk, IsOk};
+ghost use Rattle.std.specs.Prelude.{◌≡◌, ◌↔◌, ◌<◌, ◌≤◌, ℕ, [], ◌++◌, length, map, take, drop, codes, nat_eq, bytes_eq};
+ghost use Rattle.std.specs.Prelude.{IfOk, IsOk};
 ghost use Rattle.std.specs.List.{ends_with, position};
 ghost use Rattle.std.specs.Result.{IsErrOf};
 ghost use Rattle.kn_principal.specs.Principals.{lower_case, is_colon, normal_form};
@@ -53,7 +54,8 @@ pub fn normal(alloc: Global, principal: &[u8]) -> Result<Octets, PrincipalFault>
     ensures ok { IfOk result (λ octets. octets ≡ normal_form principal.now) }
     ensures sized { IsOk result → (1 ≤ length principal.now) × (length principal.now ≤ 4096) }
     ensures empty { IsErrOf result PrincipalFault.Empty ↔ (principal.now ≡ []) }
-    ensures too_long { (len : ℕ) → IsErrOf result (PrincipalFault.TooLong len) ↔ ((length principal.now ≡ len) × (4096 < len)) }
+    ensures too_long { (len : ℕ)
+        → IsErrOf result (PrincipalFault.TooLong len) ↔ ((length principal.now ≡ len) × (4096 < len)) }
 {
     if principal.is_empty() {
         return Err(PrincipalFault::Empty);

@@ -34,8 +34,11 @@ impl Gathered {
     /// none. Where the room is full, what was gathered is written first.
     pub(crate) fn write<W: Write>(&mut self, writer: &mut W, piece: &[u8]) -> Result<usize, Failed>
         ensures count { IfOk result (λ n. n ≤ length piece.now) }
-        ensures bytes { IfOk result (λ n. AddsBehind (W.contents writer.old) self.old.bytes.items (W.contents writer.new) self.new.bytes.items (take n piece.now)) }
-        ensures front { OnErr result (AppendsFront (W.contents writer.old) (W.contents writer.new) self.old.bytes.items) }
+        ensures bytes { IfOk result (λ n. AddsBehind
+            (W.contents writer.old) self.old.bytes.items
+            (W.contents writer.new) self.new.bytes.items (take n piece.now)) }
+        ensures front { OnErr result (AppendsFront
+            (W.contents writer.old) (W.contents writer.new) self.old.bytes.items) }
         ensures none { OnErr result (self.new.bytes.items ≡ []) }
     {
         if self.bytes.len() == self.bytes.capacity() {
@@ -59,7 +62,8 @@ impl Gathered {
     pub(crate) fn send<W: Write>(&mut self, writer: &mut W) -> Result<(), Failed>
         ensures none { self.new.bytes.items ≡ [] }
         ensures sent { OnOk result (Appends (W.contents writer.old) (W.contents writer.new) self.old.bytes.items) }
-        ensures front { OnErr result (AppendsFront (W.contents writer.old) (W.contents writer.new) self.old.bytes.items) }
+        ensures front { OnErr result (AppendsFront
+            (W.contents writer.old) (W.contents writer.new) self.old.bytes.items) }
         ensures room { vec_capacity self.new.bytes ≡ vec_capacity self.old.bytes }
     {
         let sent = write_whole(writer, self.bytes.as_slice());

@@ -42,13 +42,15 @@ impl RealFiles {
 }
 
 impl Files for RealFiles {
-    ghost use Rattle.std.specs.Prelude.{None};
+    ghost use Rattle.kn_real.specs.Counted.{counted_files_seen};
 
-    ghost seen = { λ files. record { content = None; asked = files.asked; faults = files.faults } };
+    ghost seen = { λ files. counted_files_seen files.asked files.faults };
 
     fn read(&mut self, name: &[u8]) -> Result<Octets, FileFault>
         ensures within { IfOk result (λ octets. length octets ≤ FILE_BYTES) }
-        ensures leaves { Leaves result name.now (record { content = None; asked = self.old.asked; faults = self.old.faults }) (record { content = None; asked = self.new.asked; faults = self.new.faults }) }
+        ensures leaves { Leaves result name.now
+            (counted_files_seen self.old.asked self.old.faults)
+            (counted_files_seen self.new.asked self.new.faults) }
         ensures later { self.old.faults ≤ self.new.faults }
     {
         let copy = Octets::from_slice(self.rt.alloc(), name)?;
@@ -91,7 +93,8 @@ fn read_file(rt: &HostRuntime, path: &[u8]) -> Result<Octets, FileFault>
 fn read_to_limit<R: Read>(alloc: Global, reader: &mut R) -> Result<Octets, FileFault>
     ensures within { IfOk result (λ octets. length octets ≤ FILE_BYTES) }
     ensures whole { IfOk result (λ octets. IfSome (R.remaining reader.old) (λ bytes. octets ≡ bytes)) }
-    ensures large { result ≡ Err FileFault.TooLarge → IfSome (R.remaining reader.old) (λ bytes. FILE_BYTES < length bytes) }
+    ensures large { result ≡ Err FileFault.TooLarge
+        → IfSome (R.remaining reader.old) (λ bytes. FILE_BYTES < length bytes) }
 {
     let mut content = Octets::new(alloc);
     let mut buf = [0; PIECE];

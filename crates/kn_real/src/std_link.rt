@@ -38,7 +38,8 @@ impl<I: Read, O: Write> Sink for StdLink<I, O> {
 
     fn write(&mut self, piece: &[u8]) -> Result<usize, Failed>
         ensures count { IfOk result (λ n. (0 < n) × (n ≤ length piece.now)) }
-        ensures bytes { WriteAppends (O.contents self.old.out.output) (O.contents self.new.out.output) result piece.now }
+        ensures bytes { WriteAppends
+            (O.contents self.old.out.output) (O.contents self.new.out.output) result piece.now }
         ensures ok { OnOk result (self.new.out.faults ≡ self.old.out.faults) }
         ensures err { OnErr result (self.new.out.faults ≡ raised self.old.out.faults) }
         ensures input { self.new.input ≡ self.old.input }

@@ -145,7 +145,9 @@ impl Forest {
         requires first { first < length self.old }
         requires rights { All (IsRoot self.old) rights.now }
         requires pairs { length rights.now ≡ length signs.now }
-        ensures { IsAdded self.old (E.Chain (tree_at self.old first) (links_of signs.now (trees_at self.old rights.now))) self.new result }
+        ensures { IsAdded self.old
+            (E.Chain (tree_at self.old first) (links_of signs.now (trees_at self.old rights.now)))
+            self.new result }
     {
         let rest = keep_links(&mut self.links, signs, rights)?;
         let place = push_node(&mut self.nodes, Node::Chain { first, rest })?;

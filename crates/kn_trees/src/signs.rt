@@ -75,9 +75,11 @@ impl Joint {
     /// The node of this sign between the trees at a run of places.
     #[inline(always)]
     pub(crate) fn node(self, span: Span) -> Node
-        ensures placed { (ps : Pools) (place : ℕ) → IsWithin (length ps.parts) span → All (λ part. part < place) (run ps.parts span)
+        ensures placed { (ps : Pools) (place : ℕ)
+            → IsWithin (length ps.parts) span → All (λ part. part < place) (run ps.parts span)
             → IsPlaced ps place result }
-        ensures tree { (ps : Pools) (trees : List Expr) → tree_of ps trees result ≡ joined self (map (tree_at trees) (run ps.parts span)) }
+        ensures tree { (ps : Pools) (trees : List Expr)
+            → tree_of ps trees result ≡ joined self (map (tree_at trees) (run ps.parts span)) }
     {
         match self {
             Joint::And => Node::And(span),

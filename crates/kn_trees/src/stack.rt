@@ -1,5 +1,6 @@
 //! Expressions while they are read.
-ghost use Rattle.std.specs.Prelude.{◌≡◌, ◌+◌, ◌-◌, ◌<◌, ◌≤◌, [], ◌∷◌, ◌++◌, All, drop, length, slice_get, take, IfOk, OnOk, OnErr, List};
+ghost use Rattle.std.specs.Prelude.{◌≡◌, ◌+◌, ◌-◌, ◌<◌, ◌≤◌, List, [], ◌∷◌, ◌++◌};
+ghost use Rattle.std.specs.Prelude.{All, drop, length, slice_get, take, IfOk, OnOk, OnErr};
 ghost use Rattle.kn_trees.specs.declared.program.Expr.{Expr};
 ghost use Rattle.kn_trees.specs.declared.program.Expr.TheVariants as E;
 ghost use Rattle.kn_trees.specs.Forests.{no_pools, tree_of, IsPlaced};
@@ -114,7 +115,8 @@ impl ExprStack {
     #[inline(always)]
     pub fn apply_not(&mut self) -> Result<(), NoMemory>
         requires some { 0 < length self.old }
-        ensures ok { (front : List Expr) (part : Expr) → self.old ≡ front ++ part ∷ [] → OnOk result (self.new ≡ front ++ E.Not part ∷ []) }
+        ensures ok { (front : List Expr) (part : Expr) → self.old ≡ front ++ part ∷ []
+            → OnOk result (self.new ≡ front ++ E.Not part ∷ []) }
         ensures err { OnErr result (self.new ≡ self.old) }
     {
         self.apply(Prefix::Not)
@@ -124,7 +126,8 @@ impl ExprStack {
     #[inline(always)]
     pub fn apply_minus(&mut self) -> Result<(), NoMemory>
         requires some { 0 < length self.old }
-        ensures ok { (front : List Expr) (part : Expr) → self.old ≡ front ++ part ∷ [] → OnOk result (self.new ≡ front ++ E.Minus part ∷ []) }
+        ensures ok { (front : List Expr) (part : Expr) → self.old ≡ front ++ part ∷ []
+            → OnOk result (self.new ≡ front ++ E.Minus part ∷ []) }
         ensures err { OnErr result (self.new ≡ self.old) }
     {
         self.apply(Prefix::Minus)
@@ -134,7 +137,8 @@ impl ExprStack {
     #[inline(always)]
     pub fn apply_number(&mut self) -> Result<(), NoMemory>
         requires some { 0 < length self.old }
-        ensures ok { (front : List Expr) (part : Expr) → self.old ≡ front ++ part ∷ [] → OnOk result (self.new ≡ front ++ E.Number part ∷ []) }
+        ensures ok { (front : List Expr) (part : Expr) → self.old ≡ front ++ part ∷ []
+            → OnOk result (self.new ≡ front ++ E.Number part ∷ []) }
         ensures err { OnErr result (self.new ≡ self.old) }
     {
         self.apply(Prefix::Number)
@@ -144,7 +148,8 @@ impl ExprStack {
     #[inline(always)]
     pub fn apply_deref(&mut self) -> Result<(), NoMemory>
         requires some { 0 < length self.old }
-        ensures ok { (front : List Expr) (part : Expr) → self.old ≡ front ++ part ∷ [] → OnOk result (self.new ≡ front ++ E.Deref part ∷ []) }
+        ensures ok { (front : List Expr) (part : Expr) → self.old ≡ front ++ part ∷ []
+            → OnOk result (self.new ≡ front ++ E.Deref part ∷ []) }
         ensures err { OnErr result (self.new ≡ self.old) }
     {
         self.apply(Prefix::Deref)
@@ -154,7 +159,8 @@ impl ExprStack {
     #[inline(always)]
     fn apply(&mut self, sign: Prefix) -> Result<(), NoMemory>
         requires { 0 < length self.old }
-        ensures ok { (front : List Expr) (part : Expr) → self.old ≡ front ++ part ∷ [] → OnOk result (self.new ≡ front ++ prefixed sign part ∷ []) }
+        ensures ok { (front : List Expr) (part : Expr) → self.old ≡ front ++ part ∷ []
+            → OnOk result (self.new ≡ front ++ prefixed sign part ∷ []) }
         ensures err { OnErr result (self.new ≡ self.old) }
     {
         let at = self.roots.len() - 1;
@@ -228,7 +234,8 @@ impl ExprStack {
     pub fn chain(&mut self, signs: &[Operation]) -> Result<(), NoMemory>
         requires some { 0 < length signs.now }
         requires enough { length signs.now < length self.old }
-        ensures ok { (front rights : List Expr) (first : Expr) → self.old ≡ front ++ first ∷ rights → length rights ≡ length signs.now
+        ensures ok { (front rights : List Expr) (first : Expr)
+            → self.old ≡ front ++ first ∷ rights → length rights ≡ length signs.now
             → OnOk result (self.new ≡ front ++ E.Chain first (links_of signs.now rights) ∷ []) }
         ensures err { OnErr result (self.new ≡ self.old) }
     {
@@ -267,7 +274,8 @@ fn put(
     requires kind { kind ≡ kind_of (tree_of no_pools forest.old node) }
     requires roots { All (IsRoot forest.old) roots.old.items }
     ensures roots { All (IsRoot forest.new) roots.new.items }
-    ensures ok { OnOk result (trees_at forest.new roots.new.items ≡ trees_at forest.old roots.old.items ++ tree_of no_pools forest.old node ∷ []) }
+    ensures ok { OnOk result (trees_at forest.new roots.new.items
+        ≡ trees_at forest.old roots.old.items ++ tree_of no_pools forest.old node ∷ []) }
     ensures err { OnErr result (trees_at forest.new roots.new.items ≡ trees_at forest.old roots.old.items) }
 {
     let place = forest.add(node)?;
@@ -277,7 +285,8 @@ fn put(
 // Puts the root of the tree that a forest has got last on top.
 #[inline(always)]
 fn put_root(roots: &mut Roots, root: Root) -> Result<(), NoMemory>
-    ensures roots { (trees : List Expr) (tree : Expr) → root.place ≡ length trees → root.kind ≡ kind_of tree → All (IsRoot trees) roots.old.items
+    ensures roots { (trees : List Expr) (tree : Expr)
+        → root.place ≡ length trees → root.kind ≡ kind_of tree → All (IsRoot trees) roots.old.items
         → All (IsRoot (trees ++ tree ∷ [])) roots.new.items }
     ensures ok { (trees : List Expr) (tree : Expr) → root.place ≡ length trees → All (IsRoot trees) roots.old.items
         → OnOk result (trees_at (trees ++ tree ∷ []) roots.new.items ≡ trees_at trees roots.old.items ++ tree ∷ []) }

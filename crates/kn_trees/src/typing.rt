@@ -1,7 +1,8 @@
 //! The kinds that operators ask and give, and whether a program keeps to them.
 ghost use Rattle.std.specs.Prelude.{Option, ◌≡◌, length, map, zip};
 ghost use Rattle.std.specs.List.{list_all};
-ghost use Rattle.kn_trees.specs.ExprKinds.{is_truth, is_whole, is_text, are_compared, gives, operation_kind, chain_kind};
+ghost use Rattle.kn_trees.specs.ExprKinds.{is_truth, is_whole, is_text, are_compared, gives};
+ghost use Rattle.kn_trees.specs.ExprKinds.{operation_kind, chain_kind};
 ghost use Rattle.kn_trees.specs.Kinds.{is_well_kinded, is_clause_well_kinded, is_then_well_kinded};
 
 use crate::kinds::Kind;
