@@ -16,7 +16,8 @@ ghost use Rattle.kn_fields.specs.declared.fault.ReadFault.TheVariants.{NoMemory}
 /// What is computed of a text is the assertion that it spells, or else its first fault, which is never want
 /// of memory.
 pub fn readings_are_computed()
-    ensures reading { (text : List ℕ) (assertion : Assertion) → (reading_of text ≡ Ok assertion) ↔ IsReading text assertion }
+    ensures reading { (text : List ℕ) (assertion : Assertion)
+        → (reading_of text ≡ Ok assertion) ↔ IsReading text assertion }
     ensures fault { (text : List ℕ) (fault : ReadFault) → (reading_of text ≡ Err fault) ↔ IsFirstReadFault text fault }
     ensures not_memory { (text : List ℕ) → reading_of text ≡ Err NoMemory → ⊥ }
 {
@@ -36,8 +37,8 @@ pub fn readings_are_sound()
     kn_lex::laws::tokens_or_first_fault();
 }
 
-/// The place that is told with the first fault of a text is at most the text's length. The number of a field is less than
-/// the length of its label.
+/// The place that is told with the first fault of a text is at most the text's length. The number of a field is less
+/// than the length of its label.
 pub fn faults_stand_in_the_text()
     ensures { (text : List ℕ) (fault : ReadFault) → IsFirstReadFault text fault → fault_place fault ≤ length text }
 {
@@ -47,10 +48,15 @@ pub fn faults_stand_in_the_text()
 
 /// Every text spells an assertion or has a first fault, never both, and at most one of either.
 pub fn assertion_or_first_fault()
-    ensures some { (text : List ℕ) → ((assertion : Assertion) × IsReading text assertion) ⊎ ((fault : ReadFault) × IsFirstReadFault text fault) }
-    ensures not_both { (text : List ℕ) (assertion : Assertion) (fault : ReadFault) → IsReading text assertion → IsFirstReadFault text fault → ⊥ }
-    ensures one_assertion { (text : List ℕ) (assertion other : Assertion) → IsReading text assertion → IsReading text other → assertion ≡ other }
-    ensures one_fault { (text : List ℕ) (fault other : ReadFault) → IsFirstReadFault text fault → IsFirstReadFault text other → fault ≡ other }
+    ensures some { (text : List ℕ)
+        → ((assertion : Assertion) × IsReading text assertion)
+        ⊎ ((fault : ReadFault) × IsFirstReadFault text fault) }
+    ensures not_both { (text : List ℕ) (assertion : Assertion) (fault : ReadFault)
+        → IsReading text assertion → IsFirstReadFault text fault → ⊥ }
+    ensures one_assertion { (text : List ℕ) (assertion other : Assertion)
+        → IsReading text assertion → IsReading text other → assertion ≡ other }
+    ensures one_fault { (text : List ℕ) (fault other : ReadFault)
+        → IsFirstReadFault text fault → IsFirstReadFault text other → fault ≡ other }
 {
     readings_are_computed();
 }
@@ -58,5 +64,6 @@ pub fn assertion_or_first_fault()
 /// A name is an attribute name, and the value of a constant is one for principals and for conditions.
 pub fn names_agree()
     ensures names { (text : List ℕ) → is_name text ≡ is_attribute_name text }
-    ensures constants { (constants : List Constant) (name : List ℕ) → constant_text constants name ≡ constant_value name constants }
+    ensures constants { (constants : List Constant) (name : List ℕ)
+        → constant_text constants name ≡ constant_value name constants }
 {}

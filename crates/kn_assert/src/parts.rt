@@ -1,8 +1,9 @@
 //! What each field of an assertion states.
-ghost use Rattle.std.specs.Prelude.{◌≡◌, ◌+◌, ◌≤◌, ◌<◌, true, false, length, ok_or, OnOk, IfErr, MatchResult, None, Some};
+ghost use Rattle.std.specs.Prelude.{◌≡◌, ◌+◌, ◌≤◌, ◌<◌, true, false, None, Some, length, ok_or};
+ghost use Rattle.std.specs.Prelude.{OnOk, OnErr, IfErr, MatchResult};
 ghost use Rattle.std.specs.Option.{option_copied, option_map};
 ghost use Rattle.kn_lex.specs.Seeing.{seen};
-ghost use Rattle.kn_fields.specs.Fields.{between};
+ghost use Rattle.kn_fields.specs.Fields.{tokens_of_part};
 ghost use Rattle.kn_fields.specs.Scanning.{goes_deep};
 ghost use Rattle.kn_formula.specs.Trees.{principal_text};
 ghost use Rattle.kn_formula.specs.declared.written.Principal.TheVariants.{Name as Unquoted};
@@ -23,8 +24,9 @@ use std::alloc::Global;
 fn check_depth(tokens: &Tokens<'_>, part: Part, field: u8) -> Result<(), ReadFault>
     requires before { part.label < part.end }
     requires within { part.end ≤ length tokens.now }
-    ensures ok { OnOk result (goes_deep 0 0 (between (part.label + 1) part.end tokens.now) ≡ false) }
-    ensures err { IfErr result (λ fault. (goes_deep 0 0 (between (part.label + 1) part.end tokens.now) ≡ true) × (fault ≡ ReadFault.TooDeep field)) }
+    ensures ok { OnOk result (goes_deep 0 0 (tokens_of_part part tokens.now) ≡ false) }
+    ensures deep { OnErr result (goes_deep 0 0 (tokens_of_part part tokens.now) ≡ true) }
+    ensures err { IfErr result (λ fault. fault ≡ ReadFault.TooDeep field) }
 {
     if goes_deep(tokens, part.label + 1, part.end) {
         Err(ReadFault::TooDeep { field })
@@ -37,7 +39,7 @@ fn check_depth(tokens: &Tokens<'_>, part: Part, field: u8) -> Result<(), ReadFau
 fn only<'a, 'b>(tokens: &'b Tokens<'a>, part: Part) -> Option<&'b Token<'a>>
     requires before { part.label < part.end }
     requires within { part.end ≤ length tokens.now }
-    ensures { option_map seen (option_copied result) ≡ only_of (between (part.label + 1) part.end tokens.now) }
+    ensures { option_map seen (option_copied result) ≡ only_of (tokens_of_part part tokens.now) }
 {
     if part.end - part.label != 2 {
         return None;
@@ -103,7 +105,7 @@ pub(crate) fn authorizer(
 ) -> Result<Octets, ReadFault>
     requires before { part.label < part.end }
     requires within { part.end ≤ length fields.now.tokens }
-    ensures { Gives result (authorizer_in fields.now.constants (between (part.label + 1) part.end fields.now.tokens)) }
+    ensures { Gives result (authorizer_in fields.now.constants (tokens_of_part part fields.now.tokens)) }
 {
     check_depth(fields.tokens.tokens(), part, AUTHORIZER)?;
     match only(fields.tokens.tokens(), part) {
@@ -120,7 +122,7 @@ pub(crate) fn conditions(
 ) -> Result<Option<Program>, ReadFault>
     requires before { part.label < part.end }
     requires within { part.end ≤ length fields.now.tokens }
-    ensures { Gives result (conditions_in (between (part.label + 1) part.end fields.now.tokens)) }
+    ensures { Gives result (conditions_in (tokens_of_part part fields.now.tokens)) }
 {
     kn_fields::laws::depth_is_computed();
     check_depth(fields.tokens.tokens(), part, CONDITIONS)?;
@@ -140,7 +142,7 @@ pub(crate) fn licensees(
 ) -> Result<Option<Formula>, ReadFault>
     requires before { part.label < part.end }
     requires within { part.end ≤ length fields.now.tokens }
-    ensures { Gives result (licensees_in fields.now.constants (between (part.label + 1) part.end fields.now.tokens)) }
+    ensures { Gives result (licensees_in fields.now.constants (tokens_of_part part fields.now.tokens)) }
 {
     kn_fields::laws::depth_is_computed();
     check_depth(fields.tokens.tokens(), part, LICENSEES)?;
@@ -172,7 +174,7 @@ pub(crate) fn signature(
 ) -> Result<Option<Octets>, ReadFault>
     requires before { part.label < part.end }
     requires within { part.end ≤ length fields.now.tokens }
-    ensures { Gives result (signature_in (between (part.label + 1) part.end fields.now.tokens)) }
+    ensures { Gives result (signature_in (tokens_of_part part fields.now.tokens)) }
 {
     check_depth(fields.tokens.tokens(), part, SIGNATURE)?;
     match only(fields.tokens.tokens(), part) {

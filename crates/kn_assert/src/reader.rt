@@ -49,8 +49,10 @@ pub fn read(alloc: Global, text: &[u8]) -> Result<Assertion, ReadFault>
     ensures err { IfErr result (λ fault. (fault ≡ NoMemory) ⊎ (fault_of text.now ≡ Some fault)) }
     ensures reading { IfOk result (λ assertion. IsReading text.now assertion) }
     ensures first { IfErr result (λ fault. (fault ≡ NoMemory) ⊎ IsFirstReadFault text.now fault) }
-    ensures each_reading { (assertion : Assertion) → IsReading text.now assertion → (result ≡ Ok assertion) ⊎ (result ≡ Err NoMemory) }
-    ensures each_fault { (fault : ReadFault) → IsFirstReadFault text.now fault → (result ≡ Err fault) ⊎ (result ≡ Err NoMemory) }
+    ensures each_reading { (assertion : Assertion) → IsReading text.now assertion
+        → (result ≡ Ok assertion) ⊎ (result ≡ Err NoMemory) }
+    ensures each_fault { (fault : ReadFault) → IsFirstReadFault text.now fault
+        → (result ≡ Err fault) ⊎ (result ≡ Err NoMemory) }
     ensures sound { IfOk result (λ assertion. IsSound (length text.now) assertion) }
     ensures shallow { IfOk result (λ assertion. IfSome assertion.conditions (λ program. program_depth program ≤ 1700)) }
     ensures short { IfOk result (λ assertion. length text.now ≤ ASSERTION_BYTES) }

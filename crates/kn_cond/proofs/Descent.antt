@@ -9,6 +9,7 @@ use Rattle.kn_trees.specs.Levels.{expr_depth}
 use Rattle.kn_trees.specs.declared.program.Expr.{Expr}
 use Rattle.kn_trees.specs.declared.program.Link2.{Link2}
 use Rattle.kn_trees.specs.declared.program.Operation.{Operation}
+use Rattle.kn_cond.proofs.Joined.{or_right}
 use Rattle.kn_trees.proofs.Leveled.{link_depths, depth-Not, depth-Minus, depth-Number, depth-Deref, depth-And, depth-Or, depth-Compare, depth-Chain}
 
 at_most_greatest : {X : Type 0} (f : X → ℕ) (xs : List X) (k : ℕ) (x : X) → slice_get xs k ≡ Some x → f x ≤ greatest_of (map f xs)
@@ -31,3 +32,8 @@ pub drop_here : {X : Type 0} (xs : List X) (k : ℕ) (x : X) → slice_get xs k 
 drop_here xs k x e = drop_more xs k x (slice_get_within xs k x e) ∙ ap (λ y. y ∷ drop (k + 1) xs) (get_or_from_slice_get xs k x x e)
 
 pub ruleset depths = (depth-Not, depth-Minus, depth-Number, depth-Deref, depth-And, depth-Or, depth-Compare, depth-Chain)
+
+-- what a walk over parts, and over links, goes by
+pub ruleset part_steps = (part_depth, drop_here, or_right)
+
+pub ruleset link_steps = (right_depth, drop_here, or_right)

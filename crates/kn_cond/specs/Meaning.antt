@@ -78,6 +78,10 @@ disjunction (truth true ∷ parts) = truth true
 disjunction (truth false ∷ parts) = disjunction parts
 disjunction (part ∷ parts) = fault
 
+-- what `||` gives, where true is decisive, or `&&`, where false is
+abbrev pub value_by : Bool → List Meaning → Meaning
+value_by decisive parts = if decisive then disjunction parts else conjunction parts
+
 -- a text stands before another one by its bytes, and before those that it begins
 abbrev pub is_before : List ℕ → List ℕ → Bool
 is_before [] [] = false

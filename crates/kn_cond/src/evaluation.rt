@@ -1,7 +1,9 @@
 //! The value of an expression.
-ghost use Rattle.std.specs.Prelude.{◌≡◌, true, if◌then◌else◌, map, ◌++◌, IfOk, IfErr};
+ghost use Rattle.std.specs.Prelude.{◌≡◌, true, map, ◌++◌, IfOk, IfErr};
 ghost use Rattle.std.specs.List.{list_any};
-ghost use Rattle.kn_cond.specs.Meaning.{Meaning, whole, text, text_in_range, negated, minus, number_of, value_named, conjunction, disjunction, comparison, holds_of_texts, operation, operation_of_texts, chained, links_of, meaning_of};
+ghost use Rattle.kn_cond.specs.Meaning.{Meaning, whole, text, text_in_range, negated, minus, number_of, value_named};
+ghost use Rattle.kn_cond.specs.Meaning.{value_by, comparison, holds_of_texts};
+ghost use Rattle.kn_cond.specs.Meaning.{operation, operation_of_texts, chained, links_of, meaning_of};
 ghost use Rattle.kn_cond.specs.Results.{meant, or_fault};
 ghost use Rattle.kn_cond.specs.Joining.{is_join, joins, link_joins};
 
@@ -48,16 +50,18 @@ pub(crate) fn outcome<'e>(
     }
 }
 
-// What `&&` gives, where false is decisive, or `||`, where true is. It stops at the first part that is that, or a fault.
+// What `&&` gives, where false is decisive, or `||`, where true is. It stops at the first part that is
+// that, or a fault.
 #[cycle(outcomes)]
-#[tactic(auto, using(crate::proofs::Descent::part_depth, crate::proofs::Descent::drop_here, crate::proofs::Joined::or_right))]
+#[tactic(auto, using(crate::proofs::Descent::part_steps))]
 fn value_of_parts<'e>(
     alloc: Global,
     decisive: bool,
     parts: Parts<'e>,
     env: &'e Env<'e>,
 ) -> Result<Outcome<'e>, NoMemory>
-    ensures value { IfOk result (λ outcome. meant outcome ≡ (if decisive then disjunction (map (meaning_of env.now) parts.entry) else conjunction (map (meaning_of env.now) parts.entry))) }
+    ensures value { IfOk result (λ outcome. meant outcome
+        ≡ value_by decisive (map (meaning_of env.now) parts.entry)) }
     ensures memory { IfErr result (λ none. list_any joins parts.entry ≡ true) }
 {
     for k in 0..parts.len() {
@@ -72,14 +76,15 @@ fn value_of_parts<'e>(
 
 // What a chain gives whose first part gives this.
 #[cycle(outcomes)]
-#[tactic(auto, using(crate::proofs::Descent::right_depth, crate::proofs::Descent::drop_here, crate::proofs::Joined::or_right))]
+#[tactic(auto, using(crate::proofs::Descent::link_steps))]
 fn chained<'e>(
     alloc: Global,
     first: Outcome<'e>,
     links: Links<'e>,
     env: &'e Env<'e>,
 ) -> Result<Outcome<'e>, NoMemory>
-    ensures value { IfOk result (λ outcome. meant outcome ≡ chained (meant first.entry) (links_of env.now links.entry)) }
+    ensures value { IfOk result (λ outcome. meant outcome
+        ≡ chained (meant first.entry) (links_of env.now links.entry)) }
     ensures memory { IfErr result (λ none. list_any link_joins links.entry ≡ true) }
 {
     let mut left = first;

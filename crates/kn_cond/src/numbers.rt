@@ -2,7 +2,8 @@
 ghost use Rattle.std.specs.Prelude.{◌≡◌, ◌≤◌, ◌-◌, ℕ, neg_ℤ, pos, length, true, not, min, position, IfSome};
 ghost use Rattle.std.specs.List.{list_all};
 ghost use Rattle.kn_base.specs.Decimal.{is_digit, digits_value};
-ghost use Rattle.kn_cond.specs.Meaning.{whole_in_range, front_digits, front_number, holds_of_numbers, operation_of_numbers, quotient, remainder, power};
+ghost use Rattle.kn_cond.specs.Meaning.{whole_in_range, front_digits, front_number};
+ghost use Rattle.kn_cond.specs.Meaning.{holds_of_numbers, operation_of_numbers, quotient, remainder, power};
 ghost use Rattle.kn_cond.specs.Results.{or_fault};
 
 use kn_trees::{Comparison, Operation};

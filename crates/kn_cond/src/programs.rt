@@ -4,7 +4,8 @@ ghost use Rattle.std.specs.Option.{option_map_or};
 ghost use Rattle.kn_env.specs.Values.{index_of};
 ghost use Rattle.kn_cond.specs.Meaning.{meaning_of};
 ghost use Rattle.kn_cond.specs.Joining.{joins, program_joins, clause_joins, then_joins, field_joins};
-ghost use Rattle.kn_cond.specs.Programs.{value_of, where_true, highest, program_value, clause_value, then_value, field_value};
+ghost use Rattle.kn_cond.specs.Programs.{value_of, where_true, highest};
+ghost use Rattle.kn_cond.specs.Programs.{program_value, clause_value, then_value, field_value};
 
 use crate::evaluation::outcome;
 use crate::results::Outcome;

@@ -17,7 +17,7 @@ use Rattle.kn_files.specs.Pieces.{text_of, span_of, spans_of, IsWithin, IsLineBr
 use Rattle.kn_files.specs.Paragraphs.{lines_in, ends_at_cut, begins_at_cut, IsParagraph, IsOfParagraph, IsOfLines, HasLine, LacksLine, AreOfComment}
 use Rattle.kn_files.specs.declared.within.Within.{Within}
 use Rattle.kn_files.specs.declared.within.Within.TheVariants.{Plain, Body}
-use Rattle.kn_files.proofs.Splitting.{parts_from, parts_whole, is_kept, chosen, joined_lines, assertion_some, are_lines_of_file, more_lines, AreWhole, AreWholeBefore, none_whole, whole_behind}
+use Rattle.kn_files.proofs.Splitting.{parts_from, parts_whole, is_kept, chosen, spans_apart, joined_lines, assertion_some, are_lines_of_file, more_lines, AreWhole, AreWholeBefore, none_whole, whole_behind}
 use Rattle.kn_files.proofs.Silent.{either_false}
 
 ends_push : (xs : List Line) (x : Line) → ends_at_cut (xs ++ x ∷ []) ≡ is_cut x
@@ -298,3 +298,9 @@ other_line within line outside other label = grind arith
 pub open_line : (within : Within) (line : List ℕ) → is_literal within ≡ true → after_line within line ≡ fold after_byte within line
 unfolding after_line
 open_line within line inside = grind arith
+
+pub ruleset span_facts = (spans_within, spans_apart, spans_whole_lines)
+
+pub ruleset paragraph_facts = (each_span, only_span, line_paragraph)
+
+pub ruleset comment_facts = (comment_opens_nothing, body_ends, other_line, open_line)

@@ -257,3 +257,7 @@ none_whole lines = grind arith
 
 pub whole_behind : (xs line : List ℕ) (lines : List (List ℕ)) → are_lines (line ∷ lines) ≡ true → AreWholeBefore lines (xs ++ line)
 whole_behind xs line lines e = grind (arith, ends_line-append)
+
+pub ruleset line_facts = (joined_lines, are_lines_of_file, lines_of_joined)
+
+pub ruleset line_sizes = (size_within, size_at_end, line_size_whole)

@@ -12,7 +12,7 @@ use kn_lex::{goes_on, is_blank, line_len};
 use std::alloc::Global;
 
 /// The bytes of the line that begins here, with its newline.
-#[tactic(auto, using(crate::proofs::Splitting::size_within, crate::proofs::Splitting::size_at_end, crate::proofs::Splitting::line_size_whole))]
+#[tactic(auto, using(crate::proofs::Splitting::line_sizes))]
 fn line_size(rest: &[u8]) -> usize
     requires { 0 < length rest.now }
     ensures line { lines_of rest.now ≡ take result rest.now ∷ lines_of (drop result rest.now) }

@@ -80,8 +80,8 @@ fn after_bytes(within: Within, bytes: &[u8]) -> Within
     within
 }
 
-/// Whether a line ends with a newline, before which a byte stands that is neither white space nor a backslash: no literal
-/// goes on behind it.
+/// Whether a line ends with a newline, before which a byte stands that is neither white space nor a backslash: no
+/// literal goes on behind it.
 #[tactic(auto, using(crate::proofs::Literals::ends_bare_by_last, crate::proofs::Literals::ends_bare_short))]
 fn ends_bare(line: &[u8]) -> bool
     ensures { result ≡ ends_bare line.now }

@@ -5,7 +5,8 @@
 ghost use Rattle.std.specs.Prelude.{◌≡◌, [], ◌∷◌, IfOk, codes};
 ghost use Rattle.std.specs.Str.{bytes_eq};
 ghost use Rattle.kn_fields.specs.Reading.{Reads, ReadsWhole, then_read, closed_by};
-ghost use Rattle.kn_formula.specs.Reading.{rule_text, finished, of_front, parts_at, more_parts_at, item_at, one_at, read_words};
+ghost use Rattle.kn_formula.specs.Reading.{rule_text, finished, of_front};
+ghost use Rattle.kn_formula.specs.Reading.{parts_at, more_parts_at, item_at, one_at, read_words};
 
 use crate::threshold::need_of;
 use crate::written::{Principal, Rule, Written};

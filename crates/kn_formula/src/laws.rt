@@ -16,6 +16,8 @@ pub fn one_reading()
 
 /// What is found of tokens is the formula that they state, or the fault that they show, and nothing else.
 pub fn licensees_found()
-    ensures formula { (constants : List Constant) (tokens : List Seen) (formula : Option Formula) → licensees_of constants tokens ≡ Ok formula ↔ AreLicensees constants tokens formula }
-    ensures fault { (constants : List Constant) (tokens : List Seen) (fault : FormulaFault) → licensees_of constants tokens ≡ Err fault ↔ Shows constants tokens fault }
+    ensures formula { (constants : List Constant) (tokens : List Seen) (formula : Option Formula)
+        → licensees_of constants tokens ≡ Ok formula ↔ AreLicensees constants tokens formula }
+    ensures fault { (constants : List Constant) (tokens : List Seen) (fault : FormulaFault)
+        → licensees_of constants tokens ≡ Err fault ↔ Shows constants tokens fault }
 {}

@@ -1,7 +1,7 @@
 //! Reading a Licensees field.
 ghost use Rattle.std.specs.Prelude.{◌≡◌, ◌⊎◌, ◌+◌, ◌≤◌, ◌<◌, IfOk, IfErr, IfSome, length, false, All};
 ghost use Rattle.kn_trees.specs.Formulas.{IsReadable};
-ghost use Rattle.kn_fields.specs.Fields.{between};
+ghost use Rattle.kn_fields.specs.Fields.{tokens_of_part};
 ghost use Rattle.kn_fields.specs.Depth.{IsTooDeep};
 ghost use Rattle.kn_formula.specs.Licensing.{licensees_of, Gives, AreLicensees, Shows};
 
@@ -27,10 +27,11 @@ pub fn licensees(
 ) -> Result<Option<Formula>, FormulaFault>
     requires before { part.label < part.end }
     requires within { part.end ≤ length tokens.now }
-    requires shallow { IsTooDeep (between (part.label + 1) part.end tokens.now) → ⊥ }
-    ensures given { Gives result (licensees_of constants.now (between (part.label + 1) part.end tokens.now)) }
-    ensures stated { IfOk result (λ licensees. AreLicensees constants.now (between (part.label + 1) part.end tokens.now) licensees) }
-    ensures shown { IfErr result (λ fault. (fault ≡ FormulaFault.NoMemory) ⊎ Shows constants.now (between (part.label + 1) part.end tokens.now) fault) }
+    requires shallow { IsTooDeep (tokens_of_part part tokens.now) → ⊥ }
+    ensures given { Gives result (licensees_of constants.now (tokens_of_part part tokens.now)) }
+    ensures stated { IfOk result (λ licensees. AreLicensees constants.now (tokens_of_part part tokens.now) licensees) }
+    ensures shown { IfErr result (λ fault. (fault ≡ FormulaFault.NoMemory)
+        ⊎ Shows constants.now (tokens_of_part part tokens.now) fault) }
     ensures readable { IfOk result (λ licensees. IfSome licensees (λ formula. IsReadable (length tokens.now) formula)) }
 {
     read_licensees(alloc, tokens, part, constants)
@@ -45,7 +46,7 @@ fn read_licensees(
 ) -> Result<Option<Formula>, FormulaFault>
     requires before { part.label < part.end }
     requires within { part.end ≤ length tokens.now }
-    ensures { Gives result (licensees_of constants.now (between (part.label + 1) part.end tokens.now)) }
+    ensures { Gives result (licensees_of constants.now (tokens_of_part part tokens.now)) }
 {
     let mut cursor = Cursor::of_field(tokens, part);
     if cursor.len() == 0 {

@@ -141,3 +141,5 @@ pub program_start : (budget : ℕ) (list : List Clause) (words : List Word) → 
 program_start budget list words none =
     rw (program_step budget words)
     (going_list (marked (codes ";")) one_entry (entry_at (clause_at (budget - 1))) (λ clauses. clauses) with_entry budget tt list words none (λ entry clauses. refl))
+
+pub ruleset climbs = (climb_step, links_step, some_levels)

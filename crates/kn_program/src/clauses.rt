@@ -3,7 +3,8 @@
 //! The budget bounds the steps of a reading, as with expressions. Twelve for each token and one more are enough.
 ghost use Rattle.std.specs.Prelude.{◌≡◌, ◌++◌, OnOk};
 ghost use Rattle.kn_fields.specs.Reading.{Reads, ReadsWhole};
-ghost use Rattle.kn_program.specs.Reading.{listed, has_clause, entry_at, program_at, clause_at, tests_at, value_after, read_program};
+ghost use Rattle.kn_program.specs.Reading.{listed, has_clause, entry_at, program_at};
+ghost use Rattle.kn_program.specs.Reading.{clause_at, tests_at, value_after, read_program};
 
 use crate::expression::tests;
 use crate::signs::Joint;

@@ -11,7 +11,8 @@ ghost use Rattle.kn_trees.specs.declared.program.Expr.TheVariants as E;
 ghost use Rattle.kn_program.specs.Signs.{height};
 ghost use Rattle.kn_program.specs.Trees.{prefixed};
 ghost use Rattle.kn_program.specs.Stacking.{Puts, PutsBehind, PutsWord};
-ghost use Rattle.kn_program.specs.Reading.{tests_at, more_tests_at, test_at, negation_at, comparison_at, chain_at, side_at, more_links_at, climb_at, first_at, operand_at, atom_at};
+ghost use Rattle.kn_program.specs.Reading.{tests_at, more_tests_at, test_at, negation_at, comparison_at};
+ghost use Rattle.kn_program.specs.Reading.{chain_at, side_at, more_links_at, climb_at, first_at, operand_at, atom_at};
 
 use crate::operators::{has_operation, take_comparison, take_operation, take_prefix};
 use crate::signs::{Joint, Level, Prefix, height, joint_text, number_of, truth_of};
@@ -199,7 +200,7 @@ fn climb(
 
 /// The operations of the tighter levels behind a first operand, and then those of this one.
 #[cycle(expression)]
-#[tactic(auto, using(crate::proofs::Steps::climb_step, crate::proofs::Steps::links_step, crate::proofs::Steps::some_levels))]
+#[tactic(auto, using(crate::proofs::Steps::climbs))]
 fn operations(
     alloc: Global,
     stack: &mut ExprStack,
@@ -250,7 +251,8 @@ fn links(
     budget: u64,
 ) -> Result<(), Unread>
     requires some { 0 < length stack.old }
-    ensures { PutsBehind result (λ first. more_links_at budget level first sign cursor.old) stack.old stack.new cursor.new }
+    ensures { PutsBehind result
+        (λ first. more_links_at budget level first sign cursor.old) stack.old stack.new cursor.new }
 {
     let mut signs = List::new(alloc);
     let mut sign = sign;

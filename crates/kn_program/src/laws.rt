@@ -15,6 +15,7 @@ pub fn one_reading()
 /// What is found of tokens is the program that they state, or the fault that they show, and nothing else.
 #[tactic(auto, using(crate::proofs::Stated::findings))]
 pub fn program_found()
-    ensures program { (tokens : List Seen) (program : Option Program) → program_of tokens ≡ Ok program ↔ IsConditions tokens program }
+    ensures program { (tokens : List Seen) (program : Option Program)
+        → program_of tokens ≡ Ok program ↔ IsConditions tokens program }
     ensures fault { (tokens : List Seen) (fault : ProgramFault) → program_of tokens ≡ Err fault ↔ Shows tokens fault }
 {}

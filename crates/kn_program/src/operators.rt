@@ -26,7 +26,8 @@ pub(crate) fn take_operation(cursor: &mut Cursor<'_, '_>, level: Level) -> Optio
 #[inline(always)]
 #[tactic(auto, unfolding(kn_fields::specs::Reading::taken))]
 pub(crate) fn has_operation(cursor: &Cursor<'_, '_>, level: Level) -> bool
-    ensures { result ≡ false → (tier : Tier) → height tier ≤ height level → None ≡ taken (operation_of tier) cursor.now }
+    ensures { result ≡ false
+        → (tier : Tier) → height tier ≤ height level → None ≡ taken (operation_of tier) cursor.now }
 {
     let Some(text) = cursor.sign() else {
         return false;

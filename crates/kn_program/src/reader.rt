@@ -2,7 +2,7 @@
 ghost use Rattle.std.specs.Prelude.{◌≡◌, ◌+◌, ◌≤◌, ◌<◌, ◌⊎◌, Option, IfOk, IfErr, IfSome, length, true};
 ghost use Rattle.kn_trees.specs.Kinds.{is_well_kinded};
 ghost use Rattle.kn_trees.specs.Levels.{program_depth};
-ghost use Rattle.kn_fields.specs.Fields.{between};
+ghost use Rattle.kn_fields.specs.Fields.{tokens_of_part};
 ghost use Rattle.kn_fields.specs.Depth.{IsTooDeep};
 ghost use Rattle.kn_trees.specs.declared.program.Program.{Program};
 ghost use Rattle.kn_program.specs.Conditions.{IsConditions, Shows, program_of, Gives};
@@ -28,12 +28,14 @@ pub fn conditions(
 ) -> Result<Option<Program>, ProgramFault>
     requires before { part.label < part.end }
     requires within { part.end ≤ length tokens.now }
-    requires shallow { IsTooDeep (between (part.label + 1) part.end tokens.now) → ⊥ }
-    ensures program { IfOk result (λ conditions. IsConditions (between (part.label + 1) part.end tokens.now) conditions) }
-    ensures fault { IfErr result (λ fault. (fault ≡ NoMemory) ⊎ Shows (between (part.label + 1) part.end tokens.now) fault) }
-    ensures each_program { (conditions : Option Program) → IsConditions (between (part.label + 1) part.end tokens.now) conditions → (result ≡ Ok conditions) ⊎ (result ≡ Err NoMemory) }
-    ensures each_fault { (fault : ProgramFault) → Shows (between (part.label + 1) part.end tokens.now) fault → (result ≡ Err fault) ⊎ (result ≡ Err NoMemory) }
-    ensures given { Gives result (program_of (between (part.label + 1) part.end tokens.now)) }
+    requires shallow { IsTooDeep (tokens_of_part part tokens.now) → ⊥ }
+    ensures program { IfOk result (λ conditions. IsConditions (tokens_of_part part tokens.now) conditions) }
+    ensures fault { IfErr result (λ fault. (fault ≡ NoMemory) ⊎ Shows (tokens_of_part part tokens.now) fault) }
+    ensures each_program { (conditions : Option Program) → IsConditions (tokens_of_part part tokens.now) conditions
+        → (result ≡ Ok conditions) ⊎ (result ≡ Err NoMemory) }
+    ensures each_fault { (fault : ProgramFault) → Shows (tokens_of_part part tokens.now) fault
+        → (result ≡ Err fault) ⊎ (result ≡ Err NoMemory) }
+    ensures given { Gives result (program_of (tokens_of_part part tokens.now)) }
     ensures well_kinded { IfOk result (λ conditions. IfSome conditions (λ program. is_well_kinded program ≡ true)) }
     ensures shallow { IfOk result (λ conditions. IfSome conditions (λ program. program_depth program ≤ 1700)) }
 {
@@ -49,7 +51,7 @@ fn read_conditions(
 ) -> Result<Option<Program>, ProgramFault>
     requires before { part.label < part.end }
     requires within { part.end ≤ length tokens.now }
-    ensures given { Gives result (program_of (between (part.label + 1) part.end tokens.now)) }
+    ensures given { Gives result (program_of (tokens_of_part part tokens.now)) }
     ensures well_kinded { IfOk result (λ conditions. IfSome conditions (λ program. is_well_kinded program ≡ true)) }
 {
     let mut cursor = Cursor::of_field(tokens, part);

@@ -1,7 +1,8 @@
 //! The signs of the grammar of conditions, and the words that are no names.
 ghost use Rattle.std.specs.Prelude.{◌≡◌, ◌≤◌, false, None, IfSome};
 ghost use Rattle.kn_base.specs.declared.limits.TheConstants.{WHOLE_NUMBER};
-ghost use Rattle.kn_program.specs.Signs.{joint_text, height, operation_of, comparison_of, prefix_of, truth_of, number_of};
+ghost use Rattle.kn_program.specs.Signs.{joint_text, height, operation_of};
+ghost use Rattle.kn_program.specs.Signs.{comparison_of, prefix_of, truth_of, number_of};
 ghost use Rattle.kn_program.specs.declared.signs.Level.{Level as Tier};
 
 use kn_base::digits_within;

@@ -1,10 +1,10 @@
-use Rattle.std.proofs.Common.{◌≡◌, ◌+◌, ◌*◌, Bool, true, if◌then◌else◌, List, map, drop}
+use Rattle.std.proofs.Common.{◌≡◌, ◌+◌, ◌*◌, true, List, map, drop}
 use Rattle.std.specs.List.{list_any}
 use Rattle.kn_trees.specs.Formulas.{greatest_of}
 use Rattle.kn_trees.specs.Levels.{expr_depth}
 use Rattle.kn_trees.proofs.Leveled.{link_depths}
 use Rattle.kn_cond.specs.Joining.{joins, link_joins}
-use Rattle.kn_cond.specs.Meaning.{Meaning, conjunction, disjunction, chained, links_of, meaning_of}
+use Rattle.kn_cond.specs.Meaning.{value_by, chained, links_of, meaning_of}
 use Rattle.kn_cond.specs.Results.{meant}
 use Rattle.kn_cond.proofs.evaluation.+outcomes.Given as goal
 
@@ -17,9 +17,6 @@ decreases-value_of_parts l = 1 + 2 * greatest_of (map expr_depth l.parts)
 
 abbrev pub decreases-chained : goal.decreases-chained
 decreases-chained l = 1 + 2 * greatest_of (link_depths l.links)
-
-abbrev value_by : Bool → List Meaning → Meaning
-value_by decisive parts = if decisive then disjunction parts else conjunction parts
 
 -- what is left decides
 abbrev pub invariant-value_of_parts-loop-k : goal.invariant-value_of_parts-loop-k
