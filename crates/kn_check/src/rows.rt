@@ -125,7 +125,8 @@ fn test_support<L>(
 fn test_closed<L>(system: &System<L>, levels: &[u8], steps: &mut Steps<L>) -> Result<(), Reject>
     requires fit { AreLevels system.now levels.now }
     ensures ok { OnOk result (IsClosed system.now levels.now) }
-    ensures err { IfErr result (λ reject. (i : ℕ) × (found : ℕ) × (reject ≡ Unclosed i found) × IsUnclosed system.now levels.now i found) }
+    ensures err { IfErr result (λ reject. (i : ℕ) × (found : ℕ)
+        × (reject ≡ Unclosed i found) × IsUnclosed system.now levels.now i found) }
     ensures ticks { IsWithin (node_total system.now.rows) steps.old steps.new }
 {
     for assertion in 0..system.rows() {

@@ -1,6 +1,9 @@
 //! Laws of the definitions, each of them the contract of a function that does nothing.
 
-ghost use Rattle.kn_laws.specs.Laws.{LeastLevelsAreLeast, PlainLevelsAreLeast, PlainLevelIsThePolicys, EveryQueryHasALevel, EveryQueryHasOneLevel, LeastLevelsAreWithin, ProofDeterminesLevel, EveryQueryHasAProof, RowsStayAProof, UnnamedIsNotCritical, CriticalIsOne};
+ghost use Rattle.kn_laws.specs.Laws.{LeastLevelsAreLeast, PlainLevelsAreLeast, PlainLevelIsThePolicys};
+ghost use Rattle.kn_laws.specs.Laws.{EveryQueryHasALevel, EveryQueryHasOneLevel, LeastLevelsAreWithin};
+ghost use Rattle.kn_laws.specs.Laws.{ProofDeterminesLevel, EveryQueryHasAProof};
+ghost use Rattle.kn_laws.specs.Laws.{RowsStayAProof, UnnamedIsNotCritical, CriticalIsOne};
 
 /// As many rounds as a query has principals times the top, from the requesters at the top and all others at 0, give the
 /// least levels.
@@ -8,8 +11,9 @@ pub fn least_levels_are_least()
     ensures { LeastLevelsAreLeast }
 {}
 
-/// The table of `kn_meaning`'s plain program `least_levels`, which has the requesters and the authorizers alone and takes as
-/// many rounds as it has entries times the top, tells the least levels of all principals, and so the policy's level.
+/// The table of `kn_meaning`'s plain program `least_levels`, which has the requesters and the authorizers alone and
+/// takes as many rounds as it has entries times the top, tells the least levels of all principals, and so the policy's
+/// level.
 pub fn plain_levels_are_least()
     ensures least { PlainLevelsAreLeast }
     ensures policy { PlainLevelIsThePolicys }
@@ -32,8 +36,8 @@ pub fn every_query_has_a_proof()
     ensures { EveryQueryHasAProof }
 {}
 
-/// Rows that don't name an assertion prove the same level without it, so it isn't critical; and those that are critical are
-/// one list.
+/// Rows that don't name an assertion prove the same level without it, so it isn't critical; and those that are critical
+/// are one list.
 pub fn unnamed_is_not_critical()
     ensures rows { RowsStayAProof }
     ensures uncritical { UnnamedIsNotCritical }

@@ -96,7 +96,8 @@ pub fn is_supported(
     row: &NamedRow,
     statements: &[Stated],
 ) -> Result<bool, NoMemory>
-    ensures { IfOk result (λ found. found ≡ list_any (T.supports top (level_in table.now) row.now) (map statement_in statements.now)) }
+    ensures { IfOk result (λ found. found
+        ≡ list_any (T.supports top (level_in table.now) row.now) (map statement_in statements.now)) }
 {
     for stated in statements {
         if supports(alloc, top, table, row, stated)? {
@@ -166,7 +167,8 @@ fn follows(
     rows: &[NamedRow],
     level: u8,
 ) -> Result<bool, NoMemory>
-    ensures { IfOk result (λ found. found ≡ T.ends_proof top (map statement_in statements.now) (entries_of top requesters.now) rows.now level) }
+    ensures { IfOk result (λ found. found
+        ≡ T.ends_proof top (map statement_in statements.now) (entries_of top requesters.now) rows.now level) }
 {
     let mut table = requester_levels(alloc, top, requesters)?;
     for row in rows {
@@ -179,7 +181,8 @@ fn follows(
     Ok(found)
 }
 
-/// Whether the rows prove that the policy has this level, where these assertions are stated and these principals request.
+/// Whether the rows prove that the policy has this level, where these assertions are stated and these
+/// principals request.
 /// Slow, and only there to be compared with.
 pub fn is_proof(
     alloc: Global,
@@ -189,7 +192,8 @@ pub fn is_proof(
     rows: &[NamedRow],
     level: u8,
 ) -> Result<bool, NoMemory>
-    ensures { IfOk result (λ found. Decides found (IsProof (equations_from top requesters.now statements.now) rows.now level)) }
+    ensures { IfOk result (λ found. Decides found
+        (IsProof (equations_from top requesters.now statements.now) rows.now level)) }
 {
     let found = follows(alloc, top, requesters, statements, rows, level)?;
     Ok(found)

@@ -24,3 +24,5 @@ pub formula_level_threshold : (top : ℕ) (at : Levels) (need : ℕ) (parts : Li
     → formula_level top at (Threshold need parts) ≡ threshold top need (map (formula_level top at) parts)
 unfolding formula_level
 formula_level_threshold top at need parts = search (rules, the_lemmas, fold_out-Formula)
+
+pub ruleset formula_levels = (formula_level_who, formula_level_all, formula_level_any, formula_level_threshold)

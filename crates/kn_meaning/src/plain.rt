@@ -6,7 +6,8 @@ ghost use Rattle.std.specs.Str.{bytes_eq};
 ghost use Rattle.kn_base.specs.Threshold as T;
 ghost use Rattle.kn_meaning.specs.Formulas as L;
 ghost use Rattle.kn_meaning.specs.Equations as E;
-ghost use Rattle.kn_meaning.specs.Tables.{level_in, statement_in, equations_from, next_table, entry_of, first_table, last_table};
+ghost use Rattle.kn_meaning.specs.Tables.{level_in, statement_in, equations_from};
+ghost use Rattle.kn_meaning.specs.Tables.{next_table, entry_of, first_table, last_table};
 
 use kn_base::{List, NoMemory, Octets};
 use kn_proof::Id;
@@ -74,7 +75,7 @@ pub fn gate_level(top: u8, need: usize, levels: &[u8]) -> u8
 /// The level of a formula by a walk over it.
 /// Slow, and only there to be compared with.
 #[cycle(formula)]
-#[tactic(auto, using(crate::proofs::Walks::formula_level_who, crate::proofs::Walks::formula_level_all, crate::proofs::Walks::formula_level_any, crate::proofs::Walks::formula_level_threshold))]
+#[tactic(auto, using(crate::proofs::Walks::formula_levels))]
 pub fn formula_level(
     alloc: Global,
     top: u8,
@@ -141,7 +142,8 @@ pub fn highest_worth(
     name: &[u8],
     statements: &[Stated],
 ) -> Result<u8, NoMemory>
-    ensures { IfOk result (λ worth. worth ≡ E.highest_worth top (level_in table.now) name.now (map statement_in statements.now)) }
+    ensures { IfOk result (λ worth. worth
+        ≡ E.highest_worth top (level_in table.now) name.now (map statement_in statements.now)) }
 {
     let mut best = 0;
     for stated in statements {
@@ -175,7 +177,8 @@ pub fn round_level(
     name: &[u8],
     statements: &[Stated],
 ) -> Result<u8, NoMemory>
-    ensures { IfOk result (λ level. level ≡ E.round (equations_from top requesters.now statements.now) (level_in table.now) name.now) }
+    ensures { IfOk result (λ level. level
+        ≡ E.round (equations_from top requesters.now statements.now) (level_in table.now) name.now) }
 {
     if is_among(name, requesters) {
         return Ok(top);

@@ -1,4 +1,5 @@
-//! Worked examples of the definitions, each shown by computing it. The functions have no body: their clauses are what they say.
+//! Worked examples of the definitions, each shown by computing it. The functions have no body: their clauses are
+//! what they say.
 
 ghost use Rattle.std.specs.Prelude.{ℕ, List, ◌≡◌, ◌∷◌, [], codes, Some, None};
 ghost use Rattle.kn_meaning.specs.Formulas.{Levels};
@@ -27,5 +28,6 @@ pub fn policy_levels()
 
 /// There is one least fixed point at most.
 pub fn least_levels_are_one()
-    ensures { (e : Equations) (at other : Levels) → IsLeast e at → IsLeast e other → (name : List ℕ) → at name ≡ other name }
+    ensures { (e : Equations) (at other : Levels)
+        → IsLeast e at → IsLeast e other → (name : List ℕ) → at name ≡ other name }
 {}

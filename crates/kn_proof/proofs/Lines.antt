@@ -10,7 +10,8 @@ use Rattle.kn_proof.specs.Quoting.{HasNoByte}
 use Rattle.kn_proof.specs.Reading.{HasNoHeader, HasNoRow, HasLargeRow}
 use Rattle.kn_proof.specs.Words.{IsCutHeader, IsCutRow, AreHeaderWords, AreRowWords, row_front}
 use Rattle.kn_base.proofs.Cuts.{cut_once, no_cut}
-use Rattle.kn_proof.proofs.Numerals.{numeral_lacks, lacks_by}
+use Rattle.kn_base.proofs.Numerals.{lacks_by}
+use Rattle.kn_proof.proofs.Numerals.{numeral_lacks}
 use Rattle.kn_proof.proofs.Quotes.{one_principal, closed}
 
 pub name_lacks : (at : ℕ) (name : List ℕ) → at < 33 → is_name name ≡ true → list_any (λ b. b == at) name ≡ false

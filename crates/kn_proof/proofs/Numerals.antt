@@ -1,35 +1,12 @@
 -- Decimal numbers of any length, and those that are short.
-use Rattle.std.proofs.Common.{◌≡◌, ◌≢◌, ℕ, ◌^◌, ◌<◌, ◌≤◌, Bool, true, false, not, ◌&&◌, ◌||◌, ◌==◌, nat_le, List, [], ◌∷◌, length, get_or, decimal, Option, Some, None, IfSome, refl, sym, ap, ◌∙◌, arith, ⊎_elim}
+use Rattle.std.proofs.Common.{◌≡◌, ℕ, ◌^◌, ◌<◌, ◌≤◌, true, false, not, ◌&&◌, ◌||◌, ◌==◌, nat_le, List, length, get_or, decimal, Option, Some, None, IfSome, sym, ap, ◌∙◌, arith, ⊎_elim}
 use Rattle.std.specs.List.{list_all, list_any}
-use Rattle.std.specs.Int.{IsInRange}
-use Rattle.std.proofs.lemmas.Bool.{and_parts, and_from, or_cases, cases_Bool, leb-true, le-leb, ne_eqb, cond-true, cond-false, cases_lt, lt-leb, and_left, and_right}
-use Rattle.std.proofs.lemmas.Str.Parse.{IsDigitsTest, WeighsDigits, IsNumeralModel, numerals_by_weight, digits_value_short}
-use Rattle.std.proofs.lemmas.Fmt.{digits_decimal, digits_value-decimal, decimal-digits_value, decimal_nonempty, first_decimal, decimal_digit}
-use Rattle.std.proofs.lemmas.Grind.{common_steps}
+use Rattle.std.proofs.lemmas.Bool.{and_parts, and_from, leb-true, le-leb, cond-true, cond-false, cases_lt, lt-leb, and_left, and_right}
+use Rattle.std.proofs.lemmas.Str.Parse.{digits_value_short}
+use Rattle.std.proofs.lemmas.Fmt.{digits_decimal, digits_value-decimal, decimal-digits_value, decimal_nonempty}
 use Rattle.kn_base.specs.Decimal.{is_digit, digits_value, has_decimal_form, decimal_of}
+use Rattle.kn_base.proofs.Numerals.{own, alone, alone_from, no_leading, digits_lack}
 use Rattle.kn_proof.specs.Lines.{is_numeral, IsShort, IsSmall}
-
-abbrev AreDigits : List ℕ → Type 0
-AreDigits text = list_all is_digit text ≡ true
-
-digit_range : (c : ℕ) → is_digit c ≡ true → IsInRange 48 57 c
-digit_range c h = let p = and_parts (nat_le 48 c) (nat_le c 57) h in (leb-true 48 c p.0, leb-true c 57 p.1)
-
-range_digit : (c : ℕ) → IsInRange 48 57 c → is_digit c ≡ true
-range_digit c h = and_from (nat_le 48 c) (nat_le c 57) (le-leb 48 c h.0) (le-leb c 57 h.1)
-
-tests : IsDigitsTest AreDigits
-tests = record {
-  empty = refl;
-  parts = λ c cs h. let p = and_parts (is_digit c) (list_all is_digit cs) h in (digit_range c p.0, p.1);
-  more = λ c cs h rest. and_from (is_digit c) (list_all is_digit cs) (range_digit c h) rest;
-}
-
-weighs : WeighsDigits digits_value
-weighs = record { empty = refl; more = λ c cs h. refl }
-
-pub own : IsNumeralModel AreDigits digits_value
-own = numerals_by_weight AreDigits tests digits_value weighs
 
 -- what makes a numeral
 pub record IsNumeralText (text : List ℕ) : Type 0 where
@@ -37,29 +14,16 @@ pub record IsNumeralText (text : List ℕ) : Type 0 where
   pub digits : list_all is_digit text ≡ true
   pub leading : get_or text 0 0 ≡ 48 → length text ≡ 1
 
-alone_cases : (text : List ℕ) → (length text == 1 || not (get_or text 0 0 == 48)) ≡ true → get_or text 0 0 ≡ 48 → length text ≡ 1
-alone_cases text h zero = grind (arith, common_steps, or_cases (length text == 1) (not (get_or text 0 0 == 48)) h)
-
 pub numeral_parts : (text : List ℕ) → is_numeral text ≡ true → IsNumeralText text
 numeral_parts text h =
     let outer = and_parts (nat_le 1 (length text) && list_all is_digit text) (length text == 1 || not (get_or text 0 0 == 48)) h in
     let inner = and_parts (nat_le 1 (length text)) (list_all is_digit text) outer.0 in
-    record { some = leb-true 1 (length text) inner.0; digits = inner.1; leading = alone_cases text outer.1 }
-
-alone_from : (text : List ℕ) → (get_or text 0 0 ≡ 48 → length text ≡ 1) → (length text == 1 || not (get_or text 0 0 == 48)) ≡ true
-alone_from text h = grind (arith, common_steps, cases_Bool (get_or text 0 0 == 48))
+    record { some = leb-true 1 (length text) inner.0; digits = inner.1; leading = alone text outer.1 }
 
 pub numeral_from : (text : List ℕ) → IsNumeralText text → is_numeral text ≡ true
 numeral_from text p =
     and_from (nat_le 1 (length text) && list_all is_digit text) (length text == 1 || not (get_or text 0 0 == 48))
     (and_from (nat_le 1 (length text)) (list_all is_digit text) (le-leb 1 (length text) p.some) p.digits) (alone_from text p.leading)
-
-no_leading : (n : ℕ) → n < 2 ^ 64 → get_or (decimal n) 0 0 ≡ 48 → length (decimal n) ≡ 1
-no_leading n small zero =
-    ⊎_elim
-    (λ (one : n < 10). ap length (decimal_digit n one))
-    (λ (more : 10 ≤ n). let first : 48 < get_or (decimal n) 0 0 = first_decimal n (omega arith) small in absurd (omega arith))
-    (cases_lt n 10)
 
 -- numbers are written as numerals
 pub decimal_numeral : (n : ℕ) → n < 2 ^ 64 → is_numeral (decimal n) ≡ true
@@ -91,19 +55,8 @@ read_long text long =
     let formed : has_decimal_form text ≡ false = and_left (nat_le 1 (length text) && nat_le (length text) 9) (length text == 1 || not (get_or text 0 0 == 48)) sized in
     cond-false (has_decimal_form text && list_all is_digit text) (Some (digits_value text)) None (and_left (has_decimal_form text) (list_all is_digit text) formed)
 
--- what a test of each byte leaves out
-pub lacks_by : (p : ℕ → Bool) (at : ℕ) → ((b : ℕ) → p b ≡ true → b ≢ at) → (text : List ℕ) → list_all p text ≡ true → list_any (λ b. b == at) text ≡ false
-lacks_by p at other [] h = refl
-lacks_by p at other (b ∷ text) h =
-    let parts = and_parts (p b) (list_all p text) h in
-    or_both (b == at) (list_any (λ b. b == at) text) (ne_eqb b at (other b parts.0)) (lacks_by p at other text parts.1)
-  where
-    or_both : (x y : Bool) → x ≡ false → y ≡ false → (x || y) ≡ false
-    or_both x y e f = rw (e, f) refl
-
 pub numeral_lacks : (at : ℕ) (text : List ℕ) → at < 48 → is_numeral text ≡ true → list_any (λ b. b == at) text ≡ false
-numeral_lacks at text below h =
-    lacks_by is_digit at (λ b digit e. let range = digit_range b digit in absurd (omega (arith, range.0))) text (numeral_parts text h).digits
+numeral_lacks at text below h = digits_lack at text below (numeral_parts text h).digits
 
 pub number_spelled : (text : List ℕ) (r : Option ℕ) → is_numeral text ≡ true → r ≡ decimal_of text → IfSome r (λ n. decimal n ≡ text)
 number_spelled text r h e =

@@ -13,7 +13,6 @@ use Rattle.kn_proof.specs.declared.reply.ReadReply.{ReadReply}
 use Rattle.kn_proof.specs.Texts.{id_text, row_text, value_text}
 use Rattle.kn_proof.specs.Reading.{IsReadRow, IsReplyText, id_number}
 use Rattle.kn_proof.specs.Lines.{is_name}
-use Rattle.kn_proof.proofs.Numerals.{own}
 
 id_bytes : (id : Id) → id_number id < 1000000000 → 2 ≤ length (id_text id)
 id_bytes (Shared n) small = let some = decimal_nonempty n (omega arith) in omega arith

@@ -9,7 +9,8 @@ use Rattle.kn_proof.specs.Texts.{row_text, id_text}
 use Rattle.kn_proof.specs.declared.header.Header.{Header}
 use Rattle.kn_proof.specs.Lines.{HeaderTexts, RowTexts, IsHeaderForm, IsRowForm, IsHeaderInRange, IsRowInRange, IsSmall, is_id}
 use Rattle.kn_proof.specs.Reading.{IsReadRow, IsHeader, header_text, id_number}
-use Rattle.kn_proof.proofs.Numerals.{decimal_numeral, own}
+use Rattle.kn_base.proofs.Numerals.{own}
+use Rattle.kn_proof.proofs.Numerals.{decimal_numeral}
 use Rattle.kn_base.proofs.Cuts.{heads_apart}
 use Rattle.kn_proof.proofs.Lines.{header_once, row_once, cut_header}
 

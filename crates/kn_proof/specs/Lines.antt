@@ -34,6 +34,10 @@ pub record HeaderTexts : Type 0 where
   pub version : List ℕ
   pub count : List ℕ
 
+-- these texts, as those of line 1
+abbrev pub header_parts : List ℕ → List ℕ → List ℕ → List ℕ → HeaderTexts
+header_parts value name version count = record { value = value; name = name; version = version; count = count }
+
 abbrev pub header_line : HeaderTexts → List ℕ
 header_line texts = codes "VALUE " ++ texts.value ++ 32 ∷ texts.name ++ 32 ∷ texts.version ++ 32 ∷ texts.count ++ 10 ∷ []
 

@@ -30,6 +30,10 @@ pub record IsReplyText (text : List ℕ) (reply : ReadReply) : Type 0 where
   pub count : length reply.rows < 1000000000
   pub each : All IsReadRow reply.rows
 
+-- what line 1 tells, where it tells these
+abbrev pub header_of : ℕ → List ℕ → ℕ → ℕ → Header
+header_of value name version count = record { value = value; name = name; version = version; count = count }
+
 -- line 1 of a reply whose name and numbers are in range
 abbrev pub header_text : Header → List ℕ
 header_text header = codes "VALUE " ++ decimal header.value ++ 32 ∷ header.name ++ 32 ∷ decimal header.version ++ 32 ∷ decimal header.count ++ 10 ∷ []

@@ -1,7 +1,7 @@
 //! Line 1 of a reply.
 ghost use Rattle.std.specs.Prelude.{◌≡◌, ◌≢◌, ◌⊎◌, ◌++◌, ◌↔◌, ℕ, List, IsTrue, IfOk, IfErr, MatchOption};
-ghost use Rattle.kn_proof.specs.Lines.{IsHeaderForm};
-ghost use Rattle.kn_proof.specs.Reading.{HasNoHeader, IsHeader, IsHeaderFault, header_text};
+ghost use Rattle.kn_proof.specs.Lines.{IsHeaderForm, header_parts};
+ghost use Rattle.kn_proof.specs.Reading.{HasNoHeader, IsHeader, IsHeaderFault, header_of, header_text};
 ghost use Rattle.kn_proof.specs.Words.{AreHeaderWords};
 ghost use Rattle.kn_proof.specs.declared.fault.ProofFault.TheVariants as F;
 
@@ -76,8 +76,9 @@ pub(crate) fn read_header(alloc: Global, text: &[u8]) -> Result<HeaderLine<'_>, 
 
 /// Tries line 1 of a text, without memory.
 pub(crate) fn scan_header(text: &[u8]) -> Result<ScannedHeader<'_>, ProofFault>
-    ensures spelled { IfOk result (λ line. text.now ≡ header_text (record { value = line.value; name = line.name.now; version = line.version; count = line.count }) ++ line.rest.now) }
-    ensures range { IfOk result (λ line. IsHeader (record { value = line.value; name = line.name.now; version = line.version; count = line.count })) }
+    ensures spelled { IfOk result (λ line. text.now
+        ≡ header_text (header_of line.value line.name.now line.version line.count) ++ line.rest.now) }
+    ensures range { IfOk result (λ line. IsHeader (header_of line.value line.name.now line.version line.count)) }
     ensures err { IfErr result (λ fault. IsHeaderFault text.now fault) }
 {
     let Some(words) = header_words(text) else {
@@ -107,7 +108,8 @@ pub(crate) fn scan_header(text: &[u8]) -> Result<ScannedHeader<'_>, ProofFault>
 /// The words of line 1, each up to the byte that ends it there.
 fn header_words(text: &[u8]) -> Option<HeaderWords<'_>>
     ensures { MatchOption result (HasNoHeader text.now)
-        (λ words. AreHeaderWords text.now (record { value = words.value.now; name = words.name.now; version = words.version.now; count = words.count.now }) words.rest.now) }
+        (λ words. AreHeaderWords text.now
+        (header_parts words.value.now words.name.now words.version.now words.count.now) words.rest.now) }
 {
     let words = behind(text, b"VALUE ")?;
     let (value, words) = cut(words, b' ')?;
@@ -124,7 +126,8 @@ fn header_words(text: &[u8]) -> Option<HeaderWords<'_>>
 }
 
 fn is_form(words: &HeaderWords<'_>) -> bool
-    ensures { IsTrue result ↔ IsHeaderForm (record { value = words.now.value.now; name = words.now.name.now; version = words.now.version.now; count = words.now.count.now }) }
+    ensures { IsTrue result ↔ IsHeaderForm
+        (header_parts words.now.value.now words.now.name.now words.now.version.now words.now.count.now) }
 {
     is_numeral(words.value)
         && is_name(words.name)

@@ -1,5 +1,5 @@
-//! Proofs of compliance values: their rows over numbered principals, and over names as `VALUE` replies tell them; the text
-//! of such a reply, and the reader of it: its parts, or its first fault.
+//! Proofs of compliance values: their rows over numbered principals, and over names as `VALUE` replies tell them; the
+//! text of such a reply, and the reader of it: its parts, or its first fault.
 #![tactic(auto)]
 
 mod fault;

@@ -1,5 +1,6 @@
 //! The quoted bytes of a principal.
-ghost use Rattle.std.specs.Prelude.{◌≡◌, ◌≢◌, ◌↔◌, ◌<◌, ◌≤◌, ◌&&◌, ◌++◌, ◌∷◌, ℕ, List, flat_map, nat_le, IsTrue, IfOk, IfSome, IfNone};
+ghost use Rattle.std.specs.Prelude.{◌≡◌, ◌≢◌, ◌↔◌, ◌<◌, ◌≤◌, ◌&&◌, ◌++◌, ◌∷◌, ℕ, List, flat_map, nat_le};
+ghost use Rattle.std.specs.Prelude.{IsTrue, IfOk, IfSome, IfNone};
 ghost use Rattle.std.specs.Bool.{OnTrue, OnFalse};
 ghost use Rattle.kn_proof.specs.Texts.{quoted_byte};
 ghost use Rattle.kn_proof.specs.Lines.{AreBytes};
@@ -90,7 +91,8 @@ fn escaped(text: &[u8]) -> Option<(u8, &[u8])>
 fn octal(text: &[u8]) -> Option<(u8, &[u8])>
     ensures some { IfSome result (λ first. text.now ≡ octal_digits first.0 ++ first.1.now) }
     ensures unprinted { IfSome result (λ first. IsUnprinted first.0) }
-    ensures none { IfNone result ((byte : ℕ) (rest : List ℕ) → byte < 256 → IsUnprinted byte → text.now ≢ octal_digits byte ++ rest) }
+    ensures none { IfNone result ((byte : ℕ) (rest : List ℕ)
+        → byte < 256 → IsUnprinted byte → text.now ≢ octal_digits byte ++ rest) }
 {
     let Some((digits, behind)) = text.split_at_checked(3) else {
         return None;

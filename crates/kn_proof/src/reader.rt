@@ -19,10 +19,11 @@ use std::alloc::Global;
 /// The parts of a `VALUE` reply, or the first fault of a text that is none.
 ///
 /// The form is keynoted's own: a line `VALUE index name version rows`, so many lines `ROW index id "principal"` and the
-/// line `END`, each with its newline, and nothing behind. Numbers are decimal, without leading zeros and of at most nine
-/// digits, and an index of a compliance value is at most 255. A name has 1 to 128 bytes from 33 to 126, none a comma.
-/// An id is the letter `a` for a shared or `p` for a private assertion, and its number. In a principal `"` and `\` have a
-/// backslash before them, and bytes below 32 or above 126 are a backslash and three octal digits; nothing else is escaped.
+/// line `END`, each with its newline, and nothing behind. Numbers are decimal, without leading zeros and of at most
+/// nine digits, and an index of a compliance value is at most 255. A name has 1 to 128 bytes from 33 to 126, none a
+/// comma. An id is the letter `a` for a shared or `p` for a private assertion, and its number. In a principal `"` and
+/// `\` have a backslash before them, and bytes below 32 or above 126 are a backslash and three octal digits; nothing
+/// else is escaped.
 ///
 /// Lines are tried in order, and in a line its form comes before its numbers. The number of rows is tried at the line
 /// `END`, before what stands behind it. All this takes no memory: for want of it only a reply isn't read.
@@ -30,9 +31,11 @@ pub fn read_reply(alloc: Global, text: &[u8]) -> Result<ReadReply, ProofFault>
     ensures ok { IfOk result (λ reply. IsReplyText text.now reply) }
     ensures err { IfErr result (λ fault. IsUnread text.now fault) }
     // The text of a reply is read, and it is that of no other.
-    ensures only { (reply : ReadReply) → IsReplyText text.now reply → MatchResult result (λ read. read ≡ reply) (λ fault. fault ≡ F.NoMemory) }
+    ensures only { (reply : ReadReply) → IsReplyText text.now reply
+        → MatchResult result (λ read. read ≡ reply) (λ fault. fault ≡ F.NoMemory) }
     // And a first fault is told.
-    ensures told { (fault : ProofFault) → IsFirstFault text.now fault → MatchResult result (λ read. ⊥) (λ told. told ≡ fault) }
+    ensures told { (fault : ProofFault) → IsFirstFault text.now fault
+        → MatchResult result (λ read. ⊥) (λ told. told ≡ fault) }
 {
     match scan_reply(text) {
         Ok(_head) => read(alloc, text),
@@ -62,7 +65,8 @@ pub fn scan_reply(text: &[u8]) -> Result<ReplyHead<'_>, ProofFault>
 /// Tries the lines behind line 1, which tells so many rows.
 fn scan_rows(count: u32, lines: &[u8]) -> Result<(), ProofFault>
     ensures ok { OnOk result (AreCountedLines count lines.now) }
-    ensures err { (header : Header) → header.count ≡ count → IfErr result (λ fault. IsFaultBehind header lines.now fault) }
+    ensures err { (header : Header) → header.count ≡ count
+        → IfErr result (λ fault. IsFaultBehind header lines.now fault) }
 {
     let mut rows: usize = 0;
     let mut rest = lines;
@@ -83,7 +87,8 @@ fn end(count: u32, rows: usize, after: &[u8]) -> Result<(), ProofFault>
     requires { rows < 2 ^ 63 }
     ensures count { OnOk result (rows ≡ count) }
     ensures nothing { OnOk result (after.now ≡ []) }
-    ensures err { (header : Header) → header.count ≡ count → IfErr result (λ fault. IsEndFault header rows after.now fault) }
+    ensures err { (header : Header) → header.count ≡ count
+        → IfErr result (λ fault. IsEndFault header rows after.now fault) }
 {
     if rows != count as usize {
         return Err(ProofFault::Count { n: rows });

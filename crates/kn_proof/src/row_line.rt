@@ -1,5 +1,6 @@
 //! The ROW lines of a reply.
-ghost use Rattle.std.specs.Prelude.{◌≡◌, ◌≤◌, ◌<◌, ◌++◌, ℕ, List, true, length, IfOk, IfErr, IfSome, IfNone, ◌⊎◌, MatchOption};
+ghost use Rattle.std.specs.Prelude.{◌≡◌, ◌≤◌, ◌<◌, ◌⊎◌, ◌++◌, ℕ, List, true, length};
+ghost use Rattle.std.specs.Prelude.{IfOk, IfErr, IfSome, IfNone, MatchOption};
 ghost use Rattle.kn_proof.specs.Texts.{id_text, row_text};
 ghost use Rattle.kn_proof.specs.Lines.{is_id};
 ghost use Rattle.kn_proof.specs.Reading.{HasNoRow, IsReadRow, id_number};
@@ -92,7 +93,8 @@ pub(crate) fn scan_row(n: usize, text: &[u8]) -> Result<ScannedRow<'_>, ProofFau
 
 /// The words of a ROW line before its principal, each up to the space that ends it.
 fn row_words(text: &[u8]) -> Option<RowWords<'_>>
-    ensures { MatchOption result (HasNoRow text.now) (λ words. AreRowWords text.now words.value.now words.id.now words.rest.now) }
+    ensures { MatchOption result (HasNoRow text.now)
+        (λ words. AreRowWords text.now words.value.now words.id.now words.rest.now) }
 {
     let words = behind(text, b"ROW ")?;
     let (value, words) = cut(words, b' ')?;

@@ -1,6 +1,8 @@
 //! What the gates of a base have counted, and which rows wait for their level.
-ghost use Rattle.std.specs.Prelude.{◌≡◌, ◌≢◌, ◌<◌, ◌≤◌, ◌+◌, ◌++◌, ◌∷◌, [], ℕ, Bool, List as ListOf, nat_eq, false, length, min, replicate, IfOk, OnOk, OnErr, slice_index, slice_set};
-ghost use Rattle.kn_settle.specs.Counters.{AreLonger, AreVisited, AreWaiting, IsClimbed, IsCounted, IsCounting, IsPending, IsVisit, bucket_at, piece_at};
+ghost use Rattle.std.specs.Prelude.{◌≡◌, ◌≢◌, ◌<◌, ◌≤◌, ◌+◌, ◌++◌, ◌∷◌, [], ℕ, Bool, List as ListOf, nat_eq, false};
+ghost use Rattle.std.specs.Prelude.{length, min, replicate, IfOk, OnOk, OnErr, slice_index, slice_set};
+ghost use Rattle.kn_settle.specs.Counters.{AreLonger, AreVisited, AreWaiting, IsClimbed, IsCounted, IsCounting};
+ghost use Rattle.kn_settle.specs.Counters.{IsPending, IsVisit, bucket_at, piece_at};
 ghost use Rattle.kn_settle.specs.Blank.{AreTrailed};
 ghost use Rattle.kn_settle.specs.Reach.{IsPut};
 ghost use Rattle.kn_system.specs.Counts.{IsWithin};

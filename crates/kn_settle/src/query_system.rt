@@ -1,5 +1,6 @@
 //! A base with the requesters and the ceilings of one query.
-ghost use Rattle.std.specs.Prelude.{◌≡◌, ◌+◌, ◌-◌, ◌^◌, ◌<◌, ◌≤◌, All, IfOk, length, min, slice_get, slice_index, slice_index_or};
+ghost use Rattle.std.specs.Prelude.{◌≡◌, ◌+◌, ◌-◌, ◌^◌, ◌<◌, ◌≤◌};
+ghost use Rattle.std.specs.Prelude.{All, IfOk, length, min, slice_get, slice_index, slice_index_or};
 ghost use Rattle.kn_base.specs.declared.limits.TheConstants.{FEWEST_COMPLIANCE_VALUES, MOST_COMPLIANCE_VALUES};
 ghost use Rattle.kn_settle.specs.QuerySystem.{query_system, IsOther};
 ghost use Rattle.kn_system.specs.Equations.{IsSystem, node_total, row_at};

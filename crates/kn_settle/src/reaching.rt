@@ -1,5 +1,6 @@
 //! Principals get their levels: each visits its uses once.
-ghost use Rattle.std.specs.Prelude.{◌≡◌, ◌<◌, ◌≤◌, ◌+◌, ◌-◌, ◌++◌, ◌∷◌, [], ℕ, Bool, List as ListOf, false, length, IfOk, IfSome, MatchOption, OnOk, slice_get, slice_index, slice_set, Some};
+ghost use Rattle.std.specs.Prelude.{◌≡◌, ◌<◌, ◌≤◌, ◌+◌, ◌-◌, ◌++◌, ◌∷◌, [], ℕ, Bool, List as ListOf, Some, false};
+ghost use Rattle.std.specs.Prelude.{length, IfOk, IfSome, MatchOption, OnOk, slice_get, slice_index, slice_set};
 ghost use Rattle.kn_settle.specs.Counters.{AreLonger, IsCounting, IsIn, IsUsed};
 ghost use Rattle.kn_settle.specs.Blank.{AreTrailed};
 ghost use Rattle.kn_system.specs.Equations.{IsSystem, node_total, row_at};

@@ -1,5 +1,6 @@
 //! Settling: the least levels from the highest level down, with a proof.
-ghost use Rattle.std.specs.Prelude.{◌≡◌, ◌<◌, ◌≤◌, ◌-◌, ◌*◌, [], ◌∷◌, ◌++◌, ℕ, Bool, List as ListOf, All, length, replicate, IfOk, OnOk, slice_index};
+ghost use Rattle.std.specs.Prelude.{◌≡◌, ◌<◌, ◌≤◌, ◌-◌, ◌*◌, [], ◌∷◌, ◌++◌, ℕ, Bool, List as ListOf};
+ghost use Rattle.std.specs.Prelude.{All, length, replicate, IfOk, OnOk, slice_index};
 ghost use Rattle.kn_base.specs.declared.limits.TheConstants.{FEWEST_COMPLIANCE_VALUES, MOST_COMPLIANCE_VALUES};
 ghost use Rattle.kn_settle.specs.QuerySystem.{query_system, flags_from, IsOther};
 ghost use Rattle.kn_settle.specs.Begun.{AreBegun};
@@ -269,7 +270,8 @@ fn settle_level<L, C: Ceilings<L>>(
     requires level { value < system.now.levels }
     requires settled { IsSettled system.now value levels.old.values.items rows.old }
     requires counting { (marks : ListOf Bool)
-        × IsCounting system.now value levels.old.values.items marks counters.old.counts.items counters.old.buckets.items }
+        × IsCounting system.now value levels.old.values.items marks
+        counters.old.counts.items counters.old.buckets.items }
     ensures settled { OnOk result (IsSettled system.now (value - 1) levels.new.values.items rows.new) }
     ensures counting { (start : ℕ) (marks : ListOf Bool)
         → IsCounting system.now value levels.old.values.items marks counters.old.counts.items counters.old.buckets.items

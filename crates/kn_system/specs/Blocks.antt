@@ -10,6 +10,10 @@ block_at blocks p = slice_index_or blocks p (record { start = 0; len = 0; room =
 abbrev pub list_in : List ℕ → Block → List ℕ
 list_in nodes block = take block.len (drop block.start nodes)
 
+-- the list that stands in the block at a place
+abbrev pub list_at : List ℕ → List Block → ℕ → List ℕ
+list_at nodes blocks p = list_in nodes (block_at blocks p)
+
 -- a block is inside, and holds its list
 pub record FitsIn (nodes : List ℕ) (block : Block) : Type 0 where
   pub len : block.len ≤ block.room

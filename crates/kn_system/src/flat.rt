@@ -1,5 +1,7 @@
 //! The formulas of a system in one list of nodes, with links upwards and the uses of each principal.
-ghost use Rattle.std.specs.Prelude.{List as ListOf, ◌≡◌, ◌+◌, ◌-◌, ◌^◌, ◌<◌, ◌≤◌, ◌==◌, [], ◌∷◌, ◌++◌, ℕ, IfOk, OnOk, OnErr, length, replicate, take, drop, min, slice_get, slice_index_or, if◌then◌else◌};
+ghost use Rattle.std.specs.Prelude.{◌≡◌, ◌+◌, ◌-◌, ◌^◌, ◌<◌, ◌≤◌, ◌==◌, if◌then◌else◌};
+ghost use Rattle.std.specs.Prelude.{[], ◌∷◌, ◌++◌, ℕ, List as ListOf};
+ghost use Rattle.std.specs.Prelude.{IfOk, OnOk, OnErr, length, replicate, take, drop, min, slice_get, slice_index_or};
 ghost use Rattle.std.specs.Option.{option_copied};
 ghost use Rattle.kn_system.specs.Blocks.{ArePlaced};
 ghost use Rattle.kn_system.specs.Nodes.{FlatNodes, AreUses, parts_of, sort_of, ups_of, uses_of};
@@ -40,7 +42,8 @@ impl Model for Flat {
     ghost view = { λ f. record { pieces = f.pieces.items; ups = f.ups.items } };
 
     ghost invariant = { λ f. (length f.ups.items ≡ length f.pieces.items)
-        × ArePlaced f.uses.blocks.items f.uses.nodes.items × AreUses f.pieces.items f.uses.blocks.items f.uses.nodes.items };
+        × ArePlaced f.uses.blocks.items f.uses.nodes.items
+        × AreUses f.pieces.items f.uses.blocks.items f.uses.nodes.items };
 }
 
 impl Flat {
@@ -96,7 +99,8 @@ impl Flat {
 
     // Adds a node at the end.
     pub(crate) fn push(&mut self, piece: Piece, up: Up) -> Result<(), NoMemory>
-        ensures ok { OnOk result (self.new ≡ record { pieces = self.old.pieces ++ piece ∷ []; ups = self.old.ups ++ up ∷ [] }) }
+        ensures ok { OnOk result (self.new
+            ≡ record { pieces = self.old.pieces ++ piece ∷ []; ups = self.old.ups ++ up ∷ [] }) }
         ensures err { OnErr result (self.new ≡ self.old) }
     {
         self.pieces.reserve(1)?;
@@ -112,7 +116,8 @@ impl Flat {
         requires one { (p : ℕ) × AreForms p 1 formula.now }
         requires few { length self.old.pieces + length formula.now < 2 ^ 24 }
         ensures pieces { OnOk result (self.new.pieces ≡ self.old.pieces ++ formula.now) }
-        ensures ups { OnOk result (self.new.ups ≡ self.old.ups ++ ups_of (length self.old.pieces) (Row row ∷ []) formula.now) }
+        ensures ups { OnOk result (self.new.ups
+            ≡ self.old.ups ++ ups_of (length self.old.pieces) (Row row ∷ []) formula.now) }
         ensures err { OnErr result (self.new ≡ self.old) }
     {
         let before = self.len();
@@ -138,7 +143,8 @@ impl Flat {
         requires one { (p : ℕ) × AreForms p 1 formula.now }
         requires few { length self.old.pieces + length formula.now < 2 ^ 24 }
         ensures pieces { OnOk result (self.new.pieces ≡ self.old.pieces ++ formula.now) }
-        ensures ups { OnOk result (self.new.ups ≡ self.old.ups ++ ups_of (length self.old.pieces) (Row row ∷ []) formula.now) }
+        ensures ups { OnOk result (self.new.ups
+            ≡ self.old.ups ++ ups_of (length self.old.pieces) (Row row ∷ []) formula.now) }
         ensures longer { length self.old.pieces ≤ length self.new.pieces }
         ensures kept_pieces { take (length self.old.pieces) self.new.pieces ≡ self.old.pieces }
         ensures kept_ups { take (length self.old.ups) self.new.ups ≡ self.old.ups }
@@ -186,7 +192,9 @@ impl Flat {
 // Takes what the next node is a part of, and puts the node itself there for each of its parts.
 fn take_up(above: &mut Vec<Up>, piece: Piece, node: u32) -> Result<Up, NoMemory>
     requires some { 0 < length above.old.items }
-    ensures { IfOk result (λ up. (ups : ListOf Up) × (above.old.items ≡ ups ++ up ∷ []) × (above.new.items ≡ ups ++ replicate (parts_of piece) (InNode node))) }
+    ensures { IfOk result (λ up. (ups : ListOf Up)
+        × (above.old.items ≡ ups ++ up ∷ [])
+        × (above.new.items ≡ ups ++ replicate (parts_of piece) (InNode node))) }
 {
     let count = match piece {
         Piece::Who(_) => 0,
@@ -217,7 +225,8 @@ fn add_parts(above: &mut Vec<Up>, count: u32, node: u32) -> Result<(), NoMemory>
 fn add_use(uses: &mut Uses, piece: Piece, node: u32) -> Result<(), NoMemory>
     requires { ArePlaced uses.old.blocks.items uses.old.nodes.items }
     ensures placed { ArePlaced uses.new.blocks.items uses.new.nodes.items }
-    ensures ok { OnOk result ((ps : ListOf Piece) → length ps ≡ node → AreUses ps uses.old.blocks.items uses.old.nodes.items
+    ensures ok { OnOk result ((ps : ListOf Piece) → length ps ≡ node
+        → AreUses ps uses.old.blocks.items uses.old.nodes.items
         → AreUses (ps ++ piece ∷ []) uses.new.blocks.items uses.new.nodes.items) }
     ensures err { OnErr result ((ps : ListOf Piece) → AreUses ps uses.old.blocks.items uses.old.nodes.items
         → AreUses ps uses.new.blocks.items uses.new.nodes.items) }

@@ -1,5 +1,6 @@
 //! The system of a query: its equations over numbered principals.
-ghost use Rattle.std.specs.Prelude.{◌≡◌, ◌+◌, ◌-◌, ◌^◌, ◌<◌, ◌≤◌, [], ◌∷◌, ◌++◌, All, IfOk, OnErr, false, length, min, slice_get, slice_index_or};
+ghost use Rattle.std.specs.Prelude.{◌≡◌, ◌+◌, ◌-◌, ◌^◌, ◌<◌, ◌≤◌, [], ◌∷◌, ◌++◌};
+ghost use Rattle.std.specs.Prelude.{All, IfOk, OnErr, false, length, min, slice_get, slice_index_or};
 ghost use Rattle.kn_base.specs.declared.limits.TheConstants.{FEWEST_COMPLIANCE_VALUES, MOST_COMPLIANCE_VALUES};
 
 use crate::flat::Flat;
@@ -32,7 +33,11 @@ impl<L> Model for System<L> {
 
     ghost Value = { SystemEquations };
 
-    ghost view = { λ s. record { levels = s.levels; requesters = false ∷ s.others; rows = kept_rows s.flat.pieces s.rows } };
+    ghost view = { λ s. record {
+      levels = s.levels;
+      requesters = false ∷ s.others;
+      rows = kept_rows s.flat.pieces s.rows;
+    } };
 
     ghost invariant = { λ s.
         IsSystem (record { levels = s.levels; requesters = false ∷ s.others; rows = kept_rows s.flat.pieces s.rows })

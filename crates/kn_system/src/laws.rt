@@ -1,7 +1,11 @@
 //! The laws of the rounds and their least levels, each on a function that does nothing: its clause is the law, and
 //! the proof of a function that calls it may cite that. Those without a condition on the equations hold also for ones
 //! that no system stands for.
-ghost use Rattle.kn_system.specs.Lawful.{LeastLevelsAreLeast, LeastLevelsAreUnique, RoundsAreMonotone, RoundsStayBelow, RoundsMayStop, FixedPointsStay, RoundsAreByPrincipal, RoundsKeepLevels, ProofDeterminesLevel, ProofsHaveOneRowEach, ProofExists, ProofsGoOn, SettlingStarts, SettlingGrants, SettlingGoesDown, SettlingEnds};
+ghost use Rattle.kn_system.specs.Lawful.{LeastLevelsAreLeast, LeastLevelsAreUnique};
+ghost use Rattle.kn_system.specs.Lawful.{RoundsAreMonotone, RoundsStayBelow, RoundsMayStop};
+ghost use Rattle.kn_system.specs.Lawful.{FixedPointsStay, RoundsAreByPrincipal, RoundsKeepLevels};
+ghost use Rattle.kn_system.specs.Lawful.{ProofDeterminesLevel, ProofsHaveOneRowEach, ProofExists, ProofsGoOn};
+ghost use Rattle.kn_system.specs.Lawful.{SettlingStarts, SettlingGrants, SettlingGoesDown, SettlingEnds};
 
 /// The least levels are a fixed point of the round, and at or below all levels that no round raises.
 pub fn least_levels_are_least()

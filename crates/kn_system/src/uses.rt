@@ -1,6 +1,8 @@
 //! The uses of each principal: all lists in one, where each has a block with room of its own.
-ghost use Rattle.std.specs.Prelude.{List as ListOf, ◌≡◌, ◌≢◌, ◌+◌, ◌-◌, ◌<◌, ◌≤◌, ◌==◌, ◌⊎◌, [], ◌∷◌, ◌++◌, ℕ, IfOk, OnOk, OnErr, length, slice_get, slice_range, if◌then◌else◌};
-ghost use Rattle.kn_system.specs.Blocks.{ArePlaced, FitsIn, block_at, list_in};
+ghost use Rattle.std.specs.Prelude.{◌≡◌, ◌≢◌, ◌+◌, ◌-◌, ◌<◌, ◌≤◌, ◌==◌, ◌⊎◌, if◌then◌else◌};
+ghost use Rattle.std.specs.Prelude.{[], ◌∷◌, ◌++◌, ℕ, List as ListOf};
+ghost use Rattle.std.specs.Prelude.{IfOk, OnOk, OnErr, length, slice_get, slice_range};
+ghost use Rattle.kn_system.specs.Blocks.{ArePlaced, FitsIn, block_at, list_at, list_in};
 
 use kn_base::NoMemory;
 use std::alloc::Global;
@@ -34,7 +36,7 @@ impl Uses {
     /// The principal's `k`-th use, counted from 0.
     pub(crate) fn get(&self, principal: u32, k: u32) -> Option<u32>
         requires { ArePlaced self.now.blocks.items self.now.nodes.items }
-        ensures { result ≡ slice_get (list_in self.now.nodes.items (block_at self.now.blocks.items principal)) k }
+        ensures { result ≡ slice_get (list_at self.now.nodes.items self.now.blocks.items principal) k }
     {
         if principal as usize >= self.blocks.len() {
             return None;
@@ -50,10 +52,11 @@ impl Uses {
     pub(crate) fn push(&mut self, principal: u32, node: u32) -> Result<(), NoMemory>
         requires { ArePlaced self.old.blocks.items self.old.nodes.items }
         ensures placed { ArePlaced self.new.blocks.items self.new.nodes.items }
-        ensures ok { OnOk result ((p : ℕ) → list_in self.new.nodes.items (block_at self.new.blocks.items p)
-            ≡ (if principal == p then list_in self.old.nodes.items (block_at self.old.blocks.items p) ++ node ∷ []
-            else list_in self.old.nodes.items (block_at self.old.blocks.items p))) }
-        ensures err { OnErr result ((p : ℕ) → list_in self.new.nodes.items (block_at self.new.blocks.items p) ≡ list_in self.old.nodes.items (block_at self.old.blocks.items p)) }
+        ensures ok { OnOk result ((p : ℕ) → list_at self.new.nodes.items self.new.blocks.items p
+            ≡ (if principal == p then list_at self.old.nodes.items self.old.blocks.items p ++ node ∷ []
+            else list_at self.old.nodes.items self.old.blocks.items p)) }
+        ensures err { OnErr result ((p : ℕ) → list_at self.new.nodes.items self.new.blocks.items p
+            ≡ list_at self.old.nodes.items self.old.blocks.items p) }
     {
         let place = principal as usize;
         widen(&mut self.blocks, place)?;
@@ -71,9 +74,12 @@ impl Uses {
     pub(crate) fn pop(&mut self, principal: u32)
         requires { ArePlaced self.old.blocks.items self.old.nodes.items }
         ensures placed { ArePlaced self.new.blocks.items self.new.nodes.items }
-        ensures last { (uses : ListOf ℕ) (node : ℕ) → list_in self.old.nodes.items (block_at self.old.blocks.items principal) ≡ uses ++ node ∷ []
-            → list_in self.new.nodes.items (block_at self.new.blocks.items principal) ≡ uses }
-        ensures others { (p : ℕ) → p ≢ principal → list_in self.new.nodes.items (block_at self.new.blocks.items p) ≡ list_in self.old.nodes.items (block_at self.old.blocks.items p) }
+        ensures last { (uses : ListOf ℕ) (node : ℕ)
+            → list_at self.old.nodes.items self.old.blocks.items principal ≡ uses ++ node ∷ []
+            → list_at self.new.nodes.items self.new.blocks.items principal ≡ uses }
+        ensures others { (p : ℕ) → p ≢ principal
+            → list_at self.new.nodes.items self.new.blocks.items p
+            ≡ list_at self.old.nodes.items self.old.blocks.items p }
     {
         let place = principal as usize;
         if place >= self.blocks.len() {
