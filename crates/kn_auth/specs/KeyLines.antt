@@ -1,5 +1,6 @@
 -- The lines of a key file, and what each states by itself (keynoted's own format).
 use Rattle.std.specs.Prelude.{ℕ, ◌≡◌, ◌≤◌, ◌==◌, Bool, true, List, [], ◌∷◌, ◌++◌, length, codes, Ok}
+use Rattle.std.specs.Prelude.{Option, MatchOption}
 use Rattle.hex.specs.Hex.{decode_of, decode_sized}
 use Rattle.kn_base.specs.declared.limits.TheConstants.{PRINCIPAL_BYTES}
 use Rattle.kn_principal.specs.Principals.{normal_form}
@@ -47,3 +48,7 @@ States line (Secret secret) = (digits : List ℕ) × (line ≡ codes "secret " +
 -- the line is of no form
 abbrev pub StatesNothing : List ℕ → Type 0
 StatesNothing line = (entry : Entry) → ¬ States line entry
+
+-- the line reads as this entry, or as none where it is of no form
+abbrev pub ReadsAs : List ℕ → Option Entry → Type 0
+ReadsAs line read = MatchOption read (StatesNothing line) (λ entry. States line entry)

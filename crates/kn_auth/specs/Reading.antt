@@ -1,5 +1,6 @@
 -- What one line more changes of what a key file's lines say so far.
-use Rattle.std.specs.Prelude.{ℕ, ◌≡◌, List, [], ◌∷◌, ◌++◌, Option, Some, None, if◌then◌else◌}
+use Rattle.std.specs.Prelude.{ℕ, ◌≡◌, Bool, List, [], ◌∷◌, ◌++◌, Option, Some, None, if◌then◌else◌}
+use Rattle.std.specs.Bool.{MatchBool}
 use Rattle.kn_auth.specs.KeyLines.{States}
 use Rattle.kn_auth.specs.Verdicts.{has_key}
 use Rattle.kn_auth.specs.declared.entry.Entry.{Entry}
@@ -19,6 +20,10 @@ with_entry file (Mac mac) =
     else Some (record file { auth = record file.auth { keys = file.auth.keys ++ mac ∷ [] } })
 with_entry file (Digest digest) = Some (record file { auth = record file.auth { digests = file.auth.digests ++ digest ∷ [] } })
 with_entry file (Secret secret) = with_secret file file.secret secret
+
+-- the file with an entry more is this, or the entry may not stand behind those before
+abbrev pub IsAdded : KeyFile → Entry → Bool → KeyFile → Type 0
+IsAdded old entry added new = MatchBool added (with_entry old entry ≡ Some new) (with_entry old entry ≡ None)
 
 -- the line states an entry with which this is the file
 pub record IsTaken (old : KeyFile) (line : List ℕ) (new : KeyFile) : Type 0 where

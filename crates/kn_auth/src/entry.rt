@@ -1,6 +1,6 @@
 //! What a line of a key file states.
 ghost use Rattle.std.specs.Prelude.{◌≡◌, ◌++◌, ℕ, List, codes, IfOk, MatchOption};
-ghost use Rattle.kn_auth.specs.KeyLines.{is_comment, SpellsKey, NamesPrincipal, States, StatesNothing};
+ghost use Rattle.kn_auth.specs.KeyLines.{is_comment, SpellsKey, NamesPrincipal, ReadsAs};
 
 use hex::{FromHex, FromHexError};
 use kn_base::text::{behind, cut};
@@ -33,7 +33,7 @@ pub(crate) enum Entry {
 
 /// What a line states by itself, without its newline; None where it is of no form.
 pub(crate) fn read_line(alloc: Global, line: &[u8]) -> Result<Option<Entry>, NoMemory>
-    ensures { IfOk result (λ read. MatchOption read (StatesNothing line.now) (λ entry. States line.now entry)) }
+    ensures { IfOk result (λ read. ReadsAs line.now read) }
 {
     if is_comment(line) {
         return Ok(Some(Entry::Comment));
@@ -61,7 +61,7 @@ fn is_comment(line: &[u8]) -> bool
 
 /// What a line states that is `mac` and this behind a space.
 fn mac_entry(alloc: Global, text: &[u8]) -> Result<Option<Entry>, NoMemory>
-    ensures { IfOk result (λ read. MatchOption read (StatesNothing (codes "mac " ++ text.now)) (λ entry. States (codes "mac " ++ text.now) entry)) }
+    ensures { IfOk result (λ read. ReadsAs (codes "mac " ++ text.now) read) }
 {
     let Some((digits, name)) = cut(text, b' ') else {
         return Ok(None);
@@ -77,7 +77,7 @@ fn mac_entry(alloc: Global, text: &[u8]) -> Result<Option<Entry>, NoMemory>
 
 /// What a line states that is `digest` and this behind a space.
 fn digest_entry(digits: &[u8]) -> Option<Entry>
-    ensures { MatchOption result (StatesNothing (codes "digest " ++ digits.now)) (λ entry. States (codes "digest " ++ digits.now) entry) }
+    ensures { ReadsAs (codes "digest " ++ digits.now) result }
 {
     match <[u8; 32] as FromHex>::from_hex(digits) {
         Ok(digest) => Some(Entry::Digest(digest)),
@@ -87,7 +87,7 @@ fn digest_entry(digits: &[u8]) -> Option<Entry>
 
 /// What a line states that is `secret` and this behind a space.
 fn secret_entry(alloc: Global, digits: &[u8]) -> Result<Option<Entry>, NoMemory>
-    ensures { IfOk result (λ read. MatchOption read (StatesNothing (codes "secret " ++ digits.now)) (λ entry. States (codes "secret " ++ digits.now) entry)) }
+    ensures { IfOk result (λ read. ReadsAs (codes "secret " ++ digits.now) read) }
 {
     match key(alloc, digits)? {
         Some(secret) => Ok(Some(Entry::Secret(secret))),
@@ -97,7 +97,9 @@ fn secret_entry(alloc: Global, digits: &[u8]) -> Result<Option<Entry>, NoMemory>
 
 /// The 1 to 128 bytes that digits spell.
 fn key(alloc: Global, digits: &[u8]) -> Result<Option<Octets>, NoMemory>
-    ensures { IfOk result (λ read. MatchOption read ((key : List ℕ) → ¬ SpellsKey digits.now key) (λ key. SpellsKey digits.now key)) }
+    ensures { IfOk result (λ read. MatchOption read
+        ((key : List ℕ) → ¬ SpellsKey digits.now key)
+        (λ key. SpellsKey digits.now key)) }
 {
     let bytes = match hex::decode(alloc, digits) {
         Ok(bytes) => bytes,
@@ -113,7 +115,9 @@ fn key(alloc: Global, digits: &[u8]) -> Result<Option<Octets>, NoMemory>
 
 /// The normal form of a principal.
 fn principal(alloc: Global, name: &[u8]) -> Result<Option<Octets>, NoMemory>
-    ensures { IfOk result (λ read. MatchOption read ((principal : List ℕ) → ¬ NamesPrincipal name.now principal) (λ principal. NamesPrincipal name.now principal)) }
+    ensures { IfOk result (λ read. MatchOption read
+        ((principal : List ℕ) → ¬ NamesPrincipal name.now principal)
+        (λ principal. NamesPrincipal name.now principal)) }
 {
     match normal(alloc, name) {
         Ok(principal) => Ok(Some(principal)),

@@ -1,9 +1,10 @@
 //! Reading key files.
-ghost use Rattle.std.specs.Prelude.{◌≡◌, ◌⊎◌, ◌<◌, ◌+◌, ◌^◌, ◌++◌, ◌∷◌, [], ℕ, List, Some, None, Ok, Err, IfOk, IfErr, OnOk, length};
+ghost use Rattle.std.specs.Prelude.{◌≡◌, ◌⊎◌, ◌<◌, ◌+◌, ◌^◌, ◌++◌, ◌∷◌, [], ℕ, List, Some, None, Ok, Err};
+ghost use Rattle.std.specs.Prelude.{IfOk, IfErr, OnOk, length};
 ghost use Rattle.std.specs.Bool.{MatchBool};
 ghost use Rattle.kn_auth.specs.KeyFiles.{IsKeyFile, IsFirstMalformed};
 ghost use Rattle.kn_auth.specs.Causes.{IsCause};
-ghost use Rattle.kn_auth.specs.Reading.{with_entry, IsTaken, IsLineRefused};
+ghost use Rattle.kn_auth.specs.Reading.{IsAdded, IsTaken, IsLineRefused};
 ghost use Rattle.kn_auth.specs.declared.key_file.KeyFile.{KeyFile};
 ghost use Rattle.kn_auth.specs.declared.fault.KeyFault.TheVariants as F;
 
@@ -28,11 +29,11 @@ pub struct KeyFile {
 /// Reads a key file.
 ///
 /// The format is keynoted's own. A line ends with a newline or the end of the file, and one carriage return before the
-/// newline isn't part of it. A line that is empty or begins with `#` is passed over. Each other line is one of these, with
-/// single spaces: `mac DIGITS PRINCIPAL` gives the principal, which is the rest of the line, a key of 1 to 128 bytes;
-/// `digest DIGITS` lists a SHA-256; `secret DIGITS` is the administrators' secret of 1 to 128 bytes. Digits are
-/// hexadecimal of either case. Any other line is malformed, and so are a principal that is empty or above 4,096 bytes, a
-/// principal whose normal form had a key before, and a second secret.
+/// newline isn't part of it. A line that is empty or begins with `#` is passed over. Each other line is one of these,
+/// with single spaces: `mac DIGITS PRINCIPAL` gives the principal, which is the rest of the line, a key of 1 to 128
+/// bytes; `digest DIGITS` lists a SHA-256; `secret DIGITS` is the administrators' secret of 1 to 128 bytes. Digits are
+/// hexadecimal of either case. Any other line is malformed, and so are a principal that is empty or above 4,096 bytes,
+/// a principal whose normal form had a key before, and a second secret.
 ///
 /// `Line` tells the first malformed line, `NoMemory` that there was no memory for what the file says.
 pub fn read_keys(alloc: Global, bytes: &[u8]) -> Result<KeyFile, KeyFault>
@@ -40,7 +41,8 @@ pub fn read_keys(alloc: Global, bytes: &[u8]) -> Result<KeyFile, KeyFault>
     ensures err { IfErr result (λ fault. IsCause bytes.now fault) }
     // A key file is read, and a text with a malformed line is refused by the first of them.
     ensures each_file { (file : KeyFile) → IsKeyFile bytes.now file → (result ≡ Ok file) ⊎ (result ≡ Err F.NoMemory) }
-    ensures each_line { (line : ℕ) → IsFirstMalformed bytes.now line → (result ≡ Err (F.Line line)) ⊎ (result ≡ Err F.NoMemory) }
+    ensures each_line { (line : ℕ) → IsFirstMalformed bytes.now line
+        → (result ≡ Err (F.Line line)) ⊎ (result ≡ Err F.NoMemory) }
 {
     read(alloc, bytes)
 }
@@ -64,7 +66,7 @@ fn read(alloc: Global, bytes: &[u8]) -> Result<KeyFile, KeyFault>
 impl KeyFile {
     ghost use Rattle.std.specs.Prelude.{◌≡◌, [], IfOk};
     ghost use Rattle.std.specs.Bool.{MatchBool};
-    ghost use Rattle.kn_auth.specs.Reading.{with_entry, IsTaken, IsLineRefused};
+    ghost use Rattle.kn_auth.specs.Reading.{IsAdded, IsTaken, IsLineRefused};
 
     /// What a key file without lines says: no key and no digest is known, and the secret is empty.
     pub fn empty(alloc: Global) -> KeyFile
@@ -83,7 +85,9 @@ impl KeyFile {
 
     /// Adds what a line states; false where the line is malformed at its place.
     fn take_line(&mut self, alloc: Global, line: &[u8]) -> Result<bool, NoMemory>
-        ensures { IfOk result (λ taken. MatchBool taken (IsTaken self.old line.now self.new) (IsLineRefused self.old line.now)) }
+        ensures { IfOk result (λ taken. MatchBool taken
+            (IsTaken self.old line.now self.new)
+            (IsLineRefused self.old line.now)) }
     {
         match read_line(alloc, line)? {
             Some(entry) => self.add(entry),
@@ -93,7 +97,7 @@ impl KeyFile {
 
     /// Adds what a line states; false where that may not stand behind what was added before.
     fn add(&mut self, entry: Entry) -> Result<bool, NoMemory>
-        ensures { IfOk result (λ added. MatchBool added (with_entry self.old entry ≡ Some self.new) (with_entry self.old entry ≡ None)) }
+        ensures { IfOk result (λ added. IsAdded self.old entry added self.new) }
     {
         match entry {
             Entry::Comment => Ok(true),
@@ -107,7 +111,7 @@ impl KeyFile {
     }
 
     fn add_key(&mut self, mac: MacKey) -> Result<bool, NoMemory>
-        ensures { IfOk result (λ added. MatchBool added (with_entry self.old (Entry.Mac mac) ≡ Some self.new) (with_entry self.old (Entry.Mac mac) ≡ None)) }
+        ensures { IfOk result (λ added. IsAdded self.old (Entry.Mac mac) added self.new) }
     {
         if self.auth.keys.has(mac.principal.as_slice()) {
             return Ok(false);
@@ -117,7 +121,7 @@ impl KeyFile {
     }
 
     fn add_secret(&mut self, secret: Octets) -> bool
-        ensures { MatchBool result (with_entry self.old (Entry.Secret secret) ≡ Some self.new) (with_entry self.old (Entry.Secret secret) ≡ None) }
+        ensures { IsAdded self.old (Entry.Secret secret) result self.new }
     {
         if !self.secret.is_empty() {
             return false;

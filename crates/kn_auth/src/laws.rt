@@ -8,10 +8,14 @@ use crate::entry::KEY_BYTES;
 
 /// A text is a key file of one content or has one first malformed line, and never both.
 pub fn one_reading()
-    ensures each { (text : List ℕ) → ((file : KeyFile) × IsKeyFile text file) ⊎ ((line : ℕ) × IsFirstMalformed text line) }
-    ensures not_both { (text : List ℕ) (file : KeyFile) (line : ℕ) → IsKeyFile text file → ¬ IsFirstMalformed text line }
-    ensures one_file { (text : List ℕ) (file other : KeyFile) → IsKeyFile text file → IsKeyFile text other → file ≡ other }
-    ensures one_line { (text : List ℕ) (line other : ℕ) → IsFirstMalformed text line → IsFirstMalformed text other → line ≡ other }
+    ensures each { (text : List ℕ)
+        → ((file : KeyFile) × IsKeyFile text file) ⊎ ((line : ℕ) × IsFirstMalformed text line) }
+    ensures not_both { (text : List ℕ) (file : KeyFile) (line : ℕ)
+        → IsKeyFile text file → ¬ IsFirstMalformed text line }
+    ensures one_file { (text : List ℕ) (file other : KeyFile)
+        → IsKeyFile text file → IsKeyFile text other → file ≡ other }
+    ensures one_line { (text : List ℕ) (line other : ℕ)
+        → IsFirstMalformed text line → IsFirstMalformed text other → line ≡ other }
 {}
 
 /// The bytes of a key, and of the administrators' secret.

@@ -22,9 +22,9 @@ const PARKED: u64 = 1;
 /// fall asleep. If the other's write comes first, the waiter's last look finds its ticket served.
 ///
 /// At one time at most one ticket waits at a place: the tickets that are held follow one another from the one that is
-/// served, and there are at most as many as passes. Who was slow to write `EMPTY` may find the place `PARKED` by a later
-/// ticket. It then wakes that ticket's holder, which looks again and parks again. Who serves that later ticket may
-/// find the place `EMPTY` meanwhile, and leaves the waking to the slow one, which is on its way to it.
+/// served, and there are at most as many as passes. Who was slow to write `EMPTY` may find the place `PARKED` by a
+/// later ticket. It then wakes that ticket's holder, which looks again and parks again. Who serves that later ticket
+/// may find the place `EMPTY` meanwhile, and leaves the waking to the slow one, which is on its way to it.
 #[derive(Drop)]
 pub struct Parking {
     places: [AtomicU64; 64],

@@ -1,5 +1,6 @@
 //! A list of callers under a turn.
-ghost use Rattle.std.specs.Prelude.{◌≡◌, ◌≢◌, ◌+◌, ◌<◌, ◌++◌, ◌∷◌, [], ℕ, length, replicate, true, All, IfOk, OnErr, OnOk};
+ghost use Rattle.std.specs.Prelude.{◌≡◌, ◌≢◌, ◌+◌, ◌<◌, ◌++◌, ◌∷◌, [], ℕ, true};
+ghost use Rattle.std.specs.Prelude.{length, replicate, All, IfOk, OnErr, OnOk};
 ghost use Rattle.kn_turn.specs.Passes.{PassView};
 
 use super::*;

@@ -1,9 +1,12 @@
 //! The turn: a value in the one slot of a table, and tickets for it.
-ghost use Rattle.std.specs.Prelude.{◌≡◌, ◌≢◌, ◌+◌, ◌<◌, ◌%◌, ◌^◌, ◌++◌, ◌∷◌, [], List, length, true, false, None, All, IfOk, OnErr, MatchBool};
+ghost use Rattle.std.specs.Prelude.{◌≡◌, ◌≢◌, ◌+◌, ◌<◌, ◌%◌, ◌^◌, ◌++◌, ◌∷◌, [], List, true, false, None};
+ghost use Rattle.std.specs.Prelude.{length, All, IfOk, OnErr, MatchBool};
 ghost use mathlib.Core.List.{IsPrefix};
 ghost use Rattle.kn_turn.specs.declared.view.Stage.TheVariants.{Idle, Waits, Served};
 ghost use Rattle.kn_turn.specs.Invariant.{IsSoundView};
-ghost use Rattle.kn_turn.specs.Passes.{IsSoundPass, root_of, after_take, after_append, after_append_all, after_look, after_give, split_of, after_split, after_join, after_meet};
+ghost use Rattle.kn_turn.specs.Passes.{IsSoundPass, root_of, split_of};
+ghost use Rattle.kn_turn.specs.Passes.{after_take, after_append, after_append_all, after_look, after_give};
+ghost use Rattle.kn_turn.specs.Passes.{after_split, after_join, after_meet};
 ghost use Rattle.kn_turn.specs.Views.{after_serve};
 
 use crate::logged::Logged;
@@ -126,7 +129,9 @@ impl<S: Logged> Turn<S> {
         requires waits { seat.old.me.0.stage ≡ Waits }
         requires ticket { ticket ≡ seat.old.me.0.ticket % 2 ^ 64 }
         ensures turn { seat.new.table_id ≡ seat.old.table_id }
-        ensures served { MatchBool result (seat.new.me ≡ (after_serve seat.old.me.0, seat.old.me.1)) (seat.new.me ≡ seat.old.me) }
+        ensures served { MatchBool result
+            (seat.new.me ≡ (after_serve seat.old.me.0, seat.old.me.1))
+            (seat.new.me ≡ seat.old.me) }
     {
         for _ in 0..LOOKS {
             if self.is_served(seat, ticket) {
@@ -142,7 +147,9 @@ impl<S: Logged> Turn<S> {
         requires waits { seat.old.me.0.stage ≡ Waits }
         requires ticket { ticket ≡ seat.old.me.0.ticket % 2 ^ 64 }
         ensures turn { seat.new.table_id ≡ seat.old.table_id }
-        ensures served { MatchBool result (seat.new.me ≡ (after_serve seat.old.me.0, seat.old.me.1)) (seat.new.me ≡ seat.old.me) }
+        ensures served { MatchBool result
+            (seat.new.me ≡ (after_serve seat.old.me.0, seat.old.me.1))
+            (seat.new.me ≡ seat.old.me) }
     {
         self.table.shared.load::<Sees<S>>(seat, SERVING) == ticket
     }
@@ -151,21 +158,25 @@ impl<S: Logged> Turn<S> {
     pub fn append(&self, pass: &mut Pass<S>, value: &S) -> u32
         requires turn { pass.old.turn ≡ self.now }
         requires taken { pass.old.is_idle ≡ false }
-        requires more { (entry : S.Entry) × (S.by entry ≡ pass.old.number) × (S.log value.now ≡ pass.old.taken ++ entry ∷ []) }
-        ensures appended { (entry : S.Entry) → S.log value.now ≡ pass.old.taken ++ entry ∷ [] → pass.new ≡ after_append pass.old entry }
+        requires more { (entry : S.Entry)
+            × (S.by entry ≡ pass.old.number) × (S.log value.now ≡ pass.old.taken ++ entry ∷ []) }
+        ensures appended { (entry : S.Entry)
+            → S.log value.now ≡ pass.old.taken ++ entry ∷ [] → pass.new ≡ after_append pass.old entry }
         ensures length { result ≡ length (S.log value.now) }
         ensures sound { IsSoundPass S.by pass.new }
     {
         self.append_all(pass, value)
     }
 
-    /// Makes the value's last entries, all of which name this pass, the last ones of the history, at one turn, and answers
-    /// its length.
+    /// Makes the value's last entries, all of which name this pass, the last ones of the history, at one turn, and
+    /// answers its length.
     pub fn append_all(&self, pass: &mut Pass<S>, value: &S) -> u32
         requires turn { pass.old.turn ≡ self.now }
         requires taken { pass.old.is_idle ≡ false }
-        requires more { (entries : List S.Entry) × All (λ entry. S.by entry ≡ pass.old.number) entries × (S.log value.now ≡ pass.old.taken ++ entries) }
-        ensures appended { (entries : List S.Entry) → S.log value.now ≡ pass.old.taken ++ entries → pass.new ≡ after_append_all pass.old entries }
+        requires more { (entries : List S.Entry)
+            × All (λ entry. S.by entry ≡ pass.old.number) entries × (S.log value.now ≡ pass.old.taken ++ entries) }
+        ensures appended { (entries : List S.Entry)
+            → S.log value.now ≡ pass.old.taken ++ entries → pass.new ≡ after_append_all pass.old entries }
         ensures length { result ≡ length (S.log value.now) }
         ensures sound { IsSoundPass S.by pass.new }
     {
