@@ -1,5 +1,5 @@
 -- Attributes that are the entries of a map.
-use Rattle.std.proofs.Common.{◌≡◌, ℕ, suc, ◌+◌, ◌<◌, ◌≤◌, Bool, true, false, ◌||◌, ◌&&◌, not, cond, nat_le, nat_lt, List, [], ◌∷◌, length, find, map, Option, Some, None, Vec, Bor, refl, sym, ap, ◌∙◌, arith, if◌then◌else◌}
+use Rattle.std.proofs.Common.{◌≡◌, ℕ, suc, ◌+◌, ◌<◌, ◌≤◌, Bool, true, false, ◌||◌, ◌&&◌, not, cond, nat_le, nat_lt, List, [], ◌∷◌, ◌++◌, length, find, map, Option, Some, None, Vec, Bor, refl, sym, ap, ◌∙◌, subst, arith, length-append, if◌then◌else◌}
 use Rattle.std.specs.Option.{option_map, option_copied}
 use Rattle.std.specs.Prelude.{is_some}
 use Rattle.std.specs.Str.{bytes_eq}
@@ -9,6 +9,7 @@ use Rattle.std.specs.declared.alloc.Global.{Global}
 use Rattle.indexmap.specs.IndexMap.{insert_entry}
 use Rattle.std.proofs.lemmas.Bool.{leb-false}
 use Rattle.std.proofs.lemmas.List.{length-map}
+use Rattle.std.proofs.lemmas.Slice.Eq.{bytes_eq-Decides}
 use Rattle.kn_env.specs.declared.attributes.EnvFault.TheVariants.{BadName, BadValue, Full}
 use Rattle.kn_env.specs.Attributes.{Attribute, is_settable, has_attribute, attribute_value, attribute_names, with_attribute, without_attribute, attribute_fault}
 use Rattle.kn_env.specs.Entries.{attribute_of}
@@ -81,27 +82,29 @@ not_full false true c n e = cc
 not_full false false true n e = cc
 not_full false false false n e = refl
 
-room_by : (b : Bool) (n m : ℕ) → (not b && nat_le 256 n) ≡ false → n ≤ 256 → m ≡ (if b then n else n + 1) → m ≤ 256
-room_by true n m e few is = omega arith
-room_by false n m e few is = let below : n < 256 = leb-false 256 n e in omega arith
-
--- there is room for an attribute with which there is no fault
-pub room_for : (name value : List ℕ) (attributes : List Attribute) → attribute_fault name value attributes ≡ None → length attributes ≤ 256 → length (with_attribute name value attributes) ≤ 256
-room_for name value attributes e few =
-    room_by (has_attribute name attributes) (length attributes) (length (with_attribute name value attributes))
-    (not_full (not (is_settable name)) (nat_lt 4096 (length value)) (not (has_attribute name attributes) && nat_le 256 (length attributes)) (length attributes) e) few (length-with_attribute name value attributes)
+-- there is room for a new attribute with which there is no fault
+pub room_for_new : (name value : List ℕ) (attributes : List Attribute) → attribute_fault name value attributes ≡ None → has_attribute name attributes ≡ false → length attributes < 256
+room_for_new name value attributes none new =
+    let full : (not (has_attribute name attributes) && nat_le 256 (length attributes)) ≡ false =
+    not_full (not (is_settable name)) (nat_lt 4096 (length value)) (not (has_attribute name attributes) && nat_le 256 (length attributes)) (length attributes) none in
+    leb-false 256 (length attributes) (sym (ap (λ b. not b && nat_le 256 (length attributes)) new) ∙ full)
 
 pub is_some-copied : {T : Type 0} (o : Option (Bor T)) → is_some o ≡ is_some (option_copied o)
 is_some-copied None = refl
 is_some-copied (Some x) = refl
 
+room_by : (b : Bool) (n m : ℕ) → (b ≡ false → n < 256) → n ≤ 256 → m ≡ (if b then n else n + 1) → m ≤ 256
+room_by true n m room few is = omega arith
+room_by false n m room few is = let below : n < 256 = room refl in omega arith
+
 -- the entries of the map stay few
-pub few_inserted : (old new : List (Bytes × Bytes)) (key value : Bytes) → new ≡ insert_entry same_key old key value → length old ≤ 256 → attribute_fault key.items value.items (map attribute_of old) ≡ None → length new ≤ 256
-few_inserted old new key value is few none =
+pub few_inserted : (old new : List (Bytes × Bytes)) (key value : Bytes) → new ≡ insert_entry same_key old key value → length old ≤ 256 → (has_attribute key.items (map attribute_of old) ≡ false → length (map attribute_of old) < 256) → length new ≤ 256
+few_inserted old new key value is few room =
     let before : length (map attribute_of old) ≡ length old = simp length-map in
     let after : length (map attribute_of new) ≡ length new = simp length-map in
-    let room : length (with_attribute key.items value.items (map attribute_of old)) ≤ 256 = room_for key.items value.items (map attribute_of old) none (omega arith) in
-    let same : length (map attribute_of new) ≡ length (with_attribute key.items value.items (map attribute_of old)) = ap (λ entries. length (map attribute_of entries)) is ∙ ap length (with_inserted key value old) in
+    let grown : length (map attribute_of new) ≡ (if has_attribute key.items (map attribute_of old) then length (map attribute_of old) else length (map attribute_of old) + 1) =
+    ap (λ entries. length (map attribute_of entries)) is ∙ ap length (with_inserted key value old) ∙ length-with_attribute key.items value.items (map attribute_of old) in
+    let most : length (map attribute_of new) ≤ 256 = room_by (has_attribute key.items (map attribute_of old)) (length (map attribute_of old)) (length (map attribute_of new)) room (omega arith) grown in
     omega arith
 
 -- other keys than this one are other names
@@ -114,3 +117,45 @@ pub names_different : (entries : List (Bytes × Bytes)) → IsDistinct same_key 
 unfolding IsDistinct
 names_different [] distinct = tt
 names_different (e ∷ entries) distinct = (others_named e.0 entries distinct.0, names_different entries distinct.1)
+
+-- an attribute of a new name comes last
+pub with_new_attribute : (name value : List ℕ) (attributes : List Attribute) → has_attribute name attributes ≡ false → with_attribute name value attributes ≡ attributes ++ record { name = name; value = value } ∷ []
+with_new_attribute name value [] new = refl
+with_new_attribute name value (a ∷ attributes) new = by (bytes_eq name a.name) new (with_new_attribute name value attributes)
+  where
+    by : (b : Bool) → (b || has_attribute name attributes) ≡ false → (has_attribute name attributes ≡ false → with_attribute name value attributes ≡ attributes ++ record { name = name; value = value } ∷ [])
+        → cond b (record a { value = value } ∷ attributes) (a ∷ with_attribute name value attributes) ≡ a ∷ (attributes ++ record { name = name; value = value } ∷ [])
+    by true new rest = cc
+    by false new rest = ap (λ others. a ∷ others) (rest new)
+
+differs_back : (a b : List ℕ) → bytes_eq a b ≡ false → bytes_eq b a ≡ false
+differs_back a b differs = by (bytes_eq b a) refl
+  where
+    by : (t : Bool) → bytes_eq b a ≡ t → bytes_eq b a ≡ false
+    by true same = let again : bytes_eq a b ≡ true = (bytes_eq-Decides a b).1 (sym ((bytes_eq-Decides b a).0 same)) in absurd (cc)
+    by false other = other
+
+name_behind : (name : List ℕ) (before : List Attribute) (a : Attribute) (behind : List Attribute) → AllByRecursion (λ other. bytes_eq name other ≡ false) (attribute_names (before ++ a ∷ behind)) → bytes_eq name a.name ≡ false
+name_behind name [] a behind all = all.0
+name_behind name (b ∷ before) a behind all = name_behind name before a behind all.1
+
+-- where no two names are equal, an attribute's name is a new one behind those before it
+pub new_behind : (before : List Attribute) (a : Attribute) (behind : List Attribute) → IsDistinct bytes_eq (attribute_names (before ++ a ∷ behind)) → has_attribute a.name before ≡ false
+unfolding IsDistinct
+new_behind [] a behind distinct = refl
+new_behind (b ∷ before) a behind distinct =
+    let other : bytes_eq a.name b.name ≡ false = differs_back b.name a.name (name_behind b.name before a behind distinct.0) in
+    rw other (new_behind before a behind distinct.1)
+
+-- the attribute behind those that were copied so far has a new name, and there is room for it
+pub record IsNext (copied : List Attribute) (a : Attribute) : Type 0 where
+  pub new : has_attribute a.name copied ≡ false
+  pub room : length copied < 256
+
+pub next_copied : (entries : List (Bytes × Bytes)) (copied : List Attribute) (a : Attribute) (left : List Attribute) → length entries ≤ 256 → IsDistinct same_key (keys_of entries) → copied ++ a ∷ left ≡ map attribute_of entries → IsNext copied a
+next_copied entries copied a left few distinct all =
+    let size : length copied + suc (length left) ≡ length entries = sym (length-append copied (a ∷ left)) ∙ ap length all ∙ simp length-map in
+    record {
+      new = new_behind copied a left (subst (λ attributes. IsDistinct bytes_eq (attribute_names attributes)) (sym all) (names_different entries distinct));
+      room = omega arith;
+    }

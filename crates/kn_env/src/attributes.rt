@@ -1,12 +1,15 @@
 //! The attributes of an action.
-ghost use Rattle.std.specs.Prelude.{◌≡◌, ◌≤◌, ◌⊎◌, true, false, [], length, Some, None, OnOk, OnErr, IfErr};
+ghost use Rattle.std.specs.Prelude.{◌≡◌, ◌<◌, ◌≤◌, ◌⊎◌, true, false, [], length, Some, None, OnOk, OnErr, IfOk, IfErr};
 ghost use Rattle.std.specs.List.{list_all, IsDistinct};
 ghost use Rattle.std.specs.Option.{option_map};
 ghost use Rattle.std.specs.Str.{bytes_eq};
-ghost use Rattle.kn_env.specs.Attributes.{is_attribute_name, begins_low, is_settable, is_letter, begins_name, continues_name, has_attribute, attribute_value, attribute_names, with_attribute, without_attribute, attribute_fault};
+ghost use Rattle.kn_env.specs.Attributes.{is_attribute_name, begins_low, is_settable, is_letter, begins_name};
+ghost use Rattle.kn_env.specs.Attributes.{continues_name, has_attribute, attribute_value, attribute_names};
+ghost use Rattle.kn_env.specs.Attributes.{with_attribute, without_attribute, attribute_fault};
 ghost use Rattle.kn_env.specs.declared.attributes.EnvFault.TheVariants as F;
 
 use indexmap::IndexMap;
+use kn_base::NoMemory;
 use kn_base::limits::{ATTRIBUTES, NAME_BYTES, VALUE_BYTES};
 use std::alloc::Global;
 use std::marker::Model;
@@ -114,11 +117,15 @@ impl Attributes {
         ensures ok { OnOk result (attribute_fault name.now value.now self.old ≡ None) }
         ensures after { OnOk result (self.new ≡ with_attribute name.now value.now self.old) }
         ensures err { OnErr result (self.new ≡ self.old) }
-        ensures fault { IfErr result (λ fault. (fault ≡ F.NoMemory) ⊎ (attribute_fault name.now value.now self.old ≡ Some fault)) }
+        ensures fault { IfErr result (λ fault.
+            (fault ≡ F.NoMemory) ⊎ (attribute_fault name.now value.now self.old ≡ Some fault)) }
     {
-        match self.fault(name, value) {
-            Some(fault) => Err(fault),
-            None => self.insert(name, value),
+        if let Some(fault) = self.fault(name, value) {
+            return Err(fault);
+        }
+        match self.enter(name, value) {
+            Ok(()) => Ok(()),
+            Err(NoMemory) => Err(EnvFault::NoMemory),
         }
     }
 
@@ -144,22 +151,21 @@ impl Attributes {
         self.entries.get(name).is_some()
     }
 
-    // Sets what there is no fault with.
-    fn insert(&mut self, name: &[u8], value: &[u8]) -> Result<(), EnvFault>
-        requires { attribute_fault name.now value.now self.old ≡ None }
+    // Gives an attribute this value. There is room for it where the name is new.
+    fn enter(&mut self, name: &[u8], value: &[u8]) -> Result<(), NoMemory>
+        requires room { has_attribute name.now self.old ≡ false → length self.old < ATTRIBUTES }
         ensures ok { OnOk result (self.new ≡ with_attribute name.now value.now self.old) }
         ensures err { OnErr result (self.new ≡ self.old) }
-        ensures fault { IfErr result (λ fault. fault ≡ F.NoMemory) }
     {
         let Ok(key) = Vec::from_slice(self.alloc, name) else {
-            return Err(EnvFault::NoMemory);
+            return Err(NoMemory);
         };
         let Ok(kept) = Vec::from_slice(self.alloc, value) else {
-            return Err(EnvFault::NoMemory);
+            return Err(NoMemory);
         };
         match self.entries.insert(key, kept) {
             Ok(_) => Ok(()),
-            Err(_) => Err(EnvFault::NoMemory),
+            Err(_) => Err(NoMemory),
         }
     }
 
@@ -193,6 +199,17 @@ impl Attributes {
         ensures different { IsDistinct bytes_eq (attribute_names self.now) }
     {
         self.entries.len() as u32
+    }
+
+    /// The same attributes, in their order.
+    pub fn copy(&self) -> Result<Attributes, NoMemory>
+        ensures { IfOk result (λ copy. copy ≡ self.now) }
+    {
+        let mut copy = Attributes::new(self.alloc);
+        for (name, value) in self.entries.iter() {
+            copy.enter(name.as_slice(), value.as_slice())?;
+        }
+        Ok(copy)
     }
 
     /// Takes all attributes away. Takes no memory.

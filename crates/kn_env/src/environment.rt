@@ -12,7 +12,8 @@ use kn_base::{List, NoMemory, Octets};
 use std::alloc::Global;
 use std::marker::Model;
 
-/// What is asked of a set of assertions (RFC 2704, section 5): an action's attributes, compliance values and requesters.
+/// What is asked of a set of assertions (RFC 2704, section 5): an action's attributes, compliance values and
+/// requesters.
 #[derive(Drop)]
 pub struct Query<'a> {
     attributes: &'a Attributes,
@@ -28,7 +29,11 @@ impl<'a> Model for Query<'a> {
 
     ghost Value = { Asked };
 
-    ghost view = { λ q. record { attributes = q.attributes.now; values = q.values.now; requesters = q.requesters.now } };
+    ghost view = { λ q. record {
+      attributes = q.attributes.now;
+      values = q.values.now;
+      requesters = q.requesters.now;
+    } };
 
     ghost invariant = { λ q. (q.authorizers ≡ join_with_byte 44 q.requesters.now) × AreRequesters q.requesters.now };
 }

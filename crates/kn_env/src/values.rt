@@ -1,8 +1,10 @@
 //! Compliance values.
-ghost use Rattle.std.specs.Prelude.{◌≡◌, ◌⊎◌, ◌<◌, ◌≤◌, ◌+◌, ◌-◌, ℕ, [], true, Some, None, length, slice_get, slice_index_or, take, IfOk, IfErr, IfSome, ◌&&◌, ◌==◌, nat_le, count_by};
+ghost use Rattle.std.specs.Prelude.{◌≡◌, ◌⊎◌, ◌<◌, ◌≤◌, ◌+◌, ◌-◌, ◌&&◌, ◌==◌, ℕ, [], true, Some, None};
+ghost use Rattle.std.specs.Prelude.{length, slice_get, slice_index_or, take, IfOk, IfErr, IfSome, nat_le, count_by};
 ghost use Rattle.std.specs.List.{list_all, list_any, join_with_byte, AllByRecursion, IsDistinct};
 ghost use Rattle.std.specs.Str.{bytes_eq};
-ghost use Rattle.kn_env.specs.Values.{between_commas, is_value_name, stood_before, bad_place, twice_place, name_fault, values_fault, values_of, index_of};
+ghost use Rattle.kn_env.specs.Values.{between_commas, is_value_name, stood_before, bad_place, twice_place};
+ghost use Rattle.kn_env.specs.Values.{name_fault, values_fault, values_of, index_of};
 ghost use Rattle.kn_env.specs.declared.values.ValuesFault.TheVariants as F;
 
 use kn_base::limits::{COMPLIANCE_VALUE_BYTES, FEWEST_COMPLIANCE_VALUES, MOST_COMPLIANCE_VALUES};
