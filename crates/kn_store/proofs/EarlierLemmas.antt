@@ -3,8 +3,8 @@ use Rattle.std.proofs.Common.{◌≡◌, ℕ, suc, ◌+◌, ◌-◌, ◌<◌, �
 use Rattle.std.specs.Prelude.{nat_lt, remove, slice_get}
 use Rattle.std.proofs.lemmas.Bool.{ltb-true, ltb-false}
 use Rattle.std.proofs.lemmas.List.{take_all, take-append-le}
-use Rattle.kn_store.specs.declared.update.Update.{Update}
-use Rattle.kn_store.specs.Retained.{AreLeft, AreEarlier, with_version}
+use Rattle.kn_history.specs.declared.update.Update.{Update}
+use Rattle.kn_store.specs.EarlierVersions.{AreLeft, AreEarlier, with_version}
 use Rattle.kn_store.proofs.PageLemmas.{slice_get-left, slice_get-right}
 
 -- each version has its number

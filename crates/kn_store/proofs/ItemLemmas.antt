@@ -1,21 +1,21 @@
 -- The items of a batch, one behind the other: what they make of the live credentials.
-use Rattle.std.proofs.Common.{◌≡◌, ℕ, ◌+◌, ◌≤◌, true, List, [], ◌∷◌, ◌++◌, length, drop, refl, sym, ap, ◌∙◌, arith, append_assoc, append-nil, Some, None}
-use Rattle.std.specs.Prelude.{slice_get, slice_set, sum_by}
+use Rattle.std.proofs.Common.{◌≡◌, ℕ, ◌+◌, ◌≤◌, true, List, [], ◌∷◌, ◌++◌, length, drop, Some, None}
+use Rattle.std.proofs.Common.{refl, sym, ap, ◌∙◌, arith, append_assoc, append-nil}
+use Rattle.std.specs.Prelude.{slice_get, slice_set}
 use Rattle.std.specs.List.{list_all}
 use Rattle.std.proofs.lemmas.Bool.{le-leb}
 use Rattle.std.proofs.lemmas.List.{drop_more, drop-set-lt}
-use Rattle.std.proofs.lemmas.List.Sums.{sum_by-cons}
 use Rattle.std.proofs.lemmas.Option.{get_or_from_slice_get, slice_get_within}
-use Rattle.kn_store.specs.declared.item.Item.{Item}
-use Rattle.kn_store.specs.declared.item.Item.TheVariants as I
-use Rattle.kn_store.specs.declared.update.Change.TheVariants.{Add, Remove}
-use Rattle.kn_store.specs.declared.update.Numbered.{Numbered}
-use Rattle.kn_store.specs.declared.fault.StoreFault.{StoreFault}
-use Rattle.kn_store.specs.History.{added_count, additions, update_may_follow}
-use Rattle.kn_store.specs.Batches.{numbered, all_numbered, numbered_from, refusal_of_item, found_at, refused_from, refusal_of_items, batch_by, item_reads}
+use Rattle.kn_history.specs.declared.item.Item.{Item}
+use Rattle.kn_history.specs.declared.item.Item.TheVariants as I
+use Rattle.kn_history.specs.declared.update.Numbered.{Numbered}
+use Rattle.kn_history.specs.declared.fault.StoreFault.{StoreFault}
+use Rattle.kn_history.specs.History.{additions, update_may_follow}
+use Rattle.kn_history.specs.Batches.{numbered, all_numbered, numbered_from, batch_by, item_reads}
+use Rattle.kn_history.specs.Batches.{refusal_of_item, found_at, refused_from, refusal_of_items}
+use Rattle.kn_history.proofs.Batches.{ids-go_on, batch-follows}
 use Rattle.kn_store.specs.LiveView.{LiveView, live_view}
 use Rattle.kn_store.specs.ItemViews.{after_item, change_of, refusal_of}
-use Rattle.kn_store.proofs.Batches.{ids-go_on, batch-follows}
 use Rattle.kn_store.proofs.ViewLemmas.{view-addition, view-removal}
 
 -- One item.
@@ -109,20 +109,3 @@ taken_at items place item there =
 
 pub left_behind : (items after : List Item) (place : ℕ) (other : Item) → after ≡ slice_set items place other → drop (place + 1) items ≡ drop (place + 1) after
 left_behind items after place other is = sym (ap (drop (place + 1)) is ∙ drop-set-lt (place + 1) items place other (omega arith))
-
--- How many of them are additions.
-
-abbrev pub added_by : Item → ℕ
-added_by (I.Add text) = 1
-added_by (I.Remove id) = 0
-
-pub additions-numbered : (next : ℕ) (items : List Item) → additions (numbered_from next items) ≡ sum_by added_by items
-additions-numbered next [] = refl
-additions-numbered next (I.Add text ∷ items) =
-    let c : Numbered = record { change = Add text; id = next } in
-    sum_by-cons (λ (x : Numbered). added_count x.change) c (numbered_from (next + 1) items)
-    ∙ ap (λ (n : ℕ). 1 + n) (additions-numbered (next + 1) items) ∙ sym (sum_by-cons added_by (I.Add text) items)
-additions-numbered next (I.Remove id ∷ items) =
-    let c : Numbered = record { change = Remove; id = id } in
-    sum_by-cons (λ (x : Numbered). added_count x.change) c (numbered_from next items)
-    ∙ ap (λ (n : ℕ). 0 + n) (additions-numbered next items) ∙ sym (sum_by-cons added_by (I.Remove id) items)

@@ -1,16 +1,9 @@
-pub mod Loading
-pub mod Valid
-pub mod Histories
 pub mod PageLemmas
 pub mod LiveLemmas
 pub mod SearchLemmas
 pub mod LiveSetLemmas
 pub mod ViewLemmas
 pub mod VersionLemmas
-pub mod Additions
-pub mod Batches
-pub mod Singles
-pub mod Ordered
 pub mod ItemLemmas
 pub mod EarlierLemmas
 pub mod LogLemmas

@@ -1,14 +1,16 @@
 -- Live credentials in order of id: one more, one fewer, and where an id stands.
-use Rattle.std.proofs.Common.{◌≡◌, ℕ, zero, suc, ◌+◌, ◌<◌, ◌≤◌, ◌==◌, true, false, not, List, [], ◌∷◌, ◌++◌, take, drop, filter, refl, sym, ap, ◌∙◌, subst, arith, append_assoc, append-nil}
-use Rattle.std.specs.Prelude.{map, slice_get, slice_index_or, Some}
+use Rattle.std.proofs.Common.{◌≡◌, ℕ, suc, ◌+◌, ◌<◌, ◌≤◌, ◌==◌, true, false, not, List, [], ◌∷◌, ◌++◌, take, drop, filter}
+use Rattle.std.proofs.Common.{refl, sym, ap, ◌∙◌, subst, arith, append_assoc, append-nil}
+use Rattle.std.specs.Prelude.{slice_get, slice_index_or, Some}
 use Rattle.std.specs.List.{list_any, All}
 use Rattle.std.proofs.lemmas.Bool.{ltb-true, ltb-false, ne_eqb, eq-eqb, or_from}
-use Rattle.std.proofs.lemmas.Option.{get_or_from_slice_get, slice_get_within, same_Some}
+use Rattle.std.proofs.lemmas.Option.{get_or_from_slice_get, slice_get_within}
 use Rattle.std.proofs.lemmas.List.{drop_more, take_more, take-append-drop}
 use Rattle.std.proofs.lemmas.List.Elements.{All-head, All-tail}
 use Rattle.std.proofs.lemmas.List.Folds.{list_any-append}
-use Rattle.kn_store.specs.History.{NumberedText}
-use Rattle.kn_store.specs.LiveView.{IdsAscend}
+use Rattle.kn_history.specs.History.{NumberedText}
+use Rattle.kn_history.specs.Ids.{IdsAscend}
+use Rattle.kn_history.proofs.Ids.{ascend-weaker}
 use Rattle.kn_store.specs.Pages.{joined, without_item}
 use Rattle.kn_store.specs.Places.{IsIdAt, IsPlaceOf, ends_before}
 use Rattle.kn_store.proofs.PageLemmas.{joined-append, joined-around, joined-without_item}
@@ -17,10 +19,6 @@ other_id : (a b : ℕ) → (a ≡ b → ⊥) → (a == b) ≡ false
 other_id a b apart = ne_eqb a b apart
 
 -- Order.
-
-pub ascend-weaker : (low above : ℕ) (xs : List NumberedText) → low ≤ above → IdsAscend above xs → IdsAscend low xs
-ascend-weaker low above [] le h = tt
-ascend-weaker low above (x ∷ xs) le h = (omega arith, h.1)
 
 pub ascend-front : (low : ℕ) (xs ys : List NumberedText) → IdsAscend low (xs ++ ys) → IdsAscend low xs
 ascend-front low [] ys h = tt
@@ -159,20 +157,3 @@ search_ends id pages page items order there before ends absent =
     let here = ascend-back 0 front (items ++ back) (subst (IdsAscend 0) (append_assoc front items back) whole) in
     subst (λ l. list_any (λ c. c.id == id) l ≡ false) (sym (joined-more pages page items there))
     (none_in_both id (front ++ items) back (none_in_both id front items before absent) (none_behind id 0 items back here ends))
-
--- Ids that ascend differ.
-
-above_low : (low : ℕ) (credentials : List NumberedText) (p id : ℕ) → IdsAscend low credentials → slice_get (map (λ c. c.id) credentials) p ≡ Some id → low < id
-above_low low [] p id h there = cc
-above_low low (c ∷ credentials) zero id h there = let same : c.id ≡ id = same_Some c.id id there in let first = h.0 in omega arith
-above_low low (c ∷ credentials) (suc p) id h there = let above = above_low c.id credentials p id h.1 there in let first = h.0 in omega arith
-
-pub ids_differ : (low : ℕ) (credentials : List NumberedText) → IdsAscend low credentials → (p q id : ℕ)
-    → slice_get (map (λ c. c.id) credentials) p ≡ Some id → slice_get (map (λ c. c.id) credentials) q ≡ Some id → p ≡ q
-ids_differ low [] h p q id one two = cc
-ids_differ low (c ∷ credentials) h zero zero id one two = refl
-ids_differ low (c ∷ credentials) h zero (suc q) id one two =
-    let same : c.id ≡ id = same_Some c.id id one in let above = above_low c.id credentials q id h.1 two in absurd (omega arith)
-ids_differ low (c ∷ credentials) h (suc p) zero id one two =
-    let same : c.id ≡ id = same_Some c.id id two in let above = above_low c.id credentials p id h.1 one in absurd (omega arith)
-ids_differ low (c ∷ credentials) h (suc p) (suc q) id one two = ap (λ n. suc n) (ids_differ c.id credentials h.1 p q id one two)

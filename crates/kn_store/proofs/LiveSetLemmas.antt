@@ -7,12 +7,13 @@ use Rattle.std.proofs.lemmas.List.Elements.{All-head, All-tail, All-cons, All-ni
 use Rattle.std.proofs.lemmas.List.Folds.{list_any-append}
 use Rattle.std.proofs.lemmas.List.Sums.{sum_by-append, sum_by-cons, sum_by_push}
 use Rattle.kn_base.specs.declared.limits.TheConstants.{LIVE_CREDENTIALS, LIVE_BYTES, UPDATES, LOGGED_BYTES}
-use Rattle.kn_store.specs.declared.fault.StoreFault.{StoreFault}
-use Rattle.kn_store.specs.declared.fault.StoreFault.TheVariants.{Unknown, HistoryFull}
+use Rattle.kn_history.specs.declared.fault.StoreFault.{StoreFault}
+use Rattle.kn_history.specs.declared.fault.StoreFault.TheVariants.{Unknown, HistoryFull}
 use Rattle.kn_store.specs.declared.live_set.TheConstants.{CREDENTIALS_PAGE}
 use Rattle.kn_store.specs.declared.live_set.LiveSet.TheInside.{Inside}
-use Rattle.kn_store.specs.History.{NumberedText, text_bytes}
-use Rattle.kn_store.specs.LiveView.{LiveView, refusal_of_size, refusal_of_removal, with_addition, with_removal, IdsAscend}
+use Rattle.kn_history.specs.History.{NumberedText, text_bytes}
+use Rattle.kn_store.specs.LiveView.{LiveView, refusal_of_size, refusal_of_removal, with_addition, with_removal}
+use Rattle.kn_history.specs.Ids.{IdsAscend}
 use Rattle.kn_store.specs.LiveSets.{view_of_set, IsLiveSet}
 use Rattle.kn_store.specs.Pages.{joined, with_item, without_item}
 use Rattle.kn_store.proofs.PageLemmas.{joined-with_item, sized-with_item, sized-without_item}

@@ -2,7 +2,7 @@
 use Rattle.std.proofs.Common.{◌≡◌, ℕ, zero, suc, ◌+◌, ◌-◌, ◌*◌, ◌/◌, ◌%◌, ◌<◌, List, [], ◌∷◌, length, ap, ◌∙◌, subst, arith, append-nil, length-append, suc-mul, zero-mul, zero-add}
 use Rattle.std.specs.Prelude.{slice_get, slice_index_or, Some}
 use Rattle.std.proofs.lemmas.Option.{get_or_from_slice_get}
-use Rattle.kn_store.specs.declared.update.Update.{Update}
+use Rattle.kn_history.specs.declared.update.Update.{Update}
 use Rattle.kn_store.specs.Pages.{joined, AreFilled}
 use Rattle.kn_store.proofs.PageLemmas.{slice_get-left, slice_get-right}
 
@@ -69,3 +69,5 @@ pub update_there : (pages : List (List Update)) (i : ℕ) (page : List Update) �
     → slice_get pages (i / 256) ≡ Some page → slice_get (joined pages) i ≡ slice_get page (i % 256)
 update_there pages i page filled within at =
     (there pages i filled within).same ∙ ap (λ (l : List Update). slice_get l (i % 256)) (get_or_from_slice_get pages (i / 256) page [] at)
+
+pub ruleset updates_there = (page_there, place_there, update_there)

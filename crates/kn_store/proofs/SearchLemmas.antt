@@ -9,7 +9,7 @@ use Rattle.std.proofs.lemmas.Bool.{or_from, ne_eqb}
 use Rattle.std.proofs.lemmas.List.{get_or-map, take_all, length-map}
 use Rattle.std.proofs.lemmas.List.Folds.{list_any_more}
 use Rattle.std.proofs.lemmas.Option.{slice_get-get_or}
-use Rattle.kn_store.specs.History.{NumberedText}
+use Rattle.kn_history.specs.History.{NumberedText}
 use Rattle.kn_store.specs.Places.{IsIdAt, ends_before}
 
 pub ends_at : (id : ℕ) (page : List (Arc NumberedText Global)) (last : Arc NumberedText Global) (n : ℕ) → length page ≡ suc n → slice_get page n ≡ Some last

@@ -1,19 +1,18 @@
 -- A version after one more update.
 use Rattle.std.proofs.Common.{◌≡◌, ℕ, ◌+◌, true, List, [], ◌∷◌, ◌++◌, length, sym, ap, ◌∙◌, subst, arith, length-append, ◌≤◌}
-use Rattle.kn_store.specs.declared.item.Item.{Item}
-use Rattle.kn_store.specs.declared.update.Numbered.{Numbered}
-use Rattle.kn_store.specs.declared.update.Update.{Update}
+use Rattle.kn_history.specs.declared.item.Item.{Item}
+use Rattle.kn_history.specs.declared.update.Numbered.{Numbered}
+use Rattle.kn_history.specs.declared.update.Update.{Update}
 use Rattle.kn_store.specs.declared.log.TheConstants.{UPDATES_PAGE}
 use Rattle.kn_store.specs.declared.version.Version.TheInside.{Inside}
-use Rattle.kn_store.specs.History.{all_changes, additions, is_valid_history, update_may_follow}
-use Rattle.kn_store.specs.Batches.{batch_by}
+use Rattle.kn_history.specs.History.{all_changes, additions, is_valid_history, update_may_follow}
+use Rattle.kn_history.specs.Batches.{batch_by}
+use Rattle.kn_history.proofs.Histories.{valid-grows, changes-push, has_changes}
 use Rattle.kn_store.specs.LiveView.{LiveView, live_view}
 use Rattle.kn_store.specs.Pages.{joined, with_item}
 use Rattle.kn_store.specs.Versions.{updates_of, IsVersion}
-use Rattle.kn_store.proofs.Histories.{valid-grows}
 use Rattle.kn_store.proofs.ItemLemmas.{AreMadeUpTo, changes_are, batch_follows}
 use Rattle.kn_store.proofs.PageLemmas.{joined-with_item, filled-with_item}
-use Rattle.kn_store.proofs.ViewLemmas.{changes-push, has_changes}
 
 module _ (v : Inside) (updates : List (List Update)) (update : Update) (live : LiveView) (is : updates ≡ with_item UPDATES_PAGE v.updates update) where
   pub longer_log : joined updates ≡ updates_of v ++ update ∷ []

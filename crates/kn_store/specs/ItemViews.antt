@@ -1,10 +1,10 @@
 -- What an item of a batch makes of the live credentials.
 use Rattle.std.specs.Prelude.{◌+◌, length, Option}
-use Rattle.kn_store.specs.declared.update.Change.TheVariants.{Add, Remove}
-use Rattle.kn_store.specs.declared.update.Numbered.{Numbered}
-use Rattle.kn_store.specs.declared.item.Item.{Item}
-use Rattle.kn_store.specs.declared.item.Item.TheVariants as I
-use Rattle.kn_store.specs.declared.fault.StoreFault.{StoreFault}
+use Rattle.kn_history.specs.declared.update.Change.TheVariants.{Add, Remove}
+use Rattle.kn_history.specs.declared.update.Numbered.{Numbered}
+use Rattle.kn_history.specs.declared.item.Item.{Item}
+use Rattle.kn_history.specs.declared.item.Item.TheVariants as I
+use Rattle.kn_history.specs.declared.fault.StoreFault.{StoreFault}
 use Rattle.kn_store.specs.LiveView.{LiveView, refusal_of_size, refusal_of_removal, with_addition, with_removal}
 
 abbrev pub after_item : LiveView → Item → LiveView

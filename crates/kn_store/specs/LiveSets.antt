@@ -4,9 +4,10 @@ use Rattle.std.specs.List.{All}
 use Rattle.kn_base.specs.declared.limits.TheConstants.{LIVE_CREDENTIALS, LIVE_BYTES, UPDATES, LOGGED_BYTES}
 use Rattle.kn_store.specs.declared.live_set.TheConstants.{CREDENTIALS_PAGE}
 use Rattle.kn_store.specs.declared.live_set.LiveSet.TheInside.{Inside}
-use Rattle.kn_store.specs.History.{text_bytes}
+use Rattle.kn_history.specs.History.{text_bytes}
+use Rattle.kn_history.specs.Ids.{IdsAscend}
 use Rattle.kn_store.specs.Pages.{joined, AreSized}
-use Rattle.kn_store.specs.LiveView.{LiveView, IdsAscend}
+use Rattle.kn_store.specs.LiveView.{LiveView}
 
 abbrev pub view_of_set : Inside → LiveView
 view_of_set s = record { credentials = joined s.pages; changes = s.changes; logged = s.logged; added = s.added }

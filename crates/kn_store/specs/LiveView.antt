@@ -1,11 +1,12 @@
 -- The live credentials with what is counted beside them, and what a change makes of them.
-use Rattle.std.specs.Prelude.{ℕ, ◌+◌, ◌<◌, not, ◌==◌, nat_le, nat_lt, List, [], ◌∷◌, ◌++◌, length, filter, Option, Some, None, if◌then◌else◌}
+use Rattle.std.specs.Prelude.{ℕ, ◌+◌, not, ◌==◌, nat_le, nat_lt, List, [], ◌∷◌, ◌++◌, length, filter}
+use Rattle.std.specs.Prelude.{Option, Some, None, if◌then◌else◌}
 use Rattle.std.specs.List.{list_any}
 use Rattle.kn_base.specs.declared.limits.TheConstants.{LIVE_CREDENTIALS, LIVE_BYTES, UPDATES, LOGGED_BYTES}
-use Rattle.kn_store.specs.declared.update.Numbered.{Numbered}
-use Rattle.kn_store.specs.declared.fault.StoreFault.{StoreFault}
-use Rattle.kn_store.specs.declared.fault.StoreFault.TheVariants.{Unknown, LiveFull, BytesFull, HistoryFull, LogFull}
-use Rattle.kn_store.specs.History.{NumberedText, live, additions, logged_bytes, text_bytes}
+use Rattle.kn_history.specs.declared.update.Numbered.{Numbered}
+use Rattle.kn_history.specs.declared.fault.StoreFault.{StoreFault}
+use Rattle.kn_history.specs.declared.fault.StoreFault.TheVariants.{Unknown, LiveFull, BytesFull, HistoryFull, LogFull}
+use Rattle.kn_history.specs.History.{NumberedText, live, additions, logged_bytes, text_bytes}
 
 pub record LiveView : Type 0 where
   pub credentials : List NumberedText
@@ -15,7 +16,12 @@ pub record LiveView : Type 0 where
 
 -- what these changes leave
 abbrev pub live_view : List Numbered → LiveView
-live_view past = record { credentials = live past; changes = length past; logged = logged_bytes past; added = additions past }
+live_view past = record {
+  credentials = live past;
+  changes = length past;
+  logged = logged_bytes past;
+  added = additions past;
+}
 
 -- the first fault of an addition of so many bytes
 abbrev pub refusal_of_size : LiveView → ℕ → Option StoreFault
@@ -50,8 +56,3 @@ with_removal v id = record {
   logged = v.logged;
   added = v.added;
 }
-
--- the ids ascend, and all are above this
-abbrev pub IdsAscend : ℕ → List NumberedText → Type 0
-IdsAscend low [] = Unit {0}
-IdsAscend low (c ∷ credentials) = (low < c.id) × IdsAscend c.id credentials

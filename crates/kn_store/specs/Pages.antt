@@ -1,5 +1,6 @@
 -- Lists in pages.
-use Rattle.std.specs.Prelude.{ℕ, ◌≡◌, ◌+◌, ◌≤◌, nat_lt, List, [], ◌∷◌, ◌++◌, length, map, take, drop, remove, flat_map, slice_index_or, if◌then◌else◌}
+use Rattle.std.specs.Prelude.{ℕ, ◌≡◌, ◌+◌, ◌≤◌, nat_lt, List, [], ◌∷◌, ◌++◌, length, map, take, drop, remove}
+use Rattle.std.specs.Prelude.{flat_map, slice_index_or, if◌then◌else◌}
 use Rattle.std.specs.Arc.{arc_value}
 use Rattle.std.specs.declared.sync.Arc.{Arc}
 use Rattle.std.specs.declared.alloc.Global.{Global}
@@ -27,7 +28,9 @@ module _ {T : Type 0} where
   -- these pages with an item at the end: the last page has it, or where that is full a new one
   abbrev pub with_item : ℕ → List (List T) → T → List (List T)
   with_item most [] item = (item ∷ []) ∷ []
-  with_item most (page ∷ []) item = if nat_lt (length page) most then (page ++ item ∷ []) ∷ [] else page ∷ (item ∷ []) ∷ []
+  with_item most (page ∷ []) item =
+      if nat_lt (length page) most then (page ++ item ∷ []) ∷ []
+      else page ∷ (item ∷ []) ∷ []
   with_item most (page ∷ next ∷ pages) item = page ∷ with_item most (next ∷ pages) item
 
   -- this page alone, or none where it is empty
@@ -35,6 +38,11 @@ module _ {T : Type 0} where
   unless_empty [] = []
   unless_empty (item ∷ items) = (item ∷ items) ∷ []
 
+  -- the page of these items, which are shared, or none where there are none of them
+  abbrev pub page_of : List (Arc T Global) → List (List T)
+  page_of items = unless_empty (map arc_value items)
+
   -- these pages without the item at a place of one of them, and without that page where it was the only one
   abbrev pub without_item : List (List T) → ℕ → ℕ → List (List T)
-  without_item pages page place = take page pages ++ unless_empty (remove (slice_index_or pages page []) place) ++ drop (page + 1) pages
+  without_item pages page place =
+      take page pages ++ unless_empty (remove (slice_index_or pages page []) place) ++ drop (page + 1) pages

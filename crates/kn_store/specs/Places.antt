@@ -1,6 +1,12 @@
 -- Where an id stands among live credentials in pages.
-use Rattle.std.specs.Prelude.{ℕ, ◌≡◌, ◌<◌, Bool, true, nat_lt, List, [], ◌∷◌, length, Some, slice_get, slice_index_or}
-use Rattle.kn_store.specs.History.{NumberedText}
+use Rattle.std.specs.Prelude.{ℕ, ◌≡◌, ◌==◌, ◌<◌, Bool, true, nat_lt, List, [], ◌∷◌, length, Some}
+use Rattle.std.specs.Prelude.{slice_get, slice_index_or}
+use Rattle.std.specs.List.{list_any}
+use Rattle.kn_history.specs.History.{NumberedText}
+
+-- one of these credentials has the id
+abbrev pub has_id : ℕ → List NumberedText → Bool
+has_id id credentials = list_any (λ c. c.id == id) credentials
 
 -- the last id is below this
 abbrev pub ends_before : ℕ → List NumberedText → Bool

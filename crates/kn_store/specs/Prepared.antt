@@ -1,7 +1,7 @@
 -- An update that was made ready.
 use Rattle.std.specs.Prelude.{ℕ, List}
 use Rattle.std.specs.Arc.{arc_value}
-use Rattle.kn_store.specs.declared.update.Update.{Update}
+use Rattle.kn_history.specs.declared.update.Update.{Update}
 use Rattle.kn_store.specs.declared.book.Prepared.TheInside.{Inside}
 
 -- the log that the book would then have, and the id that is answered

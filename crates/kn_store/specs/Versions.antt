@@ -1,9 +1,9 @@
 -- What holds of each version.
 use Rattle.std.specs.Prelude.{◌≡◌, ◌≤◌, true, List, length}
-use Rattle.kn_store.specs.declared.update.Update.{Update}
+use Rattle.kn_history.specs.declared.update.Update.{Update}
 use Rattle.kn_store.specs.declared.log.TheConstants.{UPDATES_PAGE}
 use Rattle.kn_store.specs.declared.version.Version.TheInside.{Inside}
-use Rattle.kn_store.specs.History.{all_changes, is_valid_history}
+use Rattle.kn_history.specs.History.{all_changes, is_valid_history}
 use Rattle.kn_store.specs.LiveView.{live_view}
 use Rattle.kn_store.specs.Pages.{joined, AreFilled}
 

@@ -1,21 +1,21 @@
 //! The book of updates.
 
-ghost use Rattle.std.specs.Prelude.{◌≡◌, ◌⊎◌, ◌+◌, ◌≤◌, ℕ, List as Of, true, [], ◌∷◌, ◌++◌, length, Some, IfOk, IfErr, OnOk, OnErr, option_map};
+ghost use Rattle.std.specs.Prelude.{◌≡◌, ◌≤◌, true, [], ◌∷◌, ◌++◌, length, IfOk, IfErr, OnOk, OnErr, option_map};
 ghost use Rattle.std.specs.Arc.{arc_value};
 ghost use Rattle.kn_base.specs.declared.limits.TheConstants.{CHANGES};
-ghost use Rattle.kn_store.specs.declared.update.Update.{Update};
-ghost use Rattle.kn_store.specs.declared.fault.StoreFault.TheVariants.{NoMemory as Lacking};
-ghost use Rattle.kn_store.specs.Batches.{batch_by, refusal_of_items, RefusesBatch};
-ghost use Rattle.kn_store.specs.History.{all_changes, additions, is_valid_history, update_may_follow, updates_may_follow, refusal_of_text, refusal_of_id, addition_by, additions_by, removal_by, IsFirstRefused};
-ghost use Rattle.kn_store.specs.Retained.{retained_version, AreLeft};
+ghost use Rattle.kn_history.specs.declared.update.Update.{Update};
+ghost use Rattle.kn_history.specs.Batches.{batch_by, refusal_of_items, RefusesBatch};
+ghost use Rattle.kn_history.specs.History.{all_changes, next_id, is_valid_history, UpdateFollows, UpdatesFollow};
+ghost use Rattle.kn_history.specs.History.{addition_by, additions_behind, removal_by};
+ghost use Rattle.kn_history.specs.History.{refusal_of_text, refusal_of_id, RefusesChange, RefusesTexts};
+ghost use Rattle.kn_history.specs.Retained.{retained_version};
+ghost use Rattle.kn_store.specs.EarlierVersions.{AreLeft};
 
-use crate::credential::Ready;
 use crate::earlier::Earlier;
-use crate::fault::{BatchFault, StoreFault};
-use crate::item::Item;
 use crate::version::{Snapshot, Version};
 use kn_base::limits::RETAINED_VERSIONS;
 use kn_base::{List, NoMemory};
+use kn_history::{BatchFault, Item, Ready, StoreFault};
 use std::alloc::Global;
 use std::marker::Model;
 use std::mem;
@@ -32,7 +32,7 @@ pub struct Book {
 
 impl Model for Book {
     ghost use Rattle.std.specs.Prelude.{List};
-    ghost use Rattle.kn_store.specs.declared.update.Update.{Update};
+    ghost use Rattle.kn_history.specs.declared.update.Update.{Update};
 
     ghost Value = { List Update };
 
@@ -64,8 +64,8 @@ impl Model for Prepared {
 /// What an update answers.
 #[derive(Debug, Clone, Copy, PartialEq, Eq, Drop)]
 pub struct Done {
-    /// The id that an addition has or that a removal removes, and of a batch the id that its first addition has, or would
-    /// have.
+    /// The id that an addition has or that a removal removes, and of a batch the id that its first addition has, or
+    /// would have.
     pub id: u32,
     /// The number of updates with it.
     pub version: u32,
@@ -89,10 +89,10 @@ impl Book {
 
     /// Makes an addition ready, and takes all memory that it needs. The book stays as it is.
     pub fn prepare_add(&mut self, caller: u32, ready: Ready) -> Result<Prepared, StoreFault>
-        ensures log { IfOk result (λ p. p.log ≡ self.old ++ addition_by caller ready (additions (all_changes self.old) + 1) ∷ []) }
-        ensures id { IfOk result (λ p. p.id ≡ additions (all_changes self.old) + 1) }
-        ensures follows { OnOk result (update_may_follow (all_changes self.old) (addition_by caller ready (additions (all_changes self.old) + 1)) ≡ true) }
-        ensures refused { IfErr result (λ fault. (fault ≡ Lacking) ⊎ (refusal_of_text (all_changes self.old) ready ≡ Some fault)) }
+        ensures log { IfOk result (λ p. p.log ≡ self.old ++ addition_by caller ready (next_id self.old) ∷ []) }
+        ensures id { IfOk result (λ p. p.id ≡ next_id self.old) }
+        ensures follows { OnOk result (UpdateFollows self.old (addition_by caller ready (next_id self.old))) }
+        ensures refused { IfErr result (λ fault. RefusesChange (refusal_of_text (all_changes self.old) ready) fault) }
         ensures kept { self.new ≡ self.old }
     {
         // sharing a version copies its pointers, so a refusal is looked for first
@@ -107,12 +107,12 @@ impl Book {
     /// Adds texts, each by an update of its own, or none of them where one is refused: then its place is told, counted
     /// from 0. It takes all memory that it needs before it changes anything.
     ///
-    /// A refusal is that behind the texts in front of the refused one, so a limit's number counts them too. Beside want of
-    /// memory the place tells nothing.
+    /// A refusal is that behind the texts in front of the refused one, so a limit's number counts them too. Beside want
+    /// of memory the place tells nothing.
     pub fn add_all(&mut self, caller: u32, readies: Vec<Ready>) -> Result<(), (u32, StoreFault)>
-        ensures log { OnOk result (self.new ≡ self.old ++ additions_by caller (additions (all_changes self.old)) readies.items) }
-        ensures follow { OnOk result (updates_may_follow (all_changes self.old) (additions_by caller (additions (all_changes self.old)) readies.items) ≡ true) }
-        ensures refused { IfErr result (λ refused. (refused.1 ≡ Lacking) ⊎ IsFirstRefused self.old caller readies.items refused.0 refused.1) }
+        ensures log { OnOk result (self.new ≡ self.old ++ additions_behind self.old caller readies.items) }
+        ensures follow { OnOk result (UpdatesFollow self.old (additions_behind self.old caller readies.items)) }
+        ensures refused { IfErr result (λ refused. RefusesTexts self.old caller readies.items refused) }
         ensures kept { OnErr result (self.new ≡ self.old) }
     {
         let Ok((newest, earlier)) = self.begin_additions(readies.len()) else {
@@ -127,7 +127,8 @@ impl Book {
         Ok(())
     }
 
-    /// The newest version, and those of the versions before it that are still retained after so many additions.
+    /// The newest version, and those before it that are retained, or none of these where so many additions follow that
+    /// none of them stays retained.
     fn begin_additions(&self, count: usize) -> Result<(Version, Earlier), NoMemory>
         ensures newest { IfOk result (λ made. made.0 ≡ self.now) }
         ensures earlier { IfOk result (λ made. AreLeft count self.now made.1) }
@@ -143,22 +144,22 @@ impl Book {
     pub fn prepare_drop(&mut self, caller: u32, id: u32) -> Result<Prepared, StoreFault>
         ensures log { IfOk result (λ p. p.log ≡ self.old ++ removal_by caller id ∷ []) }
         ensures id { IfOk result (λ p. p.id ≡ id) }
-        ensures follows { OnOk result (update_may_follow (all_changes self.old) (removal_by caller id) ≡ true) }
-        ensures refused { IfErr result (λ fault. (fault ≡ Lacking) ⊎ (refusal_of_id (all_changes self.old) id ≡ Some fault)) }
+        ensures follows { OnOk result (UpdateFollows self.old (removal_by caller id)) }
+        ensures refused { IfErr result (λ fault. RefusesChange (refusal_of_id (all_changes self.old) id) fault) }
         ensures kept { self.new ≡ self.old }
     {
         let version = self.newest.with_removal(self.alloc, caller, id)?;
         Ok(make_prepared(self.alloc, version, id)?)
     }
 
-    /// Makes one update of the changes of these items ready, all of them or none, and takes all memory that it needs. The
-    /// book stays as it is. A removal may name an addition in front of it.
+    /// Makes one update of the changes of these items ready, all of them or none, and takes all memory that it needs.
+    /// The book stays as it is. A removal may name an addition in front of it.
     pub fn prepare_batch(&mut self, caller: u32, items: List<Item>) -> Result<Prepared, BatchFault>
         requires some { 1 ≤ length items }
         requires few { length items ≤ CHANGES }
-        ensures log { IfOk result (λ p. p.log ≡ self.old ++ batch_by caller (additions (all_changes self.old) + 1) items ∷ []) }
-        ensures id { IfOk result (λ p. p.id ≡ additions (all_changes self.old) + 1) }
-        ensures follows { OnOk result (update_may_follow (all_changes self.old) (batch_by caller (additions (all_changes self.old) + 1) items) ≡ true) }
+        ensures log { IfOk result (λ p. p.log ≡ self.old ++ batch_by caller (next_id self.old) items ∷ []) }
+        ensures id { IfOk result (λ p. p.id ≡ next_id self.old) }
+        ensures follows { OnOk result (UpdateFollows self.old (batch_by caller (next_id self.old) items)) }
         ensures refused { IfErr result (λ fault. RefusesBatch (refusal_of_items (all_changes self.old) items) fault) }
         ensures kept { self.new ≡ self.old }
     {
@@ -191,8 +192,8 @@ impl Book {
         &self.newest
     }
 
-    /// The version of this number, which is that of its updates, or None unless it is the newest one or one of the 15 before
-    /// it. Takes no memory.
+    /// The version of this number, which is that of its updates, or None unless it is the newest one or one of the 15
+    /// before it. Takes no memory.
     pub fn retained(&self, number: u32) -> Option<&Snapshot>
         ensures { option_map (λ snapshot. arc_value snapshot.now) result ≡ retained_version self.now number }
     {

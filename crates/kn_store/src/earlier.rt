@@ -2,7 +2,7 @@
 
 ghost use Rattle.std.specs.Prelude.{◌≡◌, [], length, slice_get, option_map, IfOk, OnOk};
 ghost use Rattle.std.specs.Arc.{arc_value};
-ghost use Rattle.kn_store.specs.Retained.{with_version};
+ghost use Rattle.kn_store.specs.EarlierVersions.{with_version};
 
 use crate::pages::share;
 use crate::version::{Snapshot, Version};
@@ -21,7 +21,7 @@ pub(crate) struct Earlier {
 impl Model for Earlier {
     ghost use Rattle.std.specs.Prelude.{List, map};
     ghost use Rattle.std.specs.Arc.{arc_value};
-    ghost use Rattle.kn_store.specs.declared.update.Update.{Update};
+    ghost use Rattle.kn_history.specs.declared.update.Update.{Update};
 
     ghost Value = { List (List Update) };
 

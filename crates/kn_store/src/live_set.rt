@@ -1,24 +1,23 @@
 //! The live credentials with what is counted beside them.
 
-ghost use Rattle.std.specs.Prelude.{◌≡◌, ◌⊎◌, ◌<◌, ◌≤◌, ◌+◌, ◌^◌, ◌==◌, true, false, [], map, length, None, Some, IfOk, IfErr, OnOk, MatchOption, slice_get};
-ghost use Rattle.std.specs.List.{list_any};
+ghost use Rattle.std.specs.Prelude.{◌≡◌, ◌<◌, ◌≤◌, ◌+◌, true, false, [], map, length, None, Some, slice_get};
+ghost use Rattle.std.specs.Prelude.{IfOk, IfErr, OnOk, MatchOption};
 ghost use Rattle.std.specs.Arc.{arc_value};
-ghost use Rattle.kn_base.specs.declared.limits.TheConstants.{LIVE_CREDENTIALS as MOST_CREDENTIALS, LIVE_BYTES as MOST_BYTES, UPDATES as MOST_UPDATES};
-ghost use Rattle.kn_store.specs.declared.fault.StoreFault.TheVariants.{NoMemory as Lacking};
-ghost use Rattle.kn_store.specs.Batches.{item_reads};
-ghost use Rattle.kn_store.specs.History.{text_bytes};
+ghost use Rattle.kn_base.specs.declared.limits.TheConstants.{LIVE_CREDENTIALS as MOST_CREDENTIALS};
+ghost use Rattle.kn_base.specs.declared.limits.TheConstants.{LIVE_BYTES as MOST_BYTES, UPDATES as MOST_UPDATES};
+ghost use Rattle.kn_history.specs.Batches.{item_reads};
+ghost use Rattle.kn_history.specs.History.{text_bytes, RefusesChange};
+ghost use Rattle.kn_history.specs.Ids.{IdsAscend};
 ghost use Rattle.kn_store.specs.ItemViews.{after_item, change_of, refusal_of};
-ghost use Rattle.kn_store.specs.LiveView.{live_view, refusal_of_size, refusal_of_removal, with_addition, with_removal, IdsAscend};
+ghost use Rattle.kn_store.specs.LiveView.{live_view, refusal_of_size, refusal_of_removal, with_addition, with_removal};
 ghost use Rattle.kn_store.specs.Pages.{joined};
-ghost use Rattle.kn_store.specs.Places.{IsIdAt, IsPlaceOf, ends_before};
+ghost use Rattle.kn_store.specs.Places.{has_id, IsIdAt, IsPlaceOf, ends_before};
 
-use crate::credential::LiveCredential;
-use crate::fault::StoreFault;
-use crate::item::Item;
+use crate::live_credential::LiveCredential;
 use crate::pages::Pages;
-use crate::update::{Change, Numbered};
 use kn_base::NoMemory;
 use kn_base::limits::{LIVE_BYTES, LIVE_CREDENTIALS, LOGGED_BYTES, UPDATES};
+use kn_history::{Change, Item, Numbered, StoreFault};
 use std::alloc::Global;
 use std::marker::Model;
 use std::sync::Arc;
@@ -174,7 +173,7 @@ impl LiveSet {
         ensures change { IfOk result (λ next. next.1 ≡ change_of self item) }
         ensures accepted { OnOk result (refusal_of self item ≡ None) }
         ensures reads { OnOk result (item_reads item ≡ true) }
-        ensures refused { IfErr result (λ fault. (fault ≡ Lacking) ⊎ (refusal_of self item ≡ Some fault)) }
+        ensures refused { IfErr result (λ fault. RefusesChange (refusal_of self item) fault) }
     {
         match item {
             Item::Add(ready) => {
@@ -183,7 +182,7 @@ impl LiveSet {
                     return Err(fault);
                 }
                 let id = self.next_id();
-                let (credential, text) = ready.with_id(id);
+                let (credential, text) = LiveCredential::of(ready, id);
                 let live = self.with_addition(alloc, credential, size as u32)?;
                 let change = Change::Add(text);
                 Ok((live, Numbered { change, id }))
@@ -200,7 +199,7 @@ impl LiveSet {
     pub(crate) fn with_removal(&self, alloc: Global, id: u32) -> Result<LiveSet, StoreFault>
         ensures ok { IfOk result (λ set. set ≡ with_removal self.now id) }
         ensures accepted { OnOk result (refusal_of_removal self.now id ≡ None) }
-        ensures refused { IfErr result (λ fault. (fault ≡ Lacking) ⊎ (refusal_of_removal self.now id ≡ Some fault)) }
+        ensures refused { IfErr result (λ fault. RefusesChange (refusal_of_removal self.now id) fault) }
     {
         let Some((page, place)) = place_of(&self.pages, id) else {
             return Err(StoreFault::Unknown { id });
@@ -228,7 +227,7 @@ impl LiveSet {
 /// The page of this id and its place there, both counted from 0, or None where it isn't live.
 fn place_of(pages: &Pages<LiveCredential>, id: u32) -> Option<(usize, usize)>
     requires ids { IdsAscend 0 (joined pages.now) }
-    ensures { MatchOption result (list_any (λ c. c.id == id) (joined pages.now) ≡ false) (λ place. IsPlaceOf id pages.now place.0 place.1) }
+    ensures { MatchOption result (has_id id (joined pages.now) ≡ false) (λ at. IsPlaceOf id pages.now at.0 at.1) }
 {
     for page in 0..pages.count() {
         let items = pages.page(page);
@@ -252,7 +251,7 @@ fn ends_before(page: &[Arc<LiveCredential>], id: u32) -> bool
 
 /// The place of this id in a page, counted from 0, or None where it isn't there.
 fn place_in(page: &[Arc<LiveCredential>], id: u32) -> Option<usize>
-    ensures { MatchOption result (list_any (λ c. c.id == id) (map arc_value page.now) ≡ false) (λ place. IsIdAt id (map arc_value page.now) place) }
+    ensures { MatchOption result (has_id id (map arc_value page.now) ≡ false) (IsIdAt id (map arc_value page.now)) }
 {
     for place in 0..page.len() {
         if page[place].id() == id {

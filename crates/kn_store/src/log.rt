@@ -4,8 +4,8 @@ ghost use Rattle.std.specs.Prelude.{◌≡◌, ◌<◌, [], ◌∷◌, ◌++◌,
 ghost use Rattle.kn_store.specs.Pages.{joined, with_item, AreFilled};
 
 use crate::pages::{Pages, share_items};
-use crate::update::Update;
 use kn_base::{List, NoMemory};
+use kn_history::Update;
 use std::alloc::Global;
 use std::marker::Model;
 use std::sync::Arc;
@@ -26,7 +26,7 @@ struct LogPage {
 impl Model for LogPage {
     ghost use Rattle.std.specs.Prelude.{List, ◌≡◌, length};
     ghost use Rattle.kn_store.specs.Pages.{joined};
-    ghost use Rattle.kn_store.specs.declared.update.Update.{Update};
+    ghost use Rattle.kn_history.specs.declared.update.Update.{Update};
 
     ghost Value = { List Update };
 
@@ -95,7 +95,7 @@ pub(crate) struct Log {
 impl Model for Log {
     ghost use Rattle.std.specs.Prelude.{List, map, ◌++◌, ◌≡◌, ◌≤◌, ◌⊎◌, [], length};
     ghost use Rattle.std.specs.Arc.{arc_value};
-    ghost use Rattle.kn_store.specs.declared.update.Update.{Update};
+    ghost use Rattle.kn_history.specs.declared.update.Update.{Update};
     ghost use Rattle.kn_store.specs.Pages.{unless_empty};
 
     ghost Value = { List (List Update) };
@@ -116,7 +116,7 @@ impl Log {
     }
 
     /// The update at place `i` of all, counted from 0.
-    #[tactic(auto, using(crate::proofs::LogLemmas::page_there, crate::proofs::LogLemmas::place_there, crate::proofs::LogLemmas::update_there))]
+    #[tactic(auto, using(crate::proofs::LogLemmas::updates_there))]
     pub(crate) fn get(&self, i: u32) -> &Update
         requires filled { AreFilled UPDATES_PAGE self.now }
         requires in_range { i < length (joined self.now) }

@@ -1,10 +1,11 @@
 //! Lists in pages, which the lists that are made of them share.
 
-ghost use Rattle.std.specs.Prelude.{◌≡◌, ◌<◌, ◌≤◌, ◌+◌, [], ◌∷◌, ◌++◌, map, length, Some, IfOk, OnOk, slice_get, slice_index_or};
+ghost use Rattle.std.specs.Prelude.{◌≡◌, ◌<◌, ◌≤◌, ◌+◌, [], ◌∷◌, ◌++◌, map, length, Some, IfOk, OnOk};
+ghost use Rattle.std.specs.Prelude.{slice_get, slice_index_or};
 ghost use Rattle.std.specs.Arc.{arc_value};
 ghost use Rattle.std.specs.List.{All};
 ghost use Rattle.std.specs.Option.{option_copied};
-ghost use Rattle.kn_store.specs.Pages.{joined, pages_of, unless_empty, with_item, without_item};
+ghost use Rattle.kn_store.specs.Pages.{joined, pages_of, page_of, with_item, without_item};
 
 use kn_base::{List, NoMemory, Reserved};
 use std::alloc::Global;
@@ -27,16 +28,15 @@ pub(crate) struct Pages<T> {
 }
 
 impl<T> Model for Pages<T> {
-    ghost use Rattle.std.specs.Prelude.{List, map, ◌++◌, ◌≡◌, ◌≤◌, ◌⊎◌, [], length};
+    ghost use Rattle.std.specs.Prelude.{List, ◌++◌, ◌≡◌, ◌≤◌, ◌⊎◌, [], length};
     ghost use Rattle.std.specs.Coded.{coded_list};
-    ghost use Rattle.std.specs.Arc.{arc_value};
-    ghost use Rattle.kn_store.specs.Pages.{pages_of, unless_empty};
+    ghost use Rattle.kn_store.specs.Pages.{pages_of, page_of};
 
     ghost Value = { List (List T) };
 
     ghost coded = { coded_list (coded_list T.code) };
 
-    ghost view = { λ p. pages_of p.closed ++ unless_empty (map arc_value p.last) };
+    ghost view = { λ p. pages_of p.closed ++ page_of p.last };
 
     ghost invariant = { λ p. (p.closed ≡ []) ⊎ (1 ≤ length p.last) };
 }
@@ -188,7 +188,7 @@ fn reopen_last<'a, T: Drop>(
     page: Page<T>,
 ) -> Result<Pages<T>, NoMemory>
     requires { All (λ items. 1 ≤ length items) (pages_of pages.now) }
-    ensures { IfOk result (λ all. all ≡ pages_of pages.now ++ unless_empty (map arc_value page)) }
+    ensures { IfOk result (λ all. all ≡ pages_of pages.now ++ page_of page) }
 {
     if !page.is_empty() {
         return Ok(Pages {
@@ -236,7 +236,7 @@ fn around<'a, T: Drop>(
     page: Page<T>,
     back: &'a [Arc<Page<T>>],
 ) -> Result<List<Arc<Page<T>>>, NoMemory>
-    ensures { IfOk result (λ pages. pages_of pages ≡ pages_of front.now ++ unless_empty (map arc_value page) ++ pages_of back.now) }
+    ensures { IfOk result (λ pages. pages_of pages ≡ pages_of front.now ++ page_of page ++ pages_of back.now) }
 {
     let mut room = room_for(alloc, front, back)?;
     share_pages(&mut room, front)?;
@@ -264,7 +264,7 @@ fn put_page<T: Drop>(
     page: Page<T>,
 ) -> Result<(), NoMemory>
     requires room { 0 < room.old.spare }
-    ensures pages { OnOk result (pages_of room.new.items ≡ pages_of room.old.items ++ unless_empty (map arc_value page)) }
+    ensures pages { OnOk result (pages_of room.new.items ≡ pages_of room.old.items ++ page_of page) }
     ensures spare { OnOk result (room.old.spare ≤ room.new.spare + 1) }
 {
     if page.is_empty() {
@@ -297,7 +297,8 @@ fn room_for<'a, T: Drop>(
 /// Adds a share of each of these at the end, for which there is room.
 pub(crate) fn share<T: Drop>(room: &mut Reserved<Arc<T>>, items: &[Arc<T>]) -> Result<(), NoMemory>
     requires room { length items.now ≤ room.old.spare }
-    ensures items { OnOk result (map arc_value room.new.items ≡ map arc_value room.old.items ++ map arc_value items.now) }
+    ensures items { OnOk result (map arc_value room.new.items
+        ≡ map arc_value room.old.items ++ map arc_value items.now) }
     ensures spare { OnOk result (room.old.spare ≤ room.new.spare + length items.now) }
 {
     for item in items {

@@ -1,24 +1,25 @@
 //! Versions of the shared credentials.
 
-ghost use Rattle.std.specs.Prelude.{◌≡◌, ◌⊎◌, ◌<◌, ◌≤◌, ◌+◌, true, [], ◌∷◌, ◌++◌, map, length, ℕ, List as Of, Option, None, Some, IfOk, IfErr, OnOk, slice_get};
+ghost use Rattle.std.specs.Prelude.{◌≡◌, ◌⊎◌, ◌<◌, ◌≤◌, true, [], ◌∷◌, ◌++◌, map, length, slice_get, ℕ, List as Of};
+ghost use Rattle.std.specs.Prelude.{Option, None, Some, IfOk, IfErr, OnOk};
 ghost use Rattle.kn_base.specs.declared.limits.TheConstants.{LIVE_CREDENTIALS, LIVE_BYTES, UPDATES, CHANGES};
 ghost use Rattle.kn_assert.specs.Reading.{assertion_of};
-ghost use Rattle.kn_store.specs.declared.fault.StoreFault.{StoreFault};
-ghost use Rattle.kn_store.specs.declared.fault.StoreFault.TheVariants.{NoMemory as Lacking};
-ghost use Rattle.kn_store.specs.Batches.{batch_by, refusal_of_items, RefusesBatch};
-ghost use Rattle.kn_store.specs.History.{all_changes, additions, credentials_of, text_bytes, is_valid_history, update_may_follow, updates_may_follow, refusal_of_text, refusal_of_id, addition_by, additions_by, removal_by, IsFirstRefused};
-ghost use Rattle.kn_store.specs.LiveView.{IdsAscend};
-ghost use Rattle.kn_store.specs.Retained.{AreEarlier, AreLeft};
+ghost use Rattle.kn_history.specs.declared.fault.StoreFault.{StoreFault};
+ghost use Rattle.kn_history.specs.declared.fault.StoreFault.TheVariants.{NoMemory as Lacking};
+ghost use Rattle.kn_history.specs.Batches.{batch_by, refusal_of_items, RefusesBatch};
+ghost use Rattle.kn_history.specs.History.{all_changes, next_id, credentials_of, text_bytes, is_valid_history};
+ghost use Rattle.kn_history.specs.History.{UpdateFollows, UpdatesFollow, addition_by, additions_behind, removal_by};
+ghost use Rattle.kn_history.specs.History.{refusal_of_text, refusal_of_id, RefusesChange, RefusesTexts};
+ghost use Rattle.kn_history.specs.Ids.{IdsAscend};
+ghost use Rattle.kn_store.specs.EarlierVersions.{AreEarlier, AreLeft};
 
-use crate::credential::{Credential, Ready};
 use crate::earlier::Earlier;
-use crate::fault::{BatchFault, StoreFault};
-use crate::item::Item;
+use crate::live_credential::LiveCredential;
 use crate::live_set::LiveSet;
 use crate::log::Log;
-use crate::update::{Change, Numbered, Update};
 use kn_base::limits::RETAINED_VERSIONS;
 use kn_base::{List, NoMemory, Octets, Reserved};
+use kn_history::{BatchFault, Change, Credential, Item, Numbered, Ready, StoreFault, Update};
 use std::alloc::Global;
 use std::marker::Model;
 use std::sync::Arc;
@@ -35,7 +36,7 @@ pub struct Version {
 
 impl Model for Version {
     ghost use Rattle.std.specs.Prelude.{List};
-    ghost use Rattle.kn_store.specs.declared.update.Update.{Update};
+    ghost use Rattle.kn_history.specs.declared.update.Update.{Update};
 
     ghost Value = { List Update };
 
@@ -107,7 +108,7 @@ impl Version {
 
     /// The id that the next addition has.
     pub(crate) fn next_id(&self) -> u32
-        ensures { result ≡ additions (all_changes self.now) + 1 }
+        ensures { result ≡ next_id self.now }
     {
         self.live.next_id()
     }
@@ -139,14 +140,14 @@ impl Version {
         ready: Ready,
     ) -> Result<(Version, u32), NoMemory>
         requires accepted { refusal_of_text (all_changes self) ready ≡ None }
-        ensures id { IfOk result (λ next. next.1 ≡ additions (all_changes self) + 1) }
+        ensures id { IfOk result (λ next. next.1 ≡ next_id self) }
         ensures version { IfOk result (λ next. next.0 ≡ self ++ addition_by caller ready next.1 ∷ []) }
-        ensures follows { IfOk result (λ next. update_may_follow (all_changes self) (addition_by caller ready next.1) ≡ true) }
+        ensures follows { IfOk result (λ next. UpdateFollows self (addition_by caller ready next.1)) }
     {
         let size = ready.text().len();
         let id = self.live.next_id();
         let number = self.number() + 1;
-        let (credential, text) = ready.with_id(id);
+        let (credential, text) = LiveCredential::of(ready, id);
         let update = addition(alloc, caller, text, id)?;
         let Version { live, updates, .. } = self;
         let live = live.with_addition(alloc, credential, size as u32)?;
@@ -161,8 +162,8 @@ impl Version {
         ))
     }
 
-    /// The version after updates that add these texts one after the other, with those before it that are retained, or the
-    /// place of the first text that is refused, counted from 0.
+    /// The version after updates that add these texts one after the other, with those before it that are retained, or
+    /// the place of the first text that is refused, counted from 0.
     ///
     /// One version is handed on in place, and is shared where it is one of the last before the newest.
     pub(crate) fn with_additions(
@@ -173,10 +174,10 @@ impl Version {
         earlier: Earlier,
     ) -> Result<(Version, Earlier), (u32, StoreFault)>
         requires earlier { AreLeft (length readies.items) self earlier }
-        ensures version { IfOk result (λ next. next.0 ≡ self ++ additions_by caller (additions (all_changes self)) readies.items) }
+        ensures version { IfOk result (λ next. next.0 ≡ self ++ additions_behind self caller readies.items) }
         ensures earlier { IfOk result (λ next. AreEarlier next.0 next.1) }
-        ensures follow { OnOk result (updates_may_follow (all_changes self) (additions_by caller (additions (all_changes self)) readies.items) ≡ true) }
-        ensures refused { IfErr result (λ refused. (refused.1 ≡ Lacking) ⊎ IsFirstRefused self caller readies.items refused.0 refused.1) }
+        ensures follow { OnOk result (UpdatesFollow self (additions_behind self caller readies.items)) }
+        ensures refused { IfErr result (λ refused. RefusesTexts self caller readies.items refused) }
     {
         let before = self.number();
         let mut left = readies.len();
@@ -207,8 +208,8 @@ impl Version {
         id: u32,
     ) -> Result<Version, StoreFault>
         ensures version { IfOk result (λ next. next ≡ self.now ++ removal_by caller id ∷ []) }
-        ensures follows { OnOk result (update_may_follow (all_changes self.now) (removal_by caller id) ≡ true) }
-        ensures refused { IfErr result (λ fault. (fault ≡ Lacking) ⊎ (refusal_of_id (all_changes self.now) id ≡ Some fault)) }
+        ensures follows { OnOk result (UpdateFollows self.now (removal_by caller id)) }
+        ensures refused { IfErr result (λ fault. RefusesChange (refusal_of_id (all_changes self.now) id) fault) }
     {
         let live = self.live.with_removal(alloc, id)?;
         let update = removal(alloc, caller, id)?;
@@ -229,8 +230,8 @@ impl Version {
     ) -> Result<Version, BatchFault>
         requires some { 1 ≤ length items }
         requires few { length items ≤ CHANGES }
-        ensures version { IfOk result (λ next. next ≡ self.now ++ batch_by caller (additions (all_changes self.now) + 1) items ∷ []) }
-        ensures follows { OnOk result (update_may_follow (all_changes self.now) (batch_by caller (additions (all_changes self.now) + 1) items) ≡ true) }
+        ensures version { IfOk result (λ next. next ≡ self.now ++ batch_by caller (next_id self.now) items ∷ []) }
+        ensures follows { OnOk result (UpdateFollows self.now (batch_by caller (next_id self.now) items)) }
         ensures refused { IfErr result (λ fault. RefusesBatch (refusal_of_items (all_changes self.now) items) fault) }
     {
         let mut items = items;
@@ -260,7 +261,8 @@ impl Version {
 
 /// Why a batch is refused whose first refused item is this, for this fault.
 fn refusal_of_item(item: u32, fault: StoreFault) -> BatchFault
-    ensures { (found : Option (ℕ × StoreFault)) → (fault ≡ Lacking) ⊎ (found ≡ Some (item, fault)) → RefusesBatch found result }
+    ensures { (found : Option (ℕ × StoreFault)) → (fault ≡ Lacking) ⊎ (found ≡ Some (item, fault))
+        → RefusesBatch found result }
 {
     match fault {
         StoreFault::NoMemory => BatchFault::NoMemory,

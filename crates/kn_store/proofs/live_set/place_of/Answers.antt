@@ -1,7 +1,7 @@
 use Rattle.std.proofs.Common.{rules, map, ℕ, ◌≡◌, ◌==◌, false, sym, subst}
 use Rattle.std.specs.Prelude.{Option, None, MatchOption}
 use Rattle.std.specs.List.{list_any}
-use Rattle.kn_store.specs.History.{NumberedText}
+use Rattle.kn_history.specs.History.{NumberedText}
 use Rattle.kn_store.specs.Pages.{joined}
 use Rattle.kn_store.specs.Places.{IsPlaceOf}
 use Rattle.std.specs.Arc.{arc_value}

@@ -1,5 +1,5 @@
 use Rattle.std.proofs.Common.{rules, ◌≤◌, sym, subst}
-use Rattle.kn_store.specs.Retained.{AreLeft}
+use Rattle.kn_store.specs.EarlierVersions.{AreLeft}
 use Rattle.kn_store.proofs.EarlierLemmas.{none_left}
 use Rattle.kn_store.proofs.book.Book.begin_additions.Goals as goal
 

@@ -1,6 +1,6 @@
 use Rattle.std.proofs.Common.{◌≡◌, ◌∷◌, [], ◌++◌, ◌∙◌, ap, sym, subst}
 use Rattle.std.specs.Arc.{arc_value}
-use Rattle.kn_store.specs.Retained.{AreLeft, with_version}
+use Rattle.kn_store.specs.EarlierVersions.{AreLeft, with_version}
 use Rattle.kn_store.proofs.EarlierLemmas.{one_more_retained}
 use Rattle.kn_store.proofs.book.Book.commit.Goals as goal
 

@@ -1,7 +1,7 @@
 use Rattle.std.proofs.Common.{rules, refl, sym, ap, length, ◌∙◌, subst, inr}
 use Rattle.std.specs.Prelude.{◌≡◌, Some, None}
 use Rattle.std.proofs.lemmas.Option.{same_Some}
-use Rattle.kn_store.specs.declared.fault.StoreFault.TheVariants.{Unknown, HistoryFull}
+use Rattle.kn_history.specs.declared.fault.StoreFault.TheVariants.{Unknown, HistoryFull}
 use Rattle.kn_store.specs.LiveView.{refusal_of_removal, with_removal}
 use Rattle.kn_store.specs.Pages.{without_item}
 use Rattle.kn_store.proofs.LiveLemmas.{cut_at}

@@ -1,14 +1,15 @@
 use Rattle.std.proofs.Common.{◌≡◌, ◌+◌, [], ◌∷◌, ◌++◌, true, sym, ap, subst, ◌∙◌}
-use Rattle.kn_store.specs.History.{all_changes, addition_by, update_may_follow}
+use Rattle.kn_history.specs.History.{all_changes, addition_by, update_may_follow}
+use Rattle.kn_history.proofs.Histories.{addition-follows}
 use Rattle.kn_store.specs.LiveView.{live_view, with_addition}
 use Rattle.kn_store.specs.Pages.{joined}
 use Rattle.kn_store.specs.Versions.{IsVersion}
-use Rattle.kn_store.proofs.ViewLemmas.{view-addition, addition-follows}
+use Rattle.kn_store.proofs.ViewLemmas.{view-addition}
 use Rattle.kn_store.proofs.VersionLemmas.{version_after}
 use Rattle.kn_store.proofs.version.Version.with_addition.Goals as goal
 
 update_is : (c : goal.In_ok-updates) → c.in_ok-update.update ≡ addition_by c.args.caller c.args.ready c.next_id-id.result
-update_is c = c.in_ok-update.ensures ∙ ap (λ text. addition_by c.args.caller text c.next_id-id.result) c.with_id-credential.ensures.logged
+update_is c = c.in_ok-update.ensures ∙ ap (λ text. addition_by c.args.caller text c.next_id-id.result) c.of-credential.ensures.logged
 
 after : (c : goal.In_ok-updates) → IsVersion (record { live = c.in_ok-live.live; updates = c.in_ok-updates.updates; number = c.number-number.result + 1 })
     × (joined c.in_ok-updates.updates ≡ c.args.self ++ c.in_ok-update.update ∷ [])
@@ -18,7 +19,7 @@ after c =
     let update = update_is c ∙ ap (λ id. addition_by c.args.caller c.args.ready id) (c.next_id-id.ensures ∙ ap (λ v. v.added + 1) before) in
     version_after c.self.inside c.in_ok-updates.updates c.in_ok-update.update c.in_ok-live.live c.args.self c.number-number.result
     c.in_ok-updates.ensures c.self.view_is c.number-number.ensures.number c.self.invariant
-    (c.in_ok-live.ensures.ok ∙ ap (λ text. with_addition c.self.inside.live text) c.with_id-credential.ensures.text ∙ ap (λ v. with_addition v c.args.ready) before
+    (c.in_ok-live.ensures.ok ∙ ap (λ text. with_addition c.self.inside.live text) c.of-credential.ensures.text ∙ ap (λ v. with_addition v c.args.ready) before
     ∙ view-addition past c.args.ready ∙ ap (λ u. live_view (past ++ u.changes)) (sym update))
     (subst (λ u. update_may_follow past u ≡ true) (sym update) (addition-follows past c.args.caller c.args.ready c.requires.accepted c.text-size.ensures.reading))
 

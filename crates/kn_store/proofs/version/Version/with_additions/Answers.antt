@@ -1,7 +1,7 @@
 use Rattle.std.proofs.Common.{rules, ◌≡◌, ◌≤◌, ◌∙◌, ◌-◌, length, ap, sym, inr, Some, arith}
 use Rattle.std.specs.Vec.Iter.{into_iter_items}
-use Rattle.kn_store.specs.History.{all_changes, addition_by, refusal_of_text}
-use Rattle.kn_store.proofs.Additions.{one_more_added, refused_here}
+use Rattle.kn_history.specs.History.{all_changes, addition_by, refusal_of_text}
+use Rattle.kn_history.proofs.Additions.{one_more_added, refused_here}
 use Rattle.kn_store.proofs.EarlierLemmas.{next_kept, next_not_kept}
 use Rattle.kn_store.proofs.version.Version.with_additions.Goals.{else-left-via-then-left+else-is_err, else-left-via-else-left}
 use Rattle.kn_store.proofs.version.Version.with_additions.Goals as goal

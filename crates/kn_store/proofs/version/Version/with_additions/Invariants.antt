@@ -1,7 +1,7 @@
 use Rattle.std.proofs.Common.{◌≡◌, length}
 use Rattle.std.specs.Vec.Iter.{into_iter_items}
-use Rattle.kn_store.specs.Retained.{AreLeft}
-use Rattle.kn_store.proofs.Additions.{AreAddedUpTo}
+use Rattle.kn_store.specs.EarlierVersions.{AreLeft}
+use Rattle.kn_history.proofs.Additions.{AreAddedUpTo}
 use Rattle.kn_store.proofs.version.Version.with_additions.Given as goal
 
 abbrev pub invariant-loop-ready : goal.invariant-loop-ready

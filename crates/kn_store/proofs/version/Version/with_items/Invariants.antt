@@ -1,5 +1,5 @@
 use Rattle.std.proofs.Common.{◌≡◌, ◌≤◌, ◌+◌, drop, length}
-use Rattle.kn_store.specs.History.{all_changes}
+use Rattle.kn_history.specs.History.{all_changes}
 use Rattle.kn_store.proofs.ItemLemmas.{AreMadeUpTo}
 use Rattle.kn_store.proofs.version.Version.with_items.Given as goal
 

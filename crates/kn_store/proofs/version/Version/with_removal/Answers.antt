@@ -1,11 +1,12 @@
 use Rattle.std.proofs.Common.{◌≡◌, ◌+◌, [], ◌∷◌, ◌++◌, true, sym, ap, subst, ◌∙◌}
 use Rattle.std.specs.Prelude.{None}
+use Rattle.kn_history.proofs.Histories.{removal-follows}
 use Rattle.kn_store.specs.declared.log.TheConstants.{UPDATES_PAGE}
-use Rattle.kn_store.specs.History.{all_changes, update_may_follow}
+use Rattle.kn_history.specs.History.{all_changes, update_may_follow}
 use Rattle.kn_store.specs.LiveView.{live_view, refusal_of_removal, with_removal}
 use Rattle.kn_store.specs.Pages.{joined, with_item}
 use Rattle.kn_store.specs.Versions.{IsVersion}
-use Rattle.kn_store.proofs.ViewLemmas.{view-removal, removal-follows}
+use Rattle.kn_store.proofs.ViewLemmas.{view-removal}
 use Rattle.kn_store.proofs.VersionLemmas.{version_after}
 use Rattle.kn_store.proofs.version.Version.with_removal.Goals as goal
 

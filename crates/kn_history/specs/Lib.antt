@@ -1,0 +1,9 @@
+pub mod History
+pub mod Ids
+pub mod Loading
+pub mod Batches
+pub mod Retained
+pub mod Singles
+pub mod Changed
+pub mod Laws
+pub mod Readies

@@ -1,5 +1,0 @@
-use Rattle.kn_store.proofs.Valid.{loadable_is_valid}
-use Rattle.kn_store.proofs.laws.loadable_is_valid.Goals as goal
-
-pub returns : goal.returns
-returns c = loadable_is_valid

@@ -1,8 +1,0 @@
-use Rattle.kn_store.proofs.Loading.{loading_ends, ends_once}
-use Rattle.kn_store.proofs.laws.loading_ends.Goals as goal
-
-pub returns-clause-one_way : goal.returns-clause-one_way
-returns-clause-one_way c = loading_ends
-
-pub returns-clause-no_other : goal.returns-clause-no_other
-returns-clause-no_other c = ends_once

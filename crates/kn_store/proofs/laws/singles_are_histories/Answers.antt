@@ -1,5 +1,0 @@
-use Rattle.kn_store.proofs.Singles.{singles-are_histories}
-use Rattle.kn_store.proofs.laws.singles_are_histories.Goals as goal
-
-pub returns : goal.returns
-returns c = singles-are_histories
