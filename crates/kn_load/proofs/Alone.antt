@@ -1,10 +1,10 @@
 -- A root pass that was never split sees its own updates alone.
 use Rattle.std.proofs.Common.{◌≡◌, ℕ, ◌++◌, ◌∷◌, [], List, refl, sym, ap, ◌∙◌, subst, arith, append-nil}
-use Rattle.kn_store.specs.declared.update.Update.{Update}
+use Rattle.kn_history.specs.declared.update.Update.{Update}
 use Rattle.kn_turn.specs.Entries.{AllNameUpTo}
 use Rattle.kn_registry.specs.Callers.{caller_of}
 use Rattle.kn_registry.specs.Passes.{PassSeen, IsSoundPass, Moves, Looks}
-use Rattle.kn_store.specs.History.{own_updates}
+use Rattle.kn_history.specs.History.{own_updates}
 
 -- what stands behind in a list names no more than the list
 named_behind : (n : ℕ) (front more : List Update) → AllNameUpTo caller_of n (front ++ more) → AllNameUpTo caller_of n more

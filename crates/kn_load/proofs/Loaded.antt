@@ -7,15 +7,15 @@ use Rattle.atomic_table.specs.Seated.{TableId}
 use Rattle.kn_fields.specs.declared.fault.ReadFault.{ReadFault}
 use Rattle.kn_fields.specs.Numbers.{fault_number}
 use Rattle.kn_assert.specs.Reading.{assertion_of}
-use Rattle.kn_store.specs.declared.update.Numbered.{Numbered}
-use Rattle.kn_store.specs.declared.update.Update.{Update}
-use Rattle.kn_store.specs.declared.fault.StoreFault.{StoreFault}
-use Rattle.kn_store.specs.declared.fault.StoreFault.TheVariants.{Unknown, LiveFull, BytesFull, HistoryFull, LogFull, NoMemory}
-use Rattle.kn_store.specs.History.{all_changes, additions, addition_by, additions_by, update_may_follow, updates_may_follow, refusal_of_text, is_valid_history, loaded_history, IsFirstRefused}
-use Rattle.kn_store.specs.Loading.{IsLoadable, IsFaultyAt, IsFullAt}
-use Rattle.kn_store.proofs.Additions.{additions-texts}
-use Rattle.kn_store.proofs.Loading.{loadable_nothing}
-use Rattle.kn_store.proofs.Valid.{loadable_is_valid}
+use Rattle.kn_history.specs.declared.update.Numbered.{Numbered}
+use Rattle.kn_history.specs.declared.update.Update.{Update}
+use Rattle.kn_history.specs.declared.fault.StoreFault.{StoreFault}
+use Rattle.kn_history.specs.declared.fault.StoreFault.TheVariants.{Unknown, LiveFull, BytesFull, HistoryFull, LogFull, NoMemory}
+use Rattle.kn_history.specs.History.{all_changes, additions, addition_by, additions_by, update_may_follow, updates_may_follow, refusal_of_text, is_valid_history, loaded_history, IsFirstRefused}
+use Rattle.kn_history.specs.Loading.{IsLoadable, IsFaultyAt, IsFullAt}
+use Rattle.kn_history.proofs.Additions.{additions-texts}
+use Rattle.kn_history.proofs.Loading.{loadable_nothing}
+use Rattle.kn_history.proofs.Valid.{loadable_is_valid}
 use Rattle.kn_registry.specs.Passes.{PassSeen, IsReady, IsSoundPass, AddsAll, IsOneRefused, RefusesOne}
 use Rattle.kn_turn.specs.Passes.{root_of}
 use Rattle.kn_load.specs.Drafting.{IsFaultyFor}

@@ -5,8 +5,8 @@ use Rattle.std.specs.List.{AllZip}
 use Rattle.atomic_table.specs.Seated.{TableId}
 use Rattle.kn_fields.specs.declared.fault.ReadFault.{ReadFault}
 use Rattle.kn_fields.specs.Numbers.{fault_number}
-use Rattle.kn_store.specs.declared.fault.StoreFault.{StoreFault}
-use Rattle.kn_store.specs.Loading.{IsLoadable}
+use Rattle.kn_history.specs.declared.fault.StoreFault.{StoreFault}
+use Rattle.kn_history.specs.Loading.{IsLoadable}
 use Rattle.kn_registry.specs.Passes.{PassSeen, IsSoundPass, RefusesOne}
 use Rattle.kn_load.specs.declared.drafts.Draft.{Draft}
 use Rattle.kn_load.specs.declared.readings.Readings.{Readings}

@@ -6,13 +6,13 @@ ghost use Rattle.kn_load.specs.Drafting.{IsDraftOf};
 
 use kn_assert::{ReadFault, read};
 use kn_base::{NoMemory, Span};
-use kn_store::Ready;
+use kn_history::Ready;
 use std::alloc::Global;
 use std::thread;
 use std::thread::Threads;
 
-/// The most threads that read the texts of a file: more than most machines have processors, so that less is left to wait
-/// for where one of them starts late or is held up.
+/// The most threads that read the texts of a file: more than most machines have processors, so that less is left to
+/// wait for where one of them starts late or is held up.
 const READERS: usize = 8;
 
 /// The bytes of texts for each thread: for fewer, starting it takes longer than it saves.
@@ -103,9 +103,9 @@ fn extent_of(spans: &[Span]) -> usize {
 
 /// Takes so much memory and gives it back, so that the allocator has it at hand for what follows.
 ///
-/// The C library's allocator gets the memory of each thread but the first from the system page by page, and threads that
-/// do so wait for one another. What is given back it keeps at hand, but a piece of 128 KiB or more only if one as large was
-/// given back before. So this is done once before the threads start, and then by each of them.
+/// The C library's allocator gets the memory of each thread but the first from the system page by page, and threads
+/// that do so wait for one another. What is given back it keeps at hand, but a piece of 128 KiB or more only if one as
+/// large was given back before. So this is done once before the threads start, and then by each of them.
 fn fetch_memory(alloc: Global, bytes: usize) {
     // Where there isn't so much, nothing is lost.
     let _memory: Result<Vec<u8>, _> = Vec::with_capacity(alloc, bytes);

@@ -2,7 +2,7 @@
 
 use kn_assert::ReadFault;
 use kn_base::NoMemory;
-use kn_store::StoreFault;
+use kn_history::StoreFault;
 
 /// What stops loading: the first text that isn't added, or want of memory. Texts are counted from 1.
 #[derive(Debug, Clone, Copy, PartialEq, Eq)]

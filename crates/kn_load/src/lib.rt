@@ -1,4 +1,5 @@
-//! Loading texts: the root pass of a new registry adds them in their order, up to the first that has a fault or is refused.
+//! Loading texts: the root pass of a new registry adds them in their order, up to the first that has a fault or
+//! is refused.
 #![tactic(auto)]
 
 mod drafts;

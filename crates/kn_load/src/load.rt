@@ -1,8 +1,9 @@
 //! Loading texts, those of a policy file or others: added in their order to a new registry by its root pass.
-ghost use Rattle.std.specs.Prelude.{◌≡◌, ◌≢◌, ◌+◌, ◌^◌, ◌<◌, ◌≤◌, ◌++◌, [], length, All, OnOk, IfOk, IfErr, MatchOption, ℕ, List as Of};
+ghost use Rattle.std.specs.Prelude.{◌≡◌, ◌≢◌, ◌+◌, ◌^◌, ◌<◌, ◌≤◌, ◌++◌, [], ℕ, List as Of};
+ghost use Rattle.std.specs.Prelude.{length, All, OnOk, IfOk, IfErr, MatchOption};
 ghost use Rattle.kn_fields.specs.Numbers.{fault_number};
 ghost use Rattle.kn_files.specs.Pieces.{pieces_of, spans_of, IsWithin};
-ghost use Rattle.kn_store.specs.declared.fault.StoreFault.TheVariants as S;
+ghost use Rattle.kn_history.specs.declared.fault.StoreFault.TheVariants as S;
 ghost use Rattle.kn_load.specs.Drafting.{AreReadings};
 ghost use Rattle.kn_load.specs.Loaded.{IsUnsplitRoot, IsLoaded, StopsLoading, refused_at};
 ghost use Rattle.kn_load.specs.declared.fault.LoadFault.TheVariants as L;
@@ -14,8 +15,8 @@ use kn_assert::ReadFault;
 use kn_base::limits::{FILE_BYTES, LIVE_BYTES, LIVE_CREDENTIALS};
 use kn_base::{List, Octets, Span};
 use kn_files::split_file;
+use kn_history::StoreFault;
 use kn_registry::{Pass, Registry};
-use kn_store::StoreFault;
 use std::alloc::Global;
 use std::sync::Wait;
 use std::thread::Threads;
@@ -41,7 +42,8 @@ pub fn load_file<R: Threads + Wait + Sync>(
     }
 }
 
-/// A registry with these assertions, added by its root pass, caller 0, in their order. What stops loading is told as for a file.
+/// A registry with these assertions, added by its root pass, caller 0, in their order. What stops loading is told as
+/// for a file.
 pub fn load_texts<R: Wait>(
     rt: &R,
     alloc: Global,
@@ -89,8 +91,8 @@ fn add_file<R: Threads + Wait + Sync>(
 
 /// Where the batch ends that begins at a place.
 ///
-/// The first has as many texts as may be live together, but one at least, so all that a store takes is read at once. Behind
-/// it no text is added, so there each batch has one text.
+/// The first has as many texts as may be live together, but one at least, so all that a store takes is read at once.
+/// Behind it no text is added, so there each batch has one text.
 fn batch_end(spans: &List<Span>, from: u32) -> u32
     requires { from < length spans.now }
     ensures some { from < result }
@@ -149,8 +151,8 @@ fn stop_by_fault(assertion: u32, fault: ReadFault) -> LoadFault
     }
 }
 
-/// What stops loading where this many texts were loaded before, and the one at this place behind them is refused for this.
-/// Where memory lacks, the place tells nothing.
+/// What stops loading where this many texts were loaded before, and the one at this place behind them is refused for
+/// this. Where memory lacks, the place tells nothing.
 fn stop_by_refusal(before: u32, place: u32, refusal: StoreFault) -> LoadFault
     requires room { refusal ≢ S.NoMemory → before + place + 1 < 2 ^ 32 }
     ensures { result ≡ refused_at (before + place + 1) refusal }

@@ -6,7 +6,7 @@ ghost use Rattle.kn_load.specs.Drafting.{IsDraftOf, AreReadings};
 use crate::drafts::{Draft, read_draft};
 use kn_assert::ReadFault;
 use kn_base::{List, NoMemory, Octets};
-use kn_store::Ready;
+use kn_history::Ready;
 use std::alloc::Global;
 
 /// What was read of texts, up to the first that has no reading.
@@ -58,7 +58,8 @@ fn no_readings(alloc: Global, room: usize) -> Result<Readings, NoMemory>
 /// The readings that drafts hold.
 pub(crate) fn readings_of(alloc: Global, drafts: Vec<Draft>) -> Result<Readings, NoMemory>
     requires drafts { (texts : Of (Of ℕ)) × AllZip IsDraftOf texts drafts.items }
-    ensures { (texts : Of (Of ℕ)) → AllZip IsDraftOf texts drafts.items → IfOk result (λ readings. AreReadings texts readings) }
+    ensures { (texts : Of (Of ℕ)) → AllZip IsDraftOf texts drafts.items
+        → IfOk result (λ readings. AreReadings texts readings) }
 {
     let mut readings = no_readings(alloc, drafts.len())?;
     for draft in drafts {

@@ -2,15 +2,15 @@
 use Rattle.std.proofs.Common.{◌≡◌, ℕ, ◌+◌, ◌==◌, ◌⊎◌, ⊎_elim, inl, inr, Option, Some, None, List, [], ◌∷◌, ◌++◌, length, true, refl, ap, sym, ◌∙◌, subst, append_assoc, append-nil, arith, length-append, All}
 use Rattle.std.proofs.lemmas.List.Elements.{filter-append, All-nil, All-cons}
 use mathlib.Core.List.{IsPrefix}
-use Rattle.kn_store.specs.declared.update.Update.{Update}
-use Rattle.kn_store.specs.declared.fault.StoreFault.{StoreFault}
-use Rattle.kn_store.specs.declared.fault.StoreFault.TheVariants.{Unknown, LiveFull, BytesFull, HistoryFull, LogFull, NoMemory}
-use Rattle.kn_store.specs.declared.fault.BatchFault.{BatchFault}
-use Rattle.kn_store.specs.declared.fault.BatchFault.TheVariants as B
-use Rattle.kn_store.specs.declared.item.Item.{Item}
-use Rattle.kn_store.specs.Batches.{refusal_of_items, numbered_from, batch_by, RefusesBatch}
-use Rattle.kn_store.specs.Retained.{retained_version}
-use Rattle.kn_store.specs.History.{all_changes, additions, update_may_follow, updates_may_follow, refusal_of_text, refusal_of_id, addition_by, additions_by, removal_by, own_updates, IsFirstRefused}
+use Rattle.kn_history.specs.declared.update.Update.{Update}
+use Rattle.kn_history.specs.declared.fault.StoreFault.{StoreFault}
+use Rattle.kn_history.specs.declared.fault.StoreFault.TheVariants.{Unknown, LiveFull, BytesFull, HistoryFull, LogFull, NoMemory}
+use Rattle.kn_history.specs.declared.fault.BatchFault.{BatchFault}
+use Rattle.kn_history.specs.declared.fault.BatchFault.TheVariants as B
+use Rattle.kn_history.specs.declared.item.Item.{Item}
+use Rattle.kn_history.specs.Batches.{refusal_of_items, numbered_from, batch_by, RefusesBatch}
+use Rattle.kn_history.specs.Retained.{retained_version}
+use Rattle.kn_history.specs.History.{all_changes, additions, update_may_follow, updates_may_follow, refusal_of_text, refusal_of_id, addition_by, additions_by, removal_by, own_updates, IsFirstRefused}
 use Rattle.kn_turn.specs.Passes.{after_take, after_look, after_append, after_append_all, after_give}
 use Rattle.kn_registry.specs.declared.answer.Batched.{Batched}
 use Rattle.kn_registry.specs.declared.answer.PinFault.{PinFault}

@@ -1,5 +1,4 @@
--- Versions and books may go to other threads, and be looked at there. What lies in a field is spoken of as its field. They stand
--- here, since the tests of kn_store, which are compiled with it, have no such facts of its own types.
+-- Versions and books may go to other threads, and be looked at there. What lies in a field is spoken of as its field.
 use denote.Param.Send.{IsSend, IsSync, sendable}
 use Rattle.std.proofs.Crossing.{crosses}
 use Rattle.kn_base.proofs.Crossing.{octets_send, octets_sync}
@@ -11,9 +10,9 @@ use Rattle.kn_trees.specs.contracts.assertion.Assertion as assertion
 use Rattle.kn_trees.proofs.Crossing.{flat_send, flat_sync}
 use Rattle.kn_trees.proofs.formula.Formula.TheLaws.TheKnot.{send-Formula, sync-Formula}
 use Rattle.kn_trees.proofs.program.Then.TheLaws.TheKnot.{send-Program, sync-Program}
-use Rattle.kn_store.specs.contracts.credential.Credential as credential
-use Rattle.kn_store.specs.contracts.credential.LiveCredential as live
-use Rattle.kn_store.specs.contracts.update.Update as update
+use Rattle.kn_history.specs.contracts.credential.Credential as credential
+use Rattle.kn_store.specs.contracts.live_credential.LiveCredential as live
+use Rattle.kn_history.specs.contracts.update.Update as update
 use Rattle.kn_store.proofs.pages.Pages.TheSendSync as pages
 use Rattle.kn_store.specs.contracts.live_set.LiveSet as set
 use Rattle.kn_store.specs.contracts.log.LogPage as page

@@ -1,15 +1,15 @@
 -- How a call of the registry moves a pass.
 use Rattle.std.specs.Prelude.{◌≡◌, ◌+◌, ◌≤◌, ℕ, true, List, [], ◌∷◌, ◌++◌, length, Option, Some, None}
 use Rattle.atomic_table.specs.Seated.{TableId}
-use Rattle.kn_store.specs.declared.update.Update.{Update}
-use Rattle.kn_store.specs.declared.fault.StoreFault.{StoreFault}
-use Rattle.kn_store.specs.declared.fault.StoreFault.TheVariants.{Unknown, LiveFull, BytesFull, HistoryFull, LogFull, NoMemory}
-use Rattle.kn_store.specs.declared.fault.BatchFault.{BatchFault}
-use Rattle.kn_store.specs.declared.fault.BatchFault.TheVariants as B
-use Rattle.kn_store.specs.declared.item.Item.{Item}
-use Rattle.kn_store.specs.History.{all_changes, additions, is_valid_history, update_may_follow, updates_may_follow, refusal_of_text, refusal_of_id, addition_by, additions_by, removal_by, own_updates, IsFirstRefused}
-use Rattle.kn_store.specs.Batches.{refusal_of_items, numbered_from, batch_by}
-use Rattle.kn_store.specs.Retained.{retained_version}
+use Rattle.kn_history.specs.declared.update.Update.{Update}
+use Rattle.kn_history.specs.declared.fault.StoreFault.{StoreFault}
+use Rattle.kn_history.specs.declared.fault.StoreFault.TheVariants.{Unknown, LiveFull, BytesFull, HistoryFull, LogFull, NoMemory}
+use Rattle.kn_history.specs.declared.fault.BatchFault.{BatchFault}
+use Rattle.kn_history.specs.declared.fault.BatchFault.TheVariants as B
+use Rattle.kn_history.specs.declared.item.Item.{Item}
+use Rattle.kn_history.specs.History.{all_changes, additions, is_valid_history, update_may_follow, updates_may_follow, refusal_of_text, refusal_of_id, addition_by, additions_by, removal_by, own_updates, IsFirstRefused}
+use Rattle.kn_history.specs.Batches.{refusal_of_items, numbered_from, batch_by}
+use Rattle.kn_history.specs.Retained.{retained_version}
 use Rattle.kn_turn.specs.Passes.{PassView}
 use Rattle.kn_turn.specs.Passes as T
 use Rattle.kn_registry.specs.declared.answer.Batched.{Batched}

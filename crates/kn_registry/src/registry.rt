@@ -3,16 +3,17 @@ ghost use Rattle.std.specs.Prelude.{◌≡◌, ◌≢◌, ◌<◌, ◌≤◌, �
 ghost use mathlib.Core.List.{IsPrefix};
 ghost use Rattle.std.specs.Arc.{arc_value};
 ghost use Rattle.kn_base.specs.declared.limits.TheConstants.{CHANGES};
-ghost use Rattle.kn_store.specs.declared.update.Update.{Update};
-ghost use Rattle.kn_store.specs.History.{is_valid_history};
-ghost use Rattle.kn_store.specs.Retained.{retained_version};
+ghost use Rattle.kn_history.specs.declared.update.Update.{Update};
+ghost use Rattle.kn_history.specs.History.{is_valid_history};
+ghost use Rattle.kn_history.specs.Retained.{retained_version};
 ghost use Rattle.kn_turn.specs.Passes.{root_of, split_of, after_give, after_look, after_append, after_append_all, after_split, after_join, after_meet};
 ghost use Rattle.kn_registry.specs.Passes.{IsReady, IsSoundPass, Looks, Stays, Adds, AddsAll, Removes, Batches, RefusesText, RefusesOne, RefusesId, RefusesItems, RefusesVersion};
 ghost use Rattle.kn_registry.specs.declared.answer.PinFault.TheVariants as P;
 
 use crate::answer::{Batched, PinFault};
 use kn_base::{List, NoMemory};
-use kn_store::{BatchFault, Book, Item, Ready, Snapshot, StoreFault, Update, count_additions};
+use kn_history::{BatchFault, Item, Ready, StoreFault, Update, count_additions};
+use kn_store::{Book, Snapshot};
 use kn_turn::{Logged, Turn};
 use std::alloc::{AllocError, Global};
 use std::marker::Model;
@@ -26,7 +27,7 @@ pub struct SharedBook {
 
 impl Model for SharedBook {
     ghost use Rattle.std.specs.Prelude.{List};
-    ghost use Rattle.kn_store.specs.declared.update.Update.{Update};
+    ghost use Rattle.kn_history.specs.declared.update.Update.{Update};
 
     ghost Value = { List Update };
 

@@ -1,7 +1,7 @@
 use Rattle.std.proofs.Common.{◌≡◌, ◌++◌, ◌⊎◌, ℕ, List, All, true, ap, sym, ◌∙◌, subst}
-use Rattle.kn_store.specs.declared.update.Update.{Update}
-use Rattle.kn_store.specs.declared.fault.StoreFault.TheVariants.{NoMemory}
-use Rattle.kn_store.specs.History.{all_changes, additions, additions_by, updates_may_follow, IsFirstRefused}
+use Rattle.kn_history.specs.declared.update.Update.{Update}
+use Rattle.kn_history.specs.declared.fault.StoreFault.TheVariants.{NoMemory}
+use Rattle.kn_history.specs.History.{all_changes, additions, additions_by, updates_may_follow, IsFirstRefused}
 use Rattle.kn_turn.specs.Passes.{after_give, after_look, after_append_all}
 use Rattle.kn_registry.specs.Passes.{PassSeen, IsSoundPass}
 use Rattle.kn_registry.proofs.PassMoves.{additions_name, adds_all_of, looks_of, refuses_one}

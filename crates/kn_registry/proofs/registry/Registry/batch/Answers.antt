@@ -1,7 +1,7 @@
 use Rattle.std.proofs.Common.{◌≡◌, ◌+◌, ◌++◌, ◌∷◌, [], ℕ, List, length, true, ap, sym, ◌∙◌, subst}
-use Rattle.kn_store.specs.declared.update.Update.{Update}
-use Rattle.kn_store.specs.History.{all_changes, additions, update_may_follow}
-use Rattle.kn_store.specs.Batches.{batch_by, refusal_of_items, RefusesBatch}
+use Rattle.kn_history.specs.declared.update.Update.{Update}
+use Rattle.kn_history.specs.History.{all_changes, additions, update_may_follow}
+use Rattle.kn_history.specs.Batches.{batch_by, refusal_of_items, RefusesBatch}
 use Rattle.kn_turn.specs.Passes.{after_give, after_look, after_append}
 use Rattle.kn_registry.specs.Passes.{PassSeen, IsSoundPass}
 use Rattle.kn_registry.specs.declared.answer.Batched.{Batched}

@@ -1,8 +1,8 @@
 use Rattle.std.proofs.Common.{◌≡◌, ◌⊎◌, List, Some, None, length, ap, sym, ◌∙◌, subst, IfOk, IfErr}
 use Rattle.std.specs.Arc.{arc_value}
 use Rattle.std.proofs.lemmas.Result.{IfOk-weaker, IfErr-weaker}
-use Rattle.kn_store.specs.declared.update.Update.{Update}
-use Rattle.kn_store.specs.Retained.{retained_version}
+use Rattle.kn_history.specs.declared.update.Update.{Update}
+use Rattle.kn_history.specs.Retained.{retained_version}
 use Rattle.kn_turn.specs.Passes.{after_give, after_look}
 use Rattle.kn_registry.specs.declared.answer.PinFault.TheVariants as P
 use Rattle.kn_registry.specs.Passes.{PassSeen, IsSoundPass, Looks, RefusesVersion}
