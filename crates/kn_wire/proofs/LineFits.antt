@@ -15,7 +15,7 @@ use Rattle.kn_wire.specs.declared.word.Word.TheVariants as W
 use Rattle.kn_wire.specs.Digits.{IsWellFormed}
 use Rattle.kn_wire.specs.Feeding.{Bytes, held_after}
 use Rattle.kn_wire.specs.Lines.{blocked_of}
-use Rattle.kn_wire.specs.Requests.{Request, Open, Close, Pin, Assert, Retract, Set, SetHex, Unset, Auth, Unauth, Clear, Query, Admin, Add, Drop, Batch, PinAt, Log, Bye, Faulty, Line, Whole, Blocked, word_of, behind_space, with_number, number_after, is_space, is_word, are_digits, when, pin_at_line, pin_line, line_of_word, or_malformed, line_of_command, line_of}
+use Rattle.kn_wire.specs.Requests.{Request, Open, Close, Pin, Assert, Retract, Set, SetHex, Unset, Auth, Unauth, Clear, Query, Watch, News, Unwatch, Critical, Admin, Add, Drop, Batch, PinAt, Log, Bye, Faulty, Line, Whole, Blocked, word_of, behind_space, with_number, number_after, is_space, is_word, are_digits, when, pin_at_line, pin_line, line_of_word, or_malformed, line_of_command, line_of}
 use Rattle.kn_wire.specs.Wired.{request_of, request_or_fault}
 
 -- what this request leaves is held
@@ -96,22 +96,45 @@ Spelled word rest = OfSome (Fits (Some word) rest) (line_of_word word rest)
 simple : (word : Word) (rest : Option (List ℕ)) (request : Request) → IsKept request → IsWellFormed request → Fits (Some word) rest (Whole request)
 simple word rest = whole-fits (Some word) rest
 
+-- the word takes a number alone
+numbered : (word : Word) (rest : Option (List ℕ)) (request : ℕ → Request)
+    → ((n : ℕ) → IsKept (request n)) → ((n : ℕ) → IsWellFormed (request n))
+    → OfSome (Fits (Some word) rest)
+    (option_and_then (λ text. option_map (λ n. Whole (request n)) (decimal_of text)) rest)
+numbered word rest request kept form =
+    of-and_then (Fits (Some word) rest) rest _ (λ text. of-map _ (decimal_of text) (λ n. Whole (request n))
+    (λ n. simple word rest (request n) (kept n) (form n)))
+
+-- the word takes a number and a text
+numbered_text : (word : Word) (rest : Option (List ℕ)) (request : ℕ → List ℕ → Request)
+    → ((n : ℕ) (more : List ℕ) → IsKept (request n more))
+    → ((n : ℕ) (more : List ℕ) → IsWellFormed (request n more))
+    → OfSome (Fits (Some word) rest)
+    (option_and_then (λ text. with_number text (λ n more. Some (Whole (request n more)))) rest)
+numbered_text word rest request kept form =
+    of-and_then (Fits (Some word) rest) rest _ (λ text. of-number _ text _
+    (λ n more. simple word rest (request n more) (kept n more) (form n more)))
+
 spelled : (word : Word) (rest : Option (List ℕ)) → Spelled word rest
 spelled W.Open rest = of-when _ (not (is_some rest)) Open (λ alone. simple W.Open rest Open (λ t l. refl) tt)
 spelled W.Bye rest = of-when _ (not (is_some rest)) Bye (λ alone. simple W.Bye rest Bye (λ t l. refl) tt)
-spelled W.Close rest = of-and_then (Fits (Some W.Close) rest) rest _ (λ text. of-map _ (decimal_of text) (λ s. Whole (Close s)) (λ s. simple W.Close rest (Close s) (λ t l. refl) tt))
+spelled W.Close rest = numbered W.Close rest Close (λ s t l. refl) (λ s. tt)
 spelled W.Pin rest =
     of-and_then (Fits (Some W.Pin) rest) rest pin_line (λ text. of-or (Fits (Some W.Pin) rest) (option_map (λ s. Whole (Pin s)) (decimal_of text)) (pin_at_line text)
     (of-map _ (decimal_of text) (λ s. Whole (Pin s)) (λ s. simple W.Pin rest (Pin s) (λ t l. refl) tt))
     (of-number _ text _ (λ s more. of-map _ (decimal_of more) (λ v. Whole (PinAt s v)) (λ v. simple W.Pin rest (PinAt s v) (λ t l. refl) tt))))
-spelled W.Log rest = of-and_then (Fits (Some W.Log) rest) rest _ (λ text. of-map _ (decimal_of text) (λ n. Whole (Log n)) (λ n. simple W.Log rest (Log n) (λ t l. refl) tt))
-spelled W.Clear rest = of-and_then (Fits (Some W.Clear) rest) rest _ (λ text. of-map _ (decimal_of text) (λ s. Whole (Clear s)) (λ s. simple W.Clear rest (Clear s) (λ t l. refl) tt))
+spelled W.Log rest = numbered W.Log rest Log (λ n t l. refl) (λ n. tt)
+spelled W.Clear rest = numbered W.Clear rest Clear (λ s t l. refl) (λ s. tt)
 spelled W.Remove rest = of-and_then (Fits (Some W.Remove) rest) rest _ (λ text. of-map _ (number_after 97 text) (λ k. Whole (Drop k)) (λ k. simple W.Remove rest (Drop k) (λ t l. refl) tt))
 spelled W.Retract rest =
     of-and_then (Fits (Some W.Retract) rest) rest _ (λ text. of-number _ text _ (λ s more. of-map _ (number_after 112 more) (λ k. Whole (Retract s k)) (λ k. simple W.Retract rest (Retract s k) (λ t l. refl) tt)))
-spelled W.Auth rest = of-and_then (Fits (Some W.Auth) rest) rest _ (λ text. of-number _ text _ (λ s more. simple W.Auth rest (Auth s more) (λ t l. refl) tt))
-spelled W.Unauth rest = of-and_then (Fits (Some W.Unauth) rest) rest _ (λ text. of-number _ text _ (λ s more. simple W.Unauth rest (Unauth s more) (λ t l. refl) tt))
-spelled W.Query rest = of-and_then (Fits (Some W.Query) rest) rest _ (λ text. of-number _ text _ (λ s more. simple W.Query rest (Query s more) (λ t l. refl) tt))
+spelled W.Auth rest = numbered_text W.Auth rest Auth (λ s more t l. refl) (λ s more. tt)
+spelled W.Unauth rest = numbered_text W.Unauth rest Unauth (λ s more t l. refl) (λ s more. tt)
+spelled W.Query rest = numbered_text W.Query rest Query (λ s more t l. refl) (λ s more. tt)
+spelled W.Watch rest = numbered_text W.Watch rest Watch (λ s more t l. refl) (λ s more. tt)
+spelled W.News rest = numbered W.News rest News (λ s t l. refl) (λ s. tt)
+spelled W.Unwatch rest = numbered W.Unwatch rest Unwatch (λ s t l. refl) (λ s. tt)
+spelled W.Critical rest = numbered_text W.Critical rest Critical (λ s more t l. refl) (λ s more. tt)
 spelled W.Unset rest = of-and_then (Fits (Some W.Unset) rest) rest _ (λ text. of-number _ text _ (λ s more. of-when _ (is_word more) (Unset s more) (λ word. simple W.Unset rest (Unset s more) (λ t l. refl) tt)))
 spelled W.Set rest =
     of-and_then (Fits (Some W.Set) rest) rest _ (λ text. of-number _ text _ (λ s more. of-when _ (is_word (before_first is_space more)) (Set s (before_first is_space more) (after_first is_space more))
@@ -159,6 +182,10 @@ word_text W.Auth = codes "AUTH"
 word_text W.Unauth = codes "UNAUTH"
 word_text W.Clear = codes "CLEAR"
 word_text W.Query = codes "QUERY"
+word_text W.Watch = codes "WATCH"
+word_text W.News = codes "NEWS"
+word_text W.Unwatch = codes "UNWATCH"
+word_text W.Critical = codes "CRITICAL"
 word_text W.Admin = codes "ADMIN"
 word_text W.Add = codes "ADD"
 word_text W.Remove = codes "DROP"
@@ -184,8 +211,9 @@ is_text text word =
     one_word text W.Open word _ (one_word text W.Close word _ (one_word text W.Pin word _ (one_word text W.Assert word _
     (one_word text W.Retract word _ (one_word text W.Set word _ (one_word text W.SetHex word _ (one_word text W.Unset word _
     (one_word text W.Auth word _ (one_word text W.Unauth word _ (one_word text W.Clear word _ (one_word text W.Query word _
+    (one_word text W.Watch word _ (one_word text W.News word _ (one_word text W.Unwatch word _ (one_word text W.Critical word _
     (one_word text W.Admin word _ (one_word text W.Add word _ (one_word text W.Remove word _ (one_word text W.Batch word _
-    (one_word text W.Log word _ (one_word text W.Bye word _ (λ none. absurd (no_word word none)))))))))))))))))))
+    (one_word text W.Log word _ (one_word text W.Bye word _ (λ none. absurd (no_word word none)))))))))))))))))))))))
 
 pub word_spelled : (text : List ℕ) (word : Word) → word_of text ≡ Some word → text ≡ word_text word
 word_spelled text word e = (bytes_eq-Decides text (word_text word)).0 (is_text text word e)

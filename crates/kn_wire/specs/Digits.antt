@@ -13,8 +13,8 @@ bytes_of_digits [] = []
 bytes_of_digits (digit ∷ []) = []
 bytes_of_digits (high ∷ low ∷ digits) = (digit_value high * 16 + digit_value low) ∷ bytes_of_digits digits
 
--- the parts of a request are of their form: its digits are hexadecimal digits, an even number of them, and its block isn't
--- too long
+-- the parts of a request are of their form: its digits are hexadecimal digits, an even number of them, and its block
+-- isn't too long
 abbrev pub IsFormedContent : Content → Type 0
 IsFormedContent (BlockOf block) = length block ≤ ASSERTION_BYTES
 IsFormedContent (DigitsOf digits) = are_digits digits ≡ true

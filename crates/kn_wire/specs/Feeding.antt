@@ -3,10 +3,11 @@ use Rattle.std.specs.Prelude.{ℕ, Bool, true, false, List, [], ◌++◌, Option
 use Rattle.std.specs.List.{list_any, after_first}
 use Rattle.kn_wire.specs.declared.fault.WireFault.{WireFault}
 use Rattle.kn_wire.specs.declared.fault.WireFault.TheVariants as F
-use Rattle.kn_wire.specs.Requests.{Request, Faulty, Content, BlockOf, DigitsOf, Plain, FaultOf, content_of, first_of, is_newline}
+use Rattle.kn_wire.specs.Requests.{Request, Faulty, Content, BlockOf, DigitsOf, Plain, FaultOf}
+use Rattle.kn_wire.specs.Requests.{content_of, first_of, is_newline}
 
--- Bytes that belong to no answered request; or a long line that was answered before its newline came; or nothing for good,
--- since a block of n bytes was refused.
+-- Bytes that belong to no answered request; or a long line that was answered before its newline came; or nothing for
+-- good, since a block of n bytes was refused.
 pub data Held : Type 0 where
   Bytes : List ℕ → Held
   InLong : Held
@@ -37,7 +38,8 @@ held_after_fault text F.Command left = Bytes left
 held_after_fault text F.Long left = if list_any is_newline text then Bytes left else InLong
 held_after_fault text (F.Block n) left = Shut n
 
--- what is held after a request of this content was the first of a text, and this was left; only a fault may drop some of it
+-- what is held after a request of this content was the first of a text, and this was left; only a fault may drop some
+-- of it
 abbrev pub held_after_content : List ℕ → Content → List ℕ → Held
 held_after_content text (BlockOf block) left = Bytes left
 held_after_content text (DigitsOf digits) left = Bytes left

@@ -37,7 +37,8 @@ pub record WaitsFor (text : List ℕ) (searched needed : ℕ) : Type 0 where
 abbrev pub IsFirst : List ℕ → First → Type 0
 IsFirst text (F.Waits searched needed) = WaitsFor text searched needed
 IsFirst text (F.Line line bytes) = SpendsLine (Bytes text) text line (Bytes (drop bytes text)) × (bytes ≤ length text)
-IsFirst text (F.Blocked head block bytes) = SpendsBlock (Bytes text) text head block (Bytes (drop bytes text)) × (bytes ≤ length text)
+IsFirst text (F.Blocked head block bytes) =
+    SpendsBlock (Bytes text) text head block (Bytes (drop bytes text)) × (bytes ≤ length text)
 IsFirst text (F.Long n) = (n ≡ line_length text) × (LINE_BYTES < n)
 IsFirst text (F.Unended n) = next_of (Bytes text) ≡ Some (D.Faulty (Block n), Shut n)
 

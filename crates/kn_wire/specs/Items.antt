@@ -1,5 +1,7 @@
 -- The items of a batch's block (keynoted's own line protocol).
-use Rattle.std.specs.Prelude.{ℕ, zero, suc, ◌≡◌, ◌≢◌, ◌⊎◌, ◌+◌, ◌<◌, ◌≤◌, List, [], ◌∷◌, ◌++◌, length, take, drop, flat_map, codes, decimal, slice_get, Option, Some, None, option_and_then, option_map, Result, Ok, Err, if◌then◌else◌}
+use Rattle.std.specs.Prelude.{ℕ, zero, suc, ◌≡◌, ◌≢◌, ◌⊎◌, ◌+◌, ◌<◌, ◌≤◌, if◌then◌else◌}
+use Rattle.std.specs.Prelude.{List, [], ◌∷◌, ◌++◌, length, take, drop, flat_map, codes, decimal, slice_get}
+use Rattle.std.specs.Prelude.{Option, Some, None, option_and_then, option_map, Result, Ok, Err}
 use Rattle.std.specs.List.{list_any, before_first, after_first, AllByRecursion}
 use Rattle.std.specs.Str.{bytes_eq}
 use Rattle.kn_base.specs.Decimal.{decimal_of}
@@ -32,32 +34,39 @@ removal_of more text = option_map (λ k. (DropId k, text)) (number_after 97 more
 -- the item of a line and of what follows it, and what is left
 abbrev pub item_of_line : List ℕ → List ℕ → Option (BatchItem × List ℕ)
 item_of_line line text =
-    if bytes_eq (before_first is_space line) (codes "ADD") then option_and_then (λ more. addition_of more text) (behind_space line)
-    else if bytes_eq (before_first is_space line) (codes "DROP") then option_and_then (λ more. removal_of more text) (behind_space line)
+    if bytes_eq (before_first is_space line) (codes "ADD")
+    then option_and_then (λ more. addition_of more text) (behind_space line)
+    else if bytes_eq (before_first is_space line) (codes "DROP")
+    then option_and_then (λ more. removal_of more text) (behind_space line)
     else None
 
 -- the item with which a text begins, and what is left
 abbrev pub first_item : List ℕ → Option (BatchItem × List ℕ)
-first_item text = if list_any is_newline text then item_of_line (before_first is_newline text) (after_first is_newline text) else None
+first_item text =
+    if list_any is_newline text then item_of_line (before_first is_newline text) (after_first is_newline text)
+    else None
 
 abbrev pub item_before : BatchItem → Result (List BatchItem) ℕ → Result (List BatchItem) ℕ
 item_before item (Ok items) = Ok (item ∷ items)
 item_before item (Err number) = Err number
 
 -- what is found of the next item, which has this number, and of those behind it
-abbrev pub items_behind : ℕ → Option (BatchItem × List ℕ) → (List ℕ → Result (List BatchItem) ℕ) → Result (List BatchItem) ℕ
+abbrev pub items_behind : ℕ → Option (BatchItem × List ℕ) → (List ℕ → Result (List BatchItem) ℕ)
+    → Result (List BatchItem) ℕ
 items_behind number None behind = Err number
 items_behind number (Some first) behind = item_before first.0 (behind first.1)
 
--- The items of a text, of which so many may still come; or the number of the first at which it departs from the form, where
--- the next item has this number.
+-- The items of a text, of which so many may still come; or the number of the first at which it departs from the form,
+-- where the next item has this number.
 abbrev pub items_from : ℕ → ℕ → List ℕ → Result (List BatchItem) ℕ
 items_from zero number [] = Ok []
 items_from zero number (b ∷ text) = Err number
 items_from (suc more) number [] = Ok []
-items_from (suc more) number (b ∷ text) = items_behind number (first_item (b ∷ text)) (λ left. items_from more (number + 1) left)
+items_from (suc more) number (b ∷ text) =
+    items_behind number (first_item (b ∷ text)) (λ left. items_from more (number + 1) left)
 
--- the items of a block, of which there are 1 to 256; or the number, from 1, of the first at which it departs from the form
+-- the items of a block, of which there are 1 to 256; or the number, from 1, of the first at which it departs from the
+-- form
 abbrev pub items_of : List ℕ → Result (List BatchItem) ℕ
 items_of [] = Err 1
 items_of (b ∷ text) = items_from CHANGES 1 (b ∷ text)
@@ -75,8 +84,8 @@ pub record AreItems (block : List ℕ) (items : List BatchItem) : Type 0 where
   pub few : length items ≤ CHANGES
   pub joined : block ≡ flat_map item_text items
 
--- The block departs from the form at this item, counted from 1: no item begins there, or as many as there may be stand in front
--- of it and a byte follows.
+-- The block departs from the form at this item, counted from 1: no item begins there, or as many as there may be stand
+-- in front of it and a byte follows.
 pub record DepartsAt (block : List ℕ) (number : ℕ) : Type 0 where
   pub front : List BatchItem
   pub rest : List ℕ
@@ -85,4 +94,5 @@ pub record DepartsAt (block : List ℕ) (number : ℕ) : Type 0 where
   pub within : length front ≤ CHANGES
   pub short : AllByRecursion IsShortItem front
   pub there : (rest ≢ []) ⊎ (front ≡ [])
-  pub why : (length front ≡ CHANGES) ⊎ ((item : BatchItem) (left : List ℕ) → IsShortItem item → rest ≡ item_text item ++ left → ⊥)
+  pub why : (length front ≡ CHANGES)
+      ⊎ ((item : BatchItem) (left : List ℕ) → IsShortItem item → rest ≡ item_text item ++ left → ⊥)

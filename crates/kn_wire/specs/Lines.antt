@@ -34,8 +34,11 @@ request_of_word word rest = option_and_then whole_of (D.line_of_word word rest)
 
 -- a number and a space, and what follows
 abbrev pub number_and_rest : List ℕ → Option (ℕ × List ℕ)
-number_and_rest text = option_and_then (λ rest. option_map (λ n. (n, rest)) (decimal_of (before_first is_space text))) (behind_space text)
+number_and_rest text =
+    option_and_then (λ rest. option_map (λ n. (n, rest)) (decimal_of (before_first is_space text))) (behind_space text)
 
 -- a word of at least one byte, and what follows its space, nothing without one
 abbrev pub name_and_rest : List ℕ → Option (List ℕ × List ℕ)
-name_and_rest text = if is_word (before_first is_space text) then Some (before_first is_space text, after_first is_space text) else None
+name_and_rest text =
+    if is_word (before_first is_space text) then Some (before_first is_space text, after_first is_space text)
+    else None

@@ -6,7 +6,8 @@ use Rattle.kn_wire.specs.Feeding.{Held, pushed, next_of, is_shut}
 -- these requests are taken one after the other; then this is held
 abbrev pub Taken : Held → List Request → Held → Type 0
 Taken held [] new = new ≡ held
-Taken held (request ∷ requests) new = (mid : Held) × (is_shut held ≡ false) × (next_of held ≡ Some (request, mid)) × Taken mid requests new
+Taken held (request ∷ requests) new =
+    (mid : Held) × (is_shut held ≡ false) × (next_of held ≡ Some (request, mid)) × Taken mid requests new
 
 -- nothing more is taken: there is no whole request, or a block was refused
 abbrev pub IsAtRest : Held → Type 0

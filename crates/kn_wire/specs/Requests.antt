@@ -1,5 +1,7 @@
 -- The requests of a byte stream (keynoted's own line protocol).
-use Rattle.std.specs.Prelude.{ℕ, ◌≡◌, ◌+◌, ◌%◌, Bool, true, ◌==◌, ◌&&◌, not, nat_le, nat_lt, List, [], ◌∷◌, length, take, drop, codes, slice_get, Option, Some, None, option_and_then, option_map, is_some, if◌then◌else◌}
+use Rattle.std.specs.Prelude.{ℕ, ◌≡◌, ◌+◌, ◌%◌, Bool, true, ◌==◌, ◌&&◌, not, nat_le, nat_lt, if◌then◌else◌}
+use Rattle.std.specs.Prelude.{List, [], ◌∷◌, length, take, drop, codes, slice_get}
+use Rattle.std.specs.Prelude.{Option, Some, None, option_and_then, option_map, is_some}
 use Rattle.std.specs.List.{list_all, before_first, after_first, position_or_len}
 use Rattle.std.specs.Option.{option_or}
 use Rattle.std.specs.Str.{bytes_eq}
@@ -24,6 +26,10 @@ pub data Request : Type 0 where
   Unauth : ℕ → List ℕ → Request
   Clear : ℕ → Request
   Query : ℕ → List ℕ → Request
+  Watch : ℕ → List ℕ → Request
+  News : ℕ → Request
+  Unwatch : ℕ → Request
+  Critical : ℕ → List ℕ → Request
   Admin : List ℕ → Request
   Add : List ℕ → Request
   Drop : ℕ → Request
@@ -53,6 +59,10 @@ content_of (Auth s principal) = Plain
 content_of (Unauth s principal) = Plain
 content_of (Clear s) = Plain
 content_of (Query s names) = Plain
+content_of (Watch s names) = Plain
+content_of (News s) = Plain
+content_of (Unwatch s) = Plain
+content_of (Critical s names) = Plain
 content_of (Admin digits) = DigitsOf digits
 content_of (Add block) = BlockOf block
 content_of (Drop k) = Plain
@@ -77,6 +87,10 @@ word_of text =
     else if bytes_eq text (codes "UNAUTH") then Some W.Unauth
     else if bytes_eq text (codes "CLEAR") then Some W.Clear
     else if bytes_eq text (codes "QUERY") then Some W.Query
+    else if bytes_eq text (codes "WATCH") then Some W.Watch
+    else if bytes_eq text (codes "NEWS") then Some W.News
+    else if bytes_eq text (codes "UNWATCH") then Some W.Unwatch
+    else if bytes_eq text (codes "CRITICAL") then Some W.Critical
     else if bytes_eq text (codes "ADMIN") then Some W.Admin
     else if bytes_eq text (codes "ADD") then Some W.Add
     else if bytes_eq text (codes "DROP") then Some W.Remove
@@ -103,7 +117,9 @@ behind_space (b ∷ bs) = if is_space b then Some bs else behind_space bs
 
 -- a number and a space, and what follows
 abbrev pub with_number : List ℕ → (ℕ → List ℕ → Option Line) → Option Line
-with_number text f = option_and_then (λ rest. option_and_then (λ n. f n rest) (decimal_of (before_first is_space text))) (behind_space text)
+with_number text f =
+    option_and_then (λ rest. option_and_then (λ n. f n rest) (decimal_of (before_first is_space text)))
+    (behind_space text)
 
 -- a letter and a number
 abbrev pub number_after : ℕ → List ℕ → Option ℕ
@@ -115,7 +131,10 @@ abbrev pub is_word : List ℕ → Bool
 is_word text = nat_lt 0 (length text) && list_all (λ b. not (is_space b)) text
 
 abbrev pub is_hex_digit : ℕ → Bool
-is_hex_digit b = if nat_le 48 b && nat_le b 57 then true else if nat_le 65 b && nat_le b 70 then true else nat_le 97 b && nat_le b 102
+is_hex_digit b =
+    if nat_le 48 b && nat_le b 57 then true
+    else if nat_le 65 b && nat_le b 70 then true
+    else nat_le 97 b && nat_le b 102
 
 -- an even number of hexadecimal digits
 abbrev pub are_digits : List ℕ → Bool
@@ -143,14 +162,28 @@ line_of_word W.Bye rest = when (not (is_some rest)) Bye
 line_of_word W.Close rest = option_and_then (λ text. option_map (λ s. Whole (Close s)) (decimal_of text)) rest
 line_of_word W.Pin rest = option_and_then pin_line rest
 line_of_word W.Clear rest = option_and_then (λ text. option_map (λ s. Whole (Clear s)) (decimal_of text)) rest
-line_of_word W.Assert rest = option_and_then (λ text. with_number text (λ s more. option_map (λ n. Blocked n (Assert s)) (decimal_of more))) rest
-line_of_word W.Retract rest = option_and_then (λ text. with_number text (λ s more. option_map (λ k. Whole (Retract s k)) (number_after 112 more))) rest
-line_of_word W.Set rest = option_and_then (λ text. with_number text (λ s more. when (is_word (before_first is_space more)) (Set s (before_first is_space more) (after_first is_space more)))) rest
-line_of_word W.SetHex rest = option_and_then (λ text. with_number text (λ s more. when (is_word (before_first is_space more) && are_digits (after_first is_space more)) (SetHex s (before_first is_space more) (after_first is_space more)))) rest
-line_of_word W.Unset rest = option_and_then (λ text. with_number text (λ s more. when (is_word more) (Unset s more))) rest
+line_of_word W.Assert rest =
+    option_and_then (λ text. with_number text (λ s more. option_map (λ n. Blocked n (Assert s)) (decimal_of more))) rest
+line_of_word W.Retract rest =
+    option_and_then (λ text. with_number text (λ s more.
+    option_map (λ k. Whole (Retract s k)) (number_after 112 more))) rest
+line_of_word W.Set rest =
+    option_and_then (λ text. with_number text (λ s more. when (is_word (before_first is_space more))
+    (Set s (before_first is_space more) (after_first is_space more)))) rest
+line_of_word W.SetHex rest =
+    option_and_then (λ text. with_number text (λ s more.
+    when (is_word (before_first is_space more) && are_digits (after_first is_space more))
+    (SetHex s (before_first is_space more) (after_first is_space more)))) rest
+line_of_word W.Unset rest =
+    option_and_then (λ text. with_number text (λ s more. when (is_word more) (Unset s more))) rest
 line_of_word W.Auth rest = option_and_then (λ text. with_number text (λ s more. Some (Whole (Auth s more)))) rest
 line_of_word W.Unauth rest = option_and_then (λ text. with_number text (λ s more. Some (Whole (Unauth s more)))) rest
 line_of_word W.Query rest = option_and_then (λ text. with_number text (λ s more. Some (Whole (Query s more)))) rest
+line_of_word W.Watch rest = option_and_then (λ text. with_number text (λ s more. Some (Whole (Watch s more)))) rest
+line_of_word W.News rest = option_and_then (λ text. option_map (λ s. Whole (News s)) (decimal_of text)) rest
+line_of_word W.Unwatch rest = option_and_then (λ text. option_map (λ s. Whole (Unwatch s)) (decimal_of text)) rest
+line_of_word W.Critical rest =
+    option_and_then (λ text. with_number text (λ s more. Some (Whole (Critical s more)))) rest
 line_of_word W.Admin rest = option_and_then (λ text. when (nat_lt 0 (length text) && are_digits text) (Admin text)) rest
 line_of_word W.Add rest = option_and_then (λ text. option_map (λ n. Blocked n Add) (decimal_of text)) rest
 line_of_word W.Remove rest = option_and_then (λ text. option_map (λ k. Whole (Drop k)) (number_after 97 text)) rest
@@ -182,12 +215,15 @@ without_return (b ∷ c ∷ bs) = b ∷ without_return (c ∷ bs)
 -- the request of a block, decided by the byte behind it, and what is left
 abbrev pub first_of_block : ℕ → (List ℕ → Request) → List ℕ → Option ℕ → Option (Request × List ℕ)
 first_of_block n request text None = None
-first_of_block n request text (Some b) = if b == 10 then Some (request (take n text), drop (n + 1) text) else Some (Faulty (Block n), [])
+first_of_block n request text (Some b) =
+    if b == 10 then Some (request (take n text), drop (n + 1) text) else Some (Faulty (Block n), [])
 
 -- the request of a line and of what follows it, if that is there, and what is left
 abbrev pub first_of_line : Line → List ℕ → Option (Request × List ℕ)
 first_of_line (Whole request) text = Some (request, text)
-first_of_line (Blocked n request) text = if nat_lt ASSERTION_BYTES n then Some (Faulty (Block n), []) else first_of_block n request text (slice_get text n)
+first_of_line (Blocked n request) text =
+    if nat_lt ASSERTION_BYTES n then Some (Faulty (Block n), [])
+    else first_of_block n request text (slice_get text n)
 
 -- how many bytes stand before the first newline, or in all where there is none
 abbrev pub line_length : List ℕ → ℕ
@@ -197,13 +233,15 @@ line_length text = position_or_len is_newline text
 abbrev pub first_of : List ℕ → Option (Request × List ℕ)
 first_of text =
     if nat_lt LINE_BYTES (line_length text) then Some (Faulty Long, after_first is_newline text)
-    else if nat_lt (line_length text) (length text) then first_of_line (line_of (without_return (before_first is_newline text))) (after_first is_newline text)
+    else if nat_lt (line_length text) (length text)
+    then first_of_line (line_of (without_return (before_first is_newline text))) (after_first is_newline text)
     else None
 
 -- the text begins with these requests, and this is left
 abbrev pub Takes : List ℕ → List Request → List ℕ → Type 0
 Takes text [] rest = text ≡ rest
-Takes text (request ∷ requests) rest = (left : List ℕ) × (first_of text ≡ Some (request, left)) × Takes left requests rest
+Takes text (request ∷ requests) rest =
+    (left : List ℕ) × (first_of text ≡ Some (request, left)) × Takes left requests rest
 
 -- the requests of a text are these, and this is the rest
 pub record AreRequests (text : List ℕ) (requests : List Request) (rest : List ℕ) : Type 0 where

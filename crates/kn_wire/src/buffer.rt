@@ -39,7 +39,8 @@ pub(crate) fn read_behind<L: Link>(
     ensures front { take end buffer.new.items ≡ take end buffer.old.items }
     ensures len { vec_len buffer.new ≡ vec_len buffer.old }
     ensures few { IfOk result (λ bytes. bytes ≤ PIECE_BYTES) }
-    ensures read { IfOk result (λ bytes. Reads (take bytes (drop end buffer.new.items)) (L.seen link.old) (L.seen link.new)) }
+    ensures read { IfOk result (λ bytes. Reads (take bytes (drop end buffer.new.items))
+        (L.seen link.old) (L.seen link.new)) }
     ensures over { IfOk result (λ bytes. bytes ≡ 0 → IfSome (L.seen link.new).left (λ left. left ≡ [])) }
     ensures err { OnErr result (Fails (L.seen link.old) (L.seen link.new)) }
     ensures later { (L.seen link.old).faults ≤ (L.seen link.new).faults }

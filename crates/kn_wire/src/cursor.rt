@@ -122,8 +122,10 @@ impl Cursor {
     /// Spends a long line of so many bytes with its newline, or what is there of it among the bytes held.
     fn spend_long(&mut self, held: usize, bytes: usize)
         requires { self.old.from + held < 2 ^ 64 }
-        ensures here { bytes < held → self.new ≡ record self.old { from = self.old.from + (bytes + 1); searched = 0; needed = 0 } }
-        ensures underway { held ≤ bytes → self.new ≡ record { from = self.old.from + held; searched = 0; needed = 0; stage = S.Skipping } }
+        ensures here { bytes < held
+            → self.new ≡ record self.old { from = self.old.from + (bytes + 1); searched = 0; needed = 0 } }
+        ensures underway { held ≤ bytes
+            → self.new ≡ record { from = self.old.from + held; searched = 0; needed = 0; stage = S.Skipping } }
     {
         if bytes < held {
             self.spend(bytes + 1);

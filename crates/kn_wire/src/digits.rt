@@ -66,10 +66,12 @@ pub fn decode_digits(alloc: Global, digits: &[u8]) -> Result<Octets, NoMemory>
 
 /// The byte of the first two digits, and what follows; None where there are fewer.
 fn split_byte(text: &[u8]) -> Option<(u32, &[u8])>
-    ensures byte { MatchOption result (bytes_of_digits text.now ≡ []) (λ parts. bytes_of_digits text.now ≡ parts.0 ∷ bytes_of_digits parts.1.now) }
+    ensures byte { MatchOption result (bytes_of_digits text.now ≡ [])
+        (λ parts. bytes_of_digits text.now ≡ parts.0 ∷ bytes_of_digits parts.1.now) }
     ensures shorter { IfSome result (λ parts. length parts.1.now < length text.now) }
     ensures small { IfSome result (λ parts. list_all is_hex_digit text.now ≡ true → parts.0 < 256) }
-    ensures digits { IfSome result (λ parts. list_all is_hex_digit text.now ≡ true → list_all is_hex_digit parts.1.now ≡ true) }
+    ensures digits { IfSome result (λ parts. list_all is_hex_digit text.now ≡ true
+        → list_all is_hex_digit parts.1.now ≡ true) }
 {
     if text.len() < 2 {
         return None;

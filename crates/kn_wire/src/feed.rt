@@ -81,8 +81,8 @@ impl Feed {
         self.admit(piece.len());
     }
 
-    /// Reads the next bytes of a link behind the bytes held, as a piece, once `next` has answered None, and tells how many.
-    /// There are none only at the end of the input.
+    /// Reads the next bytes of a link behind the bytes held, as a piece, once `next` has answered None, and tells how
+    /// many. There are none only at the end of the input.
     pub fn fill<L: Link>(&mut self, link: &mut L) -> Result<usize, Failed>
         requires none { next_of (held self.old) ≡ None }
         ensures { IsFilled (held self.old) (held self.new) (L.seen link.old) (L.seen link.new) result }
@@ -101,7 +101,8 @@ impl Feed {
     /// known to be long. After `Block` each call answers the same.
     pub fn next(&mut self) -> Result<Option<Request<'_>>, WireFault>
         ensures form { IfOk result (λ asked. IfSome asked (λ request. IsWellFormed (request_of request))) }
-        ensures* after { sem 𝓛 (follows_so the_row the_row self.entry.ghost_name none (λ _ _. ⊤) (λ n. IsAnswer (held self.old) result (held n))) }
+        ensures* after { sem 𝓛 (follows_so the_row the_row self.entry.ghost_name none (λ _ _. ⊤)
+            (λ n. IsAnswer (held self.old) result (held n))) }
     {
         match self.advance() {
             Advanced::Nothing => Ok(None),
@@ -147,7 +148,8 @@ impl Feed {
         requires within { line.start + line.len ≤ length (take self.now.end self.now.buf.items) }
         requires whole { blocked_of (line_of (part_of line (take self.now.end self.now.buf.items))) ≡ None }
         ensures form { IfOk result (λ request. IsWellFormed (request_of request)) }
-        ensures request { D.Whole (request_or_fault result) ≡ line_of (part_of line (take self.now.end self.now.buf.items)) }
+        ensures request { D.Whole (request_or_fault result)
+            ≡ line_of (part_of line (take self.now.end self.now.buf.items)) }
     {
         read_line(line.of(self.bytes()))
     }

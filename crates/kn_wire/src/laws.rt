@@ -1,7 +1,8 @@
 //! Laws of requests, each of them the contract of a function that does nothing.
 
 ghost use Rattle.std.specs.Prelude.{◌≡◌};
-ghost use Rattle.kn_wire.specs.Laws.{LineIsFirst, SomeReading, OneReading, RequestsGrow, PiecesAreRequests, BatchIsItems, ItemsAreRead, BlockDeparts, DepartingIsRefused};
+ghost use Rattle.kn_wire.specs.Laws.{LineIsFirst, SomeReading, OneReading, RequestsGrow, PiecesAreRequests};
+ghost use Rattle.kn_wire.specs.Laws.{BatchIsItems, ItemsAreRead, BlockDeparts, DepartingIsRefused};
 
 use crate::feed::PIECE_BYTES;
 

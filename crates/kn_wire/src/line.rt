@@ -45,7 +45,26 @@ fn read_alone<'a>(word: Word) -> Option<Request<'a>>
     match word {
         Word::Open => Some(Request::Start),
         Word::Bye => Some(Request::Bye),
-        _ => None,
+        Word::Close
+        | Word::Pin
+        | Word::Assert
+        | Word::Retract
+        | Word::Set
+        | Word::SetHex
+        | Word::Unset
+        | Word::Auth
+        | Word::Unauth
+        | Word::Clear
+        | Word::Query
+        | Word::Watch
+        | Word::News
+        | Word::Unwatch
+        | Word::Critical
+        | Word::Admin
+        | Word::Add
+        | Word::Remove
+        | Word::Batch
+        | Word::Log => None,
     }
 }
 
@@ -65,6 +84,10 @@ fn read_behind(word: Word, text: &[u8]) -> Option<Request<'_>>
         Word::Unauth => read_unauth(text),
         Word::Clear => read_clear(text),
         Word::Query => read_query(text),
+        Word::Watch => read_watch(text),
+        Word::News => read_news(text),
+        Word::Unwatch => read_unwatch(text),
+        Word::Critical => read_critical(text),
         Word::Admin => read_admin(text),
         Word::Remove => read_remove(text),
         Word::Log => read_log(text),
@@ -181,6 +204,34 @@ fn read_query(text: &[u8]) -> Option<Request<'_>>
 {
     let (s, values) = split_number(text)?;
     Some(Request::Query { s, values })
+}
+
+fn read_watch(text: &[u8]) -> Option<Request<'_>>
+    ensures { option_map request_of result ≡ request_of_word Word.Watch (Some text.now) }
+{
+    let (s, values) = split_number(text)?;
+    Some(Request::Watch { s, values })
+}
+
+fn read_news(text: &[u8]) -> Option<Request<'_>>
+    ensures { option_map request_of result ≡ request_of_word Word.News (Some text.now) }
+{
+    let s = decimal(text)?;
+    Some(Request::News { s })
+}
+
+fn read_unwatch(text: &[u8]) -> Option<Request<'_>>
+    ensures { option_map request_of result ≡ request_of_word Word.Unwatch (Some text.now) }
+{
+    let s = decimal(text)?;
+    Some(Request::Unwatch { s })
+}
+
+fn read_critical(text: &[u8]) -> Option<Request<'_>>
+    ensures { option_map request_of result ≡ request_of_word Word.Critical (Some text.now) }
+{
+    let (s, values) = split_number(text)?;
+    Some(Request::Critical { s, values })
 }
 
 /// The word before the first space, and what follows the space, nothing without one; None where the word is empty.

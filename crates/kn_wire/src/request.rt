@@ -57,6 +57,24 @@ pub enum Request<'a> {
         s: u32,
         values: &'a [u8],
     },
+    /// Keeps a query as the session's standing one. The values are as QUERY's.
+    Watch {
+        s: u32,
+        values: &'a [u8],
+    },
+    /// The answer to the standing query over the newest version.
+    News {
+        s: u32,
+    },
+    /// Ends the standing query.
+    Unwatch {
+        s: u32,
+    },
+    /// The critical credentials of a query. The values are as QUERY's.
+    Critical {
+        s: u32,
+        values: &'a [u8],
+    },
     /// The secret as an even number of hexadecimal digits, at least two.
     Admin {
         digits: &'a [u8],

@@ -59,8 +59,9 @@ pub(crate) fn split_number(text: &[u8]) -> Option<(u32, &[u8])>
 pub(crate) fn number_behind(letter: u8, text: &[u8]) -> Option<u32>
     ensures { result ≡ number_after letter text.now }
 {
-    match text.split_first() {
-        Some((first, rest)) if *first == letter => decimal(rest),
-        _ => None,
+    let (first, rest) = text.split_first()?;
+    if *first != letter {
+        return None;
     }
+    decimal(rest)
 }

@@ -15,6 +15,10 @@ pub(crate) enum Word {
     Unauth,
     Clear,
     Query,
+    Watch,
+    News,
+    Unwatch,
+    Critical,
     Admin,
     Add,
     Remove,
@@ -55,6 +59,14 @@ impl Word {
             Some(Word::Clear)
         } else if text == b"QUERY".as_slice() {
             Some(Word::Query)
+        } else if text == b"WATCH".as_slice() {
+            Some(Word::Watch)
+        } else if text == b"NEWS".as_slice() {
+            Some(Word::News)
+        } else if text == b"UNWATCH".as_slice() {
+            Some(Word::Unwatch)
+        } else if text == b"CRITICAL".as_slice() {
+            Some(Word::Critical)
         } else if text == b"ADMIN".as_slice() {
             Some(Word::Admin)
         } else if text == b"ADD".as_slice() {

@@ -1,4 +1,5 @@
-//! Worked examples of requests, each shown by computing it. The functions have no body: their clauses are what they say.
+//! Worked examples of requests, each shown by computing it. The functions have no body: their clauses are what they
+//! say.
 
 ghost use Rattle.std.specs.Prelude.{ℕ, List, ◌≡◌, ◌<◌, ◌≤◌, ◌++◌, ◌∷◌, [], false, length, codes, Some, None, Ok, Err};
 ghost use Rattle.std.specs.List.{list_any};
@@ -63,6 +64,26 @@ pub fn later_requests()
     ensures pin_at { first_of (codes "PIN 1 2\n") ≡ Some (Q.PinAt 1 2, []) }
     ensures pin_more { first_of (codes "PIN 1 2 3\n") ≡ Some (Q.Faulty F.Syntax, []) }
     ensures log { first_of (codes "LOG 0\n") ≡ Some (Q.Log 0, []) }
+{}
+
+/// Lines of standing queries.
+pub fn standing_queries()
+    ensures watch { first_of (codes "WATCH 1 no,yes\n") ≡ Some (Q.Watch 1 (codes "no,yes"), []) }
+    ensures watch_nothing { first_of (codes "WATCH 1 \n") ≡ Some (Q.Watch 1 [], []) }
+    ensures watch_no_values { first_of (codes "WATCH 1\n") ≡ Some (Q.Faulty F.Syntax, []) }
+    ensures news { first_of (codes "NEWS 1\n") ≡ Some (Q.News 1, []) }
+    ensures news_alone { first_of (codes "NEWS\n") ≡ Some (Q.Faulty F.Syntax, []) }
+    ensures news_more { first_of (codes "NEWS 1 2\n") ≡ Some (Q.Faulty F.Syntax, []) }
+    ensures unwatch { first_of (codes "UNWATCH 1\nBYE\n") ≡ Some (Q.Unwatch 1, codes "BYE\n") }
+    ensures unwatch_leading_zero { first_of (codes "UNWATCH 01\n") ≡ Some (Q.Faulty F.Syntax, []) }
+    ensures lower_case { first_of (codes "watch 1 no,yes\n") ≡ Some (Q.Faulty F.Command, []) }
+{}
+
+/// Lines that ask for critical credentials.
+pub fn critical_credentials()
+    ensures critical { first_of (codes "CRITICAL 1 no,yes\r\n") ≡ Some (Q.Critical 1 (codes "no,yes"), []) }
+    ensures no_number { first_of (codes "CRITICAL x no,yes\n") ≡ Some (Q.Faulty F.Syntax, []) }
+    ensures no_values { first_of (codes "CRITICAL 1\n") ≡ Some (Q.Faulty F.Syntax, []) }
 {}
 
 /// The items of blocks.
