@@ -2,7 +2,7 @@
 use Rattle.std.proofs.Common.{◌≡◌, ◌∙◌, ℕ, zero, suc, ◌+◌, ◌-◌, ◌≤◌, min, List, [], ◌∷◌, ◌++◌, length, take, drop, sym, ap, subst, append_assoc, arith}
 use Rattle.std.specs.Prelude.{codes, decimal, flat_map, slice_get, Some}
 use Rattle.std.proofs.lemmas.List.{length-take, length-drop, take_min, drop_all, flat_map_more}
-use Rattle.kn_store.specs.declared.update.Update.{Update}
+use Rattle.kn_history.specs.declared.update.Update.{Update}
 use Rattle.kn_reply.specs.Logs.{log_part, update_text, log_text}
 
 -- one more item in front
@@ -40,7 +40,7 @@ drop_min (suc n) (x ∷ xs) =
     let less : min (suc n) (length (x ∷ xs)) ≡ suc (min n (length xs)) = omega arith in
     ap (λ k. drop k (x ∷ xs)) less ∙ drop_min n xs
 
--- these places are those of the updates that are told to who holds so many
+-- these places are those of the updates in a reply to a client that holds the first n
 pub record ArePlaces (n place from to : ℕ) : Type 0 where
   pub begins : from ≡ min n place
   pub ends : to ≡ min place (from + 16)

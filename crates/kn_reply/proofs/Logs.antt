@@ -1,6 +1,6 @@
 -- Replies that hand on updates, one after the other.
 use Rattle.std.proofs.Common.{◌≡◌, ℕ, zero, suc, ◌-◌, List, [], ◌∷◌, ◌++◌, length, take, drop, refl, sym, ap, ◌∙◌, subst, arith, append_assoc, take-append-drop}
-use Rattle.kn_store.specs.declared.update.Update.{Update}
+use Rattle.kn_history.specs.declared.update.Update.{Update}
 use Rattle.kn_reply.specs.Logs.{log_part, held_after}
 use Rattle.kn_reply.specs.Laws.{IsBeginning}
 

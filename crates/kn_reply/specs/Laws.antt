@@ -1,9 +1,10 @@
 -- Laws of replies that hand on updates.
 use Rattle.std.specs.Prelude.{ℕ, ◌≡◌, ◌≤◌, List, [], ◌++◌, length, take}
-use Rattle.kn_store.specs.declared.update.Update.{Update}
+use Rattle.kn_history.specs.declared.update.Update.{Update}
 use Rattle.kn_reply.specs.Logs.{log_part, held_after}
 
--- what is held after replies, each to who held what was held then, is a beginning of the history
+-- what a client holds that takes replies, each asked for with the number of updates that it holds, is a beginning of
+-- the history
 pub record IsBeginning (history held : List Update) : Type 0 where
   pub rest : List Update
   pub whole : history ≡ held ++ rest

@@ -1,9 +1,10 @@
 -- Replies and their texts (keynoted's own line protocol).
-use Rattle.std.specs.Prelude.{ℕ, List, [], ◌∷◌, ◌++◌, codes, decimal}
+use Rattle.std.specs.Prelude.{ℕ, List, [], ◌∷◌, ◌++◌, length, flat_map, codes, decimal}
 use Rattle.std.specs.Arc.{arc_value}
 use Rattle.kn_proof.specs.declared.named.NamedRow.{NamedRow}
-use Rattle.kn_proof.specs.Texts.{value_text}
-use Rattle.kn_store.specs.declared.update.Update.{Update}
+use Rattle.kn_proof.specs.declared.named.Id.{Id}
+use Rattle.kn_proof.specs.Texts.{id_text, value_text}
+use Rattle.kn_history.specs.declared.update.Update.{Update}
 use Rattle.kn_reply.specs.Logs.{log_text}
 use Rattle.kn_reply.specs.declared.reply.Reply.{Reply as Printed}
 use Rattle.kn_reply.specs.declared.reply.Reply.TheVariants as P
@@ -24,6 +25,8 @@ pub data Reply : Type 0 where
   Batched : ℕ → ℕ → ℕ → Reply
   PinnedAt : ℕ → ℕ → Reply
   Log : ℕ → List Update → Reply
+  News : ℕ → List ℕ → ℕ → Reply
+  Critical : ℕ → List Id → Reply
   No : Refusal → Reply
   NoMemory : Reply
 
@@ -37,6 +40,7 @@ word_text W.Live = codes "live"
 word_text W.LiveBytes = codes "live-bytes"
 word_text W.Updates = codes "updates"
 word_text W.LogBytes = codes "log-bytes"
+word_text W.Nodes = codes "nodes"
 
 -- the refusal of an item of a batch, as it would be told of a request
 abbrev pub item_refusal_text : ItemRefusal → List ℕ
@@ -66,6 +70,19 @@ refusal_text (R.Item item inner) = codes "17 item " ++ decimal item ++ 32 ∷ it
 refusal_text (R.Retained newest) = codes "18 retained " ++ decimal newest
 refusal_text (R.Ahead newest) = codes "19 ahead " ++ decimal newest
 
+-- a standing query's level, the level's name, and the version that it holds of
+abbrev pub news_text : ℕ → List ℕ → ℕ → List ℕ
+news_text index name version = codes "NEWS " ++ decimal index ++ 32 ∷ name ++ 32 ∷ decimal version ++ 10 ∷ []
+
+-- an answer needs the assertion of this id
+abbrev pub need_text : Id → List ℕ
+need_text id = codes "NEED " ++ id_text id ++ 10 ∷ []
+
+-- a query's level, and the critical assertions, with their number
+abbrev pub critical_text : ℕ → List Id → List ℕ
+critical_text index ids =
+    codes "CRITICAL " ++ decimal index ++ 32 ∷ decimal (length ids) ++ 10 ∷ flat_map need_text ids ++ codes "END\n"
+
 -- the text of a reply
 abbrev pub reply_text : Reply → List ℕ
 reply_text Done = codes "OK\n"
@@ -74,9 +91,12 @@ reply_text (Number version) = codes "OK " ++ decimal version ++ 10 ∷ []
 reply_text (PrivateAdded k) = codes "OK p" ++ decimal k ++ 10 ∷ []
 reply_text (Added k version) = codes "OK a" ++ decimal k ++ 32 ∷ decimal version ++ 10 ∷ []
 reply_text (Value index name version rows) = value_text index name version rows
-reply_text (Batched first added version) = codes "OK a" ++ decimal first ++ 32 ∷ decimal added ++ 32 ∷ decimal version ++ 10 ∷ []
+reply_text (Batched first added version) =
+    codes "OK a" ++ decimal first ++ 32 ∷ decimal added ++ 32 ∷ decimal version ++ 10 ∷ []
 reply_text (PinnedAt version newest) = codes "OK " ++ decimal version ++ 32 ∷ decimal newest ++ 10 ∷ []
 reply_text (Log n history) = log_text n history
+reply_text (News index name version) = news_text index name version
+reply_text (Critical index ids) = critical_text index ids
 reply_text (No refusal) = codes "NO " ++ refusal_text refusal ++ 10 ∷ []
 reply_text NoMemory = codes "NOMEM\n"
 
@@ -91,5 +111,7 @@ reply_of (P.Value index name version rows) = Value index name.now version rows.n
 reply_of (P.Batched first added version) = Batched first added version
 reply_of (P.PinnedAt version newest) = PinnedAt version newest
 reply_of (P.Log n snapshot) = Log n (arc_value snapshot.now)
+reply_of (P.News index name version) = News index name.now version
+reply_of (P.Critical index ids) = Critical index ids.now
 reply_of (P.No refusal) = No refusal
 reply_of P.NoMemory = NoMemory

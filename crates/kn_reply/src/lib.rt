@@ -6,10 +6,12 @@
 
 pub mod laws;
 mod log_printing;
+mod number_printing;
 mod printer;
 mod printing;
 mod refusal;
 mod reply;
+mod value_printing;
 pub mod worked;
 
 pub use printing::print;

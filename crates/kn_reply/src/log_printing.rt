@@ -1,16 +1,16 @@
 //! The reply to LOG as text (keynoted's own line protocol).
-ghost use Rattle.std.specs.Prelude.{◌≡◌, ◌≤◌, ◌-◌, ◌++◌, ◌∷◌, [], length, take, drop, codes, decimal, flat_map};
-ghost use Rattle.kn_wire.specs.Items.{item_text};
+ghost use Rattle.std.specs.Prelude.{◌≤◌, ◌-◌, length, take, drop, flat_map};
+ghost use Rattle.kn_wire.specs.Items.{AddText, item_text};
 ghost use Rattle.kn_reply.specs.Gathering.{Puts};
-ghost use Rattle.kn_reply.specs.Logs.{item_of_change, log_part, log_text, update_text};
+ghost use Rattle.kn_reply.specs.Logs.{change_text, log_text, update_text};
 
+use crate::number_printing::{put_behind, put_one, put_size, put_two};
 use crate::printer::Printer;
-use crate::printing::{put_behind, put_one, put_two};
-use itoa::Buffer;
 use kn_base::List;
 use kn_base::limits::LOG_UPDATES;
+use kn_history::{Change, Numbered, Update};
 use kn_outside::Sink;
-use kn_store::{Change, Numbered, Update, Version};
+use kn_store::Version;
 
 /// The updates of a version behind the first `n`, as many as a reply tells, and how many there are in all.
 pub(crate) fn put_log<const N: usize, O: Sink>(
@@ -40,7 +40,8 @@ fn put_updates<const N: usize, O: Sink>(
 )
     requires order { from ≤ to }
     requires within { to ≤ length version.now }
-    ensures { Puts (flat_map update_text (take (to - from) (drop from version.now))) printer.old (O.seen out.old) printer.new (O.seen out.new) }
+    ensures { Puts (flat_map update_text (take (to - from) (drop from version.now)))
+        printer.old (O.seen out.old) printer.new (O.seen out.new) }
 {
     for i in from..to {
         put_update(printer, out, version.update(i));
@@ -66,7 +67,7 @@ fn put_changes<const N: usize, O: Sink>(
     out: &mut O,
     changes: &List<Numbered>,
 )
-    ensures { Puts (flat_map (λ c. item_text (item_of_change c.change c.id)) changes.now) printer.old (O.seen out.old) printer.new (O.seen out.new) }
+    ensures { Puts (flat_map change_text changes.now) printer.old (O.seen out.old) printer.new (O.seen out.new) }
 {
     for numbered in changes.as_slice() {
         put_change(printer, out, numbered);
@@ -74,7 +75,7 @@ fn put_changes<const N: usize, O: Sink>(
 }
 
 fn put_change<const N: usize, O: Sink>(printer: &mut Printer<N>, out: &mut O, numbered: &Numbered)
-    ensures { Puts (item_text (item_of_change numbered.now.change numbered.now.id)) printer.old (O.seen out.old) printer.new (O.seen out.new) }
+    ensures { Puts (change_text numbered.now) printer.old (O.seen out.old) printer.new (O.seen out.new) }
 {
     match &numbered.change {
         Change::Add(text) => put_addition(printer, out, text.as_slice()),
@@ -84,18 +85,11 @@ fn put_change<const N: usize, O: Sink>(printer: &mut Printer<N>, out: &mut O, nu
 
 /// The addition of a text as an item of a batch.
 fn put_addition<const N: usize, O: Sink>(printer: &mut Printer<N>, out: &mut O, text: &[u8])
-    ensures { Puts (codes "ADD " ++ decimal (length text.now) ++ 10 ∷ text.now ++ 10 ∷ []) printer.old (O.seen out.old) printer.new (O.seen out.new) }
+    ensures { Puts (item_text (AddText text.now)) printer.old (O.seen out.old) printer.new (O.seen out.new) }
 {
     printer.put(out, b"ADD ");
     put_size(printer, out, text.len());
     printer.put(out, b"\n");
     printer.put(out, text);
     printer.put(out, b"\n");
-}
-
-fn put_size<const N: usize, O: Sink>(printer: &mut Printer<N>, out: &mut O, size: usize)
-    ensures { Puts (decimal size) printer.old (O.seen out.old) printer.new (O.seen out.new) }
-{
-    let mut buffer = Buffer::new();
-    printer.put(out, buffer.format(size).as_bytes());
 }

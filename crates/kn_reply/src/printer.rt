@@ -4,8 +4,8 @@ ghost use Rattle.std.specs.Prelude.{◌≡◌, [], true, false};
 use arrayvec::ArrayVec;
 use kn_outside::{Failed, Sink, write_all};
 
-/// A text on its way to a sink: what was put and isn't written yet, at most `N` bytes. After a write has failed it takes
-/// nothing more.
+/// A text on its way to a sink: what was put and isn't written yet, at most `N` bytes. After a write has failed it
+/// takes nothing more.
 #[derive(Drop)]
 pub(crate) struct Printer<const N: usize> {
     pending: ArrayVec<u8, N>,
@@ -41,7 +41,8 @@ impl<const N: usize> Printer<N> {
 
     /// Writes what is left, and tells whether all that was put is written.
     pub(crate) fn finish<O: Sink>(mut self, out: &mut O) -> Result<(), Failed>
-        ensures { (text : List ℕ) (first : LinkSeen) → Gathered text first self.entry (O.seen out.old) → Prints (is_whole result) text first (O.seen out.new) }
+        ensures { (text : List ℕ) (first : LinkSeen) → Gathered text first self.entry (O.seen out.old)
+            → Prints (is_whole result) text first (O.seen out.new) }
     {
         self.flush(out);
         if self.failed { Err(Failed) } else { Ok(()) }

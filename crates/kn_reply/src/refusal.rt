@@ -12,6 +12,7 @@ pub enum LimitWord {
     LiveBytes,
     Updates,
     LogBytes,
+    Nodes,
 }
 
 impl LimitWord {
@@ -32,6 +33,7 @@ impl LimitWord {
             LimitWord::LiveBytes => b"live-bytes",
             LimitWord::Updates => b"updates",
             LimitWord::LogBytes => b"log-bytes",
+            LimitWord::Nodes => b"nodes",
         }
     }
 }

@@ -2,7 +2,7 @@
 
 use crate::refusal::Refusal;
 use kn_base::List;
-use kn_proof::NamedRow;
+use kn_proof::{Id, NamedRow};
 use kn_store::Snapshot;
 
 /// A reply of the line protocol (keynoted's own), as it is printed.
@@ -51,6 +51,19 @@ pub enum Reply<'a> {
     Log {
         n: u32,
         snapshot: &'a Snapshot,
+    },
+    /// The compliance value of a standing query, by its index, counted from the lowest, 0, and its name, over this
+    /// version. No rows prove it.
+    News {
+        index: u8,
+        name: &'a [u8],
+        version: u32,
+    },
+    /// The compliance value of a query by its index, and the assertions without each of which it would be lower, in the
+    /// order of the query's assertions.
+    Critical {
+        index: u8,
+        ids: &'a List<Id>,
     },
     No(Refusal),
     NoMemory,

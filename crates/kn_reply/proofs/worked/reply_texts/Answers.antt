@@ -53,3 +53,19 @@ returns-clause-retained c = refl
 pub returns-clause-ahead : goal.returns-clause-ahead
 unfolding digits
 returns-clause-ahead c = refl
+
+pub returns-clause-news : goal.returns-clause-news
+unfolding digits
+returns-clause-news c = refl
+
+pub returns-clause-critical : goal.returns-clause-critical
+unfolding digits
+returns-clause-critical c = refl
+
+pub returns-clause-none_critical : goal.returns-clause-none_critical
+unfolding digits
+returns-clause-none_critical c = refl
+
+pub returns-clause-nodes : goal.returns-clause-nodes
+unfolding digits
+returns-clause-nodes c = refl

@@ -1,7 +1,7 @@
 use Rattle.std.proofs.Common.{ℕ, List, subst}
 use Rattle.kn_reply.specs.Gathering.{Gathered}
 use Rattle.kn_reply.proofs.Gathering.{value_parts}
-use Rattle.kn_reply.proofs.printing.put_value.Goals as goal
+use Rattle.kn_reply.proofs.value_printing.put_value.Goals as goal
 
 pub returns : goal.returns
 returns g c = λ text first before.

@@ -1,7 +1,7 @@
 use Rattle.std.proofs.Common.{ℕ, List, ◌∙◌, sym, subst}
 use Rattle.kn_reply.specs.Gathering.{Puts}
 use Rattle.kn_reply.proofs.Gathering.{plain_text}
-use Rattle.kn_reply.proofs.printing.put_quoted.Goals as goal
+use Rattle.kn_reply.proofs.value_printing.put_quoted.Goals as goal
 
 pub returns-then-are_plain : goal.returns-then-are_plain
 returns-then-are_plain g c =
