@@ -6,3 +6,4 @@ pub mod Naming
 pub mod Keeping
 pub mod Taking
 pub mod Together
+pub mod StandingQueries

@@ -3,7 +3,7 @@ use Rattle.std.proofs.Common.{◌≡◌, ℕ, ◌<◌, Bool, true, false, not, c
 use Rattle.std.specs.List.{list_any, remove, IsDistinct}
 use Rattle.std.specs.Str.{bytes_eq}
 use Rattle.kn_principal.specs.Principals.{normal_form}
-use Rattle.kn_store.specs.History.{NumberedText}
+use Rattle.kn_history.specs.History.{NumberedText}
 use Rattle.kn_session.specs.declared.fault.SessionFault.TheVariants as F
 use Rattle.kn_session.specs.declared.view.Private.{Private}
 use Rattle.kn_session.specs.Sessions.{Session, fault_if}

@@ -6,8 +6,8 @@ use Rattle.std.proofs.lemmas.List.Sums.{sum_by-append, sum_by-cons}
 use Rattle.kn_base.specs.declared.limits.TheConstants.{PRIVATE_BYTES}
 use Rattle.kn_proof.specs.declared.named.Id.{Id}
 use Rattle.kn_proof.specs.declared.named.Id.TheVariants.{Shared, Private as Own}
-use Rattle.kn_store.specs.History.{NumberedText, text_bytes}
-use Rattle.kn_store.specs.LiveView.{IdsAscend}
+use Rattle.kn_history.specs.History.{NumberedText, text_bytes}
+use Rattle.kn_history.specs.Ids.{IdsAscend}
 use Rattle.kn_session.specs.Views.{ids_of}
 use Rattle.kn_session.specs.Laws.{all_texts, all_ids, AreDifferent, TextsAreShort, AllIdsDiffer, PrivatesAreRead}
 

@@ -12,7 +12,7 @@ use Rattle.kn_trees.specs.declared.assertion.Assertion.{Assertion}
 use Rattle.kn_fields.specs.declared.fault.ReadFault.{ReadFault}
 use Rattle.kn_fields.specs.Numbers.{fault_number, fault_place}
 use Rattle.kn_assert.specs.Reading.{reading_of}
-use Rattle.kn_store.specs.History.{text_bytes}
+use Rattle.kn_history.specs.History.{text_bytes}
 use Rattle.kn_session.specs.declared.fault.SessionFault.{SessionFault}
 use Rattle.kn_session.specs.declared.fault.SessionFault.TheVariants as F
 use Rattle.kn_session.specs.declared.fault.CallFault.{CallFault}
@@ -21,7 +21,7 @@ use Rattle.kn_session.specs.declared.call.Applied.{Applied}
 use Rattle.kn_session.specs.declared.call.Applied.TheVariants as A
 use Rattle.kn_session.specs.declared.call.Call.{Call as Called}
 use Rattle.kn_session.specs.declared.call.Call.TheVariants as Q
-use Rattle.kn_session.specs.Sessions.{Session, OpenSessions, session_in, with_changed, without_session, fault_if}
+use Rattle.kn_session.specs.Sessions.{Session, OpenSessions, session_in, with_changed, without_session, fault_if, standing_fault, end_standing}
 
 -- Faults: of each call the first that applies.
 
@@ -108,6 +108,7 @@ pub data Call : Type 0 where
   Unset : List ℕ → Call
   Auth : List ℕ → Call
   Unauth : List ℕ → Call
+  Unwatch : Call
 
 -- what a call in code stands for
 abbrev pub call_of : Called → Call
@@ -119,6 +120,26 @@ call_of (Q.Set name value) = Set name.now value.now
 call_of (Q.Unset name) = Unset name.now
 call_of (Q.Auth principal) = Auth principal.now
 call_of (Q.Unauth principal) = Unauth principal.now
+call_of Q.Unwatch = Unwatch
+
+-- The sorts of calls: one closes its session, one adds the assertion of a text, and each other one changes a session that stays
+-- open and gives nothing: it stores something, for which it may find no memory, or it frees something.
+pub data CallSort : Type 0 where
+  Closing : CallSort
+  Adding : List ℕ → CallSort
+  Storing : CallSort
+  Freeing : CallSort
+
+abbrev pub sort_of : Call → CallSort
+sort_of Close = Closing
+sort_of Clear = Freeing
+sort_of (Assert text) = Adding text
+sort_of (Retract k) = Freeing
+sort_of (Set name value) = Storing
+sort_of (Unset name) = Freeing
+sort_of (Auth text) = Storing
+sort_of (Unauth text) = Freeing
+sort_of Unwatch = Freeing
 
 -- a text that has no reading has its first fault, which is never want of memory
 abbrev pub text_fault : Result Assertion ReadFault → (Assertion → Option CallFault) → Option CallFault
@@ -139,6 +160,7 @@ session_fault (Set name value) session = set_fault name value session
 session_fault (Unset name) session = unset_fault name session
 session_fault (Auth text) session = auth_fault text session
 session_fault (Unauth text) session = unauth_fault text session
+session_fault Unwatch session = standing_fault session
 
 -- why a call of an open session is refused
 abbrev pub call_fault : Call → Session → Option CallFault
@@ -150,6 +172,7 @@ call_fault (Set name value) session = own_fault (session_fault (Set name value) 
 call_fault (Unset name) session = own_fault (session_fault (Unset name) session)
 call_fault (Auth text) session = own_fault (session_fault (Auth text) session)
 call_fault (Unauth text) session = own_fault (session_fault (Unauth text) session)
+call_fault Unwatch session = own_fault (session_fault Unwatch session)
 
 -- and why it is refused of the session of this number, which comes first where that isn't open
 abbrev pub call_fault_in : ℕ → Option Session → Call → Option CallFault
@@ -166,6 +189,7 @@ call_change (Set name value) session = set_attribute name value session
 call_change (Unset name) session = unset_attribute name session
 call_change (Auth text) session = add_requester text session
 call_change (Unauth text) session = take_requester text session
+call_change Unwatch session = end_standing session
 
 -- what an accepted call of the session of this number makes of those that are open
 abbrev pub after_call : List Session → ℕ → Call → List Session
@@ -177,28 +201,27 @@ after_call sessions s (Set name value) = with_changed sessions s (call_change (S
 after_call sessions s (Unset name) = with_changed sessions s (call_change (Unset name))
 after_call sessions s (Auth text) = with_changed sessions s (call_change (Auth text))
 after_call sessions s (Unauth text) = with_changed sessions s (call_change (Unauth text))
+after_call sessions s Unwatch = with_changed sessions s (call_change Unwatch)
 
 -- what an accepted call gives: a private assertion's id, or nothing
+abbrev pub answer_of_sort : CallSort → Session → Applied
+answer_of_sort Closing session = A.Done
+answer_of_sort (Adding text) session = A.Added (session.made + 1)
+answer_of_sort Storing session = A.Done
+answer_of_sort Freeing session = A.Done
+
 abbrev pub call_answer : Call → Session → Applied
-call_answer Close session = A.Done
-call_answer Clear session = A.Done
-call_answer (Assert text) session = A.Added (session.made + 1)
-call_answer (Retract k) session = A.Done
-call_answer (Set name value) session = A.Done
-call_answer (Unset name) session = A.Done
-call_answer (Auth text) session = A.Done
-call_answer (Unauth text) session = A.Done
+call_answer call session = answer_of_sort (sort_of call) session
 
 -- the calls that may find no memory; then nothing has changed
+abbrev pub needs_memory : CallSort → Bool
+needs_memory Closing = false
+needs_memory (Adding text) = true
+needs_memory Storing = true
+needs_memory Freeing = false
+
 abbrev pub call_may_lack_memory : Call → Bool
-call_may_lack_memory Close = false
-call_may_lack_memory Clear = false
-call_may_lack_memory (Assert text) = true
-call_may_lack_memory (Retract k) = false
-call_may_lack_memory (Set name value) = true
-call_may_lack_memory (Unset name) = false
-call_may_lack_memory (Auth text) = true
-call_may_lack_memory (Unauth text) = false
+call_may_lack_memory call = needs_memory (sort_of call)
 
 -- the fault is want of memory
 abbrev pub lacks_memory : CallFault → Bool
@@ -212,15 +235,14 @@ place_of_fault (T.Text fault) = fault_place fault
 place_of_fault (T.Session fault) = 0
 
 -- the text that is to be read as an assertion
+abbrev pub added_text : CallSort → List ℕ
+added_text Closing = []
+added_text (Adding text) = text
+added_text Storing = []
+added_text Freeing = []
+
 abbrev pub asserted : Call → List ℕ
-asserted Close = []
-asserted Clear = []
-asserted (Assert text) = text
-asserted (Retract k) = []
-asserted (Set name value) = []
-asserted (Unset name) = []
-asserted (Auth text) = []
-asserted (Unauth text) = []
+asserted call = added_text (sort_of call)
 
 -- the open sessions after an accepted call
 abbrev pub with_call : OpenSessions → ℕ → Call → OpenSessions
@@ -247,15 +269,14 @@ answer_done (Ok done) = Ok A.Done
 answer_done (Err fault) = Err (T.Session fault)
 
 -- it changes a session that stays open, and gives nothing
+abbrev pub is_changing : CallSort → Bool
+is_changing Closing = false
+is_changing (Adding text) = false
+is_changing Storing = true
+is_changing Freeing = true
+
 abbrev pub is_change : Call → Bool
-is_change Close = false
-is_change Clear = true
-is_change (Assert text) = false
-is_change (Retract k) = true
-is_change (Set name value) = true
-is_change (Unset name) = true
-is_change (Auth text) = true
-is_change (Unauth text) = true
+is_change call = is_changing (sort_of call)
 
 -- the fault that is due, or, where the call may find none, want of memory
 abbrev pub IsDue : Bool → Option SessionFault → SessionFault → Type 0

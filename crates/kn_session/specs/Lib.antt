@@ -1,6 +1,7 @@
 pub mod Sessions
 pub mod Calls
 pub mod Views
+pub mod Fields
 pub mod Connection
 pub mod Placed
 pub mod Laws

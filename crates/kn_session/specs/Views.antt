@@ -1,5 +1,5 @@
 -- What a view of a session shows, and what holds of it (keynoted's own).
-use Rattle.std.specs.Prelude.{ℕ, ◌≡◌, ◌≤◌, List, map, length, nat_eq, Some}
+use Rattle.std.specs.Prelude.{ℕ, ◌≡◌, ◌≤◌, List, map, length, nat_eq, Some, option_map}
 use Rattle.std.specs.List.{AllByRecursion, IsDistinct}
 use Rattle.std.specs.Str.{bytes_eq}
 use Rattle.std.specs.Arc.{arc_value}
@@ -7,7 +7,7 @@ use Rattle.kn_base.specs.declared.limits.TheConstants.{PRIVATE_ASSERTIONS, PRIVA
 use Rattle.kn_principal.specs.Principals.{normal_form}
 use Rattle.kn_env.specs.Environment.{AreRequesters}
 use Rattle.kn_assert.specs.Reading.{assertion_of}
-use Rattle.kn_store.specs.History.{NumberedText, text_bytes}
+use Rattle.kn_history.specs.History.{NumberedText, text_bytes}
 use Rattle.kn_session.specs.Sessions.{Session}
 use Rattle.kn_session.specs.declared.view.Private.{Private}
 use Rattle.kn_session.specs.declared.view.View.{View}
@@ -25,6 +25,7 @@ session_of_view v = record {
   made = v.made;
   attributes = v.attributes.now;
   requesters = v.requesters.now;
+  standing = option_map (λ query. query.now) v.standing;
 }
 
 -- a private assertion is the reading of its text
@@ -58,6 +59,12 @@ pub record IsSession (x : Session) : Type 0 where
   pub made : AllByRecursion (λ k. k ≤ x.made) (ids_of x.privates)
   pub requesters : AreRequesters x.requesters
   pub forms : AreNormalForms x.requesters
+
+-- what is copied for a standing query: private assertions that are readings of their texts, and requesters
+pub record AreStandingParts (copies : List Private) (principals : List (List ℕ)) : Type 0 where
+  pub readings : AreReadPrivates copies
+  pub privates : ArePrivates (map numbered_text copies)
+  pub requesters : AreRequesters principals
 
 -- A session is kept with its private assertions and the count of their bytes.
 pub record IsKept (privates : List Private) (count : ℕ) (x : Session) : Type 0 where

@@ -19,6 +19,8 @@ pub enum Call<'a> {
     Auth { principal: &'a [u8] },
     /// A requester goes.
     Unauth { principal: &'a [u8] },
+    /// The standing query ends.
+    Unwatch,
 }
 
 /// What an accepted call gives.

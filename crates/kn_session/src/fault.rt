@@ -29,7 +29,7 @@ pub enum SessionFault {
     Value,
     /// Fault 11: the session has `count` attributes, as many as there may be, and the name is new.
     Attributes { count: u32 },
-    /// Fault 12: the session hasn't this attribute, or this requester.
+    /// Fault 12: the session hasn't this attribute, this requester, or a standing query.
     Absent,
     /// There was no memory.
     NoMemory,

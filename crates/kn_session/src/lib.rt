@@ -9,9 +9,11 @@ mod fault;
 pub mod laws;
 mod session;
 mod sessions;
+mod standing;
 mod view;
 
 pub use call::{Applied, Call};
 pub use fault::{CallFault, SessionFault};
 pub use sessions::Sessions;
+pub use standing::StandingQuery;
 pub use view::{Private, View};

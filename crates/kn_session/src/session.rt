@@ -1,18 +1,25 @@
 //! One open session.
-ghost use Rattle.std.specs.Prelude.{◌≡◌, ◌⊎◌, ◌<◌, ◌+◌, ◌^◌, true, false, ◌==◌, bytes_eq, length, remove, slice_get, option_map, position, Some, None, IfOk, IfErr, OnOk, OnErr};
+ghost use Rattle.std.specs.Prelude.{◌≡◌, ◌⊎◌, ◌<◌, ◌+◌, ◌^◌, true, false, ◌==◌, bytes_eq, length, remove};
+ghost use Rattle.std.specs.Prelude.{slice_get, option_map, position, Some, None, IfOk, IfErr, OnOk, OnErr};
+ghost use Rattle.std.specs.Option.{option_copied};
 ghost use Rattle.std.specs.Arc.{arc_value};
 ghost use Rattle.kn_principal.specs.Principals.{normal_form};
 ghost use Rattle.kn_assert.specs.Reading.{assertion_of};
 ghost use Rattle.kn_session.specs.Sessions.{started_session, pin_at};
-ghost use Rattle.kn_session.specs.Calls.{private_fault, retract_fault, set_fault, unset_fault, auth_fault, unauth_fault, fault_of_attribute, is_principal, is_named, add_private, take_private, set_attribute, unset_attribute, add_requester, take_requester, cleared};
+ghost use Rattle.kn_session.specs.Sessions.{standing_fault, watch_with, move_standing, end_standing};
+ghost use Rattle.kn_session.specs.Calls.{private_fault, retract_fault, set_fault, unset_fault, auth_fault};
+ghost use Rattle.kn_session.specs.Calls.{unauth_fault, fault_of_attribute, is_principal, is_named, cleared};
+ghost use Rattle.kn_session.specs.Calls.{add_private, take_private, set_attribute, unset_attribute};
+ghost use Rattle.kn_session.specs.Calls.{add_requester, take_requester};
 ghost use Rattle.kn_session.specs.declared.fault.SessionFault.TheVariants as F;
 
 use crate::call::Call;
 use crate::fault::SessionFault;
+use crate::standing::StandingQuery;
 use crate::view::{Private, View};
 use kn_base::limits::{PRINCIPAL_BYTES, PRIVATE_ASSERTIONS, PRIVATE_BYTES, REQUESTERS};
-use kn_base::{List, Octets};
-use kn_env::{Attributes, EnvFault};
+use kn_base::{List, NoMemory, Octets};
+use kn_env::{Attributes, EnvFault, Values};
 use kn_principal::{PrincipalFault, normal, same};
 use kn_store::Snapshot;
 use kn_trees::Assertion;
@@ -32,23 +39,25 @@ pub(crate) struct OpenSession {
     made: u32,
     attributes: Attributes,
     requesters: List<Octets>,
+    standing: Option<StandingQuery>,
 }
 
 impl Model for OpenSession {
-    ghost use Rattle.std.specs.Prelude.{map};
-    ghost use Rattle.std.specs.Arc.{arc_value};
     ghost use Rattle.kn_session.specs.Sessions.{Session};
-    ghost use Rattle.kn_session.specs.Views.{numbered_text, IsKept};
 
     ghost Value = { Session };
 
-    ghost view = { λ s. record { number = s.number; pinned = arc_value s.snapshot; privates = map numbered_text s.private; made = s.made; attributes = s.attributes; requesters = s.requesters } };
+    ghost use Rattle.kn_session.specs.Fields.{session_of_fields};
+    ghost use Rattle.kn_session.specs.Views.{IsKept};
 
-    ghost invariant = { λ s. IsKept s.private s.private_bytes (record { number = s.number; pinned = arc_value s.snapshot; privates = map numbered_text s.private; made = s.made; attributes = s.attributes; requesters = s.requesters }) };
+    ghost view = { session_of_fields };
+
+    ghost invariant = { λ s. IsKept s.private s.private_bytes (session_of_fields s) };
 }
 
 impl OpenSession {
-    ghost use Rattle.kn_session.specs.Calls.{call_of, is_change, session_fault, call_change, call_may_lack_memory, IsDue};
+    ghost use Rattle.kn_session.specs.Calls.{call_of, is_change, session_fault, call_change, call_may_lack_memory};
+    ghost use Rattle.kn_session.specs.Calls.{IsDue};
     ghost use Rattle.kn_session.specs.Views.{session_of_view, AreReadPrivates, IsSession};
 
     /// A session of this number, pinned to a version.
@@ -63,6 +72,7 @@ impl OpenSession {
             made: 0,
             attributes: Attributes::new(alloc),
             requesters: List::new(alloc),
+            standing: None,
         }
     }
 
@@ -85,7 +95,60 @@ impl OpenSession {
             private: &self.private,
             attributes: &self.attributes,
             requesters: &self.requesters,
+            standing: self.standing.as_ref(),
         }
+    }
+
+    /// The standing query, if the session keeps one.
+    pub(crate) fn standing(&self) -> Option<&StandingQuery>
+        ensures { option_copied result ≡ self.now.standing }
+    {
+        self.standing.as_ref()
+    }
+
+    /// Keeps what the session asks with, and these compliance values, as its standing query.
+    pub(crate) fn watch(&mut self, alloc: Global, values: Values) -> Result<(), SessionFault>
+        ensures ok { OnOk result (self.new ≡ watch_with values self.old) }
+        ensures err { OnErr result (self.new ≡ self.old) }
+        ensures fault { IfErr result (λ fault. fault ≡ F.NoMemory) }
+    {
+        match StandingQuery::of(alloc, &self.view(), values) {
+            Ok(query) => {
+                self.standing = Some(query);
+                Ok(())
+            }
+            Err(NoMemory) => Err(SessionFault::NoMemory),
+        }
+    }
+
+    /// Moves the standing query to a version.
+    pub(crate) fn move_standing(&mut self, snapshot: Snapshot) -> Result<(), SessionFault>
+        ensures accepted { OnOk result (standing_fault self.old ≡ None) }
+        ensures ok { OnOk result (self.new ≡ move_standing (arc_value snapshot) self.old) }
+        ensures err { OnErr result (self.new ≡ self.old) }
+        ensures fault { IfErr result (λ fault. standing_fault self.old ≡ Some fault) }
+    {
+        match &mut self.standing {
+            Some(query) => {
+                query.move_to(snapshot);
+                Ok(())
+            }
+            None => Err(SessionFault::Absent),
+        }
+    }
+
+    /// Ends the standing query.
+    pub(crate) fn unwatch(&mut self) -> Result<(), SessionFault>
+        ensures accepted { OnOk result (standing_fault self.old ≡ None) }
+        ensures ok { OnOk result (self.new ≡ end_standing self.old) }
+        ensures err { OnErr result (self.new ≡ self.old) }
+        ensures fault { IfErr result (λ fault. standing_fault self.old ≡ Some fault) }
+    {
+        if self.standing.is_none() {
+            return Err(SessionFault::Absent);
+        }
+        self.standing = None;
+        Ok(())
     }
 
     pub(crate) fn pin(&mut self, snapshot: Snapshot)
@@ -108,7 +171,8 @@ impl OpenSession {
         ensures accepted { OnOk result (session_fault (call_of call.entry) self.old ≡ None) }
         ensures ok { OnOk result (self.new ≡ call_change (call_of call.entry) self.old) }
         ensures err { OnErr result (self.new ≡ self.old) }
-        ensures fault { IfErr result (IsDue (call_may_lack_memory (call_of call.entry)) (session_fault (call_of call.entry) self.old)) }
+        ensures fault { IfErr result
+            (IsDue (call_may_lack_memory (call_of call.entry)) (session_fault (call_of call.entry) self.old)) }
     {
         match call {
             Call::Close => unreachable!(),
@@ -119,6 +183,7 @@ impl OpenSession {
             Call::Unset { name } => self.unset(name),
             Call::Auth { principal } => self.auth(alloc, principal),
             Call::Unauth { principal } => self.unauth(principal),
+            Call::Unwatch => self.unwatch(),
         }
     }
 
@@ -135,7 +200,8 @@ impl OpenSession {
         ensures id { IfOk result (λ id. id ≡ self.old.made + 1) }
         ensures ok { OnOk result (self.new ≡ add_private text.now self.old) }
         ensures err { OnErr result (self.new ≡ self.old) }
-        ensures fault { IfErr result (λ fault. (fault ≡ F.NoMemory) ⊎ (private_fault text.now assertion self.old ≡ Some fault)) }
+        ensures fault { IfErr result (λ fault.
+            (fault ≡ F.NoMemory) ⊎ (private_fault text.now assertion self.old ≡ Some fault)) }
     {
         match self.private_fault(text, &assertion) {
             Some(fault) => Err(fault),
@@ -211,7 +277,8 @@ impl OpenSession {
         ensures accepted { OnOk result (set_fault name.now value.now self.old ≡ None) }
         ensures ok { OnOk result (self.new ≡ set_attribute name.now value.now self.old) }
         ensures err { OnErr result (self.new ≡ self.old) }
-        ensures fault { IfErr result (λ fault. (fault ≡ F.NoMemory) ⊎ (set_fault name.now value.now self.old ≡ Some fault)) }
+        ensures fault { IfErr result (λ fault.
+            (fault ≡ F.NoMemory) ⊎ (set_fault name.now value.now self.old ≡ Some fault)) }
     {
         match self.attributes.set(name, value) {
             Ok(()) => Ok(()),
@@ -236,7 +303,8 @@ impl OpenSession {
         ensures accepted { OnOk result (auth_fault principal.now self.old ≡ None) }
         ensures ok { OnOk result (self.new ≡ add_requester principal.now self.old) }
         ensures err { OnErr result (self.new ≡ self.old) }
-        ensures fault { IfErr result (λ fault. (fault ≡ F.NoMemory) ⊎ (auth_fault principal.now self.old ≡ Some fault)) }
+        ensures fault { IfErr result (λ fault.
+            (fault ≡ F.NoMemory) ⊎ (auth_fault principal.now self.old ≡ Some fault)) }
     {
         if !is_principal(principal) {
             return Err(SessionFault::Principal);

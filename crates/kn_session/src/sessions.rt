@@ -1,12 +1,15 @@
 //! The open sessions of a connection.
-ghost use Rattle.std.specs.Prelude.{◌≡◌, ◌⊎◌, ◌↔◌, ◌<◌, ◌+◌, ◌==◌, ◌^◌, ℕ, List, true, [], length, position, Some, None, Option, IsTrue, IfOk, IfErr, OnOk, OnErr};
+ghost use Rattle.std.specs.Prelude.{◌≡◌, ◌⊎◌, ◌↔◌, ◌<◌, ◌+◌, ◌==◌, ◌^◌, ℕ, List, true, [], length, position};
+ghost use Rattle.std.specs.Prelude.{Some, None, Option, IsTrue, IfOk, IfErr, OnOk, OnErr};
 ghost use Rattle.std.specs.Option.{ForSome, IsSomeAnd};
 ghost use Rattle.std.specs.Arc.{arc_value};
 ghost use Rattle.kn_env.specs.Environment.{AreRequesters};
 ghost use Rattle.kn_assert.specs.Reading.{assertion_of};
 ghost use Rattle.kn_session.specs.Sessions.{Session, session_in, with_started, start_fault, pin_at};
-ghost use Rattle.kn_session.specs.Calls.{private_fault, retract_fault, set_fault, unset_fault, auth_fault, unauth_fault, add_private, take_private, set_attribute, unset_attribute, add_requester, take_requester, cleared};
-ghost use Rattle.kn_session.specs.Calls.{answer_done};
+ghost use Rattle.kn_session.specs.Sessions.{watch_with, move_standing, standing_fault, end_standing};
+ghost use Rattle.kn_session.specs.Calls.{private_fault, retract_fault, set_fault, unset_fault, auth_fault};
+ghost use Rattle.kn_session.specs.Calls.{unauth_fault, add_private, take_private, set_attribute, unset_attribute};
+ghost use Rattle.kn_session.specs.Calls.{add_requester, take_requester, cleared, answer_done};
 ghost use Rattle.kn_session.specs.Placed.{IsOneAt};
 ghost use Rattle.kn_session.specs.declared.fault.SessionFault.{SessionFault};
 ghost use Rattle.kn_session.specs.declared.fault.SessionFault.TheVariants as F;
@@ -14,9 +17,11 @@ ghost use Rattle.kn_session.specs.declared.fault.SessionFault.TheVariants as F;
 use crate::call::{Applied, Call};
 use crate::fault::{CallFault, SessionFault};
 use crate::session::OpenSession;
+use crate::standing::StandingQuery;
 use crate::view::View;
 use kn_assert::read;
 use kn_base::limits::SESSIONS;
+use kn_env::Values;
 use kn_store::Snapshot;
 use kn_trees::Assertion;
 use std::alloc::Global;
@@ -45,7 +50,8 @@ impl Model for Sessions {
 }
 
 impl Sessions {
-    ghost use Rattle.kn_session.specs.Calls.{Assert, call_of, is_change, session_fault, call_change, call_may_lack_memory, IsDue, Accepts, Refuses};
+    ghost use Rattle.kn_session.specs.Calls.{Assert, call_of, is_change, session_fault, call_change};
+    ghost use Rattle.kn_session.specs.Calls.{call_may_lack_memory, IsDue, Accepts, Refuses};
     ghost use Rattle.kn_session.specs.Connection.{fault_at, with_open_session, with_closed};
     ghost use Rattle.kn_session.specs.Views.{session_of_view, AreReadPrivates, ArePrivates, AreNormalForms};
 
@@ -65,7 +71,10 @@ impl Sessions {
         requires few { self.old.started < 2 ^ 31 }
         ensures number { IfOk result (λ s. s ≡ self.old.started + 1) }
         ensures accepted { OnOk result (start_fault self.old.sessions ≡ None) }
-        ensures ok { OnOk result (self.new ≡ record { started = self.old.started + 1; sessions = with_started self.old.started self.old.sessions (arc_value snapshot) }) }
+        ensures ok { OnOk result (self.new ≡ record {
+          started = self.old.started + 1;
+          sessions = with_started self.old.started self.old.sessions (arc_value snapshot);
+        }) }
         ensures err { OnErr result (self.new ≡ self.old) }
         ensures fault { IfErr result (λ fault. (fault ≡ F.NoMemory) ⊎ (start_fault self.old.sessions ≡ Some fault)) }
     {
@@ -88,7 +97,8 @@ impl Sessions {
     // The place of the session of this number.
     fn place(&self, s: u32) -> Result<usize, SessionFault>
         ensures place { IfOk result (IsOneAt (λ x. x.number == s) self.now.sessions) }
-        ensures fault { IfErr result (λ fault. (f : Session → Option SessionFault) → fault_at self.now s f ≡ Some fault) }
+        ensures fault { IfErr result (λ fault.
+            (f : Session → Option SessionFault) → fault_at self.now s f ≡ Some fault) }
     {
         match place_of_number(self.sessions.as_slice(), s) {
             Some(i) => Ok(i),
@@ -127,7 +137,8 @@ impl Sessions {
         ensures accepted { OnOk result (fault_at self.old s (session_fault (call_of call.entry)) ≡ None) }
         ensures ok { OnOk result (self.new ≡ with_open_session self.old s (call_change (call_of call.entry))) }
         ensures err { OnErr result (self.new ≡ self.old) }
-        ensures fault { IfErr result (IsDue (call_may_lack_memory (call_of call.entry)) (fault_at self.old s (session_fault (call_of call.entry)))) }
+        ensures fault { IfErr result (IsDue (call_may_lack_memory (call_of call.entry))
+            (fault_at self.old s (session_fault (call_of call.entry)))) }
     {
         match self.place(s) {
             Ok(i) => {
@@ -164,7 +175,8 @@ impl Sessions {
         ensures accepted { OnOk result (fault_at self.old s (private_fault text.now assertion) ≡ None) }
         ensures ok { OnOk result (self.new ≡ with_open_session self.old s (add_private text.now)) }
         ensures err { OnErr result (self.new ≡ self.old) }
-        ensures fault { IfErr result (λ fault. (fault ≡ F.NoMemory) ⊎ (fault_at self.old s (private_fault text.now assertion) ≡ Some fault)) }
+        ensures fault { IfErr result (λ fault.
+            (fault ≡ F.NoMemory) ⊎ (fault_at self.old s (private_fault text.now assertion) ≡ Some fault)) }
     {
         let i = self.place(s)?;
         let alloc = self.alloc;
@@ -187,7 +199,8 @@ impl Sessions {
         ensures accepted { OnOk result (fault_at self.old s (set_fault name.now value.now) ≡ None) }
         ensures ok { OnOk result (self.new ≡ with_open_session self.old s (set_attribute name.now value.now)) }
         ensures err { OnErr result (self.new ≡ self.old) }
-        ensures fault { IfErr result (λ fault. (fault ≡ F.NoMemory) ⊎ (fault_at self.old s (set_fault name.now value.now) ≡ Some fault)) }
+        ensures fault { IfErr result (λ fault.
+            (fault ≡ F.NoMemory) ⊎ (fault_at self.old s (set_fault name.now value.now) ≡ Some fault)) }
     {
         self.change(s, Call::Set { name, value })
     }
@@ -202,13 +215,14 @@ impl Sessions {
         self.change(s, Call::Unset { name })
     }
 
-    /// Enters a requester of a session by the principal's normal form. One that is there keeps its place, and another one
-    /// comes last.
+    /// Enters a requester of a session by the principal's normal form. One that is there keeps its place, and another
+    /// one comes last.
     pub fn auth(&mut self, s: u32, principal: &[u8]) -> Result<(), SessionFault>
         ensures accepted { OnOk result (fault_at self.old s (auth_fault principal.now) ≡ None) }
         ensures ok { OnOk result (self.new ≡ with_open_session self.old s (add_requester principal.now)) }
         ensures err { OnErr result (self.new ≡ self.old) }
-        ensures fault { IfErr result (λ fault. (fault ≡ F.NoMemory) ⊎ (fault_at self.old s (auth_fault principal.now) ≡ Some fault)) }
+        ensures fault { IfErr result (λ fault.
+            (fault ≡ F.NoMemory) ⊎ (fault_at self.old s (auth_fault principal.now) ≡ Some fault)) }
     {
         self.change(s, Call::Auth { principal })
     }
@@ -223,9 +237,59 @@ impl Sessions {
         self.change(s, Call::Unauth { principal })
     }
 
+    /// Keeps what a session asks with, and these compliance values, as its standing query, in place of an earlier one.
+    pub fn watch(&mut self, s: u32, values: Values) -> Result<(), SessionFault>
+        ensures accepted { OnOk result (fault_at self.old s (λ x. None) ≡ None) }
+        ensures ok { OnOk result (self.new ≡ with_open_session self.old s (watch_with values)) }
+        ensures err { OnErr result (self.new ≡ self.old) }
+        ensures fault { IfErr result (λ fault. (fault ≡ F.NoMemory) ⊎ (fault_at self.old s (λ x. None) ≡ Some fault)) }
+    {
+        let i = self.place(s)?;
+        let alloc = self.alloc;
+        let session = &mut self.sessions[i];
+        session.watch(alloc, values)
+    }
+
+    /// The standing query of a session. Takes no memory.
+    pub fn standing(&self, s: u32) -> Result<&StandingQuery, SessionFault>
+        ensures query { IfOk result (λ query.
+            IsSomeAnd (session_in self.now.sessions s) (λ x. x.standing ≡ Some query.now)) }
+        ensures fault { IfErr result (λ fault. fault_at self.now s standing_fault ≡ Some fault) }
+    {
+        let i = self.place(s)?;
+        let session = &self.sessions[i];
+        match session.standing() {
+            Some(query) => Ok(query),
+            None => Err(SessionFault::Absent),
+        }
+    }
+
+    /// Moves the standing query of a session to another version. Takes no memory.
+    pub fn move_standing(&mut self, s: u32, snapshot: Snapshot) -> Result<(), SessionFault>
+        ensures accepted { OnOk result (fault_at self.old s standing_fault ≡ None) }
+        ensures ok { OnOk result (self.new ≡ with_open_session self.old s (move_standing (arc_value snapshot))) }
+        ensures err { OnErr result (self.new ≡ self.old) }
+        ensures fault { IfErr result (λ fault. fault_at self.old s standing_fault ≡ Some fault) }
+    {
+        let i = self.place(s)?;
+        let session = &mut self.sessions[i];
+        session.move_standing(snapshot)
+    }
+
+    /// Ends the standing query of a session. Takes no memory.
+    pub fn unwatch(&mut self, s: u32) -> Result<(), SessionFault>
+        ensures accepted { OnOk result (fault_at self.old s standing_fault ≡ None) }
+        ensures ok { OnOk result (self.new ≡ with_open_session self.old s end_standing) }
+        ensures err { OnErr result (self.new ≡ self.old) }
+        ensures fault { IfErr result (λ fault. fault_at self.old s standing_fault ≡ Some fault) }
+    {
+        self.change(s, Call::Unwatch)
+    }
+
     /// Answers a call of a session. An assertion is read, by `alloc`, once the session is found open.
     pub fn apply(&mut self, alloc: Global, s: u32, call: Call<'_>) -> Result<Applied, CallFault>
-        requires few { (text : List ℕ) → call_of call ≡ Assert text → ForSome (session_in self.old.sessions s) (λ x. x.made < 2 ^ 31) }
+        requires few { (text : List ℕ) → call_of call ≡ Assert text
+            → ForSome (session_in self.old.sessions s) (λ x. x.made < 2 ^ 31) }
         ensures ok { IfOk result (Accepts self.old self.new s (call_of call.entry)) }
         ensures err { IfErr result (Refuses self.old self.new s (call_of call.entry)) }
     {
@@ -237,7 +301,8 @@ impl Sessions {
             | Call::Set { .. }
             | Call::Unset { .. }
             | Call::Auth { .. }
-            | Call::Unauth { .. } => self.answer_change(s, call),
+            | Call::Unauth { .. }
+            | Call::Unwatch => self.answer_change(s, call),
         }
     }
 

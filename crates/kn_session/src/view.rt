@@ -1,9 +1,14 @@
 //! What a session asks with.
+ghost use Rattle.std.specs.Prelude.{◌≡◌, IfOk, IfErr};
+ghost use Rattle.kn_fields.specs.declared.fault.ReadFault.TheVariants.{NoMemory as Lacking};
 
-use kn_base::{List, Octets};
+use crate::standing::StandingQuery;
+use kn_assert::{ReadFault, read};
+use kn_base::{List, NoMemory, Octets};
 use kn_env::Attributes;
 use kn_store::Snapshot;
 use kn_trees::Assertion;
+use std::alloc::Global;
 
 /// An assertion that one session alone asks with.
 #[derive(Drop)]
@@ -13,6 +18,34 @@ pub struct Private {
     pub text: Octets,
     /// What the text spells.
     pub assertion: Assertion,
+}
+
+impl Private {
+    ghost use Rattle.kn_session.specs.Views.{IsReadPrivate};
+
+    /// The same private assertion, read anew from its text. `NoMemory` comes only for want of memory.
+    pub(crate) fn copy(&self, alloc: Global) -> Result<Private, NoMemory>
+        requires { IsReadPrivate self.now }
+        ensures { IfOk result (λ copy. copy ≡ self.now) }
+    {
+        let Ok(assertion) = self.read_again(alloc) else {
+            return Err(NoMemory);
+        };
+        Ok(Private {
+            id: self.id,
+            text: Octets::from_slice(alloc, self.text.as_slice())?,
+            assertion,
+        })
+    }
+
+    // The assertion that the text spells. It is there, so only memory may be wanting.
+    fn read_again(&self, alloc: Global) -> Result<Assertion, ReadFault>
+        requires { IsReadPrivate self.now }
+        ensures ok { IfOk result (λ assertion. assertion ≡ self.now.assertion) }
+        ensures err { IfErr result (λ fault. fault ≡ Lacking) }
+    {
+        read(alloc, self.text.as_slice())
+    }
 }
 
 /// What a session asks with, as it stands.
@@ -30,4 +63,6 @@ pub struct View<'a> {
     pub attributes: &'a Attributes,
     /// The requesters by normal forms, in the order of their entry.
     pub requesters: &'a List<Octets>,
+    /// The standing query, if the session keeps one.
+    pub standing: Option<&'a StandingQuery>,
 }
