@@ -13,7 +13,8 @@ use Rattle.kn_daemon.specs.Daemon.{refusal_of_call}
 pub fault-told : (fault : CallFault) → lacks_memory fault ≡ false → is_some (refusal_of_call fault) ≡ true
 fault-told (T.Text fault) e = by (fault_number fault) e
   where
-    by : (number : Option ℕ) → is_none number ≡ false → is_some (option_map (λ n. R.Read n (fault_place fault)) number) ≡ true
+    by : (number : Option ℕ) → is_none number ≡ false
+        → is_some (option_map (λ n. R.Read n (fault_place fault)) number) ≡ true
     by None e = cc
     by (Some n) e = refl
 fault-told (T.Session S.NoMemory) e = cc

@@ -10,3 +10,7 @@ pub mod Updates
 pub mod Logs
 pub mod Refusals
 pub mod Faults
+pub mod Standing
+pub mod Told
+pub mod Unplaced
+pub mod Asked

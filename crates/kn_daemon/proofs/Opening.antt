@@ -8,15 +8,22 @@ use Rattle.kn_daemon.specs.Shapes.{shape_of}
 use Rattle.kn_daemon.specs.Daemon.{Grounds, first_state, changed}
 use Rattle.kn_daemon.specs.Served.{IsServed}
 
-pub opening-is_served : (g : Grounds) (caller : ℕ) → IsServed g (codes "OPEN\nBYE\n") (codes "OK 1 0\nOK\n") E.Done false [] 0 0 caller (0 ∷ [])
+pub opening-is_served : (g : Grounds) (caller : ℕ)
+    → IsServed g (codes "OPEN\nBYE\n") (codes "OK 1 0\nOK\n") E.Done false [] 0 0 caller (0 ∷ [])
 unfolding digits
 opening-is_served g caller =
     record {
-      exchanges = record { request = Open; reply = Started 1 0; place = 0 } ∷ record { request = Bye; reply = Done; place = 0 } ∷ [];
+      exchanges =
+          record { request = Open; reply = Started 1 0; place = 0 } ∷ record { request = Bye; reply = Done; place = 0 }
+          ∷ [];
       rest = [];
       last = changed [] first_state (shape_of Open);
       requests = (codes "BYE\n", refl, ([], refl, refl));
-      replies = (changed [] first_state (shape_of Open), record { accepted = refl; answered = refl; next = refl }, (changed [] first_state (shape_of Open), record { accepted = refl; answered = refl; next = refl }, refl));
+      replies = (
+        changed [] first_state (shape_of Open),
+        record { accepted = refl; answered = refl; next = refl },
+        (changed [] first_state (shape_of Open), record { accepted = refl; answered = refl; next = refl }, refl),
+      );
       places = record {
         valid = refl;
         within = le_refl 0;

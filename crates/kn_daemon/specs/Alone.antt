@@ -2,7 +2,7 @@
 use Rattle.std.specs.Prelude.{ℕ, ◌≡◌, ◌≤◌, ◌-◌, Bool, false, List, [], ◌∷◌, ◌++◌, length, take, option_to_list}
 use Rattle.std.specs.List.{list_any}
 use Rattle.kn_base.specs.declared.limits.TheConstants.{REQUESTS}
-use Rattle.kn_store.specs.declared.update.Update.{Update}
+use Rattle.kn_history.specs.declared.update.Update.{Update}
 use Rattle.kn_wire.specs.Requests.{Takes}
 use Rattle.kn_daemon.specs.declared.ended.Ended.{Ended}
 use Rattle.kn_daemon.specs.Shapes.{shape_of}
@@ -14,16 +14,18 @@ use Rattle.kn_daemon.specs.Served.{IsWritten, HasEnd, is_bye}
 abbrev pub history_with : ℕ → List Update → Exchange → List Update
 history_with caller past e = past ++ option_to_list (update_of caller e)
 
--- A run of one thread with no other caller: each reply is permitted behind the updates so far and its own, and these are the
--- whole history in the end. So each place is told by the replies.
+-- A run of one thread with no other caller: each reply is permitted behind the updates so far and its own, and these
+-- are the whole history in the end. So each place is told by the replies.
 abbrev pub RunsAlone : Grounds → ℕ → List Update → State → List Exchange → List Update → State → Type 0
 RunsAlone g caller past old [] history new = (history ≡ past) × (new ≡ old)
 RunsAlone g caller past old (e ∷ es) history new = (mid : State)
-    × Permits g caller (history_with caller past e) old (shape_of e.request) e.reply mid × RunsAlone g caller (history_with caller past e) mid es history new
+    × Permits g caller (history_with caller past e) old (shape_of e.request) e.reply mid
+    × RunsAlone g caller (history_with caller past e) mid es history new
 
--- A connection of a caller that is alone, served: the bytes taken and written, how it ended, whether the input had ended, and
--- the history before and afterwards.
-pub record IsServedAlone (g : Grounds) (taken written : List ℕ) (ended : Ended) (is_over : Bool) (past history : List Update) (caller : ℕ) : Type 0 where
+-- A connection of a caller that is alone, served: the bytes taken and written, how it ended, whether the input had
+-- ended, and the history before and afterwards.
+pub record IsServedAlone (g : Grounds) (taken written : List ℕ) (ended : Ended) (is_over : Bool)
+    (past history : List Update) (caller : ℕ) : Type 0 where
   pub exchanges : List Exchange
   pub rest : List ℕ
   pub last : State

@@ -1,9 +1,12 @@
--- The sequential specification: what a daemon of one thread may reply (keynoted's own; the calls are those of keynote(3)).
--- Requests are known by their shape, and each shape has its cases in `own_refusal`, `placed_refusal`, `changed`, `Answers` and
--- `may_lack_memory`.
-use Rattle.std.specs.Prelude.{ℕ, ◌≡◌, ◌+◌, ◌≤◌, Bool, true, false, ◌==◌, ◌&&◌, not, nat_lt, List, [], ◌∷◌, ◌++◌, length, map, flat_map, slice_index_or, Option, Some, None, option_map, option_and_then, is_none, IsSome, IsSomeAnd, Result, Ok, Err, if◌then◌else◌}
+-- The sequential specification: what a daemon of one thread may reply (keynoted's own; the calls are those of
+-- keynote(3)). Requests are known by their shape, and each shape has its cases in `own_refusal`, `placed_refusal`,
+-- `changed`, `Answers` and `may_lack_memory`.
+use Rattle.std.specs.Prelude.{ℕ, ◌≡◌, ◌+◌, ◌≤◌, Bool, true, false, ◌==◌, ◌&&◌, not, nat_lt, List, [], ◌∷◌, ◌++◌, length}
+use Rattle.std.specs.Prelude.{map, flat_map, slice_index_or, Option, Some, None, option_map, option_and_then, is_none}
+use Rattle.std.specs.Prelude.{IsSome, IsSomeAnd, Result, Ok, Err, if◌then◌else◌}
 use Rattle.std.specs.Option.{option_or}
 use Rattle.std.specs.Str.{bytes_eq}
+use Rattle.kn_base.specs.declared.limits.TheConstants.{CRITICAL_NODES}
 use Rattle.kn_env.specs.Environment.{Asked}
 use Rattle.kn_env.specs.Values.{values_of}
 use Rattle.kn_trees.specs.declared.assertion.Assertion.{Assertion}
@@ -13,22 +16,27 @@ use Rattle.kn_fields.specs.declared.fault.ReadFault.{ReadFault}
 use Rattle.kn_proof.specs.declared.named.Id.{Id}
 use Rattle.kn_proof.specs.declared.named.Id.TheVariants.{Shared, Private}
 use Rattle.kn_proof.specs.declared.named.NamedRow.{NamedRow}
+use Rattle.kn_meaning.specs.Critical.{AreCritical, equation_nodes}
 use Rattle.kn_meaning.specs.Equations.{Equations, Part, equations_over, IsPolicyLevel}
 use Rattle.kn_meaning.specs.Proofs.{IsProof}
-use Rattle.kn_store.specs.declared.update.Update.{Update}
-use Rattle.kn_store.specs.declared.item.Item.{Item}
-use Rattle.kn_store.specs.declared.fault.StoreFault.{StoreFault}
-use Rattle.kn_store.specs.declared.fault.StoreFault.TheVariants as U
-use Rattle.kn_store.specs.History.{NumberedText, all_changes, additions, credentials_of, refusal_of_text as fault_of_addition, refusal_of_id as fault_of_removal, update_may_follow, addition_by, removal_by}
-use Rattle.kn_store.specs.Batches.{refusal_of_items, numbered_from, batch_by}
-use Rattle.kn_store.specs.Retained.{retained_version}
+use Rattle.kn_history.specs.declared.update.Update.{Update}
+use Rattle.kn_history.specs.declared.item.Item.{Item}
+use Rattle.kn_history.specs.declared.fault.StoreFault.{StoreFault}
+use Rattle.kn_history.specs.declared.fault.StoreFault.TheVariants as U
+use Rattle.kn_history.specs.History.{NumberedText, all_changes, additions, credentials_of}
+use Rattle.kn_history.specs.History.{refusal_of_text as fault_of_addition, refusal_of_id as fault_of_removal}
+use Rattle.kn_history.specs.History.{update_may_follow, addition_by, removal_by}
+use Rattle.kn_history.specs.Batches.{refusal_of_items, numbered_from, batch_by}
+use Rattle.kn_history.specs.Retained.{retained_version}
 use Rattle.kn_session.specs.declared.fault.SessionFault.{SessionFault}
 use Rattle.kn_session.specs.declared.fault.SessionFault.TheVariants as S
 use Rattle.kn_session.specs.declared.fault.CallFault.{CallFault}
 use Rattle.kn_session.specs.declared.fault.CallFault.TheVariants as T
 use Rattle.kn_session.specs.declared.call.Applied.{Applied}
 use Rattle.kn_session.specs.declared.call.Applied.TheVariants as A
-use Rattle.kn_session.specs.Sessions.{Session, session_in, with_changed, with_started, start_fault, fault_in, pin_at}
+use Rattle.kn_session.specs.Sessions.{StandingQuery, Session, session_in, with_changed, with_started, start_fault}
+use Rattle.kn_session.specs.Sessions.{fault_in, pin_at}
+use Rattle.kn_session.specs.Sessions.{query_with, watch_with, query_at, move_standing, asker, standing_fault}
 use Rattle.kn_session.specs.Calls.{call_fault_in, after_call, call_answer, call_may_lack_memory}
 use Rattle.kn_wire.specs.declared.fault.WireFault.{WireFault}
 use Rattle.kn_wire.specs.declared.fault.WireFault.TheVariants as F
@@ -41,10 +49,14 @@ use Rattle.kn_reply.specs.declared.refusal.ItemRefusal.TheVariants as I
 use Rattle.kn_reply.specs.declared.refusal.LimitWord.{LimitWord}
 use Rattle.kn_reply.specs.declared.refusal.LimitWord.TheVariants as W
 use Rattle.kn_reply.specs.Logs.{item_of}
-use Rattle.kn_daemon.specs.Shapes.{Updating, AddText, DropId, ApplyBlock, Look, ForNew, ForOpen, ForRetained, ForLog, Control, ShowSecret, Leave, Shape, Calls, Updates, Looks, Asks, Controls, AtFault}
-use Rattle.kn_reply.specs.Replies.{Reply, Done, Started, Number, PrivateAdded, Added, Value, Batched, PinnedAt, Log, No, NoMemory}
+use Rattle.kn_daemon.specs.Shapes.{Updating, AddText, DropId, ApplyBlock, Look, ForNew, ForOpen, ForRetained}
+use Rattle.kn_daemon.specs.Shapes.{ForStanding, ForLog, Question, WithProof, WithCritical, ToKeep, Control, ShowSecret}
+use Rattle.kn_daemon.specs.Shapes.{Leave, Shape, Calls, Updates, Looks, Asks, Controls, AtFault}
+use Rattle.kn_reply.specs.Replies.{Reply, Done, Started, Number, PrivateAdded, Added, Value, Batched, PinnedAt, Log}
+use Rattle.kn_reply.specs.Replies.{News, Critical, No, NoMemory}
 
--- what the daemon is started with: the administrators' secret, and the authenticator's number for a text, 0 where it is admitted
+-- what the daemon is started with: the administrators' secret, and the authenticator's number for a text, 0 where it is
+-- admitted
 pub record Grounds : Type 0 where
   pub secret : List ℕ
   pub verdict : List ℕ → Assertion → ℕ
@@ -64,6 +76,27 @@ session_of state s = session_in state.sessions s
 -- the session of this number, changed
 abbrev pub with_session : State → ℕ → (Session → Session) → State
 with_session state s change = record state { sessions = with_changed state.sessions s change }
+
+-- What a session asks.
+
+abbrev pub part_by : (ℕ → Id) → ℕ → Option Assertion → List Part
+part_by name id (Some a) = record { id = name id; assertion = a } ∷ []
+part_by name id None = []
+
+-- the assertions of texts, each under the id of its text
+abbrev pub parts_of : (ℕ → Id) → List NumberedText → List Part
+parts_of name texts = flat_map (λ c. part_by name c.id (assertion_of c.text)) texts
+
+-- the credentials of the version that a session is pinned to, and then its own
+abbrev pub session_parts : Session → List Part
+session_parts session = parts_of Shared (credentials_of session.pinned) ++ parts_of Private session.privates
+
+abbrev pub asked_of : Session → List (List ℕ) → Asked
+asked_of session values = record { attributes = session.attributes; values = values; requesters = session.requesters }
+
+-- what a session asks where these are the values
+abbrev pub equations_of : Session → List (List ℕ) → Equations
+equations_of session values = equations_over (asked_of session values) (session_parts session)
 
 -- Refusals by the state alone: of each request the first that applies.
 
@@ -104,7 +137,8 @@ in_session (Some session) refusal = refusal session
 abbrev pub session_refusal : State → ℕ → (Session → Option SessionFault) → Option Refusal
 session_refusal state s fault = refusal_by (fault_in s (session_of state s) fault)
 
--- The refusal that the fault of a text is, however it is told: of a request, or of an item of a batch. Want of memory is none.
+-- The refusal that the fault of a text is, however it is told: of a request, or of an item of a batch. Want of memory
+-- is none.
 abbrev pub refusal_at_text : {X : Type 0} → (ℕ → ℕ → X) → ReadFault → Option X
 refusal_at_text told fault = option_map (λ number. told number (fault_place fault)) (fault_number fault)
 
@@ -112,7 +146,8 @@ abbrev pub refusal_of_text : ReadFault → Option Refusal
 refusal_of_text fault = refusal_at_text R.Read fault
 
 -- a text that has no reading is refused by its first fault, which is never want of memory
-abbrev pub refusal_at_reading : {X : Type 0} → (ℕ → ℕ → X) → Result Assertion ReadFault → (Assertion → Option X) → Option X
+abbrev pub refusal_at_reading : {X : Type 0} → (ℕ → ℕ → X) → Result Assertion ReadFault → (Assertion → Option X)
+    → Option X
 refusal_at_reading told (Ok assertion) next = next assertion
 refusal_at_reading told (Err fault) next = refusal_at_text told fault
 
@@ -131,7 +166,8 @@ refusal_of_verdict number = refusal_at_verdict R.Auth number
 
 -- why an item of a batch isn't admitted: its text has a fault, or the authenticator has one
 abbrev pub item_refusal : Grounds → BatchItem → Option ItemRefusal
-item_refusal g (B.AddText text) = refusal_at_reading I.Read (reading_of text) (λ a. refusal_at_verdict I.Auth (g.verdict text a))
+item_refusal g (B.AddText text) =
+    refusal_at_reading I.Read (reading_of text) (λ a. refusal_at_verdict I.Auth (g.verdict text a))
 item_refusal g (B.DropId k) = None
 
 -- the item of this number is refused for this, or else what comes later is
@@ -144,7 +180,8 @@ abbrev pub refusal_from : Grounds → ℕ → List BatchItem → Option Refusal
 refusal_from g number [] = None
 refusal_from g number (item ∷ items) = found_item number (item_refusal g item) (refusal_from g (number + 1) items)
 
--- a block that departs from the form of items is refused for that, and else for the first item that isn't admitted, counted from 1
+-- a block that departs from the form of items is refused for that, and else for the first item that isn't admitted,
+-- counted from 1
 abbrev pub refusal_of_block : Grounds → Result (List BatchItem) ℕ → Option Refusal
 refusal_of_block g (Ok items) = refusal_from g 1 items
 refusal_of_block g (Err number) = Some (R.Batch number)
@@ -164,23 +201,40 @@ abbrev pub refusal_of_look : State → Look → Option Refusal
 refusal_of_look state ForNew = refusal_by (start_fault state.sessions)
 refusal_of_look state (ForOpen s) = session_refusal state s (λ x. None)
 refusal_of_look state (ForRetained s version) = session_refusal state s (λ x. None)
+refusal_of_look state (ForStanding s) = session_refusal state s standing_fault
 refusal_of_look state (ForLog n) = refuse_if (not state.is_admin) R.Admin None
 
 abbrev pub refusal_of_control : Grounds → Control → Option Refusal
 refusal_of_control g (ShowSecret bytes) = refuse_if (not (is_secret g.secret bytes)) R.Admin None
 refusal_of_control g Leave = None
 
+abbrev pub refusal_of_nodes : ℕ → Option Refusal
+refusal_of_nodes nodes = refuse_if (nat_lt CRITICAL_NODES nodes) (R.Limit W.Nodes nodes) None
+
+-- More nodes than the critical assertions of a query are looked for in are refused: the number of nodes is told.
+abbrev pub refusal_of_question : Question → Session → List (List ℕ) → Option Refusal
+refusal_of_question WithProof session values = None
+refusal_of_question WithCritical session values = refusal_of_nodes (equation_nodes (equations_of session values))
+refusal_of_question ToKeep session values = None
+
+-- names that are no compliance values are refused before all else
+abbrev pub refusal_of_names : Option (List (List ℕ)) → (List (List ℕ) → Option Refusal) → Option Refusal
+refusal_of_names None next = Some R.Values
+refusal_of_names (Some values) next = next values
+
 abbrev pub own_refusal : Grounds → State → Shape → Option Refusal
 own_refusal g state (Calls s call) = option_and_then refusal_of_call (call_fault_in s (session_of state s) call)
 own_refusal g state (Updates update) = refuse_if (not state.is_admin) R.Admin (refusal_of_update g update)
 own_refusal g state (Looks look) = refusal_of_look state look
-own_refusal g state (Asks s names) = in_session (session_of state s) (λ x. refuse_if (is_none (values_of names)) R.Values None)
+own_refusal g state (Asks question s names) =
+    in_session (session_of state s) (λ x. refusal_of_names (values_of names) (refusal_of_question question x))
 own_refusal g state (Controls control) = refusal_of_control g control
 own_refusal g state (AtFault fault) = Some (refusal_of_fault fault)
 
 -- Refusals by the history before the request.
 
--- the refusal that a fault of the store is, however it is told: of a request, or of an item of a batch; want of memory is none
+-- the refusal that a fault of the store is, however it is told: of a request, or of an item of a batch; want of memory
+-- is none
 abbrev pub refusal_at_store : {X : Type 0} → X → (LimitWord → ℕ → X) → StoreFault → Option X
 refusal_at_store unknown limit (U.Unknown id) = Some unknown
 refusal_at_store unknown limit (U.LiveFull count) = Some (limit W.Live count)
@@ -194,15 +248,19 @@ refusal_of_store fault = refusal_at_store R.Unknown R.Limit fault
 
 -- the refusal that the fault of the item of this number is
 abbrev pub refusal_of_item_fault : ℕ → StoreFault → Option Refusal
-refusal_of_item_fault number fault = option_map (λ inner. R.Item number inner) (refusal_at_store I.Unknown I.Limit fault)
+refusal_of_item_fault number fault =
+    option_map (λ inner. R.Item number inner) (refusal_at_store I.Unknown I.Limit fault)
 
 -- the first item of a block that the history refuses behind those in front of it
 abbrev pub refusal_of_batch : List Update → Result (List BatchItem) ℕ → Option Refusal
-refusal_of_batch past (Ok items) = option_and_then (λ found. refusal_of_item_fault found.0 found.1) (refusal_of_items (all_changes past) (map item_of items))
+refusal_of_batch past (Ok items) =
+    option_and_then (λ found. refusal_of_item_fault found.0 found.1)
+    (refusal_of_items (all_changes past) (map item_of items))
 refusal_of_batch past (Err number) = None
 
 abbrev pub placed_refusal_of_update : List Update → Updating → Option Refusal
-placed_refusal_of_update past (AddText text) = option_and_then refusal_of_store (fault_of_addition (all_changes past) text)
+placed_refusal_of_update past (AddText text) =
+    option_and_then refusal_of_store (fault_of_addition (all_changes past) text)
 placed_refusal_of_update past (DropId k) = option_and_then refusal_of_store (fault_of_removal (all_changes past) k)
 placed_refusal_of_update past (ApplyBlock block) = refusal_of_batch past (items_of block)
 
@@ -210,14 +268,16 @@ placed_refusal_of_update past (ApplyBlock block) = refusal_of_batch past (items_
 abbrev pub placed_refusal_of_look : List Update → Look → Option Refusal
 placed_refusal_of_look past ForNew = None
 placed_refusal_of_look past (ForOpen s) = None
-placed_refusal_of_look past (ForRetained s version) = refuse_if (is_none (retained_version past version)) (R.Retained (length past)) None
+placed_refusal_of_look past (ForStanding s) = None
+placed_refusal_of_look past (ForRetained s version) =
+    refuse_if (is_none (retained_version past version)) (R.Retained (length past)) None
 placed_refusal_of_look past (ForLog n) = refuse_if (nat_lt (length past) n) (R.Ahead (length past)) None
 
 abbrev pub placed_refusal : List Update → Shape → Option Refusal
 placed_refusal past (Calls s call) = None
 placed_refusal past (Updates update) = placed_refusal_of_update past update
 placed_refusal past (Looks look) = placed_refusal_of_look past look
-placed_refusal past (Asks s names) = None
+placed_refusal past (Asks question s names) = None
 placed_refusal past (Controls control) = None
 placed_refusal past (AtFault fault) = None
 
@@ -239,7 +299,18 @@ looked past state ForNew = record state {
 }
 looked past state (ForOpen s) = with_session state s (pin_at past)
 looked past state (ForRetained s version) = pinned_to state s (retained_version past version)
+looked past state (ForStanding s) = with_session state s (move_standing past)
 looked past state (ForLog n) = state
+
+-- a question that names compliance values is kept as the session's standing query
+abbrev pub kept : State → ℕ → Option (List (List ℕ)) → State
+kept state s None = state
+kept state s (Some values) = with_session state s (watch_with values)
+
+abbrev pub questioned : State → Question → ℕ → List ℕ → State
+questioned state WithProof s names = state
+questioned state WithCritical s names = state
+questioned state ToKeep s names = kept state s (values_of names)
 
 abbrev pub controlled : State → Control → State
 controlled state (ShowSecret bytes) = record state { is_admin = true }
@@ -250,30 +321,11 @@ abbrev pub changed : List Update → State → Shape → State
 changed past state (Calls s call) = record state { sessions = after_call state.sessions s call }
 changed past state (Updates update) = state
 changed past state (Looks look) = looked past state look
-changed past state (Asks s names) = state
+changed past state (Asks question s names) = questioned state question s names
 changed past state (Controls control) = controlled state control
 changed past state (AtFault fault) = state
 
 -- Answers.
-
-abbrev pub part_by : (ℕ → Id) → ℕ → Option Assertion → List Part
-part_by name id (Some a) = record { id = name id; assertion = a } ∷ []
-part_by name id None = []
-
--- the assertions of texts, each under the id of its text
-abbrev pub parts_of : (ℕ → Id) → List NumberedText → List Part
-parts_of name texts = flat_map (λ c. part_by name c.id (assertion_of c.text)) texts
-
--- the credentials of the version that a session is pinned to, and then its own
-abbrev pub session_parts : Session → List Part
-session_parts session = parts_of Shared (credentials_of session.pinned) ++ parts_of Private session.privates
-
-abbrev pub asked_of : Session → List (List ℕ) → Asked
-asked_of session values = record { attributes = session.attributes; values = values; requesters = session.requesters }
-
--- what a session asks where these are the values
-abbrev pub equations_of : Session → List (List ℕ) → Equations
-equations_of session values = equations_over (asked_of session values) (session_parts session)
 
 -- The reply gives the policy's level in the least fixed point, with rows that prove it. Which rows is left open.
 pub record IsAnswer (session : Session) (values : List (List ℕ)) (reply : Reply) : Type 0 where
@@ -283,13 +335,42 @@ pub record IsAnswer (session : Session) (values : List (List ℕ)) (reply : Repl
   pub proved : IsProof (equations_of session values) rows level
   pub least : IsPolicyLevel (equations_of session values) level
 
--- the query of an open session is answered
-pub record IsAnswered (state : State) (s : ℕ) (names : List ℕ) (reply : Reply) : Type 0 where
+-- The reply gives the policy's level in the least fixed point of a standing query, with its name and the version. No
+-- rows prove it.
+pub record IsNews (query : StandingQuery) (reply : Reply) : Type 0 where
+  pub level : ℕ
+  pub told : reply ≡ News level (slice_index_or query.values level []) (length query.pinned)
+  pub least : IsPolicyLevel (equations_of (asker query) query.values) level
+
+-- The reply gives the policy's level in the least fixed point, with the ids of the critical assertions in their order.
+pub record IsCriticalAnswer (session : Session) (values : List (List ℕ)) (reply : Reply) : Type 0 where
+  pub level : ℕ
+  pub ids : List Id
+  pub told : reply ≡ Critical level ids
+  pub least : IsPolicyLevel (equations_of session values) level
+  pub critical : AreCritical (asked_of session values) (session_parts session) (session_parts session) ids
+
+-- the answer to a question on this session where these are the compliance values
+abbrev pub AnswersQuestion : Question → Session → List (List ℕ) → Reply → Type 0
+AnswersQuestion WithProof session values reply = IsAnswer session values reply
+AnswersQuestion WithCritical session values reply = IsCriticalAnswer session values reply
+AnswersQuestion ToKeep session values reply = IsNews (query_with values session) reply
+
+-- the question on an open session is answered
+pub record IsAnswered (state : State) (question : Question) (s : ℕ) (names : List ℕ) (reply : Reply) : Type 0 where
   pub session : Session
   pub values : List (List ℕ)
   pub found : session_of state s ≡ Some session
   pub named : values_of names ≡ Some values
-  pub answer : IsAnswer session values reply
+  pub answer : AnswersQuestion question session values reply
+
+-- the standing query of an open session is answered over the version of this history
+pub record IsStandingAnswered (past : List Update) (state : State) (s : ℕ) (reply : Reply) : Type 0 where
+  pub session : Session
+  pub query : StandingQuery
+  pub found : session_of state s ≡ Some session
+  pub standing : session.standing ≡ Some query
+  pub news : IsNews (query_at past query) reply
 
 -- the history ends with this update, which may follow what is before it
 pub record IsCommitted (past : List Update) (update : Update) : Type 0 where
@@ -297,13 +378,15 @@ pub record IsCommitted (past : List Update) (update : Update) : Type 0 where
   pub ends : past ≡ before ++ update ∷ []
   pub accepted : update_may_follow (all_changes before) update ≡ true
 
--- The history ends with this caller's update that makes the changes of these items, which may follow what is before it. Told are
--- the id that its first addition has, or would have, the number of its additions, and its place.
+-- The history ends with this caller's update that makes the changes of these items, which may follow what is before it.
+-- Told are the id that its first addition has, or would have, the number of its additions, and its place.
 pub record IsBatchCommitted (caller : ℕ) (past : List Update) (items : List Item) (reply : Reply) : Type 0 where
   pub before : List Update
   pub ends : past ≡ before ++ batch_by caller (additions (all_changes before) + 1) items ∷ []
-  pub accepted : update_may_follow (all_changes before) (batch_by caller (additions (all_changes before) + 1) items) ≡ true
-  pub told : reply ≡ Batched (additions (all_changes before) + 1) (additions (numbered_from (additions (all_changes before) + 1) items)) (length past)
+  pub accepted : update_may_follow (all_changes before)
+      (batch_by caller (additions (all_changes before) + 1) items) ≡ true
+  pub told : reply ≡ Batched (additions (all_changes before) + 1)
+      (additions (numbered_from (additions (all_changes before) + 1) items)) (length past)
 
 -- a new private assertion is told by its id
 abbrev pub reply_of_call : Applied → Reply
@@ -312,29 +395,35 @@ reply_of_call (A.Added k) = PrivateAdded k
 
 -- an addition, a removal or a batch of this caller is the last update of the history
 abbrev pub IsUpdated : ℕ → List Update → Updating → Reply → Type 0
-IsUpdated caller past (AddText text) reply = (id : ℕ) × IsCommitted past (addition_by caller text id) × (reply ≡ Added id (length past))
+IsUpdated caller past (AddText text) reply =
+    (id : ℕ) × IsCommitted past (addition_by caller text id) × (reply ≡ Added id (length past))
 IsUpdated caller past (DropId k) reply = IsCommitted past (removal_by caller k) × (reply ≡ Number (length past))
-IsUpdated caller past (ApplyBlock block) reply = (items : List BatchItem) × (items_of block ≡ Ok items) × IsBatchCommitted caller past (map item_of items) reply
+IsUpdated caller past (ApplyBlock block) reply =
+    (items : List BatchItem) × (items_of block ≡ Ok items) × IsBatchCommitted caller past (map item_of items) reply
 
 -- The reply to an accepted look. The version asked for is retained; LOG's n is no more than the number of updates.
 abbrev pub IsLooked : List Update → State → Look → Reply → Type 0
 IsLooked past old ForNew reply = reply ≡ Started (old.started + 1) (length past)
 IsLooked past old (ForOpen s) reply = reply ≡ Number (length past)
-IsLooked past old (ForRetained s version) reply = IsSome (retained_version past version) × (reply ≡ PinnedAt version (length past))
+IsLooked past old (ForRetained s version) reply =
+    IsSome (retained_version past version) × (reply ≡ PinnedAt version (length past))
+IsLooked past old (ForStanding s) reply = IsStandingAnswered past old s reply
 IsLooked past old (ForLog n) reply = (n ≤ length past) × (reply ≡ Log n past)
 
 -- what an accepted request of this caller gives after this history
 abbrev pub Answers : ℕ → List Update → State → Shape → Reply → Type 0
-Answers caller past old (Calls s call) reply = IsSomeAnd (session_of old s) (λ session. reply ≡ reply_of_call (call_answer call session))
+Answers caller past old (Calls s call) reply =
+    IsSomeAnd (session_of old s) (λ session. reply ≡ reply_of_call (call_answer call session))
 Answers caller past old (Updates update) reply = IsUpdated caller past update reply
 Answers caller past old (Looks look) reply = IsLooked past old look reply
-Answers caller past old (Asks s names) reply = IsAnswered old s names reply
+Answers caller past old (Asks question s names) reply = IsAnswered old question s names reply
 Answers caller past old (Controls control) reply = reply ≡ Done
 Answers caller past old (AtFault fault) reply = ⊥
 
--- The request is accepted: the state refuses nothing, and the reply and the next state are due. An update that the history
--- holds already was judged by what is before it.
-pub record Does (g : Grounds) (caller : ℕ) (past : List Update) (old : State) (shape : Shape) (reply : Reply) (new : State) : Type 0 where
+-- The request is accepted: the state refuses nothing, and the reply and the next state are due. An update that the
+-- history holds already was judged by what is before it.
+pub record Does (g : Grounds) (caller : ℕ) (past : List Update) (old : State) (shape : Shape) (reply : Reply)
+    (new : State) : Type 0 where
   pub accepted : own_refusal g old shape ≡ None
   pub answered : Answers caller past old shape reply
   pub next : new ≡ changed past old shape
@@ -344,12 +433,12 @@ abbrev pub may_lack_memory : Shape → Bool
 may_lack_memory (Calls s call) = call_may_lack_memory call
 may_lack_memory (Updates update) = true
 may_lack_memory (Looks look) = true
-may_lack_memory (Asks s names) = true
+may_lack_memory (Asks question s names) = true
 may_lack_memory (Controls control) = false
 may_lack_memory (AtFault fault) = false
 
--- A daemon of one thread may give this reply to the caller's request of this shape after this history, and be in the state
--- `new` then.
+-- A daemon of one thread may give this reply to the caller's request of this shape after this history, and be in the
+-- state `new` then.
 abbrev pub Permits : Grounds → ℕ → List Update → State → Shape → Reply → State → Type 0
 Permits g caller past old shape (No refusal) new = (first_refusal g past old shape ≡ Some refusal) × (new ≡ old)
 Permits g caller past old shape NoMemory new = (may_lack_memory shape ≡ true) × (new ≡ old)

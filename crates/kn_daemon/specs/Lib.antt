@@ -6,3 +6,4 @@ pub mod Underway
 pub mod Played
 pub mod Alone
 pub mod Laws
+pub mod QuestionLaws

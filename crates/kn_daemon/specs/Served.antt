@@ -1,14 +1,17 @@
 -- A connection served, and why it ended (keynoted's own).
-use Rattle.std.specs.Prelude.{ℕ, ◌≡◌, ◌≢◌, ◌-◌, ◌≤◌, ◌<◌, Bool, true, false, List, [], ◌∷◌, ◌++◌, length, take, flat_map, Some, None, ◌⊎◌}
+use Rattle.std.specs.Prelude.{ℕ, ◌≡◌, ◌≢◌, ◌-◌, ◌≤◌, ◌<◌, Bool, true, false, List, [], ◌∷◌, ◌++◌, length, take}
+use Rattle.std.specs.Prelude.{flat_map, Some, None, ◌⊎◌}
 use Rattle.std.specs.List.{list_any, last_or}
 use Rattle.kn_base.specs.declared.limits.TheConstants.{REQUESTS}
 use Rattle.kn_wire.specs.declared.fault.WireFault.{WireFault}
 use Rattle.kn_wire.specs.declared.fault.WireFault.TheVariants as F
-use Rattle.kn_store.specs.declared.update.Update.{Update}
-use Rattle.kn_wire.specs.Requests.{Request, Content, BlockOf, DigitsOf, Plain, FaultOf, content_of, Bye, Faulty, Takes, first_of}
+use Rattle.kn_history.specs.declared.update.Update.{Update}
+use Rattle.kn_wire.specs.Requests.{Request, Content, BlockOf, DigitsOf, Plain, FaultOf, content_of, Bye, Faulty, Takes}
+use Rattle.kn_wire.specs.Requests.{first_of}
 use Rattle.kn_daemon.specs.declared.ended.Ended.{Ended}
 use Rattle.kn_daemon.specs.declared.ended.Ended.TheVariants as E
-use Rattle.kn_daemon.specs.Shapes.{Control, ShowSecret, Leave, Shape, Calls, Updates, Looks, Asks, Controls, AtFault, shape_of}
+use Rattle.kn_daemon.specs.Shapes.{Control, ShowSecret, Leave, Shape, Calls, Updates, Looks, Asks, Controls, AtFault}
+use Rattle.kn_daemon.specs.Shapes.{shape_of}
 use Rattle.kn_daemon.specs.Daemon.{Grounds, State, first_state}
 use Rattle.kn_daemon.specs.Linearized.{Exchange, Along, IsLinearized, requests_in, texts_in}
 
@@ -20,7 +23,7 @@ abbrev pub is_bye_shape : Shape → Bool
 is_bye_shape (Calls s call) = false
 is_bye_shape (Updates update) = false
 is_bye_shape (Looks look) = false
-is_bye_shape (Asks s names) = false
+is_bye_shape (Asks question s names) = false
 is_bye_shape (Controls control) = is_leave control
 is_bye_shape (AtFault fault) = false
 
@@ -68,19 +71,23 @@ pub record IsDrained (requests : List Request) (rest : List ℕ) : Type 0 where
   pub goes_on : GoesOn requests
   pub fewer : length requests < REQUESTS
 
--- why a connection ended, where these requests were answered, these bytes left, and `is_over` says whether the input had ended
+-- why a connection ended, where these requests were answered, these bytes left, and `is_over` says whether the input
+-- had ended
 abbrev pub HasEnd : Ended → Bool → List Request → List ℕ → Type 0
-HasEnd E.Done is_over requests rest = (last_or None requests ≡ Some Bye) ⊎ (IsDrained requests rest × (rest ≡ []) × (is_over ≡ true))
+HasEnd E.Done is_over requests rest =
+    (last_or None requests ≡ Some Bye) ⊎ (IsDrained requests rest × (rest ≡ []) × (is_over ≡ true))
 HasEnd E.Memory is_over requests rest = (requests ≡ []) × (rest ≡ [])
 HasEnd E.ReadFault is_over requests rest = IsDrained requests rest
 HasEnd E.WriteFault is_over requests rest = requests ≢ []
-HasEnd (E.Cut held) is_over requests rest = IsDrained requests rest × (is_over ≡ true) × (held ≡ length rest) × (0 < held)
+HasEnd (E.Cut held) is_over requests rest =
+    IsDrained requests rest × (is_over ≡ true) × (held ≡ length rest) × (0 < held)
 HasEnd (E.Block n) is_over requests rest = last_or None requests ≡ Some (Faulty (F.Block n))
 HasEnd E.Budget is_over requests rest = (length requests ≡ REQUESTS) × GoesOn requests
 
--- A connection served: the bytes taken and written, how it ended, whether the input had ended, the history, the part of it
--- that was seen in the call, whose connection, and where the turn was had.
-pub record IsServed (g : Grounds) (taken written : List ℕ) (ended : Ended) (is_over : Bool) (history : List Update) (start end caller : ℕ) (stops : List ℕ) : Type 0 where
+-- A connection served: the bytes taken and written, how it ended, whether the input had ended, the history, the part of
+-- it that was seen in the call, whose connection, and where the turn was had.
+pub record IsServed (g : Grounds) (taken written : List ℕ) (ended : Ended) (is_over : Bool) (history : List Update)
+    (start end caller : ℕ) (stops : List ℕ) : Type 0 where
   pub exchanges : List Exchange
   pub rest : List ℕ
   pub last : State

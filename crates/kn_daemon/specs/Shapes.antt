@@ -1,12 +1,14 @@
--- Requests by shape (keynoted's own): what sort of thing each asks. What may be replied to a request, and what it changes, is said
--- by its shape.
+-- Requests by shape (keynoted's own): what sort of thing each asks. What may be replied to a request, and what it
+-- changes, is said by its shape.
 use Rattle.std.specs.Prelude.{ℕ, ◌≡◌, ◌≤◌, ⊤, true, List, length}
 use Rattle.kn_base.specs.declared.limits.TheConstants.{ASSERTION_BYTES}
 use Rattle.kn_session.specs.Calls.{Call, call_of, asserted}
 use Rattle.kn_session.specs.Calls as C
 use Rattle.kn_wire.specs.declared.fault.WireFault.{WireFault}
 use Rattle.kn_wire.specs.Digits.{bytes_of_digits}
-use Rattle.kn_wire.specs.Requests.{Request, Open, Close, Pin, Assert, Retract, Set, SetHex, Unset, Auth, Unauth, Clear, Query, Admin, Add, Drop, Batch, PinAt, Log, Bye, Faulty, are_digits}
+use Rattle.kn_wire.specs.Requests.{Request, Open, Close, Pin, Assert, Retract, Set, SetHex, Unset, Auth, Unauth, Clear}
+use Rattle.kn_wire.specs.Requests.{Query, Watch, News, Unwatch, Critical, Admin, Add, Drop, Batch, PinAt, Log, Bye}
+use Rattle.kn_wire.specs.Requests.{Faulty, are_digits}
 use Rattle.kn_daemon.specs.declared.shape.Shape.{Shape as Asked}
 use Rattle.kn_daemon.specs.declared.shape.Shape.TheVariants as S
 
@@ -16,26 +18,34 @@ pub data Updating : Type 0 where
   DropId : ℕ → Updating
   ApplyBlock : List ℕ → Updating
 
--- A look at the history at the place of the request: its version for a new session, or for an open one; for an open session a
--- retained version, by its number; or the updates behind the first n.
+-- A look at the history at the place of the request: its version for a new session, for an open one, or for the
+-- standing query of one; for an open session a retained version, by its number; or the updates behind the first n.
 pub data Look : Type 0 where
   ForNew : Look
   ForOpen : ℕ → Look
   ForRetained : ℕ → ℕ → Look
+  ForStanding : ℕ → Look
   ForLog : ℕ → Look
+
+-- How a question is answered: with rows that prove the level, with the critical assertions, or by the level alone, and
+-- then it is kept as the session's standing query.
+pub data Question : Type 0 where
+  WithProof : Question
+  WithCritical : Question
+  ToKeep : Question
 
 -- what concerns the connection itself
 pub data Control : Type 0 where
   ShowSecret : List ℕ → Control
   Leave : Control
 
--- A call of one session; an update; a look at the history at the place; a question on a session, with the names of the compliance
--- values; what concerns the connection; or a fault.
+-- A call of one session; an update; a look at the history at the place; a question on a session, with the names of the
+-- compliance values; what concerns the connection; or a fault.
 pub data Shape : Type 0 where
   Calls : ℕ → Call → Shape
   Updates : Updating → Shape
   Looks : Look → Shape
-  Asks : ℕ → List ℕ → Shape
+  Asks : Question → ℕ → List ℕ → Shape
   Controls : Control → Shape
   AtFault : WireFault → Shape
 
@@ -51,7 +61,11 @@ shape_of (Unset s name) = Calls s (C.Unset name)
 shape_of (Auth s text) = Calls s (C.Auth text)
 shape_of (Unauth s text) = Calls s (C.Unauth text)
 shape_of (Clear s) = Calls s C.Clear
-shape_of (Query s names) = Asks s names
+shape_of (Query s names) = Asks WithProof s names
+shape_of (Watch s names) = Asks ToKeep s names
+shape_of (News s) = Looks (ForStanding s)
+shape_of (Unwatch s) = Calls s C.Unwatch
+shape_of (Critical s names) = Asks WithCritical s names
 shape_of (Admin digits) = Controls (ShowSecret (bytes_of_digits digits))
 shape_of (Add text) = Updates (AddText text)
 shape_of (Drop k) = Updates (DropId k)
@@ -72,12 +86,15 @@ shape_in_code (S.Remove k) = Updates (DropId k)
 shape_in_code (S.Batch block) = Updates (ApplyBlock block.now)
 shape_in_code (S.PinAt s version) = Looks (ForRetained s version)
 shape_in_code (S.Log n) = Looks (ForLog n)
-shape_in_code (S.Query s values) = Asks s values.now
+shape_in_code (S.News s) = Looks (ForStanding s)
+shape_in_code (S.Query s values) = Asks WithProof s values.now
+shape_in_code (S.Watch s values) = Asks ToKeep s values.now
+shape_in_code (S.Critical s values) = Asks WithCritical s values.now
 shape_in_code (S.Admin digits) = Controls (ShowSecret (bytes_of_digits digits.now))
 shape_in_code S.Bye = Controls Leave
 
--- its parts are of their form: digits are hexadecimal digits, an even number of them, and no text of an assertion and no block is
--- too long
+-- its parts are of their form: digits are hexadecimal digits, an even number of them, and no text of an assertion and
+-- no block is too long
 abbrev pub IsFormed : Asked → Type 0
 IsFormed (S.Call s call) = length (asserted (call_of call)) ≤ ASSERTION_BYTES
 IsFormed (S.SetDigits s name digits) = are_digits digits.now ≡ true
@@ -88,6 +105,9 @@ IsFormed (S.Remove k) = ⊤
 IsFormed (S.Batch block) = length block.now ≤ ASSERTION_BYTES
 IsFormed (S.PinAt s version) = ⊤
 IsFormed (S.Log n) = ⊤
+IsFormed (S.News s) = ⊤
 IsFormed (S.Query s values) = ⊤
+IsFormed (S.Watch s values) = ⊤
+IsFormed (S.Critical s values) = ⊤
 IsFormed (S.Admin digits) = are_digits digits.now ≡ true
 IsFormed S.Bye = ⊤

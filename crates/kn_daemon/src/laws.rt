@@ -1,6 +1,16 @@
-//! Laws of a connection that is being served, and of playing, each of them the contract of a function that does nothing.
+//! Laws of a connection that is being served, of playing, and of what questions tell, each of them the contract of a
+//! function that does nothing.
 
-ghost use Rattle.kn_daemon.specs.Laws.{Begins, TakesPiece, AnswersOne, EndsByBye, EndsByBlock, EndsByWrite, EndsDry, EndsByBudget, EndsByMemory, ServedLonger, PermittedIsPlayed, AlongIsPlayed, OneQueryIsMeant, OpeningIsServed, UnderwayIsSmall, ServedAlone, FaultRefuses, ReadingGoesOn, FaultRefusesItem, ReadingAdmitsItem, FaultRefusesCall, CallGoesOn, UpdateIsCommitted, OwnIsUnplaced, HistoryIsPlaced, LogIsOfPlace};
+ghost use Rattle.kn_daemon.specs.Laws.{Begins, TakesPiece, AnswersOne, EndsByBye, EndsByBlock, EndsByWrite};
+ghost use Rattle.kn_daemon.specs.Laws.{EndsDry, EndsByBudget, EndsByMemory, ServedLonger, ServedAlone, OpeningIsServed};
+ghost use Rattle.kn_daemon.specs.Laws.{UnderwayIsSmall, PermittedIsPlayed, AlongIsPlayed, OneQueryIsMeant};
+ghost use Rattle.kn_daemon.specs.Laws.{FaultRefuses, ReadingGoesOn, FaultRefusesItem, ReadingAdmitsItem};
+ghost use Rattle.kn_daemon.specs.Laws.{FaultRefusesCall, CallGoesOn, UpdateIsCommitted, OwnIsUnplaced, HistoryIsPlaced};
+ghost use Rattle.kn_daemon.specs.Laws.{LogIsOfPlace, UnplacedIsFree, FewerTakesNoMemory};
+ghost use Rattle.kn_daemon.specs.QuestionLaws.{NewsIsOfPlace, WatchIsOfPin, StandingQueryStays};
+ghost use Rattle.kn_daemon.specs.QuestionLaws.{WatchTellsTheValue, CriticalTellsTheValue, NewsTellsTheValue};
+ghost use Rattle.kn_daemon.specs.QuestionLaws.{CriticalIsOne, CriticalIsSmall, CriticalIsLarge};
+ghost use Rattle.kn_daemon.specs.QuestionLaws.{ClosedIsRefused, NamesAreRefused, NoneStandingIsRefused};
 
 /// At first nothing is taken and nothing written.
 pub fn serving_begins()
@@ -37,8 +47,8 @@ pub fn served_longer()
     ensures { ServedLonger }
 {}
 
-/// What the daemon of one thread permits changes the state as playing does, unless memory was wanting: after one request,
-/// and along exchanges that stand each after the whole history.
+/// What the daemon of one thread permits changes the state as playing does, unless memory was wanting: after one
+/// request, and along exchanges that stand each after the whole history.
 pub fn permitted_is_played()
     ensures request { PermittedIsPlayed }
     ensures along { AlongIsPlayed }
@@ -86,7 +96,54 @@ pub fn refusals_are_placed()
     ensures history { HistoryIsPlaced }
 {}
 
+/// A reply that doesn't count as one of its place is permitted at each place.
+pub fn unplaced_is_free()
+    ensures { UnplacedIsFree }
+{}
+
+/// What takes something away, ADMIN, BYE and faults are never answered by want of memory.
+pub fn fewer_takes_no_memory()
+    ensures { FewerTakesNoMemory }
+{}
+
 /// A reply to LOG that hands on updates tells what was asked for, of the history at its place, and changes nothing.
 pub fn log_is_of_place()
     ensures { LogIsOfPlace }
+{}
+
+/// A NEWS reply tells the version that the standing query then has, and its level there: behind NEWS the version of the
+/// place, and behind WATCH the one that the session is pinned to.
+pub fn news_is_of_place()
+    ensures news { NewsIsOfPlace }
+    ensures watch { WatchIsOfPin }
+{}
+
+/// What a standing query asks, and over which version, stays as it was until CLOSE, UNWATCH, WATCH or NEWS of its
+/// session.
+pub fn standing_query_stays()
+    ensures { StandingQueryStays }
+{}
+
+/// QUERY, WATCH and CRITICAL tell one level in one state. NEWS tells the level that QUERY tells of a session that has
+/// what was kept and is pinned to the version of its place.
+pub fn questions_tell_one_level()
+    ensures watch { WatchTellsTheValue }
+    ensures critical { CriticalTellsTheValue }
+    ensures news { NewsTellsTheValue }
+{}
+
+/// CRITICAL has one answer, which comes where the query has no more nodes than the limit. Where it is refused for its
+/// nodes, it has more, and the refusal tells how many.
+pub fn critical_is_one()
+    ensures one { CriticalIsOne }
+    ensures small { CriticalIsSmall }
+    ensures large { CriticalIsLarge }
+{}
+
+/// What refuses QUERY, WATCH, CRITICAL, NEWS and UNWATCH first: the session isn't open, the names are no compliance
+/// values, or there is no standing query.
+pub fn questions_are_refused()
+    ensures closed { ClosedIsRefused }
+    ensures names { NamesAreRefused }
+    ensures standing { NoneStandingIsRefused }
 {}

@@ -49,8 +49,22 @@ pub enum Shape<'a> {
     Log {
         n: u32,
     },
-    /// A question on session `s`.
+    /// The answer to the standing query of session `s` over the newest version.
+    News {
+        s: u32,
+    },
+    /// A question on session `s`, answered with a proof.
     Query {
+        s: u32,
+        values: &'a [u8],
+    },
+    /// A question on session `s`, which is kept as its standing query.
+    Watch {
+        s: u32,
+        values: &'a [u8],
+    },
+    /// A question on session `s`, answered with the critical assertions.
+    Critical {
         s: u32,
         values: &'a [u8],
     },
@@ -105,6 +119,13 @@ pub fn shape_of(request: Request<'_>) -> Shape<'_>
             call: Call::Clear,
         },
         Request::Query { s, values } => Shape::Query { s, values },
+        Request::Watch { s, values } => Shape::Watch { s, values },
+        Request::News { s } => Shape::News { s },
+        Request::Unwatch { s } => Shape::Call {
+            s,
+            call: Call::Unwatch,
+        },
+        Request::Critical { s, values } => Shape::Critical { s, values },
         Request::Admin { digits } => Shape::Admin { digits },
         Request::Add { block } => Shape::Add { block },
         Request::Remove { k } => Shape::Remove { k },
