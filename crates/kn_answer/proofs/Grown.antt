@@ -13,6 +13,7 @@ use Rattle.kn_system.specs.declared.rows.Piece.{Piece}
 use Rattle.kn_system.specs.declared.rows.Piece.TheVariants as P
 use Rattle.kn_system.specs.Equations.{SystemEquations}
 use Rattle.kn_answer.proofs.Bridge.{bytes_eq-same, bytes_eq-true}
+use Rattle.kn_answer.proofs.Entered.{true_or, or_as_true}
 use Rattle.kn_answer.specs.declared.numbered.Numbered.{Numbered}
 use Rattle.kn_answer.specs.Numbering.{IsNumber, IsAbsent, AreDistinct, HaveLevels, NamedPiece, Leaf, Gate, IsPieceOf, ArePiecesOf, licensees_pieces, IsRowOf, AreRowsOf, AreNumbered, AreNamesOf, IsSystemOf}
 use Rattle.kn_answer.specs.Extending.{Keeps, AddsNames, Extends, AddsRequester, with_statement}
@@ -160,14 +161,6 @@ AddsNames-longer old new name names = record {
 or_true : (a b : Bool) → (a || b) ≡ true → (a ≡ true) ⊎ (b ≡ true)
 or_true true b either = inl refl
 or_true false b either = inr either
-
-true_or : (a b : Bool) → a ≡ true → (a || b) ≡ true
-true_or true b is = refl
-true_or false b is = cc
-
-or_as_true : (a b : Bool) → b ≡ true → (a || b) ≡ true
-or_as_true true b is = refl
-or_as_true false b is = is
 
 -- names, and then more
 pub AddsNames-then : (first second old between new : List (List ℕ)) → AddsNames first old between → AddsNames second between new → AddsNames (first ++ second) old new

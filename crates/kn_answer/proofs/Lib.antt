@@ -2,7 +2,9 @@ pub mod Texts
 pub mod Spelled
 pub mod Counted
 pub mod Folded
+pub mod Pieces
 pub mod Bridge
+pub mod Entered
 pub mod Grown
 pub mod Keyed
 pub mod Followed

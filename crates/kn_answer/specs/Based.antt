@@ -4,9 +4,10 @@ use Rattle.std.specs.Prelude.{ℕ, ◌≡◌, ◌-◌, ◌≤◌, Bool, List, []
 use Rattle.kn_principal.specs.Principals.{policy}
 use Rattle.kn_trees.specs.declared.assertion.Assertion.{Assertion}
 use Rattle.kn_env.specs.Environment.{Asked}
-use Rattle.kn_meaning.specs.Equations.{Part}
+use Rattle.kn_meaning.specs.Equations.{Part, equations_over}
+use Rattle.kn_meaning.specs.Critical.{equation_nodes}
 use Rattle.kn_system.specs.Rows.{SystemRow}
-use Rattle.kn_system.specs.Equations.{SystemEquations}
+use Rattle.kn_system.specs.Equations.{SystemEquations, node_total}
 use Rattle.kn_settle.specs.QuerySystem.{query_system}
 use Rattle.kn_answer.specs.Numbering.{AreDistinct, ArePiecesOf, IsNumber, IsSystemOf, SpellLicensees, licensees_pieces}
 use Rattle.kn_answer.specs.Removed.{capped_statement, capped_statements, kept_of, query_equations}
@@ -47,9 +48,16 @@ AreNumbersOf names (r ∷ rs) (p ∷ ps) = IsNumber names r p × AreNumbersOf na
 abbrev pub ceilings_of : Asked → List Part → List Bool → List ℕ
 ceilings_of asked parts live = map (λ k. (capped_statement k).ceiling) (kept_of asked parts live)
 
+-- a base is the system of each query over its assertions
 abbrev pub BasesStateQueries : Type 0
 BasesStateQueries =
     (parts : List Part) (names : List (List ℕ)) (base : SystemEquations) → IsBaseOf parts names base → length names ≡ length base.requesters
     → (asked : Asked) (live : List Bool) (numbers : List ℕ) → 1 ≤ length asked.values → length live ≡ length parts → AreNumbersOf names asked.requesters numbers
     → IsSystemOf (query_equations (length asked.values - 1) asked.requesters (capped_statements (kept_of asked parts live))) names
     (query_system base (length asked.values) numbers (ceilings_of asked parts live))
+
+-- and has the nodes of their formulas, whatever is asked
+abbrev pub BasesHaveNodes : Type 0
+BasesHaveNodes =
+    (parts : List Part) (names : List (List ℕ)) (base : SystemEquations) → IsBaseOf parts names base
+    → (asked : Asked) → node_total base.rows ≡ equation_nodes (equations_over asked parts)

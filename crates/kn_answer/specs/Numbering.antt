@@ -1,6 +1,6 @@
 -- What a system over numbers is for a query over named principals: the number of a principal is its place among the names
 -- (keynoted's own).
-use Rattle.std.specs.Prelude.{ℕ, ◌≡◌, ◌+◌, Bool, true, List, [], ◌∷◌, length, map, flat_map, slice_get, slice_index, Option, Some, None}
+use Rattle.std.specs.Prelude.{ℕ, ◌≡◌, ◌+◌, Bool, true, List, [], ◌∷◌, ◌++◌, length, map, flat_map, slice_get, slice_index, Option, Some, None, if◌then◌else◌}
 use Rattle.std.specs.List.{list_any}
 use Rattle.std.specs.Str.{bytes_eq}
 use Rattle.kn_principal.specs.Principals.{policy}
@@ -27,6 +27,15 @@ IsAbsent items item = (p : ℕ) → IsNumber items item p → ⊥
 -- no item has two numbers
 abbrev pub AreDistinct : {A : Type 0} → List A → Type 0
 AreDistinct items = (p q : ℕ) (item : _) → IsNumber items item p → IsNumber items item q → p ≡ q
+
+-- the names with this one behind them, unless it has a number already
+abbrev pub with_name : List (List ℕ) → List ℕ → List (List ℕ)
+with_name names name = if list_any (bytes_eq name) names then names else names ++ name ∷ []
+
+-- the names with those of these behind them, in their order, that have no number yet
+abbrev pub with_names : List (List ℕ) → List (List ℕ) → List (List ℕ)
+with_names names [] = names
+with_names names (name ∷ others) = with_names (with_name names name) others
 
 -- each principal has by its number the level that it has by its name
 abbrev pub HaveLevels : List (List ℕ) → Levels → List ℕ → Type 0

@@ -14,8 +14,8 @@ use kn_settle::settle;
 use kn_system::laws;
 use std::alloc::Global;
 
-/// The compliance value of a query (RFC 2704, section 5), with a proof of it by names (keynoted's own). Its assertions are
-/// those of texts that have at most 16,777,000 bytes together.
+/// The compliance value of a query (RFC 2704, section 5), with a proof of it by names (keynoted's own). Its assertions
+/// are those of texts that have at most 16,777,000 bytes together.
 ///
 /// `NoMemory` comes only for want of memory.
 pub fn answer(alloc: Global, list: &List<Part<'_>>, query: &Query<'_>) -> Result<Answer, NoMemory>

@@ -1,10 +1,12 @@
-//! A base: the system of assertions without a query, from which each query is answered.
-ghost use Rattle.std.specs.Prelude.{◌≡◌, ℕ, ◌+◌, ◌-◌, ◌*◌, ◌^◌, ◌<◌, ◌≤◌, false, true, [], ◌∷◌, ◌++◌, List as ListOf, length, map, slice_set, IfOk};
+//! A base: assertions as a system over numbered principals, which is of no query and answers each.
+ghost use Rattle.std.specs.Prelude.{◌≡◌, ℕ, ◌+◌, ◌-◌, ◌*◌, ◌^◌, ◌<◌, ◌≤◌, false, true, [], ◌∷◌, ◌++◌, List as ListOf};
+ghost use Rattle.std.specs.Prelude.{length, map, replicate, slice_set, IfOk, OnOk};
 ghost use Rattle.kn_meaning.specs.Equations.{IsPolicyLevel, Part as AssertionById, equations_over};
 ghost use Rattle.kn_meaning.specs.Proofs.{IsProof};
 ghost use Rattle.kn_system.specs.Equations.{SystemEquations, node_total};
 ghost use Rattle.kn_answer.specs.Based.{IsBaseOf};
 ghost use Rattle.kn_answer.specs.Located.{AreLocated, AreOfSystem, IsLocated, IsOfSystem};
+ghost use Rattle.kn_answer.specs.Numbering.{with_names};
 ghost use Rattle.kn_answer.specs.Removed.{live_parts};
 ghost use Rattle.kn_answer.specs.Sizes.{HaveTexts, IsReadablePart, size_of};
 ghost use Rattle.kn_base.specs.declared.limits.TheConstants.{REQUESTERS};
@@ -23,8 +25,8 @@ use std::alloc::Global;
 use std::marker::Model;
 
 /// The principals of assertions by numbers, and a row for each assertion, in the order in which they were added. The
-/// assertions themselves stay with the caller, who lends them to each answer. A base is of no query: a query's
-/// requesters are looked up when it is answered, and conditions are evaluated when their row is first reached.
+/// assertions themselves stay with the caller, who lends them to each answer. A base is of no query: the requesters,
+/// and what conditions are worth, come with each query.
 #[derive(Drop)]
 pub struct Base {
     numbered: Numbered,
@@ -61,14 +63,18 @@ impl Base {
         })
     }
 
-    /// The base of these assertions, in their order. They are those of texts that have at most 16,777,000 bytes together.
+    /// The base of these assertions, in their order. They are those of texts that have at most 16,777,000 bytes
+    /// together.
     ///
     /// `NoMemory` comes only for want of memory.
     pub fn of(alloc: Global, list: &List<Part<'_>>) -> Result<Base, NoMemory>
         requires { HaveTexts list.now }
         ensures base { IfOk result (λ base. IsBaseOf list.now base.names base.system) }
         ensures live { IfOk result (λ base. live_parts list.now base.live ≡ list.now) }
+        ensures all { IfOk result (λ base. base.live ≡ replicate (length list.now) true) }
         ensures names { IfOk result (λ base. length base.names + REQUESTERS ≤ 2 ^ 24) }
+        ensures room { IfOk result (λ base. (requesters : ListOf (ListOf ℕ)) → length requesters ≤ REQUESTERS
+            → length (with_names base.names requesters) ≤ 2 ^ 24) }
     {
         kn_assert::laws::readings_are_computed();
         kn_assert::laws::readings_are_sound();
@@ -146,11 +152,11 @@ impl Base {
         self.live.len()
     }
 
-    /// The compliance value of a query (RFC 2704, section 5) over the assertions that are still there, with a proof of it
-    /// by names (keynoted's own). The assertions are those that were added, in their order.
+    /// The compliance value of a query (RFC 2704, section 5) over the assertions that are still there, with a proof of
+    /// it by names (keynoted's own). The assertions are those that were added, in their order.
     ///
     /// `NoMemory` comes only for want of memory. After it, as after an answer, the base is of the same assertions, and
-    /// requesters who weren't known may have got numbers.
+    /// requesters who weren't known may have got numbers. So there is room for the same query again.
     pub fn answer<A: Assertions>(
         &mut self,
         alloc: Global,
@@ -158,13 +164,16 @@ impl Base {
         assertions: &A,
     ) -> Result<Answer, NoMemory>
         requires base { IsBaseOf (A.parts assertions.now) self.old.names self.old.system }
-        requires room { length self.old.names + length query.now.requesters ≤ 2 ^ 24 }
+        requires room { length (with_names self.old.names query.now.requesters) ≤ 2 ^ 24 }
         ensures proof { IfOk result (λ a.
             IsProof (equations_over query.now (live_parts (A.parts assertions.now) self.old.live)) a.rows a.value) }
         ensures least { IfOk result (λ a.
             IsPolicyLevel (equations_over query.now (live_parts (A.parts assertions.now) self.old.live)) a.value) }
         ensures below { IfOk result (λ a. a.value < length query.now.values) }
         ensures base { IsBaseOf (A.parts assertions.now) self.new.names self.new.system }
+        ensures entered { OnOk result (self.new.names ≡ with_names self.old.names query.now.requesters) }
+        ensures again { with_names self.new.names query.now.requesters
+            ≡ with_names self.old.names query.now.requesters }
         ensures names { length self.new.names ≤ length self.old.names + length query.now.requesters }
         ensures rows { self.new.system.rows ≡ self.old.system.rows }
         ensures live { self.new.live ≡ self.old.live }

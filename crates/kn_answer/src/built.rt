@@ -138,8 +138,8 @@ impl Built {
     }
 }
 
-/// The rows that a reply tells by names, by their numbers in a system, in the same order and with the same levels. A name
-/// or an id that isn't in the system becomes the greatest u32, which is the number of none.
+/// The rows that a reply tells by names, by their numbers in a system, in the same order and with the same levels. A
+/// name or an id that isn't in the system becomes the greatest u32, which is the number of none.
 ///
 /// `NoMemory` comes only for want of memory.
 pub fn locate(alloc: Global, built: &Built, reply: &ReadReply) -> Result<Proof, NoMemory>

@@ -1,14 +1,14 @@
 //! Laws of the systems of queries, each of them the contract of a function that does nothing.
 
 ghost use Rattle.std.specs.Prelude.{◌≡◌};
-ghost use Rattle.kn_answer.specs.Based.{BasesStateQueries};
+ghost use Rattle.kn_answer.specs.Based.{BasesHaveNodes, BasesStateQueries};
 ghost use Rattle.kn_answer.specs.Laws.{LocatedProofs};
 ghost use Rattle.kn_answer.specs.Removed.{RemovedAreWorthless};
 
 use crate::types::QUERY_BYTES;
 
-/// Where the ids of the assertions differ, located rows prove a level in the system of a query exactly where the rows by
-/// names prove it of the query.
+/// Where the ids of the assertions differ, located rows prove a level in the system of a query exactly where the rows
+/// by names prove it of the query.
 pub fn located_proofs()
     ensures { LocatedProofs }
 {}
@@ -26,4 +26,9 @@ pub fn removed_are_worthless()
 /// A base is the system of each query over its assertions, with the query's requesters and ceilings.
 pub fn bases_state_queries()
     ensures { BasesStateQueries }
+{}
+
+/// A base has as many nodes as the formulas of its assertions, whatever is asked.
+pub fn bases_have_nodes()
+    ensures { BasesHaveNodes }
 {}

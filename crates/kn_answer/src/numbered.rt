@@ -1,5 +1,6 @@
 //! A query over numbered principals.
-ghost use Rattle.std.specs.Prelude.{◌≡◌, ℕ, ◌+◌, ◌-◌, ◌^◌, ◌<◌, ◌≤◌, false, true, [], ◌∷◌, ◌++◌, All, flat_map, length, map, IfOk, IfSome, List as ListOf, OnErr, OnOk};
+ghost use Rattle.std.specs.Prelude.{◌≡◌, ℕ, ◌+◌, ◌-◌, ◌^◌, ◌<◌, ◌≤◌, false, true, [], ◌∷◌, ◌++◌, List as ListOf};
+ghost use Rattle.std.specs.Prelude.{All, flat_map, length, map, IfOk, IfSome, OnErr, OnOk};
 ghost use Rattle.std.specs.List.{list_any};
 ghost use Rattle.std.specs.Str.{bytes_eq};
 ghost use Rattle.kn_cond.specs.Programs.{field_value as field_value_of};
@@ -8,7 +9,8 @@ ghost use Rattle.kn_meaning.specs.Equations.{Equations, Part as AssertionById, e
 ghost use Rattle.kn_meaning.specs.Occurring.{occurring, formula_names, licensees_names, statement_names};
 ghost use Rattle.kn_system.specs.Equations.{node_total};
 ghost use Rattle.kn_system.specs.Forms.{IsFormula};
-ghost use Rattle.kn_answer.specs.Numbering.{IsNumber, IsAbsent, ArePiecesOf, AreNamesOf, AreNumbered, HaveNumbers, IsSystemOf, SpellLicensees, licensees_pieces};
+ghost use Rattle.kn_answer.specs.Numbering.{IsNumber, IsAbsent, ArePiecesOf, AreNamesOf, AreNumbered, HaveNumbers};
+ghost use Rattle.kn_answer.specs.Numbering.{IsSystemOf, SpellLicensees, licensees_pieces, with_name, with_names};
 ghost use Rattle.kn_answer.specs.Based.{AreNumbersOf, IsBaseOf};
 ghost use Rattle.kn_answer.specs.Extending.{AddsNames, AddsRow, Extends, AddsRequester, with_statement};
 ghost use Rattle.kn_answer.specs.Spelling.{AddsSpelled, AddsGate};
@@ -39,8 +41,10 @@ pub(super) fn numbered_query(
 ) -> Result<Numbered, NoMemory>
     requires readable { All IsReadablePart list.now }
     requires small { 65 + total_size list.now < 2 ^ 24 }
-    ensures system { IfOk result (λ numbered. IsSystemOf (equations_over query.now list.now) numbered.names numbered.system) }
-    ensures principals { IfOk result (λ numbered. AreNamesOf (occurring (equations_over query.now list.now)) numbered.names) }
+    ensures system { IfOk result (λ numbered.
+        IsSystemOf (equations_over query.now list.now) numbered.names numbered.system) }
+    ensures principals { IfOk result (λ numbered.
+        AreNamesOf (occurring (equations_over query.now list.now)) numbered.names) }
     ensures levels { IfOk result (λ numbered. numbered.system.levels ≡ length query.now.values) }
 {
     let mut numbered = Numbered::of_policy(alloc, query.values().len())?;
@@ -108,9 +112,10 @@ impl Numbered {
 
     // The number of a principal, which gets one here where it has none yet.
     fn number(&mut self, name: &[u8]) -> Result<u32, NoMemory>
-        requires few { length self.old.names < 2 ^ 24 }
+        requires few { length (with_name self.old.names name.now) ≤ 2 ^ 24 }
         requires one_each { length self.old.names ≡ length self.old.system.requesters }
         ensures number { IfOk result (λ number. IsNumber self.new.names name.now number) }
+        ensures entered { OnOk result (self.new.names ≡ with_name self.old.names name.now) }
         ensures ok { OnOk result (Extends 1 (name.now ∷ []) self.old self.new) }
         ensures err_names { OnErr result (self.new.names ≡ self.old.names) }
         ensures err_system { OnErr result (self.new.system ≡ self.old.system) }
@@ -179,7 +184,8 @@ impl Numbered {
         ensures levels { OnOk result (self.new.system.levels ≡ self.old.system.levels) }
         ensures system { OnOk result ((e : Equations) → IsSystemOf e self.old.names self.old.system
             → IsSystemOf (with_statement e (statement_of query.now part.now)) self.new.names self.new.system) }
-        ensures principals { OnOk result (AddsNames (statement_names (statement_of query.now part.now)) self.old.names self.new.names) }
+        ensures principals { OnOk result (AddsNames (statement_names (statement_of query.now part.now))
+            self.old.names self.new.names) }
     {
         let assertion = part.assertion;
         let ceiling = ceiling_of(alloc, query, assertion)?;
@@ -213,13 +219,15 @@ impl Numbered {
         alloc: Global,
         principals: &List<Octets>,
     ) -> Result<List<u32>, NoMemory>
-        requires few { length self.old.names + length principals.now ≤ 2 ^ 24 }
+        requires few { length (with_names self.old.names principals.now) ≤ 2 ^ 24 }
         requires one_each { length self.old.names ≡ length self.old.system.requesters }
         ensures numbers { IfOk result (λ numbers. AreNumbersOf self.new.names principals.now numbers) }
         ensures base { (parts : ListOf AssertionById) → IsBaseOf parts self.old.names self.old.system
             → IsBaseOf parts self.new.names self.new.system }
         ensures rows { self.new.system.rows ≡ self.old.system.rows }
         ensures one_each { length self.new.names ≡ length self.new.system.requesters }
+        ensures entered { OnOk result (self.new.names ≡ with_names self.old.names principals.now) }
+        ensures again { with_names self.new.names principals.now ≡ with_names self.old.names principals.now }
         ensures names { length self.new.names ≤ length self.old.names + length principals.now }
     {
         let mut numbers = List::new(alloc);
@@ -242,7 +250,8 @@ impl Numbered {
         requires readable { IfSome licensees.now (λ formula. (bytes : ℕ) × IsReadable bytes formula) }
         requires few { length self.old.names + field_nodes licensees.now ≤ 2 ^ 24 }
         requires one_each { length self.old.names ≡ length self.old.system.requesters }
-        ensures ok { OnOk result (Extends (field_nodes licensees.now) (licensees_names licensees.now) self.old self.new) }
+        ensures ok { OnOk result (Extends (field_nodes licensees.now) (licensees_names licensees.now)
+            self.old self.new) }
         ensures pieces { IfOk result (λ pieces. ArePiecesOf self.new.names (licensees_pieces licensees.now) pieces) }
         ensures level { IfOk result (λ pieces. (top : ℕ) → SpellLicensees top self.new.names licensees.now pieces) }
         ensures one_formula { IfOk result (λ pieces. IsFormula (length self.new.names) pieces) }
@@ -262,7 +271,8 @@ impl Numbered {
         requires sound { is_sound formula.now ≡ true }
         requires few { length self.old.names + formula_nodes formula.now ≤ 2 ^ 24 }
         requires one_each { length self.old.names ≡ length self.old.system.requesters }
-        ensures grown { OnOk result (Extends (formula_nodes formula.now) (formula_names formula.now) self.old self.new) }
+        ensures grown { OnOk result (Extends (formula_nodes formula.now) (formula_names formula.now)
+            self.old self.new) }
         ensures spelled { OnOk result (AddsSpelled self.new.names (formula.now ∷ []) pieces.old pieces.new) }
     {
         match formula {
@@ -288,7 +298,8 @@ impl Numbered {
         requires sound { All (λ part. is_sound part ≡ true) parts.now }
         requires few { length self.old.names + total (map formula_nodes parts.now) ≤ 2 ^ 24 }
         requires one_each { length self.old.names ≡ length self.old.system.requesters }
-        ensures grown { OnOk result (Extends (total (map formula_nodes parts.now)) (flat_map formula_names parts.now) self.old self.new) }
+        ensures grown { OnOk result (Extends (total (map formula_nodes parts.now)) (flat_map formula_names parts.now)
+            self.old self.new) }
         ensures spelled { OnOk result (AddsGate self.new.names need parts.now pieces.old pieces.new) }
     {
         let count = parts.len();

@@ -4,8 +4,8 @@ use kn_base::List;
 use kn_proof::{Id, NamedRow};
 use std::marker::Model;
 
-/// The bytes that the texts of a query's assertions have together at most (keynoted's own). A formula has fewer nodes than
-/// its text has bytes, so a query's system has fewer than 2^24.
+/// The bytes that the texts of a query's assertions have together at most (keynoted's own). A formula has fewer nodes
+/// than its text has bytes, so a query's system has fewer than 2^24.
 pub const QUERY_BYTES: usize = 16_777_000;
 
 /// An assertion of a query, by its id.

@@ -3,10 +3,12 @@ use Rattle.std.proofs.lemmas.List.{replicate_more, take_all, take_more}
 use Rattle.kn_meaning.specs.Equations.{Part}
 use Rattle.kn_system.specs.Equations.{node_total}
 use Rattle.kn_answer.specs.Based.{IsBaseOf}
+use Rattle.kn_answer.specs.Numbering.{with_names}
 use Rattle.kn_answer.specs.Removed.{live_parts}
 use Rattle.kn_answer.specs.Sizes.{IsReadablePart, size_of, total_size}
 use Rattle.kn_answer.proofs.Capped.{live-all}
 use Rattle.kn_answer.proofs.Counted.{total_size-drop}
+use Rattle.kn_answer.proofs.Entered.{length-with_names}
 use Rattle.kn_answer.proofs.Texts.{texts_readable, texts_small}
 use Rattle.kn_answer.proofs.base.Base.of.Goals as goal
 
@@ -66,3 +68,8 @@ returns-clause-base c =
 pub returns-clause-live : goal.returns-clause-live
 returns-clause-live c =
     ap (live_parts c.args.list.now) c.loop-part.invariant.live ∙ live-all c.args.list.now c.loop-part.part-index (omega (arith, ap length c.as_slice-part-items.ensures))
+
+pub returns-clause-room : goal.returns-clause-room
+returns-clause-room c = λ requesters few.
+    let entered : length (with_names c.loop-part.base.names requesters) ≤ length c.loop-part.base.names + length requesters = length-with_names c.loop-part.base.names requesters in
+    omega (arith, entered, few, c.loop-part.invariant.names_fit)

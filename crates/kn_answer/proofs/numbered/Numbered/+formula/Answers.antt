@@ -7,6 +7,7 @@ use Rattle.kn_meaning.specs.Occurring.{formula_names}
 use Rattle.kn_answer.specs.Numbering.{IsNumber}
 use Rattle.kn_answer.specs.Extending.{Extends}
 use Rattle.kn_answer.specs.Spelling.{AddsSpelled}
+use Rattle.kn_answer.proofs.Entered.{length-with_name}
 use Rattle.kn_answer.proofs.Folded.{IsSoundGate, IsSoundGate-All, IsSoundGate-Any, IsSoundGate-Threshold, formula_nodes-Who, formula_names-Who, total-part, total-more, flat_map-more}
 use Rattle.kn_answer.proofs.Grown.{Extends-none, Extends-then, Extends-within, known_on_ok, map_on_ok}
 use Rattle.kn_answer.proofs.Spelled.{AddsSpelled-Who, AddsSpelled-gate, AddsSpelled-none, AddsSpelled-then, AddsGate-parts}
@@ -15,7 +16,7 @@ use Rattle.kn_answer.proofs.numbered.Numbered.+formula.Goals as goal
 pub add_formula-number-requires-clause-few : goal.add_formula-number-requires-clause-few
 add_formula-number-requires-clause-few t c =
     let one : formula_nodes c.args.formula.now ≡ 1 = ap formula_nodes c.in-Who.is ∙ formula_nodes-Who c.in-Who.name in
-    omega arith
+    omega (arith, length-with_name c.args.self.now.names c.as_slice.result.now)
 
 pub add_formula-add_gate-requires : goal.add_formula-add_gate-requires
 add_formula-add_gate-requires t c =

@@ -6,8 +6,12 @@ use Rattle.kn_system.specs.Equations.{SystemEquations}
 use Rattle.kn_system.specs.Rows.{SystemRow}
 use Rattle.kn_answer.specs.Numbering.{IsNumber, IsSystemOf}
 use Rattle.kn_answer.specs.Extending.{AddsNames, Extends}
+use Rattle.kn_answer.proofs.Entered.{length-with_name}
 use Rattle.kn_answer.proofs.Grown.{AddsNames-then}
 use Rattle.kn_answer.proofs.numbered.Numbered.add_row.Goals as goal
+
+pub number-requires-clause-few : goal.number-requires-clause-few
+number-requires-clause-few c = omega (arith, length-with_name c.args.self.now.names c.as_slice.result.now)
 
 pub returns : goal.returns
 returns c =
