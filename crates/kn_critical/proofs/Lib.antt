@@ -1,0 +1,5 @@
+pub mod Ids
+pub mod Rows
+pub mod Whole
+pub mod Decided
+pub mod Found

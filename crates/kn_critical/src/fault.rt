@@ -1,0 +1,23 @@
+//! Why the critical assertions of a query aren't told.
+
+use kn_base::NoMemory;
+
+/// Why the critical assertions of a query aren't told (keynoted's own).
+#[derive(Debug, Clone, Copy, PartialEq, Eq, Drop)]
+pub enum CriticalFault {
+    /// Fault 1: the assertions' formulas have `nodes` nodes together, more than 16,384.
+    Large { nodes: u32 },
+    /// There was no memory.
+    NoMemory,
+}
+
+impl From<NoMemory> for CriticalFault {
+    ghost use Rattle.std.specs.Prelude.{◌≡◌};
+    ghost use Rattle.kn_critical.specs.declared.fault.CriticalFault.TheVariants as F;
+
+    ghost from_gives = { λ _ fault. fault ≡ F.NoMemory };
+
+    fn from(_none: NoMemory) -> CriticalFault {
+        CriticalFault::NoMemory
+    }
+}

@@ -1,0 +1,8 @@
+//! The critical assertions of a query: those without which its compliance value would be lower.
+#![tactic(auto)]
+
+mod fault;
+mod search;
+
+pub use fault::CriticalFault;
+pub use search::{Critical, find_critical};

@@ -1,0 +1,144 @@
+//! The search for critical assertions.
+ghost use Rattle.std.specs.Prelude.{◌≡◌, ◌⊎◌, ◌<◌, None, Some, length, map, IfErr, IfOk, OnOk};
+ghost use Rattle.kn_meaning.specs.Critical.{AreCritical, equation_nodes, is_row_by};
+ghost use Rattle.kn_meaning.specs.Equations.{IsPolicyLevel, equations_over};
+ghost use Rattle.kn_meaning.specs.Proofs.{IsProof};
+ghost use Rattle.kn_answer.specs.Numbering.{AreDistinct};
+ghost use Rattle.kn_answer.specs.Sizes.{HaveTexts};
+ghost use Rattle.kn_critical.specs.Faults.{critical_fault};
+ghost use Rattle.kn_critical.specs.Searching.{DecidesCritical, IsLevelWithout, IsWhole};
+
+use crate::fault::CriticalFault;
+use kn_answer::laws::bases_have_nodes;
+use kn_answer::{Answer, Assertions, Base, Part};
+use kn_base::limits::CRITICAL_NODES;
+use kn_base::{List, NoMemory};
+use kn_env::Query;
+use kn_laws::laws::{every_query_has_a_level, unnamed_is_not_critical};
+use kn_proof::{Id, NamedRow};
+use std::alloc::Global;
+
+/// The compliance value of a query, and what it stands on.
+#[derive(Debug, Drop)]
+pub struct Critical {
+    /// The policy's level in the least fixed point of the query's equations, the lowest being 0.
+    pub value: u8,
+    /// The ids of the assertions without which the value would be lower, in the order of the assertions.
+    pub ids: List<Id>,
+}
+
+/// The compliance value of a query (RFC 2704, section 5), and the critical ones of its assertions (keynoted's own): each
+/// of them by itself, taken away, lowers the value. The assertions are those of texts that have at most 16,777,000
+/// bytes together.
+///
+/// More nodes than 16,384 are refused. `NoMemory` comes only for want of memory.
+pub fn find_critical(
+    alloc: Global,
+    list: &List<Part<'_>>,
+    query: &Query<'_>,
+) -> Result<Critical, CriticalFault>
+    requires texts { HaveTexts list.now }
+    requires ids { AreDistinct (map (λ part. part.id) list.now) }
+    ensures least { IfOk result (λ c. IsPolicyLevel (equations_over query.now list.now) c.value) }
+    ensures critical { IfOk result (λ c. AreCritical query.now list.now list.now c.ids) }
+    ensures below { IfOk result (λ c. c.value < length query.now.values) }
+    ensures accepted { OnOk result (critical_fault (equation_nodes (equations_over query.now list.now)) ≡ None) }
+    ensures fault { IfErr result (λ f. (f ≡ CriticalFault.NoMemory)
+        ⊎ (critical_fault (equation_nodes (equations_over query.now list.now)) ≡ Some f)) }
+{
+    bases_have_nodes();
+    let _requesters = query.requesters();
+    let mut base = Base::of(alloc, list)?;
+    let nodes = base.nodes();
+    if nodes > CRITICAL_NODES {
+        return Err(CriticalFault::Large { nodes });
+    }
+    let answer = base.answer(alloc, query, list)?;
+    let ids = critical_ids(alloc, &mut base, list, query, &answer)?;
+    Ok(Critical {
+        value: answer.value,
+        ids,
+    })
+}
+
+// The ids of the critical assertions, in their order.
+fn critical_ids(
+    alloc: Global,
+    base: &mut Base,
+    list: &List<Part<'_>>,
+    query: &Query<'_>,
+    answer: &Answer,
+) -> Result<List<Id>, NoMemory>
+    requires ids { AreDistinct (map (λ part. part.id) list.now) }
+    requires whole { IsWhole query.now list.now base.old }
+    requires proof { IsProof (equations_over query.now list.now) answer.now.rows answer.now.value }
+    requires least { IsPolicyLevel (equations_over query.now list.now) answer.now.value }
+    ensures { IfOk result (λ ids. AreCritical query.now list.now list.now ids) }
+{
+    let mut ids = List::new(alloc);
+    for row in 0..list.len() {
+        let critical = is_critical(alloc, base, list, query, answer, row)?;
+        if critical {
+            ids.add(list.id(row))?;
+        }
+    }
+    Ok(ids)
+}
+
+// Whether the assertion of a row is critical. One that no row of a proof names isn't, and only others are tried.
+fn is_critical(
+    alloc: Global,
+    base: &mut Base,
+    list: &List<Part<'_>>,
+    query: &Query<'_>,
+    answer: &Answer,
+    row: u32,
+) -> Result<bool, NoMemory>
+    requires in_range { row < length list.now }
+    requires ids { AreDistinct (map (λ part. part.id) list.now) }
+    requires whole { IsWhole query.now list.now base.old }
+    requires proof { IsProof (equations_over query.now list.now) answer.now.rows answer.now.value }
+    requires least { IsPolicyLevel (equations_over query.now list.now) answer.now.value }
+    ensures critical { IfOk result (DecidesCritical query.now list.now row) }
+    ensures whole { IsWhole query.now list.now base.new }
+{
+    every_query_has_a_level();
+    unnamed_is_not_critical();
+    if !is_named(&answer.rows, list.id(row)) {
+        return Ok(false);
+    }
+    let value = value_without(alloc, base, list, query, row)?;
+    Ok(value < answer.value)
+}
+
+// Whether a row of a proof names an assertion.
+fn is_named(rows: &List<NamedRow>, id: Id) -> bool
+    ensures { result ≡ is_row_by rows.now id }
+{
+    for row in rows.as_slice() {
+        if row.id == id {
+            return true;
+        }
+    }
+    false
+}
+
+// The compliance value without the assertion of a row, which is there again afterwards.
+fn value_without(
+    alloc: Global,
+    base: &mut Base,
+    list: &List<Part<'_>>,
+    query: &Query<'_>,
+    row: u32,
+) -> Result<u8, NoMemory>
+    requires in_range { row < length list.now }
+    requires ids { AreDistinct (map (λ part. part.id) list.now) }
+    requires whole { IsWhole query.now list.now base.old }
+    ensures least { IfOk result (IsLevelWithout query.now list.now row) }
+    ensures whole { IsWhole query.now list.now base.new }
+{
+    base.remove(row);
+    let answer = base.answer(alloc, query, list);
+    base.restore(row);
+    Ok(answer?.value)
+}
