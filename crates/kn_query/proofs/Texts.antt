@@ -9,7 +9,7 @@ use Rattle.kn_assert.specs.Reading.{assertion_of}
 use Rattle.kn_proof.specs.declared.named.Id.{Id}
 use Rattle.kn_proof.specs.declared.named.Id.TheVariants.{Shared, Private as Own}
 use Rattle.kn_meaning.specs.Equations.{Part}
-use Rattle.kn_store.specs.History.{NumberedText, text_bytes}
+use Rattle.kn_history.specs.History.{NumberedText, text_bytes}
 use Rattle.kn_session.specs.declared.view.Private.{Private}
 use Rattle.kn_session.specs.Views.{numbered_text, AreReadPrivates, ArePrivates}
 use Rattle.kn_session.specs.Laws.{all_texts, all_ids, AreDifferent, TextsAreShort}

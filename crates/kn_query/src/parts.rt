@@ -3,7 +3,7 @@ ghost use Rattle.std.specs.Prelude.{◌≡◌, ◌++◌, map, IfOk, IsSome, OnOk
 ghost use Rattle.std.specs.List.{AllByRecursion};
 ghost use Rattle.kn_proof.specs.declared.named.Id.TheVariants.{Shared, Private as Own};
 ghost use Rattle.kn_session.specs.Views.{session_of_view, numbered_text, AreReadPrivates, ArePrivates};
-ghost use Rattle.kn_store.specs.History.{credentials_of};
+ghost use Rattle.kn_history.specs.History.{credentials_of};
 ghost use Rattle.kn_daemon.specs.Daemon.{session_parts, parts_of};
 ghost use Rattle.kn_answer.specs.Numbering.{AreDistinct};
 ghost use Rattle.kn_answer.specs.Sizes.{HaveTexts};

@@ -31,8 +31,8 @@ pub fn build_query(alloc: Global, view: &View<'_>, values: &Values) -> Result<Bu
     build(alloc, &parts, &query)
 }
 
-/// The answer to what a session asks where these are the compliance values: its value (RFC 2704, section 5), and the rows
-/// that prove it.
+/// The answer to what a session asks where these are the compliance values: its value (RFC 2704, section 5), and the
+/// rows that prove it.
 ///
 /// `NoMemory` comes only for want of memory.
 pub fn answer_query(alloc: Global, view: &View<'_>, values: &Values) -> Result<Answer, NoMemory>

@@ -1,7 +1,7 @@
 use Rattle.std.proofs.Common.{List, map, sym, subst}
 use Rattle.kn_meaning.specs.Equations.{Part}
 use Rattle.kn_session.specs.Views.{numbered_text}
-use Rattle.kn_store.specs.History.{credentials_of}
+use Rattle.kn_history.specs.History.{credentials_of}
 use Rattle.kn_answer.specs.Numbering.{AreDistinct}
 use Rattle.kn_answer.specs.Sizes.{HaveTexts}
 use Rattle.kn_query.proofs.Texts.{both_sorts, have_texts, ids_differ}

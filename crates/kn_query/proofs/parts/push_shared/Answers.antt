@@ -1,7 +1,7 @@
 use Rattle.std.proofs.Common.{◌≡◌, ◌++◌, ℕ, suc, ◌+◌, List, [], ◌∷◌, take, sym, ap, subst, ◌∙◌, arith, append_assoc}
 use Rattle.kn_proof.specs.declared.named.Id.TheVariants.{Shared}
 use Rattle.kn_meaning.specs.Equations.{Part}
-use Rattle.kn_store.specs.History.{NumberedText, credentials_of}
+use Rattle.kn_history.specs.History.{NumberedText, credentials_of}
 use Rattle.kn_daemon.specs.Daemon.{parts_of}
 use Rattle.kn_query.proofs.Texts.{AreRead, parts_more, read_more}
 use Rattle.kn_query.proofs.parts.push_shared.Goals as goal

@@ -1,6 +1,6 @@
 use Rattle.std.proofs.Common.{◌≡◌, ◌++◌, take}
 use Rattle.kn_proof.specs.declared.named.Id.TheVariants.{Shared}
-use Rattle.kn_store.specs.History.{credentials_of}
+use Rattle.kn_history.specs.History.{credentials_of}
 use Rattle.kn_daemon.specs.Daemon.{parts_of}
 use Rattle.kn_query.proofs.Texts.{AreRead}
 use Rattle.kn_query.proofs.parts.push_shared.Given as goal
