@@ -1,16 +1,17 @@
 -- Updates of several changes.
-use Rattle.std.proofs.Common.{◌≡◌, ℕ, ◌+◌, Bool, true, false, List, [], ◌∷◌, ◌++◌, length, map, refl, sym, ap, ◌∙◌, Option, Some, None, subst, inl, inr}
+use Rattle.std.proofs.Common.{◌≡◌, ℕ, ◌+◌, Bool, true, false, List, [], ◌∷◌, ◌++◌, length, map, refl, sym, ap, ◌∙◌}
+use Rattle.std.proofs.Common.{Option, Some, None, subst, inl, inr}
 use Rattle.std.specs.Prelude.{Result, Ok, Err, option_and_then, option_map, option_to_list}
 use Rattle.kn_trees.specs.declared.assertion.Assertion.{Assertion}
 use Rattle.kn_outside.specs.Seen.{LinkSeen}
 use Rattle.kn_outside.specs.Printing.{Prints}
-use Rattle.kn_store.specs.declared.update.Update.{Update}
-use Rattle.kn_store.specs.declared.item.Item.{Item}
-use Rattle.kn_store.specs.declared.fault.StoreFault.{StoreFault}
-use Rattle.kn_store.specs.declared.fault.BatchFault.{BatchFault}
-use Rattle.kn_store.specs.declared.fault.BatchFault.TheVariants as B
-use Rattle.kn_store.specs.History.{all_changes, additions, update_may_follow}
-use Rattle.kn_store.specs.Batches.{refusal_of_items, numbered_from, batch_by}
+use Rattle.kn_history.specs.declared.update.Update.{Update}
+use Rattle.kn_history.specs.declared.item.Item.{Item}
+use Rattle.kn_history.specs.declared.fault.StoreFault.{StoreFault}
+use Rattle.kn_history.specs.declared.fault.BatchFault.{BatchFault}
+use Rattle.kn_history.specs.declared.fault.BatchFault.TheVariants as B
+use Rattle.kn_history.specs.History.{all_changes, additions, update_may_follow}
+use Rattle.kn_history.specs.Batches.{refusal_of_items, numbered_from, batch_by}
 use Rattle.kn_wire.specs.declared.items.BatchText.{BatchText}
 use Rattle.kn_wire.specs.declared.items.BatchText.TheVariants as T
 use Rattle.kn_wire.specs.Items.{BatchItem, items_of}
@@ -19,66 +20,89 @@ use Rattle.kn_reply.specs.declared.refusal.Refusal.{Refusal}
 use Rattle.kn_reply.specs.declared.refusal.Refusal.TheVariants as R
 use Rattle.kn_reply.specs.Logs.{item_of}
 use Rattle.kn_reply.specs.Replies.{Batched, No, NoMemory, reply_text}
-use Rattle.kn_daemon.specs.Shapes.{Updates, ApplyBlock}
-use Rattle.kn_daemon.specs.Daemon.{Grounds, State, IsBatchCommitted, own_refusal, placed_refusal, refusal_of_update, refusal_of_block, refusal_of_batch, refusal_of_item_fault}
+use Rattle.kn_daemon.specs.Shapes.{Shape, Updates, ApplyBlock}
+use Rattle.kn_daemon.specs.Daemon.{Grounds, State, IsBatchCommitted, own_refusal, placed_refusal, refusal_of_update}
+use Rattle.kn_daemon.specs.Daemon.{refusal_of_block, refusal_of_batch, refusal_of_item_fault}
 use Rattle.kn_daemon.specs.Linearized.{update_by, read_items}
 use Rattle.kn_registry.specs.declared.answer.Batched.{Batched as BatchDone}
 use Rattle.kn_registry.specs.Passes.{PassSeen, Looks as PassLooks, Batches, RefusesItems}
 use Rattle.kn_serve.specs.Admission.{AdmitsAll, RefusesOneItem}
-use Rattle.kn_serve.specs.Handling.{Handles, Tells, refusal_of_batch_text, refusal_of_batch_fault, refused_reply}
-use Rattle.kn_serve.proofs.HandlingLaws.{handled_by, looked_handled, stayed_handled, unrefused, told_refused, told_memory}
-use Rattle.kn_serve.proofs.ChangingLaws.{refused_handled}
+use Rattle.kn_serve.specs.Handling.{Moment, in_state, Handles, Tells, refusal_of_batch_text, refusal_of_batch_fault}
+use Rattle.kn_serve.specs.Handling.{refused_reply}
+use Rattle.kn_serve.proofs.HandlingLaws.{handled_by, lacking_handled, unserved_handled, refused_handled, unrefused}
+use Rattle.kn_serve.proofs.HandlingLaws.{told_refused, told_memory}
 
--- the secret wasn't shown
-pub batch_unshown : (g : Grounds) (old : State) (block : List ℕ) (whole : Bool) (l l' : LinkSeen) → old.is_admin ≡ false → Prints whole (reply_text (No R.Admin)) l l' → Tells g old old (Updates (ApplyBlock block)) whole l l'
-batch_unshown g old block whole l l' out prints = told_refused g old (Updates (ApplyBlock block)) R.Admin whole l l' (rw out refl) prints
+abbrev batches : List ℕ → Shape
+batches block = Updates (ApplyBlock block)
 
 -- the block isn't made of items, or there was no memory for them
-pub batch_unread : (g : Grounds) (old : State) (block : List ℕ) (fault : BatchText) (told : Option Refusal) (whole : Bool) (l l' : LinkSeen) → old.is_admin ≡ true →
-    HasFault block fault → told ≡ refusal_of_batch_text fault → Prints whole (reply_text (refused_reply told)) l l' → Tells g old old (Updates (ApplyBlock block)) whole l l'
-batch_unread g old block fault told whole l l' admin why is prints = by fault why (subst (λ (o : Option Refusal). Prints whole (reply_text (refused_reply o)) l l') is prints)
+pub batch_unread : (g : Grounds) (whole : Bool) (l l' : LinkSeen) (now : State) (block : List ℕ) (fault : BatchText)
+    (told : Option Refusal) → now.is_admin ≡ true → HasFault block fault → told ≡ refusal_of_batch_text fault →
+    Prints whole (reply_text (refused_reply told)) l l' → Tells g (batches block) whole now now l l'
+batch_unread g whole l l' now block fault told admin why is prints =
+    by fault why (subst (λ (o : Option Refusal). Prints whole (reply_text (refused_reply o)) l l') is prints)
   where
-    by : (f : BatchText) → HasFault block f → Prints whole (reply_text (refused_reply (refusal_of_batch_text f))) l l' → Tells g old old (Updates (ApplyBlock block)) whole l l'
+    by : (f : BatchText) → HasFault block f →
+        Prints whole (reply_text (refused_reply (refusal_of_batch_text f))) l l' →
+        Tells g (batches block) whole now now l l'
     by (T.Form item) e p =
-        let own : refusal_of_update g (ApplyBlock block) ≡ Some (R.Batch item) = ap (λ (r : Result (List BatchItem) ℕ). refusal_of_block g r) e in
-        told_refused g old (Updates (ApplyBlock block)) (R.Batch item) whole l l' (rw admin own) p
-    by T.NoMemory e p = told_memory g old (Updates (ApplyBlock block)) whole l l' refl p
+        let own : refusal_of_update g (ApplyBlock block) ≡ Some (R.Batch item) =
+        ap (λ (r : Result (List BatchItem) ℕ). refusal_of_block g r) e in
+        told_refused g (batches block) whole now l l' (R.Batch item) (rw admin own) p
+    by T.NoMemory e p = told_memory g (batches block) whole now l l' refl p
 
--- what the state refuses of a block that is made of these items
-own_of_items : (g : Grounds) (old : State) (block : List ℕ) (items : List BatchItem) (o : Option Refusal) → old.is_admin ≡ true → items_of block ≡ Ok items → refusal_of_block g (Ok items) ≡ o → own_refusal g old (Updates (ApplyBlock block)) ≡ o
-own_of_items g old block items o admin read is =
-    let own : refusal_of_update g (ApplyBlock block) ≡ o = ap (λ (r : Result (List BatchItem) ℕ). refusal_of_block g r) read ∙ is in
-    rw admin own
+module _ (g : Grounds) (now : State) (block : List ℕ) (items : List BatchItem) (verdict : List ℕ → Assertion → ℕ)
+    (grounds : g.verdict ≡ verdict) (admin : now.is_admin ≡ true) (read : items_of block ≡ Ok items) where
+  -- what the state refuses of a block that is made of these items
+  own_of_items : (o : Option Refusal) → refusal_of_block g (Ok items) ≡ o → own_refusal g now (batches block) ≡ o
+  own_of_items o is =
+      let own : refusal_of_update g (ApplyBlock block) ≡ o =
+      ap (λ (r : Result (List BatchItem) ℕ). refusal_of_block g r) read ∙ is in
+      rw admin own
 
--- an item isn't admitted, or there was no memory
-pub batch_unadmitted : (g : Grounds) (old : State) (block : List ℕ) (items : List BatchItem) (verdict : List ℕ → Assertion → ℕ) (refusal : Option Refusal) (whole : Bool) (l l' : LinkSeen) → g.verdict ≡ verdict →
-    old.is_admin ≡ true → items_of block ≡ Ok items → RefusesOneItem verdict items refusal → Prints whole (reply_text (refused_reply refusal)) l l' → Tells g old old (Updates (ApplyBlock block)) whole l l'
-batch_unadmitted g old block items verdict None whole l l' grounds admin read refused prints = told_memory g old (Updates (ApplyBlock block)) whole l l' refl prints
-batch_unadmitted g old block items verdict (Some refusal) whole l l' grounds admin read (inl none) prints = absurd (cc none)
-batch_unadmitted g old block items verdict (Some refusal) whole l l' grounds admin read (inr refused) prints =
-    told_refused g old (Updates (ApplyBlock block)) refusal whole l l' (own_of_items g old block items (Some refusal) admin read (refused g grounds)) prints
+  -- all are admitted
+  pub batch_admitted : AdmitsAll verdict items → own_refusal g now (batches block) ≡ None
+  batch_admitted admitted = own_of_items None (admitted g grounds)
 
--- all are admitted
-pub batch_admitted : (g : Grounds) (old : State) (block : List ℕ) (items : List BatchItem) (verdict : List ℕ → Assertion → ℕ) → g.verdict ≡ verdict →
-    old.is_admin ≡ true → items_of block ≡ Ok items → AdmitsAll verdict items → own_refusal g old (Updates (ApplyBlock block)) ≡ None
-batch_admitted g old block items verdict grounds admin read admitted = own_of_items g old block items None admin read (admitted g grounds)
+  -- an item isn't admitted, or there was no memory
+  pub batch_unadmitted : (whole : Bool) (l l' : LinkSeen) (refusal : Option Refusal) →
+      RefusesOneItem verdict items refusal → Prints whole (reply_text (refused_reply refusal)) l l' →
+      Tells g (batches block) whole now now l l'
+  batch_unadmitted whole l l' None refused prints = told_memory g (batches block) whole now l l' refl prints
+  batch_unadmitted whole l l' (Some refusal) (inl none) prints = absurd (cc none)
+  batch_unadmitted whole l l' (Some refusal) (inr refused) prints =
+      told_refused g (batches block) whole now l l' refusal (own_of_items (Some refusal) (refused g grounds)) prints
 
-module _ (g : Grounds) (v w : PassSeen) (old : State) (block : List ℕ) (read : List BatchItem) (items : List Item) (whole : Bool) (l l' : LinkSeen)
-    (reads : items_of block ≡ Ok read) (seen : items ≡ map item_of read) (own : own_refusal g old (Updates (ApplyBlock block)) ≡ None) where
+module _ (g : Grounds) (whole : Bool) (v w : PassSeen) (l l' : LinkSeen) (now : State) (block : List ℕ)
+    (read : List BatchItem) (items : List Item) (reads : items_of block ≡ Ok read) (seen : items ≡ map item_of read)
+    (own : own_refusal g now (batches block) ≡ None) where
+  abbrev before : Moment
+  before = in_state now v l
+
+  abbrev after : Moment
+  after = in_state now w l'
+
   -- the update was made
-  pub batch_applied : (batched : BatchDone) → Batches v w items batched → Prints whole (reply_text (Batched batched.first batched.added batched.version)) l l' → Handles g v w old old (Updates (ApplyBlock block)) whole l l'
+  pub batch_applied : (batched : BatchDone) → Batches v w items batched →
+      Prints whole (reply_text (Batched batched.first batched.added batched.version)) l l' →
+      Handles g (batches block) whole before after
   batch_applied batched b prints =
       let c = b.commits in
-      handled_by g v w old old (Updates (ApplyBlock block)) (Batched batched.first batched.added batched.version) whole l l' c.more (batch_by v.number batched.first items ∷ []) (length w.seen ∷ []) c.moves named
-      (record { accepted = own; answered = (read, reads, subst committed seen at_first); next = refl }) refl (unrefused (own_refusal g old (Updates (ApplyBlock block))) own) prints
+      handled_by g (batches block) whole before after (Batched batched.first batched.added batched.version)
+      c.more (batch_by v.number batched.first items ∷ []) (length w.seen ∷ []) c.moves named
+      (record { accepted = own; answered = (read, reads, subst committed seen at_first); next = refl }) refl
+      (unrefused (own_refusal g now (batches block)) own) prints
     where
       committed : List Item → Type 0
-      committed changes = IsBatchCommitted v.number w.seen changes (Batched batched.first batched.added batched.version)
+      committed changes =
+          IsBatchCommitted v.number w.seen changes (Batched batched.first batched.added batched.version)
 
-      named : batch_by v.number batched.first items ∷ [] ≡ option_to_list (update_by v.number (Updates (ApplyBlock block)) (Batched batched.first batched.added batched.version))
+      named : batch_by v.number batched.first items ∷ []
+          ≡ option_to_list (update_by v.number (batches block) (Batched batched.first batched.added batched.version))
       named =
           ap (λ (changes : List Item). batch_by v.number batched.first changes ∷ []) seen
-          ∙ ap (λ (r : Result (List BatchItem) ℕ). option_to_list (option_map (λ changes. batch_by v.number batched.first changes) (read_items r))) (sym reads)
+          ∙ ap (λ (r : Result (List BatchItem) ℕ).
+          option_to_list (option_map (λ changes. batch_by v.number batched.first changes) (read_items r))) (sym reads)
 
       at_first : committed items
       at_first =
@@ -86,25 +110,38 @@ module _ (g : Grounds) (v w : PassSeen) (old : State) (block : List ℕ) (read :
           record {
             before = c.before;
             ends = subst (λ (n : ℕ). w.seen ≡ c.before ++ batch_by v.number n items ∷ []) b.first c.ends;
-            accepted = subst (λ (n : ℕ). update_may_follow (all_changes c.before) (batch_by v.number n items) ≡ true) b.first c.follows;
-            told = rw (c.at, b.added) (ap (λ (n : ℕ). Batched n (additions (numbered_from n items)) (length w.seen)) b.first);
+            accepted = subst (λ (n : ℕ). update_may_follow (all_changes c.before) (batch_by v.number n items) ≡ true)
+                b.first c.follows;
+            told = rw (c.at, b.added)
+                (ap (λ (n : ℕ). Batched n (additions (numbered_from n items)) (length w.seen)) b.first);
           }
 
   -- the history refuses an item, or there was no memory
-  pub batch_unapplied : (fault : BatchFault) (told : Option Refusal) → RefusesItems v w items fault → told ≡ refusal_of_batch_fault fault → Prints whole (reply_text (refused_reply told)) l l' → Handles g v w old old (Updates (ApplyBlock block)) whole l l'
-  batch_unapplied fault told refuses is prints = by fault refuses (subst (λ (o : Option Refusal). Prints whole (reply_text (refused_reply o)) l l') is prints)
+  pub batch_unapplied : (fault : BatchFault) (told : Option Refusal) → RefusesItems v w items fault →
+      told ≡ refusal_of_batch_fault fault → Prints whole (reply_text (refused_reply told)) l l' →
+      Handles g (batches block) whole before after
+  batch_unapplied fault told refuses is prints =
+      by fault refuses (subst (λ (o : Option Refusal). Prints whole (reply_text (refused_reply o)) l l') is prints)
     where
-      at_item : (looks : PassLooks v w) (o : Option Refusal) → placed_refusal w.seen (Updates (ApplyBlock block)) ≡ o → Prints whole (reply_text (refused_reply o)) l l' → Handles g v w old old (Updates (ApplyBlock block)) whole l l'
-      at_item looks None placed p = looked_handled g v w old old (Updates (ApplyBlock block)) NoMemory whole l l' looks own refl (refl, refl) p
-      at_item looks (Some refusal) placed p = refused_handled g v w old (Updates (ApplyBlock block)) refusal whole l l' looks own placed p
+      at_item : (looks : PassLooks v w) (o : Option Refusal) → placed_refusal w.seen (batches block) ≡ o →
+          Prints whole (reply_text (refused_reply o)) l l' → Handles g (batches block) whole before after
+      at_item looks None placed p = unserved_handled g (batches block) whole before after refl looks own refl p
+      at_item looks (Some refusal) placed p =
+          refused_handled g (batches block) whole before after refusal refl looks own placed p
 
       found_by : List Item → Option Refusal
-      found_by changes = option_and_then (λ found. refusal_of_item_fault found.0 found.1) (refusal_of_items (all_changes w.seen) changes)
+      found_by changes =
+          option_and_then (λ found. refusal_of_item_fault found.0 found.1)
+          (refusal_of_items (all_changes w.seen) changes)
 
-      by : (f : BatchFault) → RefusesItems v w items f → Prints whole (reply_text (refused_reply (refusal_of_batch_fault f))) l l' → Handles g v w old old (Updates (ApplyBlock block)) whole l l'
-      by B.NoMemory stays p = stayed_handled g v w old old (Updates (ApplyBlock block)) NoMemory whole l l' stays own refl refl (refl, refl) p
+      by : (f : BatchFault) → RefusesItems v w items f →
+          Prints whole (reply_text (refused_reply (refusal_of_batch_fault f))) l l' →
+          Handles g (batches block) whole before after
+      by B.NoMemory stays p = lacking_handled g (batches block) whole before after refl stays own refl p
       by (B.Item number f) r p =
-          let placed : placed_refusal w.seen (Updates (ApplyBlock block)) ≡ refusal_of_item_fault number f =
-          ap (λ (x : Result (List BatchItem) ℕ). refusal_of_batch w.seen x) reads ∙ ap found_by (sym seen)
-          ∙ ap (λ (o : Option (ℕ × StoreFault)). option_and_then (λ found. refusal_of_item_fault found.0 found.1) o) r.refusal_is in
+          let placed : placed_refusal w.seen (batches block) ≡ refusal_of_item_fault number f =
+          ap (λ (x : Result (List BatchItem) ℕ). refusal_of_batch w.seen x) reads
+          ∙ ap found_by (sym seen)
+          ∙ ap (λ (o : Option (ℕ × StoreFault)).
+          option_and_then (λ found. refusal_of_item_fault found.0 found.1) o) r.refusal_is in
           at_item r.looks (refusal_of_item_fault number f) placed p

@@ -1,5 +1,6 @@
 -- Calls of a session.
-use Rattle.std.proofs.Common.{◌≡◌, ℕ, ◌<◌, ◌≤◌, ◌^◌, Bool, true, false, refl, sym, ap, ◌∙◌, arith, Option, Some, None, subst, inl, inr}
+use Rattle.std.proofs.Common.{◌≡◌, ℕ, ◌<◌, ◌≤◌, ◌^◌, Bool, true, false, refl, sym, ap, ◌∙◌, arith}
+use Rattle.std.proofs.Common.{Option, Some, None, subst, inl, inr}
 use Rattle.std.specs.Prelude.{◌⊎◌, option_and_then, IsSomeAnd}
 use Rattle.kn_outside.specs.Seen.{LinkSeen}
 use Rattle.kn_outside.specs.Printing.{Prints}
@@ -20,15 +21,18 @@ use Rattle.kn_serve.proofs.HandlingLaws.{is_acceptance, told_refused, told_memor
 
 -- a connection with these sessions
 abbrev pub state_with : OpenSessions → Bool → State
-state_with sessions is_admin = record { started = sessions.started; sessions = sessions.sessions; is_admin = is_admin }
+state_with sessions is_admin =
+    record { started = sessions.started; sessions = sessions.sessions; is_admin = is_admin }
 
 -- a session that isn't open
-pub none_found : (s : ℕ) (found : Option Session) (fault : SessionFault) → fault_in s found (λ x. None) ≡ Some fault → found ≡ None
+pub none_found : (s : ℕ) (found : Option Session) (fault : SessionFault) →
+    fault_in s found (λ x. None) ≡ Some fault → found ≡ None
 none_found s None fault e = refl
 none_found s (Some session) fault e = absurd (cc e)
 
 -- few private assertions were added to each session
-pub private_few : (state : State) (s : ℕ) → HasRoom state → (x : Session) → session_of state s ≡ Some x → x.made < 2 ^ 31
+pub private_few : (state : State) (s : ℕ) → HasRoom state →
+    (x : Session) → session_of state s ≡ Some x → x.made < 2 ^ 31
 private_few state s room x e = below x.made room.0 (2 ^ 31) (room.2.made s x e) room.1
   where
     below : (m n k : ℕ) → m ≤ n → n < k → m < k
@@ -39,7 +43,8 @@ acceptance A.Done = refl
 acceptance (A.Added k) = refl
 
 -- such a reply is the same wherever it stands
-no_update : (applied : Applied) (s caller : ℕ) (call : Call) → update_by caller (Calls s call) (reply_of_call applied) ≡ None
+no_update : (applied : Applied) (s caller : ℕ) (call : Call) →
+    update_by caller (Calls s call) (reply_of_call applied) ≡ None
 no_update A.Done s caller call = refl
 no_update (A.Added k) s caller call = refl
 
@@ -47,34 +52,49 @@ unplaced : (applied : Applied) (s : ℕ) (call : Call) → is_placed (Calls s ca
 unplaced A.Done s call = refl
 unplaced (A.Added k) s call = refl
 
-module _ (g : Grounds) (a b : OpenSessions) (is_admin : Bool) (s : ℕ) (call : Call) (whole : Bool) (l l' : LinkSeen) where
-  pub call_done : (applied : Applied) → Accepts a b s call applied → Prints whole (reply_text (reply_of_call applied)) l l'
-      → Tells g (state_with a is_admin) (state_with b is_admin) (Calls s call) whole l l'
+module _ (g : Grounds) (a b : OpenSessions) (is_admin : Bool) (s : ℕ) (call : Call) (whole : Bool)
+    (l l' : LinkSeen) where
+  abbrev TellsAfter : OpenSessions → Type 0
+  TellsAfter x = Tells g (Calls s call) whole (state_with a is_admin) (state_with x is_admin) l l'
+
+  pub call_done : (applied : Applied) → Accepts a b s call applied →
+      Prints whole (reply_text (reply_of_call applied)) l l' → TellsAfter b
   call_done applied k prints =
-      subst (λ (x : OpenSessions). Tells g (state_with a is_admin) (state_with x is_admin) (Calls s call) whole l l') (sym k.makes)
-      (told_done g (state_with a is_admin) (state_with (with_call a s call) is_admin) (Calls s call) (reply_of_call applied) whole l l' (acceptance applied)
-      (ap (λ (x : Option Session). option_and_then refusal_of_call (call_fault_in s x call)) k.found ∙ ap (λ (f : Option CallFault). option_and_then refusal_of_call f) k.no_fault)
-      (λ caller past. answered (session_in a.sessions s) k.found) (λ past. refl) (λ caller. no_update applied s caller call) (unplaced applied s call) prints)
+      subst TellsAfter (sym k.makes)
+      (told_done g (Calls s call) whole (state_with a is_admin) l l' (state_with (with_call a s call) is_admin)
+      (reply_of_call applied) (acceptance applied) accepted
+      (λ caller past. answered (session_in a.sessions s) k.found) (λ past. refl)
+      (λ caller. no_update applied s caller call) (unplaced applied s call) prints)
     where
-      answered : (found : Option Session) → found ≡ Some k.session → IsSomeAnd found (λ session. reply_of_call applied ≡ reply_of_call (call_answer call session))
+      accepted : own_refusal g (state_with a is_admin) (Calls s call) ≡ None
+      accepted =
+          ap (λ (x : Option Session). option_and_then refusal_of_call (call_fault_in s x call)) k.found
+          ∙ ap (λ (f : Option CallFault). option_and_then refusal_of_call f) k.no_fault
+
+      answered : (found : Option Session) → found ≡ Some k.session →
+          IsSomeAnd found (λ session. reply_of_call applied ≡ reply_of_call (call_answer call session))
       answered None e = absurd (cc (e))
       answered (Some session) e =
           let same : session ≡ k.session = cc in
           ap reply_of_call (k.gives ∙ ap (call_answer call) (sym same))
 
-  pub call_refused : (fault : CallFault) (told : Option Refusal) → Refuses a b s call fault → told ≡ refusal_of_call fault → Prints whole (reply_text (refused_reply told)) l l'
-      → Tells g (state_with a is_admin) (state_with b is_admin) (Calls s call) whole l l'
-  call_refused fault told k is prints =
-      subst (λ (x : OpenSessions). Tells g (state_with a is_admin) (state_with x is_admin) (Calls s call) whole l l') (sym k.same)
-      (by told is prints)
+  pub call_refused : (fault : CallFault) (told : Option Refusal) → Refuses a b s call fault →
+      told ≡ refusal_of_call fault → Prints whole (reply_text (refused_reply told)) l l' → TellsAfter b
+  call_refused fault told k is prints = subst TellsAfter (sym k.same) (by told is prints)
     where
-      due : (refusal : Refusal) → Some refusal ≡ refusal_of_call fault → own_refusal g (state_with a is_admin) (Calls s call) ≡ Some refusal
+      due : (refusal : Refusal) → Some refusal ≡ refusal_of_call fault →
+          own_refusal g (state_with a is_admin) (Calls s call) ≡ Some refusal
       due refusal e = from k.why
         where
-          from : (lacks_memory fault ≡ true) ⊎ (call_fault_in s (session_in a.sessions s) call ≡ Some fault) → own_refusal g (state_with a is_admin) (Calls s call) ≡ Some refusal
+          from : (lacks_memory fault ≡ true) ⊎ (call_fault_in s (session_in a.sessions s) call ≡ Some fault) →
+              own_refusal g (state_with a is_admin) (Calls s call) ≡ Some refusal
           from (inl memory) = absurd (let none = lacking-untold fault memory in cc (e, none))
           from (inr why) = ap (λ (f : Option CallFault). option_and_then refusal_of_call f) why ∙ sym e
 
-      by : (o : Option Refusal) → o ≡ refusal_of_call fault → Prints whole (reply_text (refused_reply o)) l l' → Tells g (state_with a is_admin) (state_with a is_admin) (Calls s call) whole l l'
-      by None e p = told_memory g (state_with a is_admin) (Calls s call) whole l l' (k.memory (untold-lacks fault (sym e))) p
-      by (Some refusal) e p = told_refused g (state_with a is_admin) (Calls s call) refusal whole l l' (due refusal e) p
+      by : (o : Option Refusal) → o ≡ refusal_of_call fault →
+          Prints whole (reply_text (refused_reply o)) l l' → TellsAfter a
+      by None e p =
+          told_memory g (Calls s call) whole (state_with a is_admin) l l'
+          (k.memory (untold-lacks fault (sym e))) p
+      by (Some refusal) e p =
+          told_refused g (Calls s call) whole (state_with a is_admin) l l' refusal (due refusal e) p

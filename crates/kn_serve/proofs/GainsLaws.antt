@@ -1,11 +1,12 @@
 -- What a call takes, writes and sees, step by step.
-use Rattle.std.proofs.Common.{◌≡◌, ℕ, ◌≤◌, true, false, List, [], ◌++◌, refl, sym, ap, ◌∙◌, append_assoc, append-nil, arith, Option, Some, None, subst}
+use Rattle.std.proofs.Common.{◌≡◌, ℕ, ◌≤◌, true, false, List, [], ◌++◌, refl, sym, ap, ◌∙◌, append_assoc, append-nil}
+use Rattle.std.proofs.Common.{arith, Option, Some, None, subst}
 use Rattle.std.specs.Prelude.{take}
 use Rattle.kn_outside.specs.Seen.{LinkSeen}
 use Rattle.kn_outside.specs.Told.{more, before}
 use Rattle.kn_outside.specs.Printing.{Prints}
 use Rattle.kn_outside.specs.Reading.{Reads, Fails}
-use Rattle.kn_store.specs.declared.update.Update.{Update}
+use Rattle.kn_history.specs.declared.update.Update.{Update}
 use Rattle.kn_registry.specs.Passes.{PassSeen, Moves}
 use Rattle.kn_registry.proofs.PassMoves.{moves-nothing, moves-more}
 use Rattle.kn_serve.specs.Serving.{Gains}
@@ -93,8 +94,9 @@ gains_nothing v l = record {
 }
 
 -- one more step of the pass and the link
-pub gains_more : (u v w : PassSeen) (l l' l'' : LinkSeen) (taken written piece text : List ℕ) (stops entries : List ℕ) (more_seen own : List Update) →
-    Gains u v l l' taken written stops → Moves v w more_seen own entries → Passed piece text l' l'' → Gains u w l l'' (taken ++ piece) (written ++ text) (stops ++ entries)
+pub gains_more : (u v w : PassSeen) (l l' l'' : LinkSeen) (taken written piece text : List ℕ) (stops entries : List ℕ)
+    (more_seen own : List Update) → Gains u v l l' taken written stops → Moves v w more_seen own entries →
+    Passed piece text l' l'' → Gains u w l l'' (taken ++ piece) (written ++ text) (stops ++ entries)
 gains_more u v w l l' l'' taken written piece text stops entries more_seen own g m p =
     let first = g.later in
     let then = p.later in
@@ -109,8 +111,9 @@ gains_more u v w l l' l'' taken written piece text stops entries more_seen own g
     }
 
 -- a request was answered: nothing was taken
-pub gains_answer : (u v w : PassSeen) (l l' l'' : LinkSeen) (taken written text : List ℕ) (stops entries : List ℕ) (more_seen own : List Update) →
-    Gains u v l l' taken written stops → Moves v w more_seen own entries → Passed [] text l' l'' → Gains u w l l'' taken (written ++ text) (stops ++ entries)
+pub gains_answer : (u v w : PassSeen) (l l' l'' : LinkSeen) (taken written text : List ℕ) (stops entries : List ℕ)
+    (more_seen own : List Update) → Gains u v l l' taken written stops → Moves v w more_seen own entries →
+    Passed [] text l' l'' → Gains u w l l'' taken (written ++ text) (stops ++ entries)
 gains_answer u v w l l' l'' taken written text stops entries more_seen own g m p =
     subst (λ (x : List ℕ). Gains u w l l'' x (written ++ text) (stops ++ entries)) (append-nil taken)
     (gains_more u v w l l' l'' taken written [] text stops entries more_seen own g m p)
@@ -119,7 +122,8 @@ gains_answer u v w l l' l'' taken written text stops entries more_seen own g m p
 pub gains_read : (u v : PassSeen) (l l' l'' : LinkSeen) (taken written piece stops : List ℕ) →
     Gains u v l l' taken written stops → Passed piece [] l' l'' → Gains u v l l'' (taken ++ piece) written stops
 gains_read u v l l' l'' taken written piece stops g p =
-    let gained : Gains u v l l'' (taken ++ piece) (written ++ []) (stops ++ []) = gains_more u v v l l' l'' taken written piece [] stops [] [] [] g (moves-nothing v) p in
+    let gained : Gains u v l l'' (taken ++ piece) (written ++ []) (stops ++ []) =
+    gains_more u v v l l' l'' taken written piece [] stops [] [] [] g (moves-nothing v) p in
     subst (λ (x : List ℕ). Gains u v l l'' (taken ++ piece) written x) (append-nil stops)
     (subst (λ (x : List ℕ). Gains u v l l'' (taken ++ piece) x (stops ++ [])) (append-nil written) gained)
 
@@ -127,4 +131,5 @@ gains_read u v l l' l'' taken written piece stops g p =
 pub gains_quiet : (u v : PassSeen) (l l' l'' : LinkSeen) (taken written stops : List ℕ) →
     Gains u v l l' taken written stops → Passed [] [] l' l'' → Gains u v l l'' taken written stops
 gains_quiet u v l l' l'' taken written stops g p =
-    subst (λ (x : List ℕ). Gains u v l l'' x written stops) (append-nil taken) (gains_read u v l l' l'' taken written [] stops g p)
+    subst (λ (x : List ℕ). Gains u v l l'' x written stops) (append-nil taken)
+    (gains_read u v l l' l'' taken written [] stops g p)

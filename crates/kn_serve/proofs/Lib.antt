@@ -7,6 +7,7 @@ pub mod ServingLaws
 pub mod CompletenessLaws
 pub mod OpeningLaws
 pub mod QueryingLaws
+pub mod WatchingLaws
 pub mod ChangingLaws
 pub mod AdmissionLaws
 pub mod BatchLaws

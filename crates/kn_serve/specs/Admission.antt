@@ -1,5 +1,5 @@
--- Texts that are judged before they are added (keynoted's own). A daemon is known by the number that its authenticator gives a
--- text and its reading.
+-- Texts that are judged before they are added (keynoted's own). A daemon is known by the number that its authenticator
+-- gives a text and its reading.
 use Rattle.std.specs.Prelude.{ℕ, ◌≡◌, ◌⊎◌, List, Option, None}
 use Rattle.kn_trees.specs.declared.assertion.Assertion.{Assertion}
 use Rattle.kn_wire.specs.Items.{BatchItem}
@@ -13,7 +13,8 @@ Admits verdict item = (g : Grounds) → g.verdict ≡ verdict → item_refusal g
 
 -- the item is refused so, or without a refusal there was no memory
 abbrev pub RefusesItem : (List ℕ → Assertion → ℕ) → BatchItem → Option ItemRefusal → Type 0
-RefusesItem verdict item refusal = (refusal ≡ None) ⊎ ((g : Grounds) → g.verdict ≡ verdict → item_refusal g item ≡ refusal)
+RefusesItem verdict item refusal =
+    (refusal ≡ None) ⊎ ((g : Grounds) → g.verdict ≡ verdict → item_refusal g item ≡ refusal)
 
 -- each of the items is admitted
 abbrev pub AdmitsAll : (List ℕ → Assertion → ℕ) → List BatchItem → Type 0
@@ -21,4 +22,5 @@ AdmitsAll verdict items = (g : Grounds) → g.verdict ≡ verdict → refusal_fr
 
 -- one of them isn't, and the first such one is refused so; or without a refusal there was no memory
 abbrev pub RefusesOneItem : (List ℕ → Assertion → ℕ) → List BatchItem → Option Refusal → Type 0
-RefusesOneItem verdict items refusal = (refusal ≡ None) ⊎ ((g : Grounds) → g.verdict ≡ verdict → refusal_from g 1 items ≡ refusal)
+RefusesOneItem verdict items refusal =
+    (refusal ≡ None) ⊎ ((g : Grounds) → g.verdict ≡ verdict → refusal_from g 1 items ≡ refusal)

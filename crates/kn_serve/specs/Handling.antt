@@ -1,12 +1,14 @@
 -- One request of a connection answered (keynoted's own).
-use Rattle.std.specs.Prelude.{ℕ, ◌≡◌, ◌<◌, ◌^◌, Bool, true, false, List, Option, Some, None, option_to_list}
+use Rattle.std.specs.Prelude.{ℕ, ◌≡◌, ◌<◌, ◌^◌, ◌⊎◌, Bool, true, false, List, Option, Some, None, option_to_list}
 use Rattle.kn_env.specs.declared.values.ValuesFault.{ValuesFault}
 use Rattle.kn_env.specs.declared.values.ValuesFault.TheVariants as V
+use Rattle.kn_critical.specs.declared.fault.CriticalFault.{CriticalFault}
+use Rattle.kn_critical.specs.declared.fault.CriticalFault.TheVariants as C
 use Rattle.kn_outside.specs.Seen.{LinkSeen}
 use Rattle.kn_outside.specs.Printing.{Prints}
-use Rattle.kn_store.specs.declared.update.Update.{Update}
-use Rattle.kn_store.specs.declared.fault.BatchFault.{BatchFault}
-use Rattle.kn_store.specs.declared.fault.BatchFault.TheVariants as B
+use Rattle.kn_history.specs.declared.update.Update.{Update}
+use Rattle.kn_history.specs.declared.fault.BatchFault.{BatchFault}
+use Rattle.kn_history.specs.declared.fault.BatchFault.TheVariants as B
 use Rattle.kn_wire.specs.declared.fault.WireFault.TheVariants as F
 use Rattle.kn_wire.specs.declared.items.BatchText.{BatchText}
 use Rattle.kn_wire.specs.declared.items.BatchText.TheVariants as T
@@ -14,10 +16,11 @@ use Rattle.kn_reply.specs.declared.refusal.ItemRefusal.{ItemRefusal}
 use Rattle.kn_reply.specs.declared.refusal.ItemRefusal.TheVariants as I
 use Rattle.kn_reply.specs.declared.refusal.Refusal.{Refusal}
 use Rattle.kn_reply.specs.declared.refusal.Refusal.TheVariants as R
+use Rattle.kn_reply.specs.declared.refusal.LimitWord.TheVariants as W
 use Rattle.kn_wire.specs.Requests.{Request, Bye, Faulty}
 use Rattle.kn_reply.specs.Replies.{Reply, No, NoMemory, reply_text}
 use Rattle.kn_wire.specs.Feeding.{Held, next_of}
-use Rattle.kn_daemon.specs.Shapes.{Shape, shape_of}
+use Rattle.kn_daemon.specs.Shapes.{Question, Shape, Asks, shape_of}
 use Rattle.kn_daemon.specs.Daemon.{Grounds, State, Permits, own_refusal, refusal_of_item_fault}
 use Rattle.kn_daemon.specs.Linearized.{update_by, is_placed}
 use Rattle.kn_daemon.specs.Served.{is_bye, is_block}
@@ -37,19 +40,32 @@ state_of c = record { started = c.sessions.started; sessions = c.sessions.sessio
 abbrev pub HasRoom : State → Type 0
 HasRoom state = (n : ℕ) × (n < 2 ^ 31) × IsSmall n state
 
--- A request of this shape was answered: what the pass saw meanwhile, and a reply that is permitted then, which was printed whole or
--- in part. The pass didn't move where the state alone refuses.
-pub record Handles (g : Grounds) (v w : PassSeen) (old new : State) (shape : Shape) (whole : Bool) (l l' : LinkSeen) : Type 0 where
+-- A connection at one moment: what is seen of its pass, what it has come to, and what is seen of its link.
+pub record Moment : Type 0 where
+  pub pass : PassSeen
+  pub state : State
+  pub link : LinkSeen
+
+abbrev pub in_state : State → PassSeen → LinkSeen → Moment
+in_state state pass link = record { pass = pass; state = state; link = link }
+
+abbrev pub moment : PassSeen → Connection → LinkSeen → Moment
+moment pass connection link = in_state (state_of connection) pass link
+
+-- A request of this shape was answered between two moments: what the pass saw meanwhile, and a reply that is permitted
+-- then, which was printed whole or in part. The pass didn't move where the state alone refuses.
+pub record Handles (g : Grounds) (shape : Shape) (whole : Bool) (m m' : Moment) : Type 0 where
   pub reply : Reply
   pub more : List Update
   pub entries : List ℕ
-  pub moves : Moves v w more (option_to_list (update_by v.number shape reply)) entries
-  pub replied : IsReplied g v.number v.seen more entries old shape reply new
-  pub still : (refusal : Refusal) → own_refusal g old shape ≡ Some refusal → w ≡ v
-  pub prints : Prints whole (reply_text reply) l l'
+  pub moves : Moves m.pass m'.pass more (option_to_list (update_by m.pass.number shape reply)) entries
+  pub replied : IsReplied g m.pass.number m.pass.seen more entries m.state shape reply m'.state
+  pub still : (refusal : Refusal) → own_refusal g m.state shape ≡ Some refusal → m'.pass ≡ m.pass
+  pub prints : Prints whole (reply_text reply) m.link m'.link
 
--- A request of this shape was answered by the state alone: a reply that is permitted wherever it stands, which was printed whole or in part.
-pub record Tells (g : Grounds) (old new : State) (shape : Shape) (whole : Bool) (l l' : LinkSeen) : Type 0 where
+-- A request of this shape was answered by the state alone: a reply that is permitted wherever it stands, which was
+-- printed whole or in part.
+pub record Tells (g : Grounds) (shape : Shape) (whole : Bool) (old new : State) (l l' : LinkSeen) : Type 0 where
   pub reply : Reply
   pub permitted : (caller : ℕ) (past : List Update) → Permits g caller past old shape reply new
   pub no_update : (caller : ℕ) → update_by caller shape reply ≡ None
@@ -57,17 +73,23 @@ pub record Tells (g : Grounds) (old new : State) (shape : Shape) (whole : Bool) 
   pub prints : Prints whole (reply_text reply) l l'
 
 -- the next request was spent and answered
-pub record TakesNext (g : Grounds) (v w : PassSeen) (old new : State) (h h' : Held) (request : Request) (whole : Bool) (l l' : LinkSeen) : Type 0 where
+pub record TakesNext (g : Grounds) (m m' : Moment) (h h' : Held) (request : Request) (whole : Bool) : Type 0 where
   pub next : next_of h ≡ Some (request, h')
-  pub handled : Handles g v w old new (shape_of request) whole l l'
+  pub handled : Handles g (shape_of request) whole m m'
 
 -- the next request, if there is one, was spent and answered
-abbrev pub MakesStep : Grounds → PassSeen → PassSeen → State → State → Held → Held → LinkSeen → LinkSeen → Step → Type 0
-MakesStep g v w old new h h' l l' Dry = (next_of h ≡ None) × (h' ≡ h) × (w ≡ v) × (new ≡ old) × (l' ≡ l)
-MakesStep g v w old new h h' l l' Answered = (request : Request) × TakesNext g v w old new h h' request true l l' × (is_bye request ≡ false) × (is_block request ≡ false)
-MakesStep g v w old new h h' l l' SaidBye = TakesNext g v w old new h h' Bye true l l'
-MakesStep g v w old new h h' l l' (Blocked n) = TakesNext g v w old new h h' (Faulty (F.Block n)) true l l'
-MakesStep g v w old new h h' l l' WriteFailed = (request : Request) × TakesNext g v w old new h h' request false l l'
+abbrev pub MakesStep : Grounds → Moment → Moment → Held → Held → Step → Type 0
+MakesStep g m m' h h' Dry = (next_of h ≡ None) × (h' ≡ h) × (m' ≡ m)
+MakesStep g m m' h h' Answered = (request : Request) × TakesNext g m m' h h' request true × (is_bye request ≡ false)
+    × (is_block request ≡ false)
+MakesStep g m m' h h' SaidBye = TakesNext g m m' h h' Bye true
+MakesStep g m m' h h' (Blocked n) = TakesNext g m m' h h' (Faulty (F.Block n)) true
+MakesStep g m m' h h' WriteFailed = (request : Request) × TakesNext g m m' h h' request false
+
+-- each question of the session with these names is refused so, or without a refusal there was no memory
+abbrev pub RefusesQuestions : State → ℕ → List ℕ → Option Refusal → Type 0
+RefusesQuestions state s names refusal =
+    (refusal ≡ None) ⊎ ((g : Grounds) (question : Question) → own_refusal g state (Asks question s names) ≡ refusal)
 
 -- the refusal of names that are no compliance values; want of memory is none
 abbrev pub refusal_of_values : ValuesFault → Option Refusal
@@ -75,6 +97,11 @@ refusal_of_values (V.Count n) = Some R.Values
 refusal_of_values (V.BadName i) = Some R.Values
 refusal_of_values (V.Twice i) = Some R.Values
 refusal_of_values V.NoMemory = None
+
+-- the refusal of a query that is too large for a search of its critical assertions; want of memory is none
+abbrev pub refusal_of_critical : CriticalFault → Option Refusal
+refusal_of_critical (C.Large nodes) = Some (R.Limit W.Nodes nodes)
+refusal_of_critical C.NoMemory = None
 
 -- the refusal of a request for that for which an item of a batch is refused so
 abbrev pub request_refusal : ItemRefusal → Refusal

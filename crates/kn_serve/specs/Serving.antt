@@ -6,15 +6,16 @@ use Rattle.kn_outside.specs.Seen.{LinkSeen}
 use Rattle.kn_outside.specs.Told.{more, before}
 use Rattle.kn_outside.specs.Reading.{Reads, Fails}
 use Rattle.kn_outside.specs.Faults.{Rose, raised}
-use Rattle.kn_store.specs.declared.update.Update.{Update}
+use Rattle.kn_history.specs.declared.update.Update.{Update}
 use Rattle.kn_wire.specs.Requests.{Request, Bye, Takes}
 use Rattle.kn_wire.specs.Feeding.{Held, pushed}
 use Rattle.kn_daemon.specs.declared.ended.Ended.{Ended}
 use Rattle.kn_daemon.specs.declared.ended.Ended.TheVariants as E
-use Rattle.kn_daemon.specs.Daemon.{Grounds, State}
+use Rattle.kn_daemon.specs.Daemon.{Grounds}
 use Rattle.kn_daemon.specs.Served.{IsServed, is_block}
 use Rattle.kn_daemon.specs.Underway.{IsUnderway}
 use Rattle.kn_registry.specs.Passes.{PassSeen, Moves}
+use Rattle.kn_serve.specs.Handling.{Moment}
 use Rattle.kn_serve.specs.declared.filling.Fill.{Fill}
 use Rattle.kn_serve.specs.declared.filling.Fill.TheVariants.{More, Failed, End}
 
@@ -39,24 +40,25 @@ pub record Gains (v w : PassSeen) (l l' : LinkSeen) (taken written : List ℕ) (
   pub wrote : l'.written ≡ more written l.written
   pub later : l.faults ≤ l'.faults
 
--- what holds between two requests; no call of the link has failed
-pub record Serving (g : Grounds) (v w : PassSeen) (l l' : LinkSeen) (now : State) (held : Held) (answered : ℕ) : Type 0 where
+-- What holds between two requests, where the pass and the link were so at first; no call of the link has failed.
+pub record Serving (g : Grounds) (v : PassSeen) (l : LinkSeen) (m : Moment) (held : Held) (answered : ℕ) : Type 0 where
   pub taken : List ℕ
   pub written : List ℕ
   pub stops : List ℕ
-  pub gains : Gains v w l l' taken written stops
-  pub underway : IsUnderway g taken written w.seen (length v.seen) v.number stops now held answered
-  pub calm : l'.faults ≡ l.faults
+  pub gains : Gains v m.pass l m.link taken written stops
+  pub underway : IsUnderway g taken written m.pass.seen (length v.seen) v.number stops m.state held answered
+  pub calm : m.link.faults ≡ l.faults
 
--- A fault has a cause, and at every other end no call of the link has failed; without memory nothing was read or written.
+-- A fault has a cause, and at every other end no call of the link has failed; without memory nothing was read or
+-- written.
 abbrev pub HasCause : Ended → LinkSeen → LinkSeen → Type 0
 HasCause E.Memory l l' = l' ≡ l
 HasCause E.ReadFault l l' = Rose l.faults l'.faults
 HasCause E.WriteFault l l' = Rose l.faults l'.faults
 HasCause ended l l' = l'.faults ≡ l.faults
 
--- The call has served the connection: what it took and wrote, what the pass has seen and where it had the turn. Without memory
--- the pass is as before.
+-- The call has served the connection: what it took and wrote, what the pass has seen and where it had the turn. Without
+-- memory the pass is as before.
 pub record Serves (g : Grounds) (v w : PassSeen) (l l' : LinkSeen) (ended : Ended) : Type 0 where
   pub taken : List ℕ
   pub written : List ℕ
@@ -76,8 +78,8 @@ IsInputEnd E.WriteFault bytes = ⊥
 IsInputEnd (E.Block n) bytes = ⊥
 IsInputEnd E.Budget bytes = ⊥
 
--- The input begins with fewer requests than a connection has, of which none is a block that is refused, and the last is BYE or
--- nothing is left behind them.
+-- The input begins with fewer requests than a connection has, of which none is a block that is refused, and the last is
+-- BYE or nothing is left behind them.
 pub record IsOrderly (input : List ℕ) : Type 0 where
   pub requests : List Request
   pub rest : List ℕ

@@ -18,7 +18,9 @@ pub(crate) fn show_secret<L: Link>(
     digits: &[u8],
     link: &mut L,
 ) -> Result<(), Failed>
-    ensures told { (g : Grounds) → g.secret ≡ secret.now → Tells g (state_of connection.old) (state_of connection.new) (Controls (ShowSecret (bytes_of_digits digits.now))) (is_whole result) (L.seen link.old) (L.seen link.new) }
+    ensures told { (g : Grounds) → g.secret ≡ secret.now
+        → Tells g (Controls (ShowSecret (bytes_of_digits digits.now))) (is_whole result)
+        (state_of connection.old) (state_of connection.new) (L.seen link.old) (L.seen link.new) }
 {
     if secret.is_empty() || !are_digits_of(digits, secret) {
         return print(&Reply::No(Refusal::Admin), link);

@@ -5,18 +5,19 @@ ghost use Rattle.kn_wire.specs.Wired.{request_of};
 ghost use Rattle.kn_registry.specs.Passes.{IsReady};
 ghost use Rattle.kn_daemon.specs.Shapes.{Controls, Leave, AtFault, shape_of};
 ghost use Rattle.kn_daemon.specs.Daemon.{Grounds, State};
-ghost use Rattle.kn_serve.specs.Handling.{state_of, HasRoom, Handles, Tells};
+ghost use Rattle.kn_serve.specs.Grounds.{grounds_of};
+ghost use Rattle.kn_serve.specs.Handling.{moment, state_of, HasRoom, Handles, Tells};
 
 use crate::admitting::show_secret;
-use crate::batching::batch;
 use crate::calling::{call as answer_call, set_digits};
-use crate::changing::{add, remove};
+use crate::changing::{add, batch, remove};
 use crate::config::DaemonConfig;
 use crate::connection::Connection;
 use crate::logging::log;
 use crate::opening::{open, pin, pin_at};
-use crate::querying::query;
+use crate::querying::{critical, query};
 use crate::refusals::refusal_of_fault;
+use crate::watching::{news, watch};
 use kn_auth::Authenticator;
 use kn_daemon::shape::{Shape, shape_of};
 use kn_outside::{Failed, Gate, Link};
@@ -40,7 +41,8 @@ pub(crate) fn answer<R: Wait, A: Authenticator, L: Link, G: Gate>(
     requires room { HasRoom (state_of connection.old) }
     requires form { IsWellFormed (request_of request) }
     ensures ready { IsReady config.now.registry.now pass.new }
-    ensures handled { Handles (record { secret = config.now.secret.now; verdict = A.verdict config.now.authenticator.now }) pass.old pass.new (state_of connection.old) (state_of connection.new) (shape_of (request_of request.entry)) (is_whole result) (L.seen link.old) (L.seen link.new) }
+    ensures handled { Handles (grounds_of A.verdict config.now) (shape_of (request_of request.entry)) (is_whole result)
+        (moment pass.old connection.old (L.seen link.old)) (moment pass.new connection.new (L.seen link.new)) }
 {
     match shape_of(request) {
         Shape::Open => open(rt, config.registry, pass, connection, link),
@@ -56,7 +58,10 @@ pub(crate) fn answer<R: Wait, A: Authenticator, L: Link, G: Gate>(
         Shape::SetDigits { s, name, digits } => set_digits(
             alloc, connection, s, name, digits, link,
         ),
+        Shape::News { s } => news(rt, alloc, config.registry, pass, connection, s, link),
         Shape::Query { s, values } => query(alloc, connection, s, values, link),
+        Shape::Watch { s, values } => watch(alloc, connection, s, values, link),
+        Shape::Critical { s, values } => critical(alloc, connection, s, values, link),
         Shape::Admin { digits } => show_secret(config.secret, connection, digits, link),
         Shape::Bye => say_bye(link),
     }
@@ -64,14 +69,16 @@ pub(crate) fn answer<R: Wait, A: Authenticator, L: Link, G: Gate>(
 
 /// Answers BYE.
 fn say_bye<L: Link>(link: &mut L) -> Result<(), Failed>
-    ensures told { (g : Grounds) (now : State) → Tells g now now (Controls Leave) (is_whole result) (L.seen link.old) (L.seen link.new) }
+    ensures told { (g : Grounds) (now : State)
+        → Tells g (Controls Leave) (is_whole result) now now (L.seen link.old) (L.seen link.new) }
 {
     print(&Reply::Ok, link)
 }
 
 /// Answers a line that is no request, or a block that is refused.
 pub(crate) fn refuse<L: Link>(fault: WireFault, link: &mut L) -> Result<(), Failed>
-    ensures told { (g : Grounds) (now : State) → Tells g now now (AtFault fault) (is_whole result) (L.seen link.old) (L.seen link.new) }
+    ensures told { (g : Grounds) (now : State)
+        → Tells g (AtFault fault) (is_whole result) now now (L.seen link.old) (L.seen link.new) }
 {
     print(&Reply::No(refusal_of_fault(fault)), link)
 }

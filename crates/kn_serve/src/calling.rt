@@ -28,7 +28,8 @@ pub(crate) fn call<L: Link>(
 ) -> Result<(), Failed>
     requires room { HasRoom (state_of connection.old) }
     requires short { length (asserted (call_of call)) ≤ ASSERTION_BYTES }
-    ensures told { (g : Grounds) → Tells g (state_of connection.old) (state_of connection.new) (Calls s (call_of call.entry)) (is_whole result) (L.seen link.old) (L.seen link.new) }
+    ensures told { (g : Grounds) → Tells g (Calls s (call_of call.entry)) (is_whole result)
+        (state_of connection.old) (state_of connection.new) (L.seen link.old) (L.seen link.new) }
 {
     match connection.sessions.apply(alloc, s, call) {
         Ok(applied) => print_applied(applied, link),
@@ -47,7 +48,8 @@ pub(crate) fn set_digits<L: Link>(
 ) -> Result<(), Failed>
     requires room { HasRoom (state_of connection.old) }
     requires digits { are_digits digits.now ≡ true }
-    ensures told { (g : Grounds) → Tells g (state_of connection.old) (state_of connection.new) (Calls s (Set name.now (bytes_of_digits digits.now))) (is_whole result) (L.seen link.old) (L.seen link.new) }
+    ensures told { (g : Grounds) → Tells g (Calls s (Set name.now (bytes_of_digits digits.now))) (is_whole result)
+        (state_of connection.old) (state_of connection.new) (L.seen link.old) (L.seen link.new) }
 {
     match decode_digits(alloc, digits) {
         Ok(bytes) => {

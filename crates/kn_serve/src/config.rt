@@ -1,8 +1,8 @@
 //! What connections are served with.
 use kn_registry::Registry;
 
-/// What a connection is served with: the shared credentials, who may add to them, the administrators' secret, and what is
-/// called before each reply.
+/// What a connection is served with: the shared credentials, who may add to them, the administrators' secret, and what
+/// is called before each reply. Contracts see the secret and what the authenticator says, by `grounds_of`.
 #[derive(Drop)]
 pub(crate) struct DaemonConfig<'a, A, G> {
     pub registry: &'a Registry,

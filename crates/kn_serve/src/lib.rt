@@ -5,7 +5,6 @@
 
 mod admitting;
 mod answering;
-mod batching;
 mod calling;
 mod changing;
 mod config;
@@ -18,6 +17,7 @@ mod querying;
 mod refusals;
 mod serving;
 mod step;
+mod watching;
 
 pub use kn_daemon::ended::Ended;
 pub use serving::serve_connection;

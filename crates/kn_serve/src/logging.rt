@@ -3,7 +3,7 @@ ghost use Rattle.kn_outside.specs.Printing.{is_whole};
 ghost use Rattle.kn_registry.specs.Passes.{IsReady};
 ghost use Rattle.kn_daemon.specs.Shapes.{Looks, ForLog};
 ghost use Rattle.kn_daemon.specs.Daemon.{Grounds};
-ghost use Rattle.kn_serve.specs.Handling.{state_of, Handles};
+ghost use Rattle.kn_serve.specs.Handling.{moment, Handles};
 
 use crate::connection::Connection;
 use kn_base::NoMemory;
@@ -23,7 +23,8 @@ pub(crate) fn log<R: Wait, L: Link>(
 ) -> Result<(), Failed>
     requires ready { IsReady reg.now pass.old }
     ensures ready { IsReady reg.now pass.new }
-    ensures handled { (g : Grounds) → Handles g pass.old pass.new (state_of connection.now) (state_of connection.now) (Looks (ForLog n)) (is_whole result) (L.seen link.old) (L.seen link.new) }
+    ensures handled { (g : Grounds) → Handles g (Looks (ForLog n)) (is_whole result)
+        (moment pass.old connection.now (L.seen link.old)) (moment pass.new connection.now (L.seen link.new)) }
 {
     if !connection.is_admin {
         return print(&Reply::No(Refusal::Admin), link);

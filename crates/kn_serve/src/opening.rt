@@ -3,7 +3,7 @@ ghost use Rattle.kn_outside.specs.Printing.{is_whole};
 ghost use Rattle.kn_registry.specs.Passes.{IsReady};
 ghost use Rattle.kn_daemon.specs.Shapes.{Looks, ForNew, ForOpen, ForRetained};
 ghost use Rattle.kn_daemon.specs.Daemon.{Grounds};
-ghost use Rattle.kn_serve.specs.Handling.{state_of, HasRoom, Handles};
+ghost use Rattle.kn_serve.specs.Handling.{moment, state_of, HasRoom, Handles};
 
 use crate::connection::Connection;
 use crate::refusals::{print_refusal, refusal_of_version};
@@ -25,7 +25,8 @@ pub(crate) fn open<R: Wait, L: Link>(
     requires ready { IsReady reg.now pass.old }
     requires room { HasRoom (state_of connection.old) }
     ensures ready { IsReady reg.now pass.new }
-    ensures handled { (g : Grounds) → Handles g pass.old pass.new (state_of connection.old) (state_of connection.new) (Looks ForNew) (is_whole result) (L.seen link.old) (L.seen link.new) }
+    ensures handled { (g : Grounds) → Handles g (Looks ForNew) (is_whole result)
+        (moment pass.old connection.old (L.seen link.old)) (moment pass.new connection.new (L.seen link.new)) }
 {
     let count = connection.sessions.len();
     if count >= SESSIONS {
@@ -54,7 +55,8 @@ pub(crate) fn pin<R: Wait, L: Link>(
 ) -> Result<(), Failed>
     requires ready { IsReady reg.now pass.old }
     ensures ready { IsReady reg.now pass.new }
-    ensures handled { (g : Grounds) → Handles g pass.old pass.new (state_of connection.old) (state_of connection.new) (Looks (ForOpen s)) (is_whole result) (L.seen link.old) (L.seen link.new) }
+    ensures handled { (g : Grounds) → Handles g (Looks (ForOpen s)) (is_whole result)
+        (moment pass.old connection.old (L.seen link.old)) (moment pass.new connection.new (L.seen link.new)) }
 {
     match connection.sessions.view(s) {
         Ok(_) => {}
@@ -83,7 +85,8 @@ pub(crate) fn pin_at<R: Wait, L: Link>(
 ) -> Result<(), Failed>
     requires ready { IsReady reg.now pass.old }
     ensures ready { IsReady reg.now pass.new }
-    ensures handled { (g : Grounds) → Handles g pass.old pass.new (state_of connection.old) (state_of connection.new) (Looks (ForRetained s version)) (is_whole result) (L.seen link.old) (L.seen link.new) }
+    ensures handled { (g : Grounds) → Handles g (Looks (ForRetained s version)) (is_whole result)
+        (moment pass.old connection.old (L.seen link.old)) (moment pass.new connection.new (L.seen link.new)) }
 {
     match connection.sessions.view(s) {
         Ok(_) => {}

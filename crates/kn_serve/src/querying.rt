@@ -1,17 +1,47 @@
 //! Asking with a session.
+ghost use Rattle.std.specs.Prelude.{◌≡◌, Some, IfOk, IfErr};
+ghost use Rattle.kn_env.specs.Environment.{AreRequesters};
+ghost use Rattle.kn_env.specs.Values.{values_of};
 ghost use Rattle.kn_outside.specs.Printing.{is_whole};
-ghost use Rattle.kn_daemon.specs.Shapes.{Asks};
-ghost use Rattle.kn_daemon.specs.Daemon.{Grounds};
-ghost use Rattle.kn_serve.specs.Handling.{state_of, Tells};
+ghost use Rattle.kn_session.specs.Views.{session_of_view, AreReadPrivates, ArePrivates};
+ghost use Rattle.kn_daemon.specs.Shapes.{Asks, WithProof, WithCritical};
+ghost use Rattle.kn_daemon.specs.Daemon.{Grounds, session_of};
+ghost use Rattle.kn_serve.specs.Handling.{state_of, RefusesQuestions, Tells};
 
 use crate::connection::Connection;
-use crate::refusals::{print_refusal, refusal_of_values};
+use crate::refusals::{print_refusal, refusal_of_critical, refusal_of_values};
 use kn_base::NoMemory;
 use kn_env::Values;
 use kn_outside::{Failed, Link};
-use kn_query::answer_query;
+use kn_query::{answer_query, find_critical};
 use kn_reply::{Refusal, Reply, print};
+use kn_session::View;
 use std::alloc::Global;
+
+/// What a session asks with, and the compliance values of a text. The refusal is that of each question with these; it
+/// is None for want of memory.
+pub(crate) fn read_question<'a>(
+    alloc: Global,
+    connection: &'a Connection,
+    s: u32,
+    names: &[u8],
+) -> Result<(View<'a>, Values), Option<Refusal>>
+    ensures session { IfOk result (λ asked. session_of (state_of connection.now) s ≡ Some (session_of_view asked.0)) }
+    ensures privates { IfOk result (λ asked. ArePrivates (session_of_view asked.0).privates) }
+    ensures readings { IfOk result (λ asked. AreReadPrivates asked.0.private.now) }
+    ensures requesters { IfOk result (λ asked. AreRequesters asked.0.requesters.now) }
+    ensures named { IfOk result (λ asked. values_of names.now ≡ Some asked.1) }
+    ensures refused { IfErr result (RefusesQuestions (state_of connection.now) s names.now) }
+{
+    let view = match connection.sessions.view(s) {
+        Ok(view) => view,
+        Err(_) => return Err(Some(Refusal::Session)),
+    };
+    match Values::of(alloc, names) {
+        Ok(values) => Ok((view, values)),
+        Err(fault) => Err(refusal_of_values(fault)),
+    }
+}
 
 /// Answers QUERY.
 pub(crate) fn query<L: Link>(
@@ -21,15 +51,12 @@ pub(crate) fn query<L: Link>(
     names: &[u8],
     link: &mut L,
 ) -> Result<(), Failed>
-    ensures told { (g : Grounds) → Tells g (state_of connection.now) (state_of connection.now) (Asks s names.now) (is_whole result) (L.seen link.old) (L.seen link.new) }
+    ensures told { (g : Grounds) → Tells g (Asks WithProof s names.now) (is_whole result)
+        (state_of connection.now) (state_of connection.now) (L.seen link.old) (L.seen link.new) }
 {
-    let view = match connection.sessions.view(s) {
-        Ok(view) => view,
-        Err(_) => return print(&Reply::No(Refusal::Session), link),
-    };
-    let values = match Values::of(alloc, names) {
-        Ok(values) => values,
-        Err(fault) => return print_refusal(refusal_of_values(fault), link),
+    let (view, values) = match read_question(alloc, connection, s, names) {
+        Ok(asked) => asked,
+        Err(refusal) => return print_refusal(refusal, link),
     };
     match answer_query(alloc, &view, &values) {
         Ok(answer) => {
@@ -48,5 +75,30 @@ pub(crate) fn query<L: Link>(
             )
         }
         Err(NoMemory) => print(&Reply::NoMemory, link),
+    }
+}
+
+/// Answers CRITICAL.
+pub(crate) fn critical<L: Link>(
+    alloc: Global,
+    connection: &Connection,
+    s: u32,
+    names: &[u8],
+    link: &mut L,
+) -> Result<(), Failed>
+    ensures told { (g : Grounds) → Tells g (Asks WithCritical s names.now) (is_whole result)
+        (state_of connection.now) (state_of connection.now) (L.seen link.old) (L.seen link.new) }
+{
+    let (view, values) = match read_question(alloc, connection, s, names) {
+        Ok(asked) => asked,
+        Err(refusal) => return print_refusal(refusal, link),
+    };
+    match find_critical(alloc, &view, &values) {
+        Ok(critical) => {
+            let index = critical.value;
+            let ids = &critical.ids;
+            print(&Reply::Critical { index, ids }, link)
+        }
+        Err(fault) => print_refusal(refusal_of_critical(fault), link),
     }
 }

@@ -5,16 +5,20 @@ ghost use Rattle.kn_outside.specs.Printing.{Prints, is_whole};
 ghost use Rattle.kn_reply.specs.declared.refusal.ItemRefusal.TheVariants as I;
 ghost use Rattle.kn_reply.specs.Replies.{reply_text};
 ghost use Rattle.kn_session.specs.Calls.{place_of_fault};
-ghost use Rattle.kn_daemon.specs.Daemon.{refusal_of_fault, refusal_at_text, refusal_of_text, refusal_of_session, refusal_of_call, refusal_at_store, refusal_of_store, reply_of_call};
-ghost use Rattle.kn_serve.specs.Handling.{refusal_of_values, request_refusal, refusal_of_batch_text, refusal_of_batch_fault, refusal_of_version, refused_reply};
+ghost use Rattle.kn_daemon.specs.Daemon.{refusal_of_fault, refusal_at_text, refusal_of_text, refusal_of_session};
+ghost use Rattle.kn_daemon.specs.Daemon.{refusal_of_call, refusal_at_store, refusal_of_store, reply_of_call};
+ghost use Rattle.kn_serve.specs.Handling.{refusal_of_values, refusal_of_critical, request_refusal};
+ghost use Rattle.kn_serve.specs.Handling.{refusal_of_batch_text, refusal_of_batch_fault};
+ghost use Rattle.kn_serve.specs.Handling.{refusal_of_version, refused_reply};
 
 use kn_assert::ReadFault;
+use kn_critical::CriticalFault;
 use kn_env::ValuesFault;
+use kn_history::{BatchFault, StoreFault};
 use kn_outside::{Failed, Link};
 use kn_registry::PinFault;
 use kn_reply::{ItemRefusal, LimitWord, Refusal, Reply, print};
 use kn_session::{Applied, CallFault, SessionFault};
-use kn_store::{BatchFault, StoreFault};
 use kn_wire::{BatchText, WireFault};
 
 /// The refusal of a line that is no request, or of a block.
@@ -50,6 +54,16 @@ pub(crate) fn refusal_of_values(fault: ValuesFault) -> Option<Refusal>
         ValuesFault::BadName { .. } => Some(Refusal::Values),
         ValuesFault::Twice { .. } => Some(Refusal::Values),
         ValuesFault::NoMemory => None,
+    }
+}
+
+/// The refusal of a query that is too large for a search of its critical assertions; None for want of memory.
+pub(crate) fn refusal_of_critical(fault: CriticalFault) -> Option<Refusal>
+    ensures { result ≡ refusal_of_critical fault }
+{
+    match fault {
+        CriticalFault::Large { nodes } => Some(limit(LimitWord::Nodes, nodes)),
+        CriticalFault::NoMemory => None,
     }
 }
 
@@ -157,7 +171,7 @@ pub(crate) fn refusal_of_call(fault: &CallFault) -> Option<Refusal>
 }
 
 /// The refusal that a fault of the sessions is; None for want of memory.
-fn refusal_of_session(fault: SessionFault) -> Option<Refusal>
+pub(crate) fn refusal_of_session(fault: SessionFault) -> Option<Refusal>
     ensures { result ≡ refusal_of_session fault }
 {
     match fault {

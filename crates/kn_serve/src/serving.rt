@@ -1,6 +1,7 @@
 //! Serving a connection to its end.
 ghost use Rattle.std.specs.Prelude.{◌≡◌, ◌⊎◌, IfSome};
 ghost use Rattle.kn_registry.specs.Passes.{IsReady};
+ghost use Rattle.kn_serve.specs.Grounds.{grounds_by, grounds_of};
 ghost use Rattle.kn_serve.specs.Serving.{Serves, IsOrderly, IsFaultless};
 
 use crate::config::DaemonConfig;
@@ -18,8 +19,8 @@ use kn_wire::Feed;
 use std::alloc::Global;
 use std::sync::Wait;
 
-/// Answers the requests of a connection in their order (keynoted's own line protocol). A reply is written before the next
-/// request is looked at.
+/// Answers the requests of a connection in their order (keynoted's own line protocol). A reply is written before the
+/// next request is looked at.
 ///
 /// Each reply is a one-thread daemon's, at a place of the one history that the pass then carries. The secret is the
 /// administrators'; where it is empty ADMIN is always refused. The gate is called before each reply.
@@ -35,9 +36,12 @@ pub fn serve_connection<R: Wait, A: Authenticator, L: Link, G: Gate>(
 ) -> Ended
     requires ready { IsReady reg.now pass.old }
     ensures ready { IsReady reg.now pass.new }
-    ensures serves { Serves (record { secret = secret.now; verdict = A.verdict auth.now }) pass.old pass.new (L.seen link.old) (L.seen link.new) result }
+    ensures serves { Serves (grounds_by A.verdict auth.now secret.now)
+        pass.old pass.new (L.seen link.old) (L.seen link.new) result }
     // Where the link tells an input that is in order, and no call of it fails, all is answered if there is memory.
-    ensures complete { IfSome (L.seen link.old).left (λ input. IsOrderly input → IsFaultless (L.seen link.old) (L.seen link.new) → (result ≡ Ended.Done) ⊎ (result ≡ Ended.Memory)) }
+    ensures complete { IfSome (L.seen link.old).left (λ input.
+        IsOrderly input → IsFaultless (L.seen link.old) (L.seen link.new)
+        → (result ≡ Ended.Done) ⊎ (result ≡ Ended.Memory)) }
 {
     let config = DaemonConfig {
         registry: reg,
@@ -57,7 +61,8 @@ fn serve_requests<R: Wait, A: Authenticator, L: Link, G: Gate>(
 ) -> Ended
     requires ready { IsReady config.now.registry.now pass.old }
     ensures ready { IsReady config.now.registry.now pass.new }
-    ensures serves { Serves (record { secret = config.now.secret.now; verdict = A.verdict config.now.authenticator.now }) pass.old pass.new (L.seen link.old) (L.seen link.new) result }
+    ensures serves { Serves (grounds_of A.verdict config.now)
+        pass.old pass.new (L.seen link.old) (L.seen link.new) result }
 {
     laws::serving_begins();
     laws::serving_takes();

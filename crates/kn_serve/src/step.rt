@@ -5,7 +5,8 @@ ghost use Rattle.kn_wire.specs.Wired.{request_of};
 ghost use Rattle.kn_daemon.specs.Served.{is_bye, is_block};
 ghost use Rattle.kn_wire.specs.Feeds.{held};
 ghost use Rattle.kn_registry.specs.Passes.{IsReady};
-ghost use Rattle.kn_serve.specs.Handling.{state_of, HasRoom, MakesStep};
+ghost use Rattle.kn_serve.specs.Grounds.{grounds_of};
+ghost use Rattle.kn_serve.specs.Handling.{moment, state_of, HasRoom, MakesStep};
 
 use crate::answering::{answer, refuse};
 use crate::config::DaemonConfig;
@@ -42,7 +43,9 @@ pub(crate) fn answer_next<R: Wait, A: Authenticator, L: Link, G: Gate>(
     requires ready { IsReady config.now.registry.now pass.old }
     requires room { HasRoom (state_of connection.old) }
     ensures ready { IsReady config.now.registry.now pass.new }
-    ensures stepped { MakesStep (record { secret = config.now.secret.now; verdict = A.verdict config.now.authenticator.now }) pass.old pass.new (state_of connection.old) (state_of connection.new) (held feed.old) (held feed.new) (L.seen link.old) (L.seen link.new) result }
+    ensures stepped { MakesStep (grounds_of A.verdict config.now)
+        (moment pass.old connection.old (L.seen link.old)) (moment pass.new connection.new (L.seen link.new))
+        (held feed.old) (held feed.new) result }
 {
     match feed.next() {
         Ok(None) => Step::Dry,

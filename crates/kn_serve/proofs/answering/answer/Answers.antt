@@ -3,37 +3,68 @@ use Rattle.kn_serve.proofs.HandlingLaws.{told_handled, handles_as}
 use Rattle.kn_serve.proofs.answering.answer.Goals as goal
 
 pub returns-in-Call-clause-handled : goal.returns-in-Call-clause-handled
-returns-in-Call-clause-handled g c = handles_as _ _ _ _ _ _ _ _ _ _ _ c.shape_of.ensures.shape c.in-Call.is (told_handled _ _ _ _ _ _ _ _ (c.call.ensures.told _))
+returns-in-Call-clause-handled g c =
+    handles_as _ _ _ _ _ _ _ c.shape_of.ensures.shape c.in-Call.is
+    (told_handled _ _ _ _ _ _ _ _ (c.call.ensures.told _))
 
 pub returns-in-SetDigits-clause-handled : goal.returns-in-SetDigits-clause-handled
-returns-in-SetDigits-clause-handled g c = handles_as _ _ _ _ _ _ _ _ _ _ _ c.shape_of.ensures.shape c.in-SetDigits.is (told_handled _ _ _ _ _ _ _ _ (c.set_digits.ensures.told _))
+returns-in-SetDigits-clause-handled g c =
+    handles_as _ _ _ _ _ _ _ c.shape_of.ensures.shape c.in-SetDigits.is
+    (told_handled _ _ _ _ _ _ _ _ (c.set_digits.ensures.told _))
 
 pub returns-in-Query-clause-handled : goal.returns-in-Query-clause-handled
-returns-in-Query-clause-handled g c = handles_as _ _ _ _ _ _ _ _ _ _ _ c.shape_of.ensures.shape c.in-Query.is (told_handled _ _ _ _ _ _ _ _ (c.query.ensures.told _))
+returns-in-Query-clause-handled g c =
+    handles_as _ _ _ _ _ _ _ c.shape_of.ensures.shape c.in-Query.is
+    (told_handled _ _ _ _ _ _ _ _ (c.query.ensures.told _))
+
+pub returns-in-Watch-clause-handled : goal.returns-in-Watch-clause-handled
+returns-in-Watch-clause-handled g c =
+    handles_as _ _ _ _ _ _ _ c.shape_of.ensures.shape c.in-Watch.is
+    (told_handled _ _ _ _ _ _ _ _ (c.watch.ensures.told _))
+
+pub returns-in-Critical-clause-handled : goal.returns-in-Critical-clause-handled
+returns-in-Critical-clause-handled g c =
+    handles_as _ _ _ _ _ _ _ c.shape_of.ensures.shape c.in-Critical.is
+    (told_handled _ _ _ _ _ _ _ _ (c.critical.ensures.told _))
 
 pub returns-in-Admin-clause-handled : goal.returns-in-Admin-clause-handled
-returns-in-Admin-clause-handled g c = handles_as _ _ _ _ _ _ _ _ _ _ _ c.shape_of.ensures.shape c.in-Admin.is (told_handled _ _ _ _ _ _ _ _ (c.show_secret.ensures.told _ refl))
+returns-in-Admin-clause-handled g c =
+    handles_as _ _ _ _ _ _ _ c.shape_of.ensures.shape c.in-Admin.is
+    (told_handled _ _ _ _ _ _ _ _ (c.show_secret.ensures.told _ refl))
 
 pub returns-in-Bye-clause-handled : goal.returns-in-Bye-clause-handled
-returns-in-Bye-clause-handled g c = handles_as _ _ _ _ _ _ _ _ _ _ _ c.shape_of.ensures.shape c.in-Bye.is (told_handled _ _ _ _ _ _ _ _ (c.say_bye.ensures.told _ _))
+returns-in-Bye-clause-handled g c =
+    handles_as _ _ _ _ _ _ _ c.shape_of.ensures.shape c.in-Bye.is
+    (told_handled _ _ _ _ _ _ _ _ (c.say_bye.ensures.told _ _))
 
 pub returns-in-Open-clause-handled : goal.returns-in-Open-clause-handled
-returns-in-Open-clause-handled g c = handles_as _ _ _ _ _ _ _ _ _ _ _ c.shape_of.ensures.shape c.in-Open.is (c.open.ensures.handled _)
+returns-in-Open-clause-handled g c =
+    handles_as _ _ _ _ _ _ _ c.shape_of.ensures.shape c.in-Open.is (c.open.ensures.handled _)
 
 pub returns-in-Pin-clause-handled : goal.returns-in-Pin-clause-handled
-returns-in-Pin-clause-handled g c = handles_as _ _ _ _ _ _ _ _ _ _ _ c.shape_of.ensures.shape c.in-Pin.is (c.pin.ensures.handled _)
-
-pub returns-in-Add-clause-handled : goal.returns-in-Add-clause-handled
-returns-in-Add-clause-handled g c = handles_as _ _ _ _ _ _ _ _ _ _ _ c.shape_of.ensures.shape c.in-Add.is (c.add.ensures.handled _ refl)
-
-pub returns-in-Remove-clause-handled : goal.returns-in-Remove-clause-handled
-returns-in-Remove-clause-handled g c = handles_as _ _ _ _ _ _ _ _ _ _ _ c.shape_of.ensures.shape c.in-Remove.is (c.remove.ensures.handled _)
+returns-in-Pin-clause-handled g c =
+    handles_as _ _ _ _ _ _ _ c.shape_of.ensures.shape c.in-Pin.is (c.pin.ensures.handled _)
 
 pub returns-in-PinAt-clause-handled : goal.returns-in-PinAt-clause-handled
-returns-in-PinAt-clause-handled g c = handles_as _ _ _ _ _ _ _ _ _ _ _ c.shape_of.ensures.shape c.in-PinAt.is (c.pin_at.ensures.handled _)
+returns-in-PinAt-clause-handled g c =
+    handles_as _ _ _ _ _ _ _ c.shape_of.ensures.shape c.in-PinAt.is (c.pin_at.ensures.handled _)
+
+pub returns-in-Add-clause-handled : goal.returns-in-Add-clause-handled
+returns-in-Add-clause-handled g c =
+    handles_as _ _ _ _ _ _ _ c.shape_of.ensures.shape c.in-Add.is (c.add.ensures.handled _ refl)
+
+pub returns-in-Remove-clause-handled : goal.returns-in-Remove-clause-handled
+returns-in-Remove-clause-handled g c =
+    handles_as _ _ _ _ _ _ _ c.shape_of.ensures.shape c.in-Remove.is (c.remove.ensures.handled _)
 
 pub returns-in-Batch-clause-handled : goal.returns-in-Batch-clause-handled
-returns-in-Batch-clause-handled g c = handles_as _ _ _ _ _ _ _ _ _ _ _ c.shape_of.ensures.shape c.in-Batch.is (c.batch.ensures.handled _ refl)
+returns-in-Batch-clause-handled g c =
+    handles_as _ _ _ _ _ _ _ c.shape_of.ensures.shape c.in-Batch.is (c.batch.ensures.handled _ refl)
 
 pub returns-in-Log-clause-handled : goal.returns-in-Log-clause-handled
-returns-in-Log-clause-handled g c = handles_as _ _ _ _ _ _ _ _ _ _ _ c.shape_of.ensures.shape c.in-Log.is (c.log.ensures.handled _)
+returns-in-Log-clause-handled g c =
+    handles_as _ _ _ _ _ _ _ c.shape_of.ensures.shape c.in-Log.is (c.log.ensures.handled _)
+
+pub returns-in-News-clause-handled : goal.returns-in-News-clause-handled
+returns-in-News-clause-handled g c =
+    handles_as _ _ _ _ _ _ _ c.shape_of.ensures.shape c.in-News.is (c.news.ensures.handled _)

@@ -2,14 +2,22 @@ use Rattle.kn_serve.proofs.CallingLaws.{state_with, private_few, call_done, call
 use Rattle.kn_serve.proofs.calling.call.Goals as goal
 
 pub apply-requires : goal.apply-requires
-apply-requires g c = record { few = λ text is. private_few (state_with c.args.connection.now.sessions c.args.connection.now.is_admin) c.args.s c.requires.room }
+apply-requires g c =
+    let old = c.args.connection.now in
+    record { few = λ text is. private_few (state_with old.sessions old.is_admin) c.args.s c.requires.room }
 
 pub returns-in-Ok : goal.returns-in-Ok
-returns-in-Ok g c = record {
-  told = λ g'. call_done g' c.args.connection.now.sessions c.apply.new.self c.args.connection.now.is_admin _ _ _ _ _ c.in-Ok.applied c.in-Ok.ensures.ok c.print_applied.ensures.prints;
-}
+returns-in-Ok g c =
+    let old = c.args.connection.now in
+    record {
+      told = λ g'. call_done g' old.sessions c.apply.new.self old.is_admin _ _ _ _ _ c.in-Ok.applied
+          c.in-Ok.ensures.ok c.print_applied.ensures.prints;
+    }
 
 pub returns-in-Err : goal.returns-in-Err
-returns-in-Err g c = record {
-  told = λ g'. call_refused g' c.args.connection.now.sessions c.apply.new.self c.args.connection.now.is_admin _ _ _ _ _ c.in-Err.fault _ c.in-Err.ensures.err c.refusal_of_call.ensures c.print_refusal.ensures.prints;
-}
+returns-in-Err g c =
+    let old = c.args.connection.now in
+    record {
+      told = λ g'. call_refused g' old.sessions c.apply.new.self old.is_admin _ _ _ _ _ c.in-Err.fault _
+          c.in-Err.ensures.err c.refusal_of_call.ensures c.print_refusal.ensures.prints;
+    }

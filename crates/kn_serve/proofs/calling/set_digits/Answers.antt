@@ -2,8 +2,8 @@ use Rattle.std.proofs.Common.{refl, ◌∙◌}
 use Rattle.kn_wire.specs.Digits.{bytes_of_digits}
 use Rattle.kn_daemon.specs.Shapes.{Calls}
 use Rattle.kn_session.specs.Calls as C
+use Rattle.kn_serve.specs.Handling.{state_of}
 use Rattle.kn_serve.proofs.HandlingLaws.{told_memory}
-use Rattle.kn_serve.proofs.CallingLaws.{state_with}
 use Rattle.kn_serve.proofs.calling.set_digits.Goals as goal
 
 pub returns-in-Ok : goal.returns-in-Ok
@@ -11,6 +11,6 @@ returns-in-Ok g c = record { told = λ g'. rw (← (c.as_slice-value.ensures ∙
 
 pub returns-in-Err : goal.returns-in-Err
 returns-in-Err g c = record {
-  told = λ g'.
-      told_memory g' (state_with c.args.connection.now.sessions c.args.connection.now.is_admin) (Calls c.args.s (C.Set c.args.name.now (bytes_of_digits c.args.digits.now))) _ _ _ refl c.print.ensures;
+  told = λ g'. told_memory g' (Calls c.args.s (C.Set c.args.name.now (bytes_of_digits c.args.digits.now))) _
+      (state_of c.args.connection.now) _ _ refl c.print.ensures;
 }

@@ -5,4 +5,5 @@ use Rattle.kn_serve.proofs.ChangingLaws.{refusal_of_store-request}
 use Rattle.kn_serve.proofs.refusals.refusal_of_store.Goals as goal
 
 pub returns : goal.returns
-returns c = c.refusal_as_request.ensures ∙ ap (option_map request_refusal) c.item_refusal_of_store.ensures ∙ sym (refusal_of_store-request c.args.fault)
+returns c = c.refusal_as_request.ensures ∙ ap (option_map request_refusal) c.item_refusal_of_store.ensures
+    ∙ sym (refusal_of_store-request c.args.fault)

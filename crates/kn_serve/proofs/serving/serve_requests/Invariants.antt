@@ -2,7 +2,8 @@ use Rattle.std.proofs.Common.{◌<◌}
 use Rattle.kn_base.specs.declared.limits.TheConstants.{REQUESTS}
 use Rattle.kn_registry.specs.Passes.{IsReady}
 use Rattle.kn_wire.specs.Feeds.{held}
-use Rattle.kn_serve.specs.Handling.{state_of}
+use Rattle.kn_serve.specs.Grounds.{grounds_of}
+use Rattle.kn_serve.specs.Handling.{moment}
 use Rattle.kn_serve.specs.Serving.{Serving}
 use Rattle.kn_serve.proofs.serving.serve_requests.Given as goal
 
@@ -10,12 +11,5 @@ abbrev pub invariant-requests : goal.invariant-requests
 invariant-requests g l =
     IsReady l.fn.config.registry.now l.pass
     × (l.answered < REQUESTS)
-    × Serving
-    (record { secret = l.fn.config.secret.now; verdict = g.A.Authenticator.verdict l.fn.config.authenticator.now })
-    l.fn.pass
-    l.pass
-    (g.L.Sink.seen l.fn.link)
-    (g.L.Sink.seen l.link)
-    (state_of l.connection)
-    (held l.feed)
-    l.answered
+    × Serving (grounds_of g.A.Authenticator.verdict l.fn.config) l.fn.pass (g.L.Sink.seen l.fn.link)
+    (moment l.pass l.connection (g.L.Sink.seen l.link)) (held l.feed) l.answered

@@ -4,14 +4,19 @@ use Rattle.kn_serve.proofs.step.answer_next.Goals as goal
 
 pub returns-in-Block-clause-stepped : goal.returns-in-Block-clause-stepped
 returns-in-Block-clause-stepped g c =
-    refused_as _ _ _ _ _ _ c.in-Err.fault _ _ _ _ c.next.follows.holds-at-none c.in-Err.is (c.in-Ok-refuse.ensures.told _ _) c.in-Block.is
+    refused_as _ _ _ _ _ _ _ _ c.in-Err.fault c.next.follows.holds-at-none c.in-Err.is _ _
+    (c.in-Ok-refuse.ensures.told _ _) c.in-Block.is
 
 pub returns-in-Syntax : goal.returns-in-Syntax
 returns-in-Syntax g c = record {
   ready = c.requires.ready;
-  stepped = refused_line _ _ _ _ _ _ c.in-Err.fault _ _ c.next.follows.holds-at-none c.in-Err.is (c.in-Ok-refuse.ensures.told _ _) c.in-Syntax.is;
+  stepped = refused_line _ _ _ _ _ _ _ _ c.in-Err.fault c.next.follows.holds-at-none c.in-Err.is
+      (c.in-Ok-refuse.ensures.told _ _) c.in-Syntax.is;
 }
 
 pub returns-in-Err-refuse-clause-stepped : goal.returns-in-Err-refuse-clause-stepped
-returns-in-Err-refuse-clause-stepped g c =
-    (Faulty c.in-Err.fault, refused_took _ _ _ _ _ _ c.in-Err.fault _ _ _ c.next.follows.holds-at-none c.in-Err.is (c.in-Err-refuse.ensures.told _ _))
+returns-in-Err-refuse-clause-stepped g c = (
+  Faulty c.in-Err.fault,
+  refused_took _ _ _ _ _ _ _ _ c.in-Err.fault c.next.follows.holds-at-none c.in-Err.is _
+      (c.in-Err-refuse.ensures.told _ _),
+)

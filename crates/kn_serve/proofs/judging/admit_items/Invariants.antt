@@ -2,7 +2,7 @@ use Rattle.std.proofs.Common.{◌≡◌, map, take}
 use Rattle.kn_wire.specs.ItemsInCode as C
 use Rattle.kn_reply.specs.Logs.{item_of}
 use Rattle.kn_serve.specs.Admission.{AdmitsAll}
-use Rattle.kn_serve.proofs.batching.admit_items.Given as goal
+use Rattle.kn_serve.proofs.judging.admit_items.Given as goal
 
 abbrev pub invariant-loop-part : goal.invariant-loop-part
 invariant-loop-part g l =

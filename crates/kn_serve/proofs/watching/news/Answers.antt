@@ -1,0 +1,33 @@
+use Rattle.std.proofs.Common.{List, length, ap, ◌∙◌}
+use Rattle.std.specs.Arc.{arc_value}
+use Rattle.kn_history.specs.declared.update.Update.{Update}
+use Rattle.kn_session.specs.Views.{session_of_view}
+use Rattle.kn_serve.specs.Handling.{state_of}
+use Rattle.kn_serve.proofs.HandlingLaws.{told_handled}
+use Rattle.kn_serve.proofs.WatchingLaws.{news_refused, news_unpinned, news_unanswered, news_answered}
+use Rattle.kn_serve.proofs.watching.news.Goals as goal
+
+pub returns-in-Err-clause-handled : goal.returns-in-Err-clause-handled
+returns-in-Err-clause-handled g c = λ g'. told_handled g' _ _ _ _ _ _ _
+    (news_refused g' _ (state_of c.args.connection.now) _ _ _ c.in-Err.fault _ c.in-Err.ensures.fault
+    c.refusal_of_session.ensures c.print_refusal.ensures.prints)
+
+pub returns-in-Err-pin-clause-handled : goal.returns-in-Err-pin-clause-handled
+returns-in-Err-pin-clause-handled g c = λ g'.
+    news_unpinned g' _ _ _ _ _ _ c.in-Ok.query.now (state_of c.args.connection.now) c.in-Ok.ensures.query
+    c.in-Err-pin.ensures.refused c.print.ensures
+
+pub returns-in-Err-answer_query-clause-handled : goal.returns-in-Err-answer_query-clause-handled
+returns-in-Err-answer_query-clause-handled g c = λ g'.
+    news_unanswered g' _ _ _ _ _ _ c.in-Ok.query.now (state_of c.args.connection.now) c.in-Ok.ensures.query
+    c.in-Ok-pin.ensures.looked c.print-in-Err-answer_query.ensures
+
+pub returns-clause-handled : goal.returns-clause-handled
+returns-clause-handled g c = λ g'.
+    let a = c.args.connection.now.sessions in
+    news_answered g' _ _ _ _ _ _ c.in-Ok.query.now a c.move_standing.new.self c.args.connection.now.is_admin
+    (arc_value c.in-Ok-pin.snapshot) (session_of_view c.view_over-view.result) c.values.result.now _ _
+    c.in-Ok.ensures.query c.in-Ok-pin.ensures.looked c.in-Ok-pin.ensures.version c.view_over-view.ensures.session
+    c.values.ensures c.in-Ok-answer_query.ensures.least
+    (c.number.ensures.number ∙ ap (λ (x : List Update). length x) c.deref.ensures)
+    c.in-Ok-move_standing.ensures.ok c.tell_news-told.ensures.prints
