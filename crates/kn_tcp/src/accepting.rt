@@ -47,7 +47,8 @@ fn again_after(number: Option<i32>) -> Again
     match number {
         // EBADF, EFAULT, EINVAL, ENOTSOCK, EOPNOTSUPP: the listener itself is at fault
         Some(9 | 14 | 22 | 88 | 95) => Again::Never,
-        // EPERM, EINTR, EPROTO, ECONNABORTED, ECONNRESET, ETIMEDOUT: the peer has gone or isn't let in, or a signal came
+        // EPERM, EINTR, EPROTO, ECONNABORTED, ECONNRESET, ETIMEDOUT: the peer has gone or isn't let in, or a
+        // signal came
         Some(1 | 4 | 71 | 103 | 104 | 110) => Again::AtOnce,
         // ENONET, ENOPROTOOPT, ENETDOWN, ENETUNREACH, EHOSTDOWN, EHOSTUNREACH: the network of the new connection
         Some(64 | 92 | 100 | 101 | 112 | 113) => Again::AtOnce,

@@ -74,7 +74,8 @@ impl Net for TcpNet {
         requires unbound { self.old.bound ≡ None }
         ensures doors { IfOk result (λ rooms. length rooms ≡ doors) }
         ensures new { IfOk result (λ rooms. AreBound counted_seen quota doors 0 rooms) }
-        ensures binds { Binds (record { address = address.now; doors = doors; quota = quota }) result (tcp_seen self.old) (tcp_seen self.new) }
+        ensures binds { Binds (record { address = address.now; doors = doors; quota = quota }) result
+            (tcp_seen self.old) (tcp_seen self.new) }
         ensures failed { result ≡ Err B.Failed → self.new.faults ≡ raised self.old.faults }
         ensures text { IfOk result (λ rooms. IsUtf8 address.now) }
     {
@@ -102,7 +103,8 @@ impl Net for TcpNet {
     fn unbind(&mut self, rooms: List<TcpDoor>)
         requires bound { IsSomeAnd self.old.bound (λ binding. length rooms ≡ binding.doors) }
         requires none { self.old.rooms ≡ [] }
-        ensures { self.new ≡ record self.old { rooms = rooms; faults = with_faults counted_seen self.old.faults rooms } }
+        ensures { self.new
+            ≡ record self.old { rooms = rooms; faults = with_faults counted_seen self.old.faults rooms } }
     {
         self.faults = count_faults(self.faults, rooms.as_slice());
         self.rooms = rooms;

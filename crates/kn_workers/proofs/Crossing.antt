@@ -10,4 +10,5 @@ pub post_send : (D : RattleType) → IsSend D → IsSend (post.the_row D)
 post_send D send = search (sendable, crosses, pass.the_send, shared_send, shared_row_send) depth 20
 
 -- what a worker's thread is handed
-pub ruleset crossing = (sendable, crosses, post_send, pass.the_send, shared_send, shared_row_send, registry_sync, registry_field_sync)
+pub ruleset crossing =
+    (sendable, crosses, post_send, pass.the_send, shared_send, shared_row_send, registry_sync, registry_field_sync)

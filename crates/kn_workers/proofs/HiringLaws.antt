@@ -1,10 +1,11 @@
 -- Passes that are split from a root and joined into it.
-use Rattle.std.proofs.Common.{◌≡◌, ℕ, zero, suc, ◌+◌, ◌<◌, ◌≤◌, Bool, true, false, List, [], ◌∷◌, ◌++◌, length, refl, sym, ap, ◌∙◌, append_assoc, append-nil, arith, Some, subst}
+use Rattle.std.proofs.Common.{◌≡◌, ℕ, zero, suc, ◌+◌, ◌<◌, ◌≤◌, Bool, true, false, List, [], ◌∷◌, ◌++◌, length, refl}
+use Rattle.std.proofs.Common.{sym, ap, ◌∙◌, append_assoc, append-nil, arith, Some, subst}
 use Rattle.std.specs.Prelude.{slice_get, slice_index_or, remove, nat_lt, ◌||◌}
 use Rattle.std.specs.List.{AllByRecursion}
 use mathlib.Core.List.{IsPrefix}
 use Rattle.atomic_table.specs.Seated.{TableId}
-use Rattle.kn_store.specs.declared.update.Update.{Update}
+use Rattle.kn_history.specs.declared.update.Update.{Update}
 use Rattle.kn_turn.specs.Entries.{longer, longer_if}
 use Rattle.kn_turn.specs.Passes.{split_of, after_split, after_join}
 use Rattle.kn_registry.specs.Passes.{PassSeen, IsReady}
@@ -15,35 +16,46 @@ use Rattle.kn_workers.specs.Posts.{IsSplit, posts_of, passes_of, doors_of, all_f
 with_splits : PassSeen → ℕ → PassSeen
 with_splits w n = record w { splits = n }
 
-pub split_one_more : (w : PassSeen) (k : ℕ) → splits_from w (suc k) ≡ splits_from w k ++ split_of (record w { splits = w.splits + k }) ∷ []
+pub split_one_more : (w : PassSeen) (k : ℕ) →
+    splits_from w (suc k) ≡ splits_from w k ++ split_of (record w { splits = w.splits + k }) ∷ []
 split_one_more w zero = ap (λ (n : ℕ). split_of (record w { splits = n }) ∷ []) (omega arith)
 split_one_more w (suc k) =
     let next : w.splits + 1 + k ≡ w.splits + suc k = omega arith in
-    ap (λ (l : List PassSeen). split_of w ∷ l) (split_one_more (after_split w) k ∙ ap (λ (n : ℕ). splits_from (after_split w) k ++ split_of (record w { splits = n }) ∷ []) next)
+    ap (λ (l : List PassSeen). split_of w ∷ l)
+    (split_one_more (after_split w) k
+    ∙ ap (λ (n : ℕ). splits_from (after_split w) k ++ split_of (record w { splits = n }) ∷ []) next)
 
 pub splits_length : (w : PassSeen) (n : ℕ) → length (splits_from w n) ≡ n
 splits_length w zero = refl
 splits_length w (suc n) = ap (λ (k : ℕ). suc k) (splits_length (after_split w) n)
 
 pub split_ready : (registry : TableId) (root : PassSeen) → IsReady registry root → IsSplit registry (split_of root)
-split_ready registry root ready = (record { own = ready.own; idle = refl; valid = ready.valid }, λ none. absurd (omega (arith, none)))
+split_ready registry root ready =
+    (record { own = ready.own; idle = refl; valid = ready.valid }, λ none. absurd (omega (arith, none)))
 
-pub splits_ready : (registry : TableId) (root : PassSeen) (n : ℕ) → IsReady registry root → AllByRecursion (IsSplit registry) (splits_from root n)
+pub splits_ready : (registry : TableId) (root : PassSeen) (n : ℕ) → IsReady registry root →
+    AllByRecursion (IsSplit registry) (splits_from root n)
 splits_ready registry root zero ready = tt
-splits_ready registry root (suc n) ready = (split_ready registry root ready, splits_ready registry (after_split root) n (record { own = ready.own; idle = ready.idle; valid = ready.valid }))
+splits_ready registry root (suc n) ready = (
+  split_ready registry root ready,
+  splits_ready registry (after_split root) n
+      (record { own = ready.own; idle = ready.idle; valid = ready.valid }),
+)
 
 longer_if-same : (t : Bool) (a : List Update) → longer_if t a a ≡ a
 longer_if-same true a = refl
 longer_if-same false a = refl
 
 longer-same : (a b : List Update) → a ≡ b → longer a b ≡ b
-longer-same a b e = subst (λ (x : List Update). longer x b ≡ b) (sym e) (longer_if-same (nat_lt (length b) (length b)) b)
+longer-same a b e =
+    subst (λ (x : List Update). longer x b ≡ b) (sym e) (longer_if-same (nat_lt (length b) (length b)) b)
 
 joined_seen : (r v : PassSeen) (n : ℕ) → r.seen ≡ v.seen → (after_joins r (splits_from v n)).seen ≡ v.seen
 joined_seen r v zero e = e
 joined_seen r v (suc n) e = joined_seen (after_join r (split_of v)) (after_split v) n (longer-same r.seen v.seen e)
 
-pub rejoined : (v w : PassSeen) (n : ℕ) → w ≡ after_joins (record v { splits = v.splits + n }) (splits_from v n) → IsRejoined v w
+pub rejoined : (v w : PassSeen) (n : ℕ) → w ≡ after_joins (record v { splits = v.splits + n }) (splits_from v n) →
+    IsRejoined v w
 rejoined v w n e = record {
   count = n;
   is = e;
@@ -63,25 +75,34 @@ module _ {X : Type 0} where
   some_first (x ∷ xs) not_empty = omega arith
 
 -- one pass more is joined
-pub joins_one_more : (root : PassSeen) (passes : List PassSeen) (pass : PassSeen) → slice_get passes 0 ≡ Some pass → after_joins root passes ≡ after_joins (after_join root pass) (remove passes 0)
+pub joins_one_more : (root : PassSeen) (passes : List PassSeen) (pass : PassSeen) → slice_get passes 0 ≡ Some pass →
+    after_joins root passes ≡ after_joins (after_join root pass) (remove passes 0)
 joins_one_more root passes pass e = ap (after_joins root) (first_taken passes pass e)
 
-pub rest_holds : {X : Type 0} (P : X → Type 0) (xs : List X) (x : X) → slice_get xs 0 ≡ Some x → AllByRecursion P xs → P x × AllByRecursion P (remove xs 0)
+pub rest_holds : {X : Type 0} (P : X → Type 0) (xs : List X) (x : X) → slice_get xs 0 ≡ Some x → AllByRecursion P xs →
+    P x × AllByRecursion P (remove xs 0)
 rest_holds P xs x e all = subst (AllByRecursion P) (first_taken xs x e) all
 
 module _ {D : Type 0} where
-  pub posts_length : (doors : List D) (passes : List PassSeen) → length passes ≡ length doors → length (posts_of doors passes) ≡ length doors
+  pub posts_length : (doors : List D) (passes : List PassSeen) → length passes ≡ length doors →
+      length (posts_of doors passes) ≡ length doors
   posts_length [] passes e = refl
   posts_length (d ∷ doors) [] e = absurd (omega (arith, e))
   posts_length (d ∷ doors) (p ∷ passes) e =
       let rest : length passes ≡ length doors = omega (arith, e) in
       ap (λ (k : ℕ). suc k) (posts_length doors passes rest)
 
-  pub posts_one_more : (posts : List (Post D)) (doors : List D) (passes : List PassSeen) (d : D) (p : PassSeen) → slice_get doors 0 ≡ Some d → slice_get passes 0 ≡ Some p →
-      posts ++ posts_of doors passes ≡ (posts ++ record { door = d; pass = p; end = record { finished = 0; failed = false } } ∷ []) ++ posts_of (remove doors 0) (remove passes 0)
+  pub posts_one_more : (posts : List (Post D)) (doors : List D) (passes : List PassSeen) (d : D) (p : PassSeen) →
+      slice_get doors 0 ≡ Some d → slice_get passes 0 ≡ Some p →
+      posts ++ posts_of doors passes
+      ≡ (posts ++ record { door = d; pass = p; end = record { finished = 0; failed = false } } ∷ [])
+      ++ posts_of (remove doors 0) (remove passes 0)
   posts_one_more posts doors passes d p door pass =
-      ap (λ (x : List D × List PassSeen). posts ++ posts_of x.0 x.1) (λ i. (first_taken doors d door i, first_taken passes p pass i))
-      ∙ sym (append_assoc posts (record { door = d; pass = p; end = record { finished = 0; failed = false } } ∷ []) (posts_of (remove doors 0) (remove passes 0)))
+      ap (λ (x : List D × List PassSeen). posts ++ posts_of x.0 x.1)
+      (λ i. (first_taken doors d door i, first_taken passes p pass i))
+      ∙ sym
+      (append_assoc posts (record { door = d; pass = p; end = record { finished = 0; failed = false } } ∷ [])
+      (posts_of (remove doors 0) (remove passes 0)))
 
 -- what was seen is the first part of a history, also where that begins with another
 prefix-trans : (a b c : List Update) → IsPrefix a b → IsPrefix b c → IsPrefix a c
@@ -89,16 +110,21 @@ prefix-trans a b c p q = (p.0 ++ q.0, sym (append_assoc a p.0 q.0) ∙ ap (λ (l
 
 -- a front of the history on which all that follows rests
 abbrev pub RestsOn : List Update → List PassSeen → List Update → List PassSeen → Type 0
-RestsOn first all seen passes = (history : List Update) → IsPrefix seen history → AllSeenIn history passes → IsPrefix first history × AllSeenIn history all
+RestsOn first all seen passes = (history : List Update) → IsPrefix seen history → AllSeenIn history passes →
+    IsPrefix first history × AllSeenIn history all
 
 pub rests_at_first : (first : List Update) (all : List PassSeen) → RestsOn first all first all
 rests_at_first first all = λ history p q. (p, q)
 
-pub rests_one_more : (first : List Update) (all : List PassSeen) (seen seen' : List Update) (pass : PassSeen) (passes : List PassSeen) → RestsOn first all seen (pass ∷ passes) →
+pub rests_one_more : (first : List Update) (all : List PassSeen) (seen seen' : List Update) (pass : PassSeen)
+    (passes : List PassSeen) → RestsOn first all seen (pass ∷ passes) →
     IsPrefix seen seen' → IsPrefix pass.seen seen' → RestsOn first all seen' passes
-rests_one_more first all seen seen' pass passes rests own others = λ history p q. rests history (prefix-trans seen seen' history own p) (prefix-trans pass.seen seen' history others p, q)
+rests_one_more first all seen seen' pass passes rests own others =
+    λ history p q. rests history (prefix-trans seen seen' history own p)
+    (prefix-trans pass.seen seen' history others p, q)
 
-pub rests_at_last : (first : List Update) (all : List PassSeen) (seen : List Update) (passes : List PassSeen) → passes ≡ [] → RestsOn first all seen passes → IsPrefix first seen × AllSeenIn seen all
+pub rests_at_last : (first : List Update) (all : List PassSeen) (seen : List Update) (passes : List PassSeen) →
+    passes ≡ [] → RestsOn first all seen passes → IsPrefix first seen × AllSeenIn seen all
 rests_at_last first all seen passes none rests = rests seen ([], append-nil seen) (subst (AllSeenIn seen) (sym none) tt)
 
 -- the first post is taken off
@@ -135,10 +161,14 @@ module _ {D : Type 0} (registry : TableId) (first : PassSeen) (all : List (Post 
       × ((failed || some_failed posts) ≡ some_failed all)
       × RestsOn first.seen (passes_of all) root.seen (passes_of posts)
 
-  gather_first : (root root' : PassSeen) (p : Post D) (posts : List (Post D)) (left left' : ℕ) (doors doors' : List D) (spare spare' finished finished' : ℕ) (failed failed' : Bool) →
-      Gathering root (p ∷ posts) left doors spare finished failed → left' + 1 ≡ left → IsReady registry root' → root' ≡ after_join root p.pass → IsPrefix root.seen root'.seen × IsPrefix p.pass.seen root'.seen →
-      doors' ≡ doors ++ p.door ∷ [] → spare ≤ spare' + 1 → finished' ≡ finished + p.end.finished → failed' ≡ (failed || p.end.failed) → Gathering root' posts left' doors' spare' finished' failed'
-  gather_first root root' p posts left left' doors doors' spare spare' finished finished' failed failed' i fewer ready joined_is seen doors_are room more less =
+  gather_first : (root root' : PassSeen) (p : Post D) (posts : List (Post D)) (left left' : ℕ) (doors doors' : List D)
+      (spare spare' finished finished' : ℕ) (failed failed' : Bool) →
+      Gathering root (p ∷ posts) left doors spare finished failed → left' + 1 ≡ left → IsReady registry root' →
+      root' ≡ after_join root p.pass → IsPrefix root.seen root'.seen × IsPrefix p.pass.seen root'.seen →
+      doors' ≡ doors ++ p.door ∷ [] → spare ≤ spare' + 1 → finished' ≡ finished + p.end.finished →
+      failed' ≡ (failed || p.end.failed) → Gathering root' posts left' doors' spare' finished' failed'
+  gather_first root root' p posts left left' doors doors' spare spare' finished finished' failed failed' i fewer ready
+      joined_is seen doors_are room more less =
       let count = i.5 in
       let enough = i.4 in (
         ready,
@@ -152,8 +182,13 @@ module _ {D : Type 0} (registry : TableId) (first : PassSeen) (all : List (Post 
       )
 
   -- one post more is gathered
-  pub gather_more : (root root' : PassSeen) (p : Post D) (posts posts' : List (Post D)) (left left' : ℕ) (doors doors' : List D) (spare spare' finished finished' : ℕ) (failed failed' : Bool) →
-      Gathering root posts left doors spare finished failed → posts ≡ p ∷ posts' → left' + 1 ≡ left → IsReady registry root' → root' ≡ after_join root p.pass → IsPrefix root.seen root'.seen × IsPrefix p.pass.seen root'.seen →
-      doors' ≡ doors ++ p.door ∷ [] → spare ≤ spare' + 1 → finished' ≡ finished + p.end.finished → failed' ≡ (failed || p.end.failed) → Gathering root' posts' left' doors' spare' finished' failed'
+  pub gather_more : (root root' : PassSeen) (p : Post D) (posts posts' : List (Post D)) (left left' : ℕ)
+      (doors doors' : List D) (spare spare' finished finished' : ℕ) (failed failed' : Bool) →
+      Gathering root posts left doors spare finished failed → posts ≡ p ∷ posts' → left' + 1 ≡ left →
+      IsReady registry root' → root' ≡ after_join root p.pass →
+      IsPrefix root.seen root'.seen × IsPrefix p.pass.seen root'.seen →
+      doors' ≡ doors ++ p.door ∷ [] → spare ≤ spare' + 1 → finished' ≡ finished + p.end.finished →
+      failed' ≡ (failed || p.end.failed) → Gathering root' posts' left' doors' spare' finished' failed'
   gather_more root root' p posts posts' left left' doors doors' spare spare' finished finished' failed failed' i are =
-      gather_first root root' p posts' left left' doors doors' spare spare' finished finished' failed failed' (subst (λ (l : List (Post D)). Gathering root l left doors spare finished failed) are i)
+      gather_first root root' p posts' left left' doors doors' spare spare' finished finished' failed failed'
+      (subst (λ (l : List (Post D)). Gathering root l left doors spare finished failed) are i)

@@ -1,5 +1,6 @@
 -- The shares of doors add up to their quota, and as many doors come back as were served.
-use Rattle.std.proofs.Common.{◌≡◌, ℕ, ◌+◌, ◌<◌, ◌≤◌, Bool, true, false, List, [], ◌∷◌, length, refl, sym, ap, ◌∙◌, arith}
+use Rattle.std.proofs.Common.{◌≡◌, ℕ, ◌+◌, ◌<◌, ◌≤◌, Bool, true, false, List, [], ◌∷◌, length, refl, sym, ap, ◌∙◌}
+use Rattle.std.proofs.Common.{arith}
 use Rattle.std.specs.Prelude.{◌/◌, ◌%◌, ◌*◌, min, nat_lt, if◌then◌else◌}
 use Rattle.std.proofs.Math.Nat.{div-add-mod, mod-lt, suc-mul}
 use Rattle.std.proofs.lemmas.Bool.{ltb-true, lt-ltb}
@@ -27,7 +28,8 @@ one-of i r false e =
 
 module _ {C R : Type 0} (seen : R → DoorSeen (ServedSeen C)) (quota doors : ℕ) where
   shares-from : (i : ℕ) (rooms : List R) → AreBound seen quota doors i rooms →
-      all_quotas seen rooms + min i (quota % doors) ≡ length rooms * (quota / doors) + min (i + length rooms) (quota % doors)
+      all_quotas seen rooms + min i (quota % doors) ≡ length rooms * (quota / doors) + min (i + length rooms)
+      (quota % doors)
   shares-from i [] bound = omega arith
   shares-from i (room ∷ rooms) bound =
       let rest = shares-from (i + 1) rooms bound.1 in
@@ -37,17 +39,20 @@ module _ {C R : Type 0} (seen : R → DoorSeen (ServedSeen C)) (quota doors : �
       omega (arith, rest, first, one, more)
 
   -- doors that were just bound give as many connections as was asked for
-  pub shares_add_up : (rooms : List R) → 0 < doors → length rooms ≡ doors → AreBound seen quota doors 0 rooms → all_quotas seen rooms ≡ quota
+  pub shares_add_up : (rooms : List R) → 0 < doors → length rooms ≡ doors → AreBound seen quota doors 0 rooms →
+      all_quotas seen rooms ≡ quota
   shares_add_up rooms some count bound =
       let all = shares-from 0 rooms bound in
       let less = mod-lt quota some in
       let whole = div-add-mod quota doors in
-      let product : length rooms * (quota / doors) ≡ doors * (quota / doors) = ap (λ (n : ℕ). n * (quota / doors)) count in
+      let product : length rooms * (quota / doors) ≡ doors * (quota / doors) =
+      ap (λ (n : ℕ). n * (quota / doors)) count in
       omega (arith, all, less, whole, count, product)
 
 module _ {C D : Type 0} (door : D → DoorSeen (ServedSeen C)) where
   -- as many doors come back as were served
-  pub as_many_back : (link : C → LinkSeen) (g : Grounds) (v w : PassSeen) (doors doors' : List D) (end : ServeEnd) → AllServed door link g v w doors doors' end → length doors' ≡ length doors
+  pub as_many_back : (link : C → LinkSeen) (g : Grounds) (v w : PassSeen) (doors doors' : List D) (end : ServeEnd) →
+      AllServed door link g v w doors doors' end → length doors' ≡ length doors
   as_many_back link g v w doors doors' end served =
       sym (ap (λ (l : List D). length l) served.after) ∙ length-map served.works (λ (work : Work C D). work.after)
       ∙ sym (length-map served.works (λ (work : Work C D). work.before)) ∙ ap (λ (l : List D). length l) served.before

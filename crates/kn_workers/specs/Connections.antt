@@ -1,16 +1,16 @@
 -- Connections that were served: what contracts see of one, and what holds of it (keynoted's own).
 use Rattle.std.specs.Prelude.{ℕ, ◌≡◌, ◌<◌, ◌⊎◌, Bool, true, false, List, [], ◌∷◌, ◌++◌, flat_map, slice_range, IfSome}
 use Rattle.kn_outside.specs.Seen.{LinkSeen}
-use Rattle.kn_store.specs.declared.update.Update.{Update}
+use Rattle.kn_history.specs.declared.update.Update.{Update}
 use Rattle.kn_daemon.specs.declared.ended.Ended.{Ended}
 use Rattle.kn_daemon.specs.declared.ended.Ended.TheVariants as E
 use Rattle.kn_daemon.specs.Daemon.{Grounds}
 use Rattle.kn_daemon.specs.Served.{IsServed}
 use Rattle.kn_serve.specs.Serving.{is_over, IsOrderly}
-use Rattle.kn_store.specs.History.{own_updates}
+use Rattle.kn_history.specs.History.{own_updates}
 
--- A connection: its link, how it ended, the number of the pass that served it, the lengths of what that pass had seen before
--- and after, and those at which it had the turn.
+-- A connection: its link, how it ended, the number of the pass that served it, the lengths of what that pass had seen
+-- before and after, and those at which it had the turn.
 pub record ServedSeen (C : Type 0) : Type 0 where
   pub link : C
   pub ended : Ended
@@ -31,10 +31,11 @@ pub record IsNew (l : LinkSeen) : Type 0 where
   pub written : IfSome l.written (λ bytes. bytes ≡ [])
   pub faults : l.faults ≡ 0
 
--- The caller's connection was served over this history: all that was taken of its link and written to it, if the link tells
--- that. Only where it ended by a fault did a call of its link fail. Where the link tells an input that is in order, and no call
--- of it failed, all of it was answered if there was memory.
-pub record IsConnection {C : Type 0} (seen : C → LinkSeen) (g : Grounds) (history : List Update) (caller : ℕ) (s : ServedSeen C) : Type 0 where
+-- The caller's connection was served over this history: all that was taken of its link and written to it, if the link
+-- tells that. Only where it ended by a fault did a call of its link fail. Where the link tells an input that is in
+-- order, and no call of it failed, all of it was answered if there was memory.
+pub record IsConnection {C : Type 0} (seen : C → LinkSeen) (g : Grounds) (history : List Update) (caller : ℕ)
+    (s : ServedSeen C) : Type 0 where
   pub number : s.caller ≡ caller
   pub taken : List ℕ
   pub written : List ℕ
@@ -43,7 +44,8 @@ pub record IsConnection {C : Type 0} (seen : C → LinkSeen) (g : Grounds) (hist
   pub served : IsServed g taken written s.ended (is_over (seen s.link).left) history s.from s.to caller s.stops
   pub cause : is_fault s.ended ≡ true → 0 < (seen s.link).faults
   pub calm : is_fault s.ended ≡ false → (seen s.link).faults ≡ 0
-  pub complete : IfSome (seen s.link).taken (λ told. IfSome (seen s.link).left (λ left. IsOrderly (told ++ left) → (seen s.link).faults ≡ 0
+  pub complete : IfSome (seen s.link).taken
+      (λ told. IfSome (seen s.link).left (λ left. IsOrderly (told ++ left) → (seen s.link).faults ≡ 0
       → (s.ended ≡ E.Done) ⊎ (s.ended ≡ E.Memory)))
 
 module _ {C : Type 0} where

@@ -1,16 +1,17 @@
 -- Doors: what contracts see of one, what its calls change, and what a worker does at it (keynoted's own).
-use Rattle.std.specs.Prelude.{ℕ, ◌≡◌, ◌+◌, ◌≤◌, ◌<◌, Bool, List, [], ◌∷◌, ◌++◌, length, All, Option, option_map, MatchBool}
+use Rattle.std.specs.Prelude.{ℕ, ◌≡◌, ◌+◌, ◌≤◌, ◌<◌, Bool, List, [], ◌∷◌, ◌++◌, length, All, Option, option_map}
+use Rattle.std.specs.Prelude.{MatchBool}
 use Rattle.kn_outside.specs.Seen.{LinkSeen}
 use Rattle.kn_outside.specs.Faults.{Rose}
-use Rattle.kn_store.specs.declared.update.Update.{Update}
+use Rattle.kn_history.specs.declared.update.Update.{Update}
 use Rattle.kn_daemon.specs.Daemon.{Grounds}
 use Rattle.kn_registry.specs.Passes.{PassSeen, Moves}
 use Rattle.kn_workers.specs.Connections.{ServedSeen, IsNew, IsConnection, FollowEachOther, stops_of, own_in}
 use Rattle.kn_workers.specs.declared.accepted.Accepted.{Accepted}
 use Rattle.kn_workers.specs.declared.accepted.Accepted.TheVariants.{Conn, Closed, Failed}
 
--- A door: how many connections it is to give, how many it gave, how many were finished, which ones if it tells them, and how
--- many calls of it failed.
+-- A door: how many connections it is to give, how many it gave, how many were finished, which ones if it tells them,
+-- and how many calls of it failed.
 pub record DoorSeen (S : Type 0) : Type 0 where
   pub quota : ℕ
   pub given : ℕ
@@ -34,7 +35,8 @@ module _ {C : Type 0} where
   after_finish served d = record d { finished = d.finished + 1; done = with_more (served ∷ []) d.done }
 
   -- What a worker has done at a door so far: it served and finished each connection that the door gave, so many.
-  pub record WorksAt (seen : C → LinkSeen) (g : Grounds) (v w : PassSeen) (d d' : DoorSeen (ServedSeen C)) (count : ℕ) : Type 0 where
+  pub record WorksAt (seen : C → LinkSeen) (g : Grounds) (v w : PassSeen) (d d' : DoorSeen (ServedSeen C))
+      (count : ℕ) : Type 0 where
     pub connections : List (ServedSeen C)
     pub more : List Update
     pub own : List Update
@@ -52,4 +54,6 @@ module _ {C : Type 0} where
 
   -- whether a door gave less than its quota: then a call of it failed, and else none
   abbrev pub HasGiven : Bool → DoorSeen (ServedSeen C) → DoorSeen (ServedSeen C) → Type 0
-  HasGiven failed d d' = MatchBool failed ((d'.given < d'.quota) × Rose d.faults d'.faults) ((d'.given ≡ d'.quota) × (d'.faults ≡ d.faults))
+  HasGiven failed d d' =
+      MatchBool failed ((d'.given < d'.quota) × Rose d.faults d'.faults)
+      ((d'.given ≡ d'.quota) × (d'.faults ≡ d.faults))

@@ -1,5 +1,6 @@
 -- Nets: what contracts see of one, and what binding an address gives (keynoted's own).
-use Rattle.std.specs.Prelude.{ℕ, ◌≡◌, ◌+◌, ◌/◌, ◌%◌, ◌^◌, ◌-◌, List, [], ◌∷◌, Option, Some, Result, Ok, Err, IfSome, min, nat_lt, if◌then◌else◌}
+use Rattle.std.specs.Prelude.{ℕ, ◌≡◌, ◌+◌, ◌/◌, ◌%◌, ◌^◌, ◌-◌, List, [], ◌∷◌, Option, Some, Result, Ok, Err, IfSome}
+use Rattle.std.specs.Prelude.{min, nat_lt, if◌then◌else◌}
 use Rattle.kn_outside.specs.Faults.{Rose}
 use Rattle.kn_workers.specs.Doors.{DoorSeen}
 use Rattle.kn_workers.specs.declared.binding.Binding.{Binding}
@@ -27,7 +28,8 @@ pub record IsBound {S : Type 0} (quota : ℕ) (d : DoorSeen S) : Type 0 where
 -- from this place on each room is a door that was just bound, with its share
 abbrev pub AreBound : {S R : Type 0} → (R → DoorSeen S) → ℕ → ℕ → ℕ → List R → Type 0
 AreBound seen quota doors i [] = Unit {0}
-AreBound seen quota doors i (room ∷ rooms) = IsBound (share quota doors i) (seen room) × AreBound seen quota doors (i + 1) rooms
+AreBound seen quota doors i (room ∷ rooms) =
+    IsBound (share quota doors i) (seen room) × AreBound seen quota doors (i + 1) rooms
 
 -- what binding changes where it gives this answer
 abbrev pub Binds : {R T : Type 0} → Binding → Result T BindFault → NetSeen R → NetSeen R → Type 0

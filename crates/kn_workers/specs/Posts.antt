@@ -3,7 +3,7 @@ use Rattle.std.specs.Prelude.{ℕ, ◌≢◌, ◌+◌, Bool, false, ◌||◌, Li
 use mathlib.Core.List.{IsPrefix}
 use Rattle.atomic_table.specs.Seated.{TableId}
 use Rattle.kn_outside.specs.Seen.{LinkSeen}
-use Rattle.kn_store.specs.declared.update.Update.{Update}
+use Rattle.kn_history.specs.declared.update.Update.{Update}
 use Rattle.kn_daemon.specs.Daemon.{Grounds}
 use Rattle.kn_registry.specs.Passes.{PassSeen, IsReady}
 use Rattle.kn_workers.specs.Connections.{ServedSeen}
@@ -19,7 +19,8 @@ module _ {D : Type 0} where
   abbrev pub posts_of : List D → List PassSeen → List (Post D)
   posts_of [] passes = []
   posts_of (d ∷ doors) [] = []
-  posts_of (d ∷ doors) (pass ∷ passes) = record { door = d; pass = pass; end = record { finished = 0; failed = false } } ∷ posts_of doors passes
+  posts_of (d ∷ doors) (pass ∷ passes) =
+      record { door = d; pass = pass; end = record { finished = 0; failed = false } } ∷ posts_of doors passes
 
   abbrev pub doors_of : List (Post D) → List D
   doors_of posts = map (λ p. p.door) posts
@@ -43,7 +44,8 @@ AllSeenIn history [] = Unit {0}
 AllSeenIn history (pass ∷ passes) = IsPrefix pass.seen history × AllSeenIn history passes
 
 -- the work at a post
-pub record WorksAtPost {C D : Type 0} (registry : TableId) (door : D → DoorSeen (ServedSeen C)) (seen : C → LinkSeen) (g : Grounds) (p p' : Post D) : Type 0 where
+pub record WorksAtPost {C D : Type 0} (registry : TableId) (door : D → DoorSeen (ServedSeen C)) (seen : C → LinkSeen)
+    (g : Grounds) (p p' : Post D) : Type 0 where
   pub ready : IsReady registry p'.pass
   pub works : WorksAt seen g p.pass p'.pass (door p.door) (door p'.door) p'.end.finished
   pub failed : HasGiven p'.end.failed (door p.door) (door p'.door)

@@ -11,8 +11,8 @@ use Rattle.kn_workers.specs.declared.binding.BindFault.{BindFault}
 use Rattle.kn_workers.specs.declared.binding.BindFault.TheVariants.{Failed, NoMemory}
 use Rattle.kn_workers.specs.declared.mem_door.MemRoom.{MemRoom}
 
--- a net in memory: its rooms before they are bound, the numbers of its calls that fail, how many calls there were, what was
--- bound, the rooms that came back, and how many calls failed
+-- a net in memory: its rooms before they are bound, the numbers of its calls that fail, how many calls there were, what
+-- was bound, the rooms that came back, and how many calls failed
 pub record NetInMemory : Type 0 where
   pub waiting : List MemRoom
   pub failing : List ℕ
@@ -47,10 +47,15 @@ AreFit rooms i (r ∷ results) = (r.items ≡ []) × (length (links_of rooms i) 
 -- from this place on each door has the links and the failing calls of its room, and no call was made of it
 abbrev pub HaveRooms : List MemRoom → ℕ → List DoorInMemory → Type 0
 HaveRooms rooms i [] = Unit {0}
-HaveRooms rooms i (d ∷ doors) = (d.links ≡ links_of rooms i) × (d.failing ≡ failing_of rooms i) × (d.calls ≡ 0) × HaveRooms rooms (i + 1) doors
+HaveRooms rooms i (d ∷ doors) =
+    (d.links ≡ links_of rooms i) × (d.failing ≡ failing_of rooms i) × (d.calls ≡ 0) × HaveRooms rooms (i + 1) doors
 
 -- binding in memory fails exactly where the call is among those that fail, and else the doors have the rooms
 abbrev pub BindsRooms : Result (List DoorInMemory) BindFault → NetInMemory → NetInMemory → Type 0
-BindsRooms (Ok doors) n n' = (is_failing n.failing (raised n.calls) ≡ false) × HaveRooms n.waiting 0 doors × (n' ≡ record n { waiting = []; calls = raised n.calls; bound = n'.bound })
-BindsRooms (Err Failed) n n' = (is_failing n.failing (raised n.calls) ≡ true) × (n' ≡ record n { calls = raised n.calls; bound = n'.bound; faults = raised n.faults })
+BindsRooms (Ok doors) n n' =
+    (is_failing n.failing (raised n.calls) ≡ false) × HaveRooms n.waiting 0 doors
+    × (n' ≡ record n { waiting = []; calls = raised n.calls; bound = n'.bound })
+BindsRooms (Err Failed) n n' =
+    (is_failing n.failing (raised n.calls) ≡ true)
+    × (n' ≡ record n { calls = raised n.calls; bound = n'.bound; faults = raised n.faults })
 BindsRooms (Err NoMemory) n n' = n' ≡ n

@@ -1,9 +1,10 @@
 -- Workers side by side: each serves a door by a pass of its own, which is joined into the root (keynoted's own).
-use Rattle.std.specs.Prelude.{ℕ, zero, suc, ◌≡◌, ◌+◌, ◌≤◌, Bool, List, [], ◌∷◌, ◌++◌, length, map, drop, All, nat_lt, sum_by}
+use Rattle.std.specs.Prelude.{ℕ, zero, suc, ◌≡◌, ◌+◌, ◌≤◌, Bool, List, [], ◌∷◌, ◌++◌, length, map, drop, All, nat_lt}
+use Rattle.std.specs.Prelude.{sum_by}
 use Rattle.std.specs.List.{list_any}
 use mathlib.Core.List.{IsPrefix}
 use Rattle.kn_outside.specs.Seen.{LinkSeen}
-use Rattle.kn_store.specs.declared.update.Update.{Update}
+use Rattle.kn_history.specs.declared.update.Update.{Update}
 use Rattle.kn_turn.specs.declared.view.EndedPass.{EndedPass}
 use Rattle.kn_turn.specs.Passes.{split_of, after_split, after_join}
 use Rattle.kn_daemon.specs.Daemon.{Grounds}
@@ -11,7 +12,7 @@ use Rattle.kn_registry.specs.Passes.{PassSeen, IsSoundPass}
 use Rattle.kn_workers.specs.Connections.{ServedSeen, IsConnection, FollowEachOther, stops_of, own_in}
 use Rattle.kn_workers.specs.Doors.{DoorSeen, with_more, HasGiven}
 use Rattle.kn_workers.specs.declared.worker.ServeEnd.{ServeEnd}
-use Rattle.kn_store.specs.History.{own_updates}
+use Rattle.kn_history.specs.History.{own_updates}
 
 -- the passes that are split from a root, so many
 abbrev pub splits_from : PassSeen → ℕ → List PassSeen
@@ -67,9 +68,10 @@ module _ {C D : Type 0} (door : D → DoorSeen (ServedSeen C)) where
     EachWorked caller [] = Unit {0}
     EachWorked caller (work ∷ works) = HasWorked caller work × EachWorked (caller + 1) works
 
-  -- Each door had a worker, whose pass was split from the root and joined into it again, in the doors' order. The root made no
-  -- update and didn't have the turn: each update that it has seen since is one of a connection.
-  pub record AllServed (link : C → LinkSeen) (g : Grounds) (v w : PassSeen) (doors doors' : List D) (end : ServeEnd) : Type 0 where
+  -- Each door had a worker, whose pass was split from the root and joined into it again, in the doors' order. The root
+  -- made no update and didn't have the turn: each update that it has seen since is one of a connection.
+  pub record AllServed (link : C → LinkSeen) (g : Grounds) (v w : PassSeen) (doors doors' : List D)
+      (end : ServeEnd) : Type 0 where
     pub works : List (Work C D)
     pub before : map (λ work. work.before) works ≡ doors
     pub after : map (λ work. work.after) works ≡ doors'

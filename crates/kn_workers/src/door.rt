@@ -17,8 +17,8 @@ pub trait Door: Send + Drop {
     /// What is seen of a door. The count of faults stays at the greatest `u64`.
     ghost seen: { Self → DoorSeen (ServedSeen Self.Conn) };
 
-    /// The next connection. Nothing was taken from it and nothing written to it. A call that answers anything but `Failed` has
-    /// failed at nothing. No more connections are finished than were given.
+    /// The next connection. Nothing was taken from it and nothing written to it. A call that answers anything but
+    /// `Failed` has failed at nothing. No more connections are finished than were given.
     fn accept<R: Wait>(&mut self, rt: &R) -> Accepted<Self::Conn>
         ensures answer { Accepts Self.Conn.seen result (seen self.old) (seen self.new) }
         ensures finished { (seen self.old).finished ≤ (seen self.old).given }

@@ -2,7 +2,7 @@
 ghost use Rattle.std.specs.Prelude.{◌≡◌, ◌≤◌, ◌<◌, [], ◌∷◌, ◌++◌, length, All};
 ghost use Rattle.kn_outside.specs.InMemory.{is_failing};
 ghost use Rattle.kn_workers.specs.Doors.{Accepts};
-ghost use Rattle.kn_workers.specs.InMemory.{GivesNext, IsNewLink, door_seen, link_seen};
+ghost use Rattle.kn_workers.specs.InMemory.{GivesNext, IsNewLink, door_seen, link_seen, new_door};
 
 use crate::accepted::Accepted;
 use crate::door::Door;
@@ -37,7 +37,15 @@ impl Model for MemDoor {
 
     ghost Value = { DoorInMemory };
 
-    ghost view = { λ d. record { links = d.links; failing = d.failing; calls = d.calls; quota = d.quota; given = d.given; faults = d.faults; done = d.done.items } };
+    ghost view = { λ d. record {
+      links = d.links;
+      failing = d.failing;
+      calls = d.calls;
+      quota = d.quota;
+      given = d.given;
+      faults = d.faults;
+      done = d.done.items;
+    } };
 
     ghost invariant = { λ d. IsKept d.links d.quota d.given d.done };
 }
@@ -47,7 +55,7 @@ impl MemDoor {
     pub(crate) fn of(room: MemRoom, quota: u32, results: Reserved<Served<MemLink>>) -> MemDoor
         requires none { results.items ≡ [] }
         requires room { length room.links ≤ results.spare }
-        ensures { result ≡ record { links = room.links; failing = room.failing; calls = 0; quota = quota; given = 0; faults = 0; done = [] } }
+        ensures { result ≡ new_door room.links room.failing quota }
     {
         let MemRoom { links, failing } = room;
         MemDoor {

@@ -32,14 +32,28 @@ impl Model for MemNet {
 
     ghost Value = { NetInMemory };
 
-    ghost view = { λ n. record { waiting = n.waiting; failing = n.failing; calls = n.calls; bound = n.bound; rooms = n.rooms; faults = n.faults } };
+    ghost view = { λ n. record {
+      waiting = n.waiting;
+      failing = n.failing;
+      calls = n.calls;
+      bound = n.bound;
+      rooms = n.rooms;
+      faults = n.faults;
+    } };
 }
 
 impl MemNet {
-    /// A net with these rooms. Its calls of `bind` with the numbers in `failing`, counted from 1, fail; one that finds no
-    /// memory isn't counted.
+    /// A net with these rooms. Its calls of `bind` with the numbers in `failing`, counted from 1, fail; one that finds
+    /// no memory isn't counted.
     pub fn of(alloc: Global, rooms: List<MemRoom>, failing: List<u32>) -> MemNet
-        ensures { result ≡ record { waiting = rooms; failing = failing; calls = 0; bound = None; rooms = []; faults = 0 } }
+        ensures { result ≡ record {
+          waiting = rooms;
+          failing = failing;
+          calls = 0;
+          bound = None;
+          rooms = [];
+          faults = 0;
+        } }
     {
         MemNet {
             waiting: rooms,
@@ -85,7 +99,8 @@ impl Net for MemNet {
         requires unbound { self.old.bound ≡ None }
         ensures doors { IfOk result (λ rooms. length rooms ≡ doors) }
         ensures new { IfOk result (λ rooms. AreBound door_seen quota doors 0 rooms) }
-        ensures binds { Binds (record { address = address.now; doors = doors; quota = quota }) result (net_seen self.old) (net_seen self.new) }
+        ensures binds { Binds (record { address = address.now; doors = doors; quota = quota }) result
+            (net_seen self.old) (net_seen self.new) }
         ensures rooms { BindsRooms result self.old self.new }
     {
         let address = match Octets::from_slice(alloc, address) {

@@ -15,11 +15,12 @@ pub trait Net {
 
     type Room: Door;
 
-    /// What is seen of a net: the binding, which is None at first and after want of memory, the rooms that came back, none
-    /// at first, and the count of faults, which stays at the greatest `u64`.
+    /// What is seen of a net: the binding, which is None at first and after want of memory, the rooms that came back,
+    /// none at first, and the count of faults, which stays at the greatest `u64`.
     ghost seen: { Self → NetSeen Self.Room };
 
-    /// The doors of an address, which share a quota: the first ones give one connection more where it can't be shared evenly.
+    /// The doors of an address, which share a quota: the first ones give one connection more where it can't be shared
+    /// evenly.
     fn bind<R: Wait>(
         &mut self,
         rt: &R,
@@ -32,11 +33,16 @@ pub trait Net {
         requires unbound { (seen self.old).bound ≡ None }
         ensures doors { IfOk result (λ rooms. length rooms ≡ doors) }
         ensures new { IfOk result (λ rooms. AreBound Self.Room.seen quota doors 0 rooms) }
-        ensures binds { Binds (record { address = address.now; doors = doors; quota = quota }) result (seen self.old) (seen self.new) };
+        ensures binds { Binds (record { address = address.now; doors = doors; quota = quota }) result
+            (seen self.old) (seen self.new) };
 
-    /// Takes back the rooms that it gave, in their order. Their faults are then counted with its own. It takes no memory.
+    /// Takes back the rooms that it gave, in their order. Their faults are then counted with its own. It takes no
+    /// memory.
     fn unbind(&mut self, rooms: List<Self::Room>)
         requires bound { IsSomeAnd (seen self.old).bound (λ binding. length rooms ≡ binding.doors) }
         requires none { (seen self.old).rooms ≡ [] }
-        ensures { seen self.new ≡ record (seen self.old) { rooms = rooms; faults = with_faults Self.Room.seen (seen self.old).faults rooms } };
+        ensures { seen self.new ≡ record (seen self.old) {
+          rooms = rooms;
+          faults = with_faults Self.Room.seen (seen self.old).faults rooms;
+        } };
 }

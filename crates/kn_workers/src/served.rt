@@ -1,7 +1,8 @@
 //! A connection that was served.
 ghost use Rattle.std.specs.Prelude.{◌≡◌, List, length};
-ghost use Rattle.kn_store.specs.declared.update.Update.{Update};
+ghost use Rattle.kn_history.specs.declared.update.Update.{Update};
 ghost use Rattle.kn_registry.specs.Passes.{IsReady, Moves};
+ghost use Rattle.kn_serve.specs.Grounds.{grounds_by};
 ghost use Rattle.kn_workers.specs.Connections.{IsNew, IsConnection};
 
 use kn_auth::Authenticator;
@@ -15,7 +16,8 @@ use std::sync::Wait;
 
 /// A link whose connection was served, how it came to its end, and by whom and when. Only this crate makes one.
 ///
-/// A read or write fault stands in it only where the link's count of faults is above 0: `IsConnection` says so of each one.
+/// A read or write fault stands in it only where the link's count of faults is above 0: `IsConnection` says so of each
+/// one.
 #[derive(Drop)]
 pub struct Served<C> {
     link: C,
@@ -33,7 +35,14 @@ impl<C> Model for Served<C> {
 
     ghost Value = { ServedSeen C };
 
-    ghost view = { λ s. record { link = s.link; ended = s.ended; caller = s.caller; from = s.from; to = s.to; stops = drop (length s.before.value.stops) s.after.value.stops } };
+    ghost view = { λ s. record {
+      link = s.link;
+      ended = s.ended;
+      caller = s.caller;
+      from = s.from;
+      to = s.to;
+      stops = drop (length s.before.value.stops) s.after.value.stops;
+    } };
 }
 
 impl<C> Served<C> {
@@ -86,7 +95,8 @@ pub(crate) fn serve_link<R: Wait, A: Authenticator, C: Link, G: Gate>(
     requires ready { IsReady reg.now pass.old }
     requires new { IsNew (C.seen link) }
     ensures ready { IsReady reg.now pass.new }
-    ensures connection { IsConnection C.seen (record { secret = secret.now; verdict = A.verdict auth.now }) pass.new.seen pass.old.number result }
+    ensures connection { IsConnection C.seen (grounds_by A.verdict auth.now secret.now)
+        pass.new.seen pass.old.number result }
     ensures from { result.from ≡ length pass.old.seen }
     ensures to { result.to ≡ length pass.new.seen }
     ensures moves { (more : List Update) × (own : List Update) × Moves pass.old pass.new more own result.stops }

@@ -2,6 +2,7 @@
 ghost use Rattle.std.specs.Prelude.{◌≡◌, ◌≤◌};
 ghost use Rattle.kn_base.specs.declared.limits.TheConstants.{CONNECTIONS};
 ghost use Rattle.kn_registry.specs.Passes.{IsReady};
+ghost use Rattle.kn_serve.specs.Grounds.{grounds_by};
 ghost use Rattle.kn_workers.specs.Doors.{WorksAt, HasGiven};
 
 use crate::accepted::Accepted;
@@ -23,7 +24,8 @@ pub struct ServeEnd {
     pub failed: bool,
 }
 
-/// One worker's whole work: it serves the connections of a door, one after another, until the door has no more or fails.
+/// One worker's whole work: it serves the connections of a door, one after another, until the door has no more or
+/// fails.
 pub fn serve_door<R: Wait, A: Authenticator, D: Door, G: Gate>(
     rt: &R,
     alloc: Global,
@@ -37,7 +39,8 @@ pub fn serve_door<R: Wait, A: Authenticator, D: Door, G: Gate>(
     requires ready { IsReady reg.now pass.old }
     requires quota { (D.seen door.old).quota ≤ CONNECTIONS }
     ensures ready { IsReady reg.now pass.new }
-    ensures works { WorksAt D.Conn.seen (record { secret = secret.now; verdict = A.verdict auth.now }) pass.old pass.new (D.seen door.old) (D.seen door.new) result.finished }
+    ensures works { WorksAt D.Conn.seen (grounds_by A.verdict auth.now secret.now)
+        pass.old pass.new (D.seen door.old) (D.seen door.new) result.finished }
     ensures failed { HasGiven result.failed (D.seen door.old) (D.seen door.new) }
 {
     laws::served_longer();

@@ -3,6 +3,7 @@ ghost use Rattle.std.specs.Prelude.{◌≡◌, ◌+◌, ◌≤◌, [], length, v
 ghost use Rattle.std.specs.List.{AllZip};
 ghost use Rattle.kn_base.specs.declared.limits.TheConstants.{WORKERS, CONNECTIONS};
 ghost use Rattle.kn_registry.specs.Passes.{IsReady};
+ghost use Rattle.kn_serve.specs.Grounds.{grounds_by};
 ghost use Rattle.kn_workers.specs.Workers.{splits_from, IsRejoined, all_quotas, AllServed};
 ghost use Rattle.kn_workers.specs.Posts.{posts_of, WorksAtPost};
 
@@ -21,10 +22,11 @@ use std::sync::Wait;
 use std::thread;
 use std::thread::Threads;
 
-/// Serves all doors side by side, each by a worker with a pass that is split from the root. Afterwards all passes are joined
-/// into the root again, and the doors are as their workers left them.
+/// Serves all doors side by side, each by a worker with a pass that is split from the root. Afterwards all passes are
+/// joined into the root again, and the doors are as their workers left them.
 ///
-/// Want of memory comes before any connection is accepted. Where no thread can be made the doors are served one after another.
+/// Want of memory comes before any connection is accepted. Where no thread can be made the doors are served one after
+/// another.
 pub fn serve_all<R: Threads + Wait + Sync, A: Authenticator, D: Door, G: Gate>(
     rt: &R,
     alloc: Global,
@@ -43,7 +45,8 @@ where
     requires few { length doors.old ≤ WORKERS }
     requires quotas { all_quotas D.seen doors.old ≤ CONNECTIONS }
     ensures ready { IsReady reg.now root.new }
-    ensures served { IfOk result (λ end. AllServed D.seen D.Conn.seen (record { secret = secret.now; verdict = A.verdict auth.now }) root.old root.new doors.old doors.new end) }
+    ensures served { IfOk result (AllServed D.seen D.Conn.seen (grounds_by A.verdict auth.now secret.now)
+        root.old root.new doors.old doors.new) }
     ensures refused { OnErr result (IsRejoined root.old root.new) }
     ensures doors { OnErr result (doors.new ≡ doors.old) }
 {
@@ -98,7 +101,8 @@ fn work_all<R: Threads + Wait + Sync, A: Authenticator, D: Door, G: Gate>(
 where
     D::Conn: Send,
     requires ready { All (λ p. IsReady reg.now p.pass × ((D.seen p.door).quota ≤ CONNECTIONS)) posts.old }
-    ensures { AllZip (WorksAtPost reg.now D.seen D.Conn.seen (record { secret = secret.now; verdict = A.verdict auth.now })) posts.old posts.new }
+    ensures { AllZip (WorksAtPost reg.now D.seen D.Conn.seen (grounds_by A.verdict auth.now secret.now))
+        posts.old posts.new }
 {
     thread::for_each_mut(
         rt,
@@ -106,7 +110,8 @@ where
         WORKERS as usize,
         &|_, post: &mut Post<D>|
             requires { IsReady reg.now post.old.pass × ((D.seen post.old.door).quota ≤ CONNECTIONS) }
-            ensures { WorksAtPost reg.entry.now D.seen D.Conn.seen (record { secret = secret.entry.now; verdict = A.verdict auth.entry.now }) post.old post.new }
+            ensures { WorksAtPost reg.entry.now D.seen D.Conn.seen
+                (grounds_by A.verdict auth.entry.now secret.entry.now) post.old post.new }
         { work(rt, alloc, reg, auth, secret, post, gate) },
     );
 }

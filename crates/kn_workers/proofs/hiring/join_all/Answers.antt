@@ -12,7 +12,8 @@ joins-preserved c =
     let first = c.remove-pass.ensures in
     let rest = rest_holds _ _ _ first.item i.2 in (
       c.join.ensures.ready,
-      ap (λ (x : PassSeen × List PassSeen). after_joins x.0 x.1) (λ j. (c.join.ensures.joined j, first.rest j)) ∙ sym (joins_one_more _ _ _ first.item) ∙ i.1,
+      ap (λ (x : PassSeen × List PassSeen). after_joins x.0 x.1) (λ j. (c.join.ensures.joined j, first.rest j))
+          ∙ sym (joins_one_more _ _ _ first.item) ∙ i.1,
       subst (AllByRecursion (IsSplit c.args.reg.now)) (sym first.rest) rest.1,
     )
 

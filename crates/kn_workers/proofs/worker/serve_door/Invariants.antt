@@ -1,4 +1,5 @@
 use Rattle.kn_registry.specs.Passes.{IsReady}
+use Rattle.kn_serve.specs.Grounds.{grounds_by}
 use Rattle.kn_workers.specs.Doors.{WorksAt}
 use Rattle.kn_workers.proofs.WorkLaws.{IsCalm}
 use Rattle.kn_workers.proofs.worker.serve_door.Given as goal
@@ -6,12 +7,6 @@ use Rattle.kn_workers.proofs.worker.serve_door.Given as goal
 abbrev pub invariant-connections : goal.invariant-connections
 invariant-connections g l =
     IsReady l.fn.reg l.pass
-    × WorksAt
-    g.D.Conn.Sink.seen
-    (record { secret = l.fn.secret; verdict = g.A.Authenticator.verdict l.fn.auth })
-    l.fn.pass
-    l.pass
-    (g.D.Door.seen l.fn.door)
-    (g.D.Door.seen l.door)
-    l.finished
+    × WorksAt g.D.Conn.Sink.seen (grounds_by g.A.Authenticator.verdict l.fn.auth l.fn.secret) l.fn.pass l.pass
+    (g.D.Door.seen l.fn.door) (g.D.Door.seen l.door) l.finished
     × IsCalm (g.D.Door.seen l.fn.door) (g.D.Door.seen l.door)

@@ -1,5 +1,7 @@
 use Rattle.std.proofs.Common.{rules, subst}
 use Rattle.std.specs.Prelude.{slice_index_or}
+use Rattle.kn_daemon.specs.Daemon.{Grounds}
+use Rattle.kn_serve.specs.Grounds.{grounds_by}
 use Rattle.kn_workers.specs.Posts.{WorksAtPost}
 use Rattle.kn_workers.proofs.Crossing.{crossing}
 use Rattle.kn_workers.proofs.ServingAll.{zip_of}
@@ -19,8 +21,12 @@ for_each_mut-requires-sync-F g c κs within =
 
 pub returns : goal.returns
 returns g c =
-    zip_of (WorksAtPost c.args.reg.now g.D.Door.seen g.D.Conn.Sink.seen (record { secret = c.args.secret.now; verdict = g.A.Authenticator.verdict c.args.auth.now })) c.args.posts.now c.for_each_mut.new.s (search rules)
+    let grounds : Grounds = grounds_by g.A.Authenticator.verdict c.args.auth.now c.args.secret.now in
+    zip_of (WorksAtPost c.args.reg.now g.D.Door.seen g.D.Conn.Sink.seen grounds) c.args.posts.now
+    c.for_each_mut.new.s (search rules)
     (λ i d lt.
     let at = (c.for_each_mut.ensures i d lt).1 in
-    subst (λ p. WorksAtPost c.args.reg.now g.D.Door.seen g.D.Conn.Sink.seen (record { secret = c.args.secret.now; verdict = g.A.Authenticator.verdict c.args.auth.now }) p (slice_index_or c.for_each_mut.new.s i d)) at.argument_is
-    (subst (λ p. WorksAtPost c.args.reg.now g.D.Door.seen g.D.Conn.Sink.seen (record { secret = c.args.secret.now; verdict = g.A.Authenticator.verdict c.args.auth.now }) at.argument.now p) at.left at.call))
+    subst (λ p. WorksAtPost c.args.reg.now g.D.Door.seen g.D.Conn.Sink.seen grounds p
+    (slice_index_or c.for_each_mut.new.s i d)) at.argument_is
+    (subst (λ p. WorksAtPost c.args.reg.now g.D.Door.seen g.D.Conn.Sink.seen grounds at.argument.now p) at.left
+    at.call))
