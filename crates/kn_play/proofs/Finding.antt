@@ -1,6 +1,6 @@
 -- The query that a script means, from what was played.
 use Rattle.std.proofs.Common.{◌≡◌, ◌≤◌, ℕ, List, [], ◌∷◌, ◌++◌, length, take, arith, refl, sym, ap, ◌∙◌, subst, Some, None, append_assoc, length-append, take_all, take_at}
-use Rattle.kn_store.specs.declared.update.Update.{Update}
+use Rattle.kn_history.specs.declared.update.Update.{Update}
 use Rattle.kn_wire.proofs.Readings.{one_reading}
 use Rattle.kn_session.specs.Sessions.{Session, session_in}
 use Rattle.kn_daemon.specs.Daemon.{first_state, session_of}

@@ -2,7 +2,7 @@
 use Rattle.std.proofs.Common.{◌≡◌, ◌∙◌, ◌⊎◌, inl, inr, ℕ, true, false, Option, Some, None, List, refl, sym, ap}
 use Rattle.std.specs.Prelude.{option_and_then, is_some}
 use Rattle.std.specs.Option.{option_map_or}
-use Rattle.kn_store.specs.declared.update.Update.{Update}
+use Rattle.kn_history.specs.declared.update.Update.{Update}
 use Rattle.kn_session.specs.declared.call.Applied.{Applied}
 use Rattle.kn_session.specs.declared.fault.CallFault.{CallFault}
 use Rattle.kn_session.specs.Sessions.{OpenSessions, session_in}

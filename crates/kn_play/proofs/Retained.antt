@@ -1,8 +1,8 @@
 -- A session that is pinned to a version by its number.
 use Rattle.std.proofs.Common.{◌≡◌, ℕ, Option, Some, None, List, refl}
 use Rattle.std.specs.Option.{option_map_or}
-use Rattle.kn_store.specs.declared.update.Update.{Update}
-use Rattle.kn_store.specs.Retained.{retained_version}
+use Rattle.kn_history.specs.declared.update.Update.{Update}
+use Rattle.kn_history.specs.Retained.{retained_version}
 use Rattle.kn_session.specs.Sessions.{OpenSessions}
 use Rattle.kn_reply.specs.declared.refusal.Refusal.{Refusal}
 use Rattle.kn_daemon.specs.Shapes.{Looks, ForRetained}

@@ -1,6 +1,6 @@
 -- The query that a script of the line protocol means (keynoted's own).
 use Rattle.std.specs.Prelude.{ℕ, ◌≡◌, List, Some}
-use Rattle.kn_store.specs.declared.update.Update.{Update}
+use Rattle.kn_history.specs.declared.update.Update.{Update}
 use Rattle.kn_wire.specs.Requests.{Request, AreRequests}
 use Rattle.kn_session.specs.Sessions.{Session, session_in}
 use Rattle.kn_daemon.specs.Played.{IsMeant}

@@ -1,14 +1,15 @@
 //! What a request makes of the sessions. One that is refused changes nothing.
 ghost use Rattle.std.specs.Prelude.{◌≡◌, ◌≢◌, List, OnErr, OnOk, true};
 ghost use Rattle.std.specs.Arc.{arc_value};
-ghost use Rattle.kn_store.specs.declared.update.Update.{Update};
+ghost use Rattle.kn_history.specs.declared.update.Update.{Update};
 ghost use Rattle.kn_session.specs.Calls.{Set, call_of};
 ghost use Rattle.kn_session.specs.declared.fault.SessionFault.TheVariants as F;
 ghost use Rattle.kn_wire.specs.Digits.{bytes_of_digits};
 ghost use Rattle.kn_wire.specs.Requests.{are_digits};
-ghost use Rattle.kn_daemon.specs.Shapes.{Calls, Looks, ForNew, ForOpen, ForRetained, shape_in_code, IsFormed};
+ghost use Rattle.kn_daemon.specs.Shapes.{Calls, Asks, Looks, ForNew, ForOpen, ForRetained, ForStanding, ToKeep, shape_in_code, IsFormed};
 ghost use Rattle.kn_play.specs.Playing.{state_of_sessions, applied, NumbersGoOn};
 
+use crate::asking::read_query;
 use kn_base::NoMemory;
 use kn_daemon::shape::Shape;
 use kn_session::{Call, SessionFault, Sessions};
@@ -16,8 +17,8 @@ use kn_store::{Book, Snapshot};
 use kn_wire::decode_digits;
 use std::alloc::Global;
 
-/// Applies a request of this shape. ADMIN, ADD, DROP, BATCH and LOG are always refused. A QUERY changes nothing, nor does
-/// BYE.
+/// Applies a request of this shape. ADMIN, ADD, DROP, BATCH and LOG are always refused. QUERY, CRITICAL and BYE change
+/// nothing.
 pub(crate) fn apply(
     alloc: Global,
     book: &Book,
@@ -32,6 +33,8 @@ pub(crate) fn apply(
         Shape::Open => start(book, sessions),
         Shape::Pin { s } => repin(book, sessions, s),
         Shape::PinAt { s, version } => repin_at(book, sessions, s, version),
+        Shape::News { s } => move_standing(book, sessions, s),
+        Shape::Watch { s, values } => watch(alloc, sessions, s, values),
         Shape::Call { s, call } => apply_call(alloc, sessions, s, call),
         Shape::SetDigits { s, name, digits } => set_digits(alloc, sessions, s, name, digits),
         Shape::Add { .. }
@@ -39,6 +42,7 @@ pub(crate) fn apply(
         | Shape::Batch { .. }
         | Shape::Log { .. }
         | Shape::Query { .. }
+        | Shape::Critical { .. }
         | Shape::Admin { .. }
         | Shape::Bye => Ok(()),
     }
@@ -95,6 +99,30 @@ fn pin_to(snapshot: &Snapshot, sessions: &mut Sessions, s: u32) -> Result<(), No
     };
     let _pinned = sessions.repin(s, pinned);
     Ok(())
+}
+
+/// Moves the standing query of a session, if it has one, to the newest version.
+fn move_standing(book: &Book, sessions: &mut Sessions, s: u32) -> Result<(), NoMemory>
+    ensures { OnOk result (state_of_sessions sessions.new ≡ applied book.now sessions.old (Looks (ForStanding s))) }
+{
+    let Ok(newest) = book.snapshot().clone() else {
+        return Err(NoMemory);
+    };
+    let _moved = sessions.move_standing(s, newest);
+    Ok(())
+}
+
+/// Keeps what a session asks, where that is answered, as its standing query.
+fn watch(alloc: Global, sessions: &mut Sessions, s: u32, names: &[u8]) -> Result<(), NoMemory>
+    ensures { (history : List Update) → OnOk result (state_of_sessions sessions.new ≡ applied history sessions.old (Asks ToKeep s names.now)) }
+{
+    match read_query(alloc, sessions, s, names)? {
+        Some(asked) => match sessions.watch(s, asked.values) {
+            Ok(()) => Ok(()),
+            Err(fault) => pass_refusal(fault),
+        },
+        None => Ok(()),
+    }
 }
 
 /// Applies a call of a session.

@@ -1,6 +1,6 @@
 //! What a QUERY asks.
 ghost use Rattle.std.specs.Prelude.{IfOk};
-ghost use Rattle.kn_daemon.specs.Shapes.{Asks, shape_in_code};
+ghost use Rattle.kn_daemon.specs.Shapes.{Asks, WithProof, shape_in_code};
 ghost use Rattle.kn_play.specs.Playing.{state_of_sessions, AsksFor};
 
 use kn_base::NoMemory;
@@ -32,6 +32,9 @@ pub(crate) fn read_asked(
         | Shape::Pin { .. }
         | Shape::PinAt { .. }
         | Shape::Log { .. }
+        | Shape::News { .. }
+        | Shape::Watch { .. }
+        | Shape::Critical { .. }
         | Shape::Add { .. }
         | Shape::Remove { .. }
         | Shape::Batch { .. }
@@ -41,13 +44,13 @@ pub(crate) fn read_asked(
 }
 
 /// What a QUERY of these names asks of the session of this number.
-fn read_query(
+pub(crate) fn read_query(
     alloc: Global,
     sessions: &Sessions,
     session: u32,
     names: &[u8],
 ) -> Result<Option<Asked>, NoMemory>
-    ensures { IfOk result (AsksFor (state_of_sessions sessions.now) (Asks session names.now)) }
+    ensures { IfOk result (AsksFor (state_of_sessions sessions.now) (Asks WithProof session names.now)) }
 {
     match sessions.view(session) {
         Ok(_) => {}

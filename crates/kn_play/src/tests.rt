@@ -3,7 +3,8 @@
 use super::find_query;
 use kn_assert::read;
 use kn_base::limits::FILE_BYTES;
-use kn_store::{Book, Ready, Version};
+use kn_history::Ready;
+use kn_store::{Book, Version};
 use std::alloc::Global;
 use std::process::Abort;
 use std::test::Fail;

@@ -1,8 +1,8 @@
 use Rattle.std.proofs.Common.{◌≡◌, ◌∙◌, sym, subst, Option, Some, List}
 use Rattle.std.specs.Prelude.{OnOk}
 use Rattle.std.specs.Arc.{arc_value}
-use Rattle.kn_store.specs.declared.update.Update.{Update}
-use Rattle.kn_store.specs.Retained.{retained_version}
+use Rattle.kn_history.specs.declared.update.Update.{Update}
+use Rattle.kn_history.specs.Retained.{retained_version}
 use Rattle.kn_play.specs.Playing.{state_of_sessions}
 use Rattle.kn_play.proofs.Retained.{after_pin, not-retained}
 use Rattle.kn_play.proofs.applying.repin_at.Goals as goal
