@@ -14,8 +14,8 @@ use Rattle.kn_proof.specs.declared.reply.ReadReply.{ReadReply}
 use Rattle.kn_proof.proofs.Only.{one_reply, reply_without_fault}
 use Rattle.kn_reply.specs.declared.refusal.LimitWord.{LimitWord}
 use Rattle.kn_session.specs.Sessions.{Session}
-use Rattle.kn_store.specs.Loading.{IsLoadable, IsFaultyAt}
-use Rattle.kn_store.proofs.Loading.{ends_once}
+use Rattle.kn_history.specs.Loading.{IsLoadable, IsFaultyAt}
+use Rattle.kn_history.proofs.Loading.{ends_once}
 use Rattle.kn_daemon.specs.Daemon.{equations_of}
 use Rattle.kn_daemon.specs.declared.ended.Ended.{Ended}
 use Rattle.kn_daemon.specs.declared.ended.Ended.TheVariants as E

@@ -8,8 +8,8 @@ use Rattle.kn_auth.specs.declared.key_file.KeyFile.{KeyFile}
 use Rattle.kn_files.specs.Pieces.{pieces_of}
 use Rattle.kn_proof.specs.declared.reply.ReadReply.{ReadReply}
 use Rattle.kn_session.specs.Sessions.{Session}
-use Rattle.kn_store.specs.History.{loaded_history}
-use Rattle.kn_store.specs.Loading.{IsLoadable}
+use Rattle.kn_history.specs.History.{loaded_history}
+use Rattle.kn_history.specs.Loading.{IsLoadable}
 use Rattle.kn_play.specs.Meaning.{Means, OneQueryOfScript}
 use Rattle.kn_commands.specs.Names.{AskNames, CheckNames}
 use Rattle.keynoted.specs.Calling.{Holds, Leads, TooLarge, Failed, Passed, KeysLead, AskLeads, IsProofText, ReplyLeads, ScriptLeads, CheckLeads, EndsWith}

@@ -9,8 +9,8 @@ use Rattle.kn_files.specs.Pieces.{pieces_of}
 use Rattle.kn_proof.specs.declared.reply.ReadReply.{ReadReply}
 use Rattle.kn_proof.specs.Reading.{IsReplyText}
 use Rattle.kn_session.specs.Sessions.{Session}
-use Rattle.kn_store.specs.History.{loaded_history}
-use Rattle.kn_store.specs.Loading.{IsLoadable}
+use Rattle.kn_history.specs.History.{loaded_history}
+use Rattle.kn_history.specs.Loading.{IsLoadable}
 use Rattle.kn_meaning.specs.Proofs.{IsProof}
 use Rattle.kn_daemon.specs.Daemon.{equations_of}
 use Rattle.kn_play.specs.Meaning.{Means}

@@ -11,7 +11,7 @@ use Rattle.kn_reply.specs.declared.refusal.LimitWord.{LimitWord}
 use Rattle.kn_daemon.specs.declared.ended.Ended.{Ended}
 use Rattle.kn_daemon.specs.declared.ended.Ended.TheVariants as E
 use Rattle.kn_session.specs.Sessions.{Session}
-use Rattle.kn_store.specs.Loading.{IsFaultyAt}
+use Rattle.kn_history.specs.Loading.{IsFaultyAt}
 use Rattle.kn_commands.specs.declared.stop.Stop.TheVariants.{KeyLine}
 use Rattle.kn_commands.specs.declared.ending.Source.TheVariants as At
 use Rattle.kn_commands.specs.Names.{AskNames, CheckNames, in_order}

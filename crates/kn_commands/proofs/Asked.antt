@@ -6,8 +6,8 @@ use Rattle.kn_outside.specs.Seen.{FilesSeen, LinkSeen}
 use Rattle.kn_outside.specs.Asked.{HasAsked}
 use Rattle.kn_auth.specs.declared.key_file.KeyFile.{KeyFile}
 use Rattle.kn_files.specs.Pieces.{pieces_of}
-use Rattle.kn_store.specs.declared.update.Update.{Update}
-use Rattle.kn_store.specs.History.{loaded_history, own_updates}
+use Rattle.kn_history.specs.declared.update.Update.{Update}
+use Rattle.kn_history.specs.History.{loaded_history, own_updates}
 use Rattle.kn_daemon.specs.Daemon.{Grounds}
 use Rattle.kn_daemon.specs.Alone.{IsServedAlone}
 use Rattle.kn_daemon.specs.Served.{IsServed}
@@ -23,7 +23,7 @@ use Rattle.kn_commands.specs.Held.{HasContent, IsPolicy, AreKeys, IsFileRead}
 use Rattle.kn_load.specs.Loaded.{StopsLoading}
 use Rattle.kn_load.specs.declared.fault.LoadFault.{LoadFault}
 use Rattle.kn_load.specs.declared.fault.LoadFault.TheVariants as L
-use Rattle.kn_store.specs.declared.fault.StoreFault.TheVariants as F
+use Rattle.kn_history.specs.declared.fault.StoreFault.TheVariants as F
 use Rattle.kn_load.proofs.Alone.{alone}
 use Rattle.kn_commands.specs.Stopping.{IsUnread, stop_of}
 use Rattle.kn_commands.specs.Asking.{IsLinkServed, IsLinkAnswered, StopsAtPolicy, StopsAtKeys, AreKeysStopped, grounds_of}

@@ -1,9 +1,9 @@
 -- Loading texts that make a history.
 use Rattle.std.proofs.Common.{◌≡◌, ℕ, List, refl, ap, ◌∙◌, sym, subst}
 use Rattle.atomic_table.specs.Seated.{TableId}
-use Rattle.kn_store.specs.History.{loaded_history}
-use Rattle.kn_store.specs.Loading.{IsLoadable}
-use Rattle.kn_store.specs.Laws.{LoadingEndsOnce}
+use Rattle.kn_history.specs.History.{loaded_history}
+use Rattle.kn_history.specs.Loading.{IsLoadable}
+use Rattle.kn_history.specs.Laws.{LoadingEndsOnce}
 use Rattle.kn_registry.specs.Passes.{PassSeen, IsSoundPass, Looks}
 use Rattle.kn_load.specs.Loaded.{IsLoaded, StopsLoading}
 use Rattle.kn_load.specs.declared.fault.LoadFault.{LoadFault}

@@ -24,7 +24,7 @@ use Rattle.kn_commands.specs.Held.{HasContent, IsFileRead}
 use Rattle.kn_load.specs.Loaded.{StopsLoading}
 use Rattle.kn_load.specs.declared.fault.LoadFault.{LoadFault}
 use Rattle.kn_load.specs.declared.fault.LoadFault.TheVariants as L
-use Rattle.kn_store.specs.declared.fault.StoreFault.TheVariants as F
+use Rattle.kn_history.specs.declared.fault.StoreFault.TheVariants as F
 use Rattle.kn_commands.specs.Stopping.{IsUnread, stop_of}
 use Rattle.kn_commands.specs.Checking.{name_of, count_before, count_to, Reached, LacksAt, StopsCheckAt, ReplyShows, ReadShows, IsTried, CheckCause, ending_of_fault}
 use Rattle.kn_commands.proofs.Files.{too_large_there, keeps_content, asked_both, failed_behind}

@@ -8,8 +8,8 @@ use Rattle.kn_outside.specs.Asked.{HasAsked}
 use Rattle.kn_outside.specs.Faults.{Rose}
 use Rattle.kn_files.specs.Pieces.{pieces_of}
 use Rattle.kn_auth.specs.declared.key_file.KeyFile.{KeyFile}
-use Rattle.kn_store.specs.declared.update.Update.{Update}
-use Rattle.kn_store.specs.History.{loaded_history}
+use Rattle.kn_history.specs.declared.update.Update.{Update}
+use Rattle.kn_history.specs.History.{loaded_history}
 use Rattle.kn_daemon.specs.Daemon.{Grounds}
 use Rattle.kn_registry.specs.Passes.{PassSeen}
 use Rattle.kn_workers.specs.declared.binding.Binding.{Binding}

@@ -8,9 +8,9 @@ use Rattle.kn_files.specs.Pieces.{pieces_of}
 use Rattle.kn_auth.specs.KeyFiles.{IsFirstMalformed}
 use Rattle.kn_auth.specs.Verdicts.{verdict_of}
 use Rattle.kn_auth.specs.declared.key_file.KeyFile.{KeyFile}
-use Rattle.kn_store.specs.declared.update.Update.{Update}
-use Rattle.kn_store.specs.History.{loaded_history}
-use Rattle.kn_store.specs.Loading.{IsFaultyAt}
+use Rattle.kn_history.specs.declared.update.Update.{Update}
+use Rattle.kn_history.specs.History.{loaded_history}
+use Rattle.kn_history.specs.Loading.{IsFaultyAt}
 use Rattle.kn_daemon.specs.Daemon.{Grounds}
 use Rattle.kn_daemon.specs.Alone.{IsServedAlone}
 use Rattle.kn_daemon.specs.Served.{IsServed}

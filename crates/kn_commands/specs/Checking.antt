@@ -6,8 +6,8 @@ use Rattle.kn_files.specs.Pieces.{pieces_of}
 use Rattle.kn_proof.specs.declared.reply.ReadReply.{ReadReply}
 use Rattle.kn_check.specs.declared.reject.Reject.{Reject}
 use Rattle.kn_check.specs.Rejects.{reason_numbers}
-use Rattle.kn_store.specs.History.{loaded_history}
-use Rattle.kn_store.specs.Loading.{IsFaultyAt}
+use Rattle.kn_history.specs.History.{loaded_history}
+use Rattle.kn_history.specs.Loading.{IsFaultyAt}
 use Rattle.kn_session.specs.Sessions.{Session}
 use Rattle.kn_daemon.specs.Daemon.{equations_of}
 use Rattle.kn_play.specs.Meaning.{Means}

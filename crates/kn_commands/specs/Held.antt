@@ -4,7 +4,7 @@ use Rattle.kn_base.specs.declared.limits.TheConstants.{FILE_BYTES}
 use Rattle.kn_outside.specs.Seen.{FilesSeen}
 use Rattle.kn_outside.specs.Asked.{HasAsked}
 use Rattle.kn_files.specs.Pieces.{pieces_of}
-use Rattle.kn_store.specs.Loading.{IsLoadable}
+use Rattle.kn_history.specs.Loading.{IsLoadable}
 use Rattle.kn_auth.specs.KeyFiles.{IsKeyFile}
 use Rattle.kn_auth.specs.declared.key_file.KeyFile.{KeyFile}
 

@@ -5,9 +5,9 @@ use Rattle.kn_outside.specs.Seen.{FilesSeen}
 use Rattle.kn_outside.specs.Asked.{HasAsked, HasFailed}
 use Rattle.kn_fields.specs.declared.fault.ReadFault.{ReadFault}
 use Rattle.kn_fields.specs.Numbers.{fault_number, fault_place}
-use Rattle.kn_store.specs.declared.fault.StoreFault.{StoreFault}
-use Rattle.kn_store.specs.declared.fault.StoreFault.TheVariants as F
-use Rattle.kn_store.specs.Loading.{IsFullAt}
+use Rattle.kn_history.specs.declared.fault.StoreFault.{StoreFault}
+use Rattle.kn_history.specs.declared.fault.StoreFault.TheVariants as F
+use Rattle.kn_history.specs.Loading.{IsFullAt}
 use Rattle.kn_load.specs.declared.fault.LoadFault.{LoadFault}
 use Rattle.kn_load.specs.declared.fault.LoadFault.TheVariants as L
 use Rattle.kn_reply.specs.declared.refusal.LimitWord.{LimitWord}

@@ -3,7 +3,7 @@ ghost use Rattle.std.specs.Prelude.{◌≡◌, ◌∷◌, [], ℕ, List, Some, I
 ghost use Rattle.kn_files.specs.Pieces.{pieces_of};
 ghost use Rattle.kn_outside.specs.Seen.{FilesSeen};
 ghost use Rattle.kn_outside.specs.Asked.{HasAsked};
-ghost use Rattle.kn_store.specs.History.{loaded_history};
+ghost use Rattle.kn_history.specs.History.{loaded_history};
 ghost use Rattle.kn_commands.specs.Held.{IsPolicy, AreKeys};
 ghost use Rattle.kn_load.specs.Loaded.{IsLoaded};
 ghost use Rattle.kn_commands.specs.Asking.{AskCause, IsLinkServed, StopsAtKeys, grounds_of};

@@ -7,8 +7,8 @@ ghost use Rattle.kn_generate.specs.Measured.{IsMeasured};
 use kn_base::NoMemory;
 use kn_generate::laws::generated_texts_load;
 use kn_generate::{Measured, generate_texts, measure};
+use kn_history::laws::loading_ends;
 use kn_load::{LoadFault, load_texts};
-use kn_store::laws::loading_ends;
 use std::alloc::Global;
 use std::sync::Wait;
 

@@ -2,9 +2,9 @@
 ghost use Rattle.std.specs.Prelude.{◌≡◌};
 
 use kn_assert::ReadFault;
+use kn_history::StoreFault;
 use kn_load::LoadFault;
 use kn_reply::LimitWord;
-use kn_store::StoreFault;
 
 /// What stops a command before its work is done.
 #[derive(Debug, Clone, Copy, PartialEq, Eq)]

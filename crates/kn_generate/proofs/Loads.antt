@@ -6,11 +6,11 @@ use Rattle.std.proofs.lemmas.Bool.{le-ltb, lt-leb}
 use Rattle.std.proofs.lemmas.List.Sums.{sum_by-cons}
 use Rattle.std.proofs.lemmas.Fmt.{decimal_digit, decimal_nonempty}
 use Rattle.kn_assert.specs.Reading.{assertion_of}
-use Rattle.kn_store.specs.declared.update.Change.TheVariants.{Add}
-use Rattle.kn_store.specs.declared.update.Numbered.{Numbered}
-use Rattle.kn_store.specs.History.{NumberedText, all_changes, is_removal_of, live, text_bytes, logged_bytes, added_bytes, refusal_of_text, additions_by, loaded_history}
-use Rattle.kn_store.specs.Loading.{IsLoadable, IsAddedBehind}
-use Rattle.kn_store.proofs.Loading.{loadable_nothing, loadable_more}
+use Rattle.kn_history.specs.declared.update.Change.TheVariants.{Add}
+use Rattle.kn_history.specs.declared.update.Numbered.{Numbered}
+use Rattle.kn_history.specs.History.{NumberedText, all_changes, is_removal_of, live, text_bytes, logged_bytes, added_bytes, refusal_of_text, additions_by, loaded_history}
+use Rattle.kn_history.specs.Loading.{IsLoadable, IsAddedBehind}
+use Rattle.kn_history.proofs.Loading.{loadable_nothing, loadable_more}
 use Rattle.kn_generate.specs.declared.draws.Numbers.{Numbers}
 use Rattle.kn_generate.specs.Generated.{numbers_of, draw_value, state_behind, policy_text, credential_text, credential_texts, generated_texts}
 use Rattle.kn_generate.proofs.Scans.{bytes_of}

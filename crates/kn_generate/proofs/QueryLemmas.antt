@@ -1,12 +1,12 @@
 -- What is asked, and what is counted of its system.
-use Rattle.std.proofs.Common.{◌≡◌, ℕ, zero, suc, Bool, true, false, not, ◌&&◌, ◌+◌, ◌-◌, ◌*◌, ◌<◌, ◌≤◌, List, [], ◌∷◌, map, length, drop, drop-cons, refl, sym, ◌∙◌, ap, subst, codes, arith, if◌then◌else◌}
+use Rattle.std.proofs.Common.{◌≡◌, ℕ, zero, suc, Bool, true, false, not, ◌&&◌, ◌+◌, ◌-◌, ◌*◌, ◌<◌, ◌≤◌, List, [], ◌∷◌, map, length, drop, drop-cons, refl, sym, ◌∙◌, ap, subst, codes, arith, if◌then◌else◌, None}
 use Rattle.std.specs.Prelude.{nat_lt, slice_index, slice_index_or, decimal}
 use Rattle.std.proofs.lemmas.List.Elements.{All-get_or}
 use Rattle.std.specs.List.{IsDistinct}
 use Rattle.kn_env.specs.Attributes.{Attribute}
 use Rattle.kn_env.specs.Environment.{AreRequesters}
 use Rattle.kn_env.proofs.Requesters.{AreRequesters-none, AreRequesters-push}
-use Rattle.kn_store.specs.declared.update.Update.{Update}
+use Rattle.kn_history.specs.declared.update.Update.{Update}
 use Rattle.kn_session.specs.declared.view.Private.{Private}
 use Rattle.kn_session.specs.Views.{ArePrivates, numbered_text}
 use Rattle.kn_meaning.specs.Equations.{Equations}
@@ -30,7 +30,7 @@ last_requests n requesters short e =
 
 pub query_is : (h : List Update) (n : ℕ) (privates : List Private) (attributes : List Attribute) (requesters values : List (List ℕ)) → privates ≡ [] → attributes ≡ generated_attributes → requesters ≡ last_principal n ∷ []
     → values ≡ generated_values
-    → equations_of (record { number = 1; pinned = h; privates = map numbered_text privates; made = 0; attributes = attributes; requesters = requesters }) values ≡ query_over h n
+    → equations_of (record { number = 1; pinned = h; privates = map numbered_text privates; made = 0; attributes = attributes; requesters = requesters; standing = None }) values ≡ query_over h n
 query_is h n privates attributes requesters values a b c d = rw (a, b, c, d) refl
 
 rounds_fit : (s : SystemEquations) → KeepsLevels s → (n : ℕ) (levels : List ℕ) → AreLevels s levels → AreLevels s (rounds s n levels)

@@ -1,8 +1,8 @@
 -- The generator (keynoted's own): which credentials and which query a start and a number of credentials give.
-use Rattle.std.specs.Prelude.{ℕ, suc, zero, ◌+◌, ◌-◌, ◌*◌, ◌/◌, ◌%◌, List, [], ◌∷◌, ◌++◌, codes, decimal, flat_map}
+use Rattle.std.specs.Prelude.{ℕ, suc, zero, ◌+◌, ◌-◌, ◌*◌, ◌/◌, ◌%◌, List, [], ◌∷◌, ◌++◌, None, codes, decimal, flat_map}
 use Rattle.kn_env.specs.Attributes.{Attribute}
-use Rattle.kn_store.specs.declared.update.Update.{Update}
-use Rattle.kn_store.specs.History.{loaded_history}
+use Rattle.kn_history.specs.declared.update.Update.{Update}
+use Rattle.kn_history.specs.History.{loaded_history}
 use Rattle.kn_session.specs.Sessions.{Session}
 use Rattle.kn_meaning.specs.Equations.{Equations}
 use Rattle.kn_daemon.specs.Daemon.{equations_of}
@@ -74,6 +74,7 @@ generated_session history n = record {
   made = 0;
   attributes = generated_attributes;
   requesters = last_principal n ∷ [];
+  standing = None;
 }
 
 -- what is asked over these credentials

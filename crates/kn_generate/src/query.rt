@@ -1,8 +1,11 @@
 //! What is told of the generator's query.
-ghost use Rattle.std.specs.Prelude.{◌≡◌, ◌<◌, ◌≤◌, ◌∷◌, [], length, slice_get, Some, IfOk};
+ghost use Rattle.std.specs.Prelude.{◌≡◌, ◌<◌, ◌≤◌, ◌∷◌, [], length, map, slice_get, None, Some, IfOk};
 ghost use Rattle.kn_base.specs.declared.limits.TheConstants.{GENERATED_CREDENTIALS};
 ghost use Rattle.std.specs.Arc.{arc_value};
+ghost use Rattle.kn_env.specs.Environment.{AreRequesters};
 ghost use Rattle.kn_meaning.specs.Equations.{Equations};
+ghost use Rattle.kn_session.specs.Views.{numbered_text, AreReadPrivates, ArePrivates};
+ghost use Rattle.kn_daemon.specs.Daemon.{equations_of};
 ghost use Rattle.kn_answer.specs.Built.{IsBuilt};
 ghost use Rattle.kn_generate.specs.Generated.{query_over, last_principal, generated_attributes, generated_values};
 ghost use Rattle.kn_generate.specs.Measured.{granted_count, granted_count_at, IsMeasured};
@@ -12,7 +15,7 @@ use kn_answer::{Built, Tally};
 use kn_base::{List, NoMemory, Octets, Steps};
 use kn_env::{Attributes, EnvFault, Values, ValuesFault};
 use kn_query::build_query;
-use kn_session::View;
+use kn_session::{Private, View};
 use kn_settle::settle;
 use kn_store::Snapshot;
 use kn_system::{System, laws};
@@ -60,15 +63,41 @@ pub fn build_generated(alloc: Global, snapshot: &Snapshot, count: u32) -> Result
     let attributes = attributes(alloc)?;
     let requesters = requesters(alloc, count)?;
     let private = List::new(alloc);
+    build_asked(alloc, snapshot, &private, &attributes, &requesters, &values)
+}
+
+/// The system of what a session with these asks over a version.
+fn build_asked<'a>(
+    alloc: Global,
+    snapshot: &'a Snapshot,
+    private: &'a List<Private>,
+    attributes: &'a Attributes,
+    requesters: &'a List<Octets>,
+    values: &Values,
+) -> Result<Built, NoMemory>
+    requires privates { ArePrivates (map numbered_text private.now) }
+    requires readings { AreReadPrivates private.now }
+    requires requesters { AreRequesters requesters.now }
+    ensures { IfOk result (λ built. IsBuilt (equations_of (record {
+      number = 1;
+      pinned = arc_value snapshot.now;
+      privates = map numbered_text private.now;
+      made = 0;
+      attributes = attributes.now;
+      requesters = requesters.now;
+      standing = None;
+    }) values.now) built) }
+{
     let view = View {
         number: 1,
         made: 0,
         snapshot,
-        private: &private,
-        attributes: &attributes,
-        requesters: &requesters,
+        private,
+        attributes,
+        requesters,
+        standing: None,
     };
-    build_query(alloc, &view, &values)
+    build_query(alloc, &view, values)
 }
 
 /// The compliance values of the query.

@@ -7,7 +7,7 @@ use Rattle.kn_proof.specs.declared.named.Id.{Id}
 use Rattle.kn_proof.specs.declared.row.Row.{Row}
 use Rattle.kn_proof.specs.declared.reply.ReadReply.{ReadReply}
 use Rattle.kn_proof.specs.Reading.{IsHeadOf}
-use Rattle.kn_store.specs.declared.update.Update.{Update}
+use Rattle.kn_history.specs.declared.update.Update.{Update}
 use Rattle.kn_system.specs.Least.{least_levels}
 use Rattle.kn_system.specs.Lawful.{LeastLevelsAreLeast}
 use Rattle.kn_system.specs.Proofs.{IsProof}

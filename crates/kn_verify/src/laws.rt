@@ -8,8 +8,8 @@ pub fn one_verdict()
     ensures not_both { NotBoth }
 {}
 
-/// What the daemon answers to a query is a VALUE reply that proves its value, and such a reply is accepted: `verify` refuses it
-/// for want of memory alone.
+/// What the daemon answers to a query is a VALUE reply that proves its value, and such a reply is accepted: `verify`
+/// refuses it for want of memory alone.
 pub fn answers_are_accepted()
     ensures proved { AnswersAreProved }
     ensures accepted { ProvedIsAccepted }

@@ -24,8 +24,8 @@ use std::alloc::Global;
 /// Why a reply isn't accepted.
 #[derive(Debug, Clone, Copy, PartialEq, Eq)]
 pub enum Refused {
-    /// It is the reply to another query: its version isn't the one that the session is pinned to, or its name isn't that of
-    /// its value among the query's.
+    /// It is the reply to another query: its version isn't the one that the session is pinned to, or its name isn't
+    /// that of its value among the query's.
     Other,
     /// Its rows are no proof of its value: the first item that fails.
     Rejected(Reject),
@@ -83,7 +83,12 @@ pub fn is_reply_to(head: &ReplyHead<'_>, view: &View<'_>, values: &Values) -> bo
 
 /// Whether a head tells this version, and one of these values by its name.
 fn tells(head: &ReplyHead<'_>, version: u32, values: &Values) -> bool
-    ensures { IsTrue result ↔ IsReplyTo version values.now (record { value = head.now.value; name = head.now.name.now; version = head.now.version; rows = [] }) }
+    ensures { IsTrue result ↔ IsReplyTo version values.now (record {
+      value = head.now.value;
+      name = head.now.name.now;
+      version = head.now.version;
+      rows = [];
+    }) }
 {
     head.version == version && head.value < values.len() && head.name == values.name(head.value)
 }

@@ -2,8 +2,8 @@ use Rattle.std.proofs.Common.{◌≡◌, ◌∙◌, ◌∷◌, [], List as Of, �
 use Rattle.kn_outside.specs.Asked.{HasAsked}
 use Rattle.kn_files.specs.Pieces.{pieces_of}
 use Rattle.kn_session.specs.Sessions.{Session}
-use Rattle.kn_store.specs.declared.update.Update.{Update}
-use Rattle.kn_store.specs.History.{loaded_history}
+use Rattle.kn_history.specs.declared.update.Update.{Update}
+use Rattle.kn_history.specs.History.{loaded_history}
 use Rattle.kn_play.specs.Meaning.{Means, IsMeantQuery}
 use Rattle.kn_commands.specs.Names.{in_order}
 use Rattle.kn_commands.specs.declared.ending.Source.TheVariants.{Script as TheScript}

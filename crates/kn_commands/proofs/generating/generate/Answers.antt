@@ -1,8 +1,8 @@
 use Rattle.std.proofs.Common.{◌≡◌, ◌∙◌, List, subst}
 use Rattle.std.specs.Prelude.{IfOk}
 use Rattle.std.specs.Arc.{arc_value}
-use Rattle.kn_store.specs.declared.update.Update.{Update}
-use Rattle.kn_store.specs.History.{loaded_history}
+use Rattle.kn_history.specs.declared.update.Update.{Update}
+use Rattle.kn_history.specs.History.{loaded_history}
 use Rattle.kn_generate.specs.Generated.{query_over, generated_texts}
 use Rattle.kn_generate.specs.Measured.{IsMeasured}
 use Rattle.kn_commands.proofs.GenLoads.{looks_loaded}

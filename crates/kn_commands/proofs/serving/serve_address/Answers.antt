@@ -4,7 +4,7 @@ use Rattle.kn_workers.specs.declared.binding.Binding.{Binding}
 use Rattle.kn_workers.specs.Workers.{AllServed}
 use Rattle.kn_workers.proofs.ShareLaws.{shares_add_up}
 use Rattle.kn_daemon.specs.Daemon.{Grounds}
-use Rattle.kn_store.specs.History.{loaded_history}
+use Rattle.kn_history.specs.History.{loaded_history}
 use Rattle.kn_commands.specs.Asking.{grounds_of}
 use Rattle.kn_commands.specs.Serving.{Order, ServesOver}
 use Rattle.kn_commands.specs.declared.serve_ending.ServeEnding.TheVariants.{DoorFailed, Served}
