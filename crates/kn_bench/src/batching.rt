@@ -1,14 +1,15 @@
 //! What a batch of 256 changes costs at 2,048 live credentials.
 //!
-//! Untimed, one batch is made and its version is printed, then the first refused item of a batch for which there is no room,
-//! and which versions a book retains.
+//! Untimed, one batch is made and its version is printed, then the first refused item of a batch for which there is no
+//! room, and which versions a book retains.
 ghost use Rattle.std.specs.Prelude.{◌≡◌, ◌≤◌, length, IfOk};
 ghost use Rattle.kn_base.specs.declared.limits.TheConstants.{CHANGES};
 
 use crate::updating::{TEXT, fill_book, keep, make_ready};
 use kn_base::limits::CHANGES;
 use kn_base::{List, NoMemory};
-use kn_store::{BatchFault, Book, Done, Item, Snapshot};
+use kn_history::{BatchFault, Item};
+use kn_store::{Book, Done, Snapshot};
 use std::alloc::Global;
 use std::io;
 use std::rt::Clock;
@@ -73,7 +74,8 @@ fn remove_batch(alloc: Global, book: &mut Book, first: u32) -> Result<Done, Batc
     make(book, items)
 }
 
-/// The nanoseconds of a batch of additions and of one that removes them again, or None where there is no memory for them.
+/// The nanoseconds of a batch of additions and of one that removes them again, or None where there is no memory for
+/// them.
 fn time_pair(
     clock: &impl Clock,
     alloc: Global,

@@ -4,14 +4,16 @@ ghost use Rattle.std.specs.Prelude.{◌≡◌, ◌≤◌, ◌<◌, None, IfSome}
 ghost use Rattle.kn_wire.specs.Feeding.{next_of};
 ghost use Rattle.kn_wire.specs.Feeds.{held};
 
-use kn_wire::{Feed, PIECE_BYTES};
+use kn_wire::{Feed, PIECE_BYTES, WireFault};
 use std::alloc::{AllocError, Global};
 use std::io;
 use std::rt::Clock;
 use std::time::Instant;
 
 const REQUESTS: &[u8] =
-    b"OPEN\nSET 1 app_domain doors\nSETX 1 hour 3132\nAUTH 1 alice\nQUERY 1 no,ring,open\nUNAUTH 1 alice\nASSERT 1 23\nAuthorizer: \"director\"\n\nRETRACT 1 p1\nCLOSE 1\nOPEN 1\nPIN 1 2\nLOG 0\nBATCH 8\nDROP a1\n\n";
+    b"OPEN\nSET 1 app_domain doors\nSETX 1 hour 3132\nAUTH 1 alice\nQUERY 1 no,ring,open\nUNAUTH 1 alice\n\
+    ASSERT 1 23\nAuthorizer: \"director\"\n\nRETRACT 1 p1\nCLOSE 1\nOPEN 1\nPIN 1 2\nLOG 0\nBATCH 8\nDROP a1\n\n\
+    WATCH 1 no,ring,open\nNEWS 1\nUNWATCH 1\nCRITICAL 1 no,ring,open\n";
 
 /// The bytes of a stream.
 const STREAM_BYTES: usize = 262_144;
@@ -34,7 +36,10 @@ fn take_all(feed: &mut Feed) -> Option<u32>
         match feed.next() {
             Ok(None) => return Some(taken),
             Ok(Some(_)) => taken = taken.wrapping_add(1),
-            Err(_) => taken = taken.wrapping_add(1),
+            Err(WireFault::Syntax | WireFault::Command | WireFault::Long) => {
+                taken = taken.wrapping_add(1);
+            }
+            Err(WireFault::Block { .. }) => return None,
         }
     }
     None

@@ -10,7 +10,8 @@ use std::rt::Clock;
 use std::time::Instant;
 
 const ASSERTION: &[u8] =
-    b"Authorizer: \"POLICY\"\nLicensees: 2-of(\"alice\", \"bob\\n\") || \"carol\"\nConditions: app_domain == \"IPsec policy\" && @level > 12 -> \"true\";\n# noted\nComment: read\n by nobody\n";
+    b"Authorizer: \"POLICY\"\nLicensees: 2-of(\"alice\", \"bob\\n\") || \"carol\"\n\
+    Conditions: app_domain == \"IPsec policy\" && @level > 12 -> \"true\";\n# noted\nComment: read\n by nobody\n";
 
 /// Calls in one measurement.
 const ROUNDS: u32 = 200;
@@ -95,7 +96,8 @@ pub(crate) fn measure_lexing(rt: &HostRuntime, is_timed: bool) -> io::Result<()>
         let (lexed, scanned) = least(rt, rt.alloc(), text.as_slice())?;
         let bytes = size as u128 * u128::from(ROUNDS);
         println!(rt;
-            "{size} bytes: {} ns a call, {} MB/s, {} times a plain scan (in tenths), {} times the size before (in hundredths)",
+            "{size} bytes: {} ns a call, {} MB/s, {} times a plain scan (in tenths), \
+            {} times the size before (in hundredths)",
             lexed / u128::from(ROUNDS),
             bytes.saturating_mul(1_000).checked_div(lexed).unwrap_or(0),
             lexed.saturating_mul(10).checked_div(scanned).unwrap_or(0),

@@ -1,10 +1,11 @@
-//! What parts of keynoted take by themselves: the lexer, the feed of requests, an update of the book, and settling a system.
+//! What parts of keynoted take by themselves: the lexer, the feed of requests, an update of the book, and settling a
+//! system.
 //!
-//! Without words each part is run once, and what it gives is printed, which is the same on each machine. `PART` does that
-//! for one of `lexer`, `feed`, `updates`, `batches` and `settling`, and `PART time` prints what it takes.
-//! `keep LIVE COUNT` makes so many updates at so many live credentials and keeps each version, and `keep-batches LIVE COUNT`
-//! so many batches. `books LIVE COUNT` makes 64 books of so many updates and keeps them, and `newest LIVE COUNT` the newest
-//! version of each alone.
+//! Without words each part is run once, and what it gives is printed, which is the same on each machine. `PART` does
+//! that for one of `lexer`, `feed`, `updates`, `batches` and `settling`, and `PART time` prints what it takes.
+//! `keep LIVE COUNT` makes so many updates at so many live credentials and keeps each version, and
+//! `keep-batches LIVE COUNT` so many batches. `books LIVE COUNT` makes 64 books of so many updates and keeps them, and
+//! `newest LIVE COUNT` the newest version of each alone.
 #![tactic(auto)]
 
 mod batching;

@@ -1,8 +1,9 @@
-//! How long building and settling a system takes: chains in the order that is worst for scans of the rows, in the best, and
-//! mixed formulas, of 128 to 4,096 rows.
+//! How long building and settling a system takes: chains in the order that is worst for scans of the rows, in the best,
+//! and mixed formulas, of 128 to 4,096 rows.
 //!
 //! Untimed, what was settled is printed: the policy's level, the rows of the proof and the steps. Timed, it is the
-//! nanoseconds of building and of settling each system, each the least of several rounds. `bench/settle_c` does the same in C.
+//! nanoseconds of building and of settling each system, each the least of several rounds. `bench/settle_c` does the
+//! same in C.
 
 ghost use Rattle.std.specs.Prelude.{◌≤◌, All, length};
 ghost use Rattle.kn_bench.specs.Rows.{IsStated};
