@@ -1,8 +1,9 @@
 //! Two passes of one registry in turn: what one adds the other has seen once they met, and a snapshot stays as it was.
 use crate::history::lacks_memory;
 use kn_assert::read;
+use kn_history::{Ready, StoreFault};
 use kn_registry::Registry;
-use kn_store::{Ready, StoreFault, Version};
+use kn_store::Version;
 use std::alloc::Global;
 use std::io;
 use std::sync::Wait;

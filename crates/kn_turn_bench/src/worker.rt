@@ -5,8 +5,8 @@ ghost use Rattle.kn_registry.specs.Passes.{IsReady};
 use crate::event::{Event, print_of_text, print_of_version};
 use crate::replay::Run;
 use kn_assert::read;
+use kn_history::Ready;
 use kn_registry::{Pass, Registry};
-use kn_store::Ready;
 use std::alloc::Global;
 use std::sync::Wait;
 
