@@ -1,5 +1,5 @@
 -- That the connection of an administrator who adds a credential is served as it says.
-use Rattle.std.proofs.Common.{ℕ, [], ◌∷◌, codes, refl, sym, subst, inr, le_refl, zero-le, arith}
+use Rattle.std.proofs.Common.{ℕ, [], ◌∷◌, codes, refl, sym, subst, le_refl, arith, List}
 use Rattle.std.specs.Fmt.{digits}
 use Rattle.kn_meaning.specs.Equations.{Equations, IsPolicyLevel}
 use Rattle.kn_meaning.specs.Proofs.{IsProof}
@@ -8,10 +8,13 @@ use Rattle.kn_reply.specs.declared.refusal.Refusal.TheVariants as R
 use Rattle.kn_reply.specs.Replies.{Done, Started, Added, Value, Number}
 use Rattle.kn_daemon.specs.Shapes.{shape_of}
 use Rattle.kn_daemon.specs.Daemon.{State, changed}
+use Rattle.kn_daemon.specs.Linearized.{Exchange, requests_in}
 use Rattle.kn_worked.specs.Texts.{credential_text}
 use Rattle.kn_worked.specs.Connections.{policy_history, longer_history, BobIsAnswered}
-use Rattle.kn_worked.proofs.Levels.{two_values, policy_row, alice_row, bob_level, bob_proof, bob_session, bob_question, longer_level, longer_proof, later_session, later_question, policy_valid}
+use Rattle.kn_worked.proofs.Levels.{two_values, policy_row, alice_row, bob_level, bob_proof, bob_session, bob_question}
+use Rattle.kn_worked.proofs.Levels.{longer_level, longer_proof, later_session, later_question, policy_valid}
 use Rattle.kn_worked.proofs.Admin.{after_open, after_admin, credential_valid, admitted, same_caller}
+use Rattle.kn_worked.proofs.Turns.{turns_stand, all_answered}
 
 after_auth : State
 after_auth = changed policy_history after_admin (shape_of (Auth 1 (codes "bob")))
@@ -19,16 +22,25 @@ after_auth = changed policy_history after_admin (shape_of (Auth 1 (codes "bob"))
 after_pin : ℕ → State
 after_pin caller = changed (longer_history caller) after_auth (shape_of (Pin 1))
 
+abbrev bob_exchanges : List Exchange
+bob_exchanges =
+    record { request = Open; reply = Started 1 1; place = 1 }
+    ∷ record { request = Admin (codes "733363726574"); reply = Done; place = 1 }
+    ∷ record { request = Auth 1 (codes "bob"); reply = Done; place = 1 }
+    ∷ record { request = Add credential_text; reply = Added 2 2; place = 2 }
+    ∷ record { request = Query 1 (codes "no,yes"); reply = Value 0 (codes "no") 1 []; place = 2 }
+    ∷ record { request = Pin 1; reply = Number 2; place = 2 }
+    ∷ record {
+      request = Query 1 (codes "no,yes");
+      reply = Value 1 (codes "yes") 2
+          (alice_row ∷ policy_row ∷ []);
+      place = 2;
+    } ∷ []
+
 pub bob_is_answered : BobIsAnswered
 unfolding digits after_auth after_pin
 bob_is_answered g caller secret verdict = record {
-  exchanges = record { request = Open; reply = Started 1 1; place = 1 }
-      ∷ record { request = Admin (codes "733363726574"); reply = Done; place = 1 }
-      ∷ record { request = Auth 1 (codes "bob"); reply = Done; place = 1 }
-      ∷ record { request = Add credential_text; reply = Added 2 2; place = 2 }
-      ∷ record { request = Query 1 (codes "no,yes"); reply = Value 0 (codes "no") 1 []; place = 2 }
-      ∷ record { request = Pin 1; reply = Number 2; place = 2 }
-      ∷ record { request = Query 1 (codes "no,yes"); reply = Value 1 (codes "yes") 2 (alice_row ∷ policy_row ∷ []); place = 2 } ∷ [];
+  exchanges = bob_exchanges;
   rest = [];
   last = after_pin caller;
   requests = (_, refl, (_, refl, (_, refl, (_, refl, (_, refl, (_, refl, (_, refl, refl)))))));
@@ -83,7 +95,9 @@ bob_is_answered g caller secret verdict = record {
                       level = 1;
                       rows = alice_row ∷ policy_row ∷ [];
                       told = refl;
-                      proved = subst (λ (e : Equations). IsProof e (alice_row ∷ policy_row ∷ []) 1) (sym (later_question caller)) longer_proof;
+                      proved =
+                          subst (λ (e : Equations). IsProof e (alice_row ∷ policy_row ∷ []) 1)
+                          (sym (later_question caller)) longer_proof;
                       least = subst (λ (e : Equations). IsPolicyLevel e 1) (sym (later_question caller)) longer_level;
                     };
                   };
@@ -102,10 +116,10 @@ bob_is_answered g caller secret verdict = record {
     within = le_refl 2;
     in_order = (le_refl 1, (le_refl 1, (le_refl 1, (omega arith, (le_refl 2, (le_refl 2, (le_refl 2, le_refl 2)))))));
     own = rw (same_caller caller) refl;
-    stopped = (1 ∷ [], _, refl, ([], _, zero-le, ([], _, zero-le, (2 ∷ [], _, refl, ([], _, zero-le, (2 ∷ [], _, refl, ([], [], zero-le, refl, refl), refl), refl), refl), refl), refl), refl);
+    stopped = turns_stand bob_exchanges;
   };
   bytes = refl;
   one_bye = refl;
   count = omega arith;
-  why = inr (record { no_more = refl; goes_on = record { no_bye = refl; no_block = refl }; fewer = omega arith }, refl, refl);
+  why = all_answered (requests_in bob_exchanges) refl refl (omega arith);
 }

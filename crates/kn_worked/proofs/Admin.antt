@@ -23,10 +23,13 @@ pub credential_valid : is_some (result_ok (reading_of credential_text)) ≡ true
 credential_valid = ap (λ (r : Result Assertion ReadFault). is_some (result_ok r)) credential_reading
 
 -- the credential is admitted, however a refusal would be told
-pub admitted : {X : Type 0} (read : ℕ → ℕ → X) (auth : ℕ → X) (g : Grounds) → g.verdict credential_text credential_assertion ≡ 0
-    → refusal_at_reading read (reading_of credential_text) (λ a. refusal_at_verdict auth (g.verdict credential_text a)) ≡ None
+pub admitted : {X : Type 0} (read : ℕ → ℕ → X) (auth : ℕ → X) (g : Grounds)
+    → g.verdict credential_text credential_assertion ≡ 0
+    → refusal_at_reading read (reading_of credential_text)
+    (λ a. refusal_at_verdict auth (g.verdict credential_text a)) ≡ None
 admitted read auth g verdict =
-    ap (λ (r : Result Assertion ReadFault). refusal_at_reading read r (λ a. refusal_at_verdict auth (g.verdict credential_text a))) credential_reading
+    ap (λ (r : Result Assertion ReadFault). refusal_at_reading read r
+    (λ a. refusal_at_verdict auth (g.verdict credential_text a))) credential_reading
     ∙ ap (refusal_at_verdict auth) verdict
 
 pub same_caller : (caller : ℕ) → (caller == caller) ≡ true

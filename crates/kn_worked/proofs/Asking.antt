@@ -1,5 +1,5 @@
 -- That a worked connection is served as it says.
-use Rattle.std.proofs.Common.{[], ◌∷◌, codes, refl, sym, subst, inr, le_refl, zero-le, arith}
+use Rattle.std.proofs.Common.{[], ◌∷◌, codes, refl, sym, subst, le_refl, arith, List}
 use Rattle.std.specs.Fmt.{digits}
 use Rattle.kn_meaning.specs.Equations.{Equations, IsPolicyLevel}
 use Rattle.kn_meaning.specs.Proofs.{IsProof}
@@ -7,8 +7,11 @@ use Rattle.kn_wire.specs.Requests.{Open, Auth, Query}
 use Rattle.kn_reply.specs.Replies.{Done, Started, Value}
 use Rattle.kn_daemon.specs.Shapes.{shape_of}
 use Rattle.kn_daemon.specs.Daemon.{State, first_state, changed}
+use Rattle.kn_daemon.specs.Linearized.{Exchange, requests_in}
 use Rattle.kn_worked.specs.Connections.{policy_history, AliceIsAnswered}
-use Rattle.kn_worked.proofs.Levels.{two_values, policy_row, alice_level, alice_proof, alice_session, alice_question, policy_valid}
+use Rattle.kn_worked.proofs.Levels.{two_values, policy_row, alice_level, alice_proof, alice_session, alice_question}
+use Rattle.kn_worked.proofs.Levels.{policy_valid}
+use Rattle.kn_worked.proofs.Turns.{turns_stand, all_answered}
 
 abbrev pub after_open : State
 after_open = changed policy_history first_state (shape_of Open)
@@ -16,11 +19,16 @@ after_open = changed policy_history first_state (shape_of Open)
 abbrev pub after_auth : State
 after_auth = changed policy_history after_open (shape_of (Auth 1 (codes "alice")))
 
+abbrev alice_exchanges : List Exchange
+alice_exchanges =
+    record { request = Open; reply = Started 1 1; place = 1 }
+    ∷ record { request = Auth 1 (codes "alice"); reply = Done; place = 1 }
+    ∷ record { request = Query 1 (codes "no,yes"); reply = Value 1 (codes "yes") 1 (policy_row ∷ []); place = 1 } ∷ []
+
 pub alice_is_answered : AliceIsAnswered
 unfolding digits
 alice_is_answered g caller = record {
-  exchanges = record { request = Open; reply = Started 1 1; place = 1 } ∷ record { request = Auth 1 (codes "alice"); reply = Done; place = 1 }
-      ∷ record { request = Query 1 (codes "no,yes"); reply = Value 1 (codes "yes") 1 (policy_row ∷ []); place = 1 } ∷ [];
+  exchanges = alice_exchanges;
   rest = [];
   last = after_auth;
   requests = (codes "AUTH 1 alice\nQUERY 1 no,yes\n", refl, (codes "QUERY 1 no,yes\n", refl, ([], refl, refl)));
@@ -58,10 +66,10 @@ alice_is_answered g caller = record {
     within = le_refl 1;
     in_order = (le_refl 1, (le_refl 1, (le_refl 1, le_refl 1)));
     own = refl;
-    stopped = (1 ∷ [], [], refl, ([], [], zero-le, ([], [], zero-le, refl, refl), refl), refl);
+    stopped = turns_stand alice_exchanges;
   };
   bytes = refl;
   one_bye = refl;
   count = omega arith;
-  why = inr (record { no_more = refl; goes_on = record { no_bye = refl; no_block = refl }; fewer = omega arith }, refl, refl);
+  why = all_answered (requests_in alice_exchanges) refl refl (omega arith);
 }

@@ -1,5 +1,5 @@
 -- That the connections of an administrator who asks for batches are served as they say.
-use Rattle.std.proofs.Common.{ℕ, ◌≡◌, [], ◌∷◌, ◌++◌, List, codes, refl, ap, inr, le_refl, zero-le, arith, Option, None}
+use Rattle.std.proofs.Common.{ℕ, ◌≡◌, [], ◌∷◌, ◌++◌, List, codes, refl, ap, le_refl, arith, Option, None}
 use Rattle.std.specs.Fmt.{digits}
 use Rattle.std.specs.Option.{option_or}
 use Rattle.kn_wire.specs.Items.{AddText, DropId}
@@ -11,10 +11,12 @@ use Rattle.kn_reply.specs.declared.refusal.Refusal.TheVariants as R
 use Rattle.kn_reply.specs.Replies.{Done, Started, Number, Batched, No}
 use Rattle.kn_daemon.specs.Shapes.{shape_of}
 use Rattle.kn_daemon.specs.Daemon.{Grounds, State, changed, found_item, refusal_from, placed_refusal}
+use Rattle.kn_daemon.specs.Linearized.{Exchange, requests_in}
 use Rattle.kn_worked.specs.Texts.{credential_text, credential_assertion}
 use Rattle.kn_worked.specs.Connections.{policy_history, batched_history, BatchIsRefused, BatchIsMade}
 use Rattle.kn_worked.proofs.Levels.{policy_valid}
 use Rattle.kn_worked.proofs.Admin.{after_open, after_admin, credential_valid, admitted, same_caller}
+use Rattle.kn_worked.proofs.Turns.{turns_stand, all_answered}
 
 -- the block of a batch that removes this id
 abbrev block : List ℕ → List ℕ
@@ -27,16 +29,23 @@ after_later_pin : ℕ → State
 after_later_pin caller = changed (batched_history caller) after_admin (shape_of (Pin 1))
 
 -- each item of the block is admitted
-items_admitted : (g : Grounds) (k : ℕ) → g.verdict credential_text credential_assertion ≡ 0 → refusal_from g 1 (AddText credential_text ∷ DropId k ∷ []) ≡ None
-items_admitted g k verdict = ap (λ (o : Option ItemRefusal). found_item 1 o (refusal_from g 2 (DropId k ∷ []))) (admitted I.Read I.Auth g verdict)
+items_admitted : (g : Grounds) (k : ℕ) → g.verdict credential_text credential_assertion ≡ 0
+    → refusal_from g 1 (AddText credential_text ∷ DropId k ∷ []) ≡ None
+items_admitted g k verdict =
+    ap (λ (o : Option ItemRefusal). found_item 1 o (refusal_from g 2 (DropId k ∷ [])))
+    (admitted I.Read I.Auth g verdict)
+
+abbrev refused_exchanges : List Exchange
+refused_exchanges =
+    record { request = Open; reply = Started 1 1; place = 1 }
+    ∷ record { request = Admin (codes "733363726574"); reply = Done; place = 1 }
+    ∷ record { request = Batch (block (codes "9")); reply = No (R.Item 2 I.Unknown); place = 1 }
+    ∷ record { request = Pin 1; reply = Number 1; place = 1 } ∷ []
 
 pub batch_is_refused : BatchIsRefused
 unfolding digits after_pin
 batch_is_refused g caller secret verdict = record {
-  exchanges = record { request = Open; reply = Started 1 1; place = 1 }
-      ∷ record { request = Admin (codes "733363726574"); reply = Done; place = 1 }
-      ∷ record { request = Batch (block (codes "9")); reply = No (R.Item 2 I.Unknown); place = 1 }
-      ∷ record { request = Pin 1; reply = Number 1; place = 1 } ∷ [];
+  exchanges = refused_exchanges;
   rest = [];
   last = after_pin;
   requests = (_, refl, (_, refl, (_, refl, (_, refl, refl))));
@@ -48,7 +57,11 @@ batch_is_refused g caller secret verdict = record {
       record { accepted = rw secret refl; answered = refl; next = refl },
       (
         after_admin,
-        (ap (λ (o : Option Refusal). option_or o (placed_refusal policy_history (shape_of (Batch (block (codes "9")))))) (items_admitted g 9 verdict), refl),
+        (
+          ap (λ (o : Option Refusal). option_or o (placed_refusal policy_history
+              (shape_of (Batch (block (codes "9")))))) (items_admitted g 9 verdict),
+          refl,
+        ),
         (after_pin, record { accepted = refl; answered = refl; next = refl }, refl),
       ),
     ),
@@ -58,22 +71,26 @@ batch_is_refused g caller secret verdict = record {
     within = le_refl 1;
     in_order = (le_refl 1, (le_refl 1, (le_refl 1, (le_refl 1, le_refl 1))));
     own = refl;
-    stopped = (1 ∷ [], _, refl, ([], _, zero-le, (1 ∷ [], _, refl, (1 ∷ [], [], refl, refl, refl), refl), refl), refl);
+    stopped = turns_stand refused_exchanges;
   };
   bytes = refl;
   one_bye = refl;
   count = omega arith;
-  why = inr (record { no_more = refl; goes_on = record { no_bye = refl; no_block = refl }; fewer = omega arith }, refl, refl);
+  why = all_answered (requests_in refused_exchanges) refl refl (omega arith);
 }
+
+abbrev made_exchanges : List Exchange
+made_exchanges =
+    record { request = Open; reply = Started 1 1; place = 1 }
+    ∷ record { request = Admin (codes "733363726574"); reply = Done; place = 1 }
+    ∷ record { request = Batch (block (codes "1")); reply = Batched 2 1 2; place = 2 }
+    ∷ record { request = Drop 1; reply = No R.Unknown; place = 2 }
+    ∷ record { request = Pin 1; reply = Number 2; place = 2 } ∷ []
 
 pub batch_is_made : BatchIsMade
 unfolding digits after_later_pin
 batch_is_made g caller secret verdict = record {
-  exchanges = record { request = Open; reply = Started 1 1; place = 1 }
-      ∷ record { request = Admin (codes "733363726574"); reply = Done; place = 1 }
-      ∷ record { request = Batch (block (codes "1")); reply = Batched 2 1 2; place = 2 }
-      ∷ record { request = Drop 1; reply = No R.Unknown; place = 2 }
-      ∷ record { request = Pin 1; reply = Number 2; place = 2 } ∷ [];
+  exchanges = made_exchanges;
   rest = [];
   last = after_later_pin caller;
   requests = (_, refl, (_, refl, (_, refl, (_, refl, (_, refl, refl)))));
@@ -87,10 +104,18 @@ batch_is_made g caller secret verdict = record {
         after_admin,
         record {
           accepted = items_admitted g 1 verdict;
-          answered = (AddText credential_text ∷ DropId 1 ∷ [], refl, record { before = policy_history; ends = refl; accepted = rw credential_valid refl; told = refl });
+          answered = (
+            AddText credential_text ∷ DropId 1 ∷ [],
+            refl,
+            record { before = policy_history; ends = refl; accepted = rw credential_valid refl; told = refl },
+          );
           next = refl;
         },
-        (after_admin, (refl, refl), (after_later_pin caller, record { accepted = refl; answered = refl; next = refl }, refl)),
+        (
+          after_admin,
+          (refl, refl),
+          (after_later_pin caller, record { accepted = refl; answered = refl; next = refl }, refl),
+        ),
       ),
     ),
   );
@@ -99,10 +124,10 @@ batch_is_made g caller secret verdict = record {
     within = le_refl 2;
     in_order = (le_refl 1, (le_refl 1, (omega arith, (le_refl 2, (le_refl 2, le_refl 2)))));
     own = rw (same_caller caller) refl;
-    stopped = (1 ∷ [], _, refl, ([], _, zero-le, (2 ∷ [], _, refl, (2 ∷ [], _, refl, (2 ∷ [], [], refl, refl, refl), refl), refl), refl), refl);
+    stopped = turns_stand made_exchanges;
   };
   bytes = refl;
   one_bye = refl;
   count = omega arith;
-  why = inr (record { no_more = refl; goes_on = record { no_bye = refl; no_block = refl }; fewer = omega arith }, refl, refl);
+  why = all_answered (requests_in made_exchanges) refl refl (omega arith);
 }

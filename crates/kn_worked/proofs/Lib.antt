@@ -1,3 +1,4 @@
+pub mod Turns
 pub mod Readings
 pub mod Levels
 pub mod Asking
@@ -6,3 +7,5 @@ pub mod Adding
 pub mod Batches
 pub mod Looks
 pub mod Only
+pub mod Standing
+pub mod Criticals

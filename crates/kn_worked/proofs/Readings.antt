@@ -9,7 +9,8 @@ use Rattle.kn_lex.specs.declared.token.Sort.TheVariants.{Label, Text}
 use Rattle.kn_lex.specs.declared.piece.Piece.{Piece}
 use Rattle.kn_lex.specs.declared.piece.Piece.TheVariants.{White, Token}
 use Rattle.kn_fields.specs.Fields.{field_of, fields_of, field_with}
-use Rattle.kn_fields.specs.Scanning.{fault_in, first_place, fault_at, fault_without, version_place, constant_place, departure, goes_deep}
+use Rattle.kn_fields.specs.Scanning.{fault_in, first_place, fault_at, fault_without, version_place, constant_place}
+use Rattle.kn_fields.specs.Scanning.{departure, goes_deep}
 use Rattle.kn_fields.specs.Depth.{depth_behind, run_behind}
 use Rattle.kn_fields.specs.Words as L
 use Rattle.kn_trees.specs.declared.formula.Formula.{Formula}
@@ -34,12 +35,14 @@ abbrev Cuts : Type 0
 Cuts = List (Piece × List ℕ)
 
 -- a field that is read leaves what the others state
-field_read : {X : Type 0} (r : Result X ReadFault) (x : X) (make : X → Stated) (rest : Stated → Result Stated ReadFault) (last : Stated → Result Assertion ReadFault) → r ≡ Ok x
+field_read : {X : Type 0} (r : Result X ReadFault) (x : X) (make : X → Stated) (rest : Stated → Result Stated ReadFault)
+    (last : Stated → Result Assertion ReadFault) → r ≡ Ok x
     → and_then (and_then (and_then r (λ x. Ok (make x))) rest) last ≡ and_then (rest (make x)) last
 field_read r x make rest last e = ap (λ r. and_then (and_then (and_then r (λ x. Ok (make x))) rest) last) e
 
 -- a text of these tokens, whose fields state these parts
-reads : (text : List ℕ) (tokens : List Seen) (assertion : Assertion) → nat_lt 16384 (length text) ≡ false → tokens_or_fault text ≡ Ok tokens → fault_in tokens ≡ None
+reads : (text : List ℕ) (tokens : List Seen) (assertion : Assertion) → nat_lt 16384 (length text) ≡ false
+    → tokens_or_fault text ≡ Ok tokens → fault_in tokens ≡ None
     → reading_with text tokens ≡ Ok assertion → reading_of text ≡ Ok assertion
 unfolding reading_of
 reads text tokens assertion short cut none is = rw (fields_told text tokens short cut none) is
@@ -68,7 +71,13 @@ policy_cut = (
         record { some = refl; told = refl; cut = refl; clean = λ at. refl },
         (
           record { some = refl; told = refl; cut = refl; clean = λ at. refl },
-          (record { some = refl; told = refl; cut = refl; clean = λ at. refl }, (record { some = refl; told = refl; cut = refl; clean = λ at. refl }, (record { some = refl; told = refl; cut = refl; clean = λ at. refl }, tt))),
+          (
+            record { some = refl; told = refl; cut = refl; clean = λ at. refl },
+            (
+              record { some = refl; told = refl; cut = refl; clean = λ at. refl },
+              (record { some = refl; told = refl; cut = refl; clean = λ at. refl }, tt),
+            ),
+          ),
         ),
       ),
     ),
@@ -87,7 +96,13 @@ credential_cut = (
         record { some = refl; told = refl; cut = refl; clean = λ at. refl },
         (
           record { some = refl; told = refl; cut = refl; clean = λ at. refl },
-          (record { some = refl; told = refl; cut = refl; clean = λ at. refl }, (record { some = refl; told = refl; cut = refl; clean = λ at. refl }, (record { some = refl; told = refl; cut = refl; clean = λ at. refl }, tt))),
+          (
+            record { some = refl; told = refl; cut = refl; clean = λ at. refl },
+            (
+              record { some = refl; told = refl; cut = refl; clean = λ at. refl },
+              (record { some = refl; told = refl; cut = refl; clean = λ at. refl }, tt),
+            ),
+          ),
         ),
       ),
     ),
@@ -101,21 +116,30 @@ abbrev credential_tokens : List Seen
 credential_tokens = tokens_at start 0 credential_cuts
 
 no_faults_in : (fault_in policy_tokens ≡ None) × (fault_in credential_tokens ≡ None)
-unfolding fault_in first_place fault_at fault_without version_place constant_place departure field_with fields_of field_of
+unfolding fault_in first_place fault_at fault_without version_place constant_place departure field_with fields_of
+    field_of
 no_faults_in = (refl, refl)
 
-authorizers : (authorizer_in [] (of_field 1 policy_tokens) ≡ Ok (codes "POLICY")) × (authorizer_in [] (of_field 1 credential_tokens) ≡ Ok (codes "alice"))
+authorizers : (authorizer_in [] (of_field 1 policy_tokens) ≡ Ok (codes "POLICY"))
+    × (authorizer_in [] (of_field 1 credential_tokens) ≡ Ok (codes "alice"))
 unfolding field_with fields_of field_of goes_deep depth_behind run_behind authorizer_of principal_of value_behind
 authorizers = (refl, refl)
 
-formula_ok : (v : List ℕ) → has_bad_name [] (Who (Literal v)) ≡ false → licensees_by (licensing.judged_read [] (read_words (L.literal v ∷ []))) ≡ Ok (Some (formula_of [] (Who (Literal v))))
+formula_ok : (v : List ℕ) → has_bad_name [] (Who (Literal v)) ≡ false
+    → licensees_by (licensing.judged_read [] (read_words (L.literal v ∷ [])))
+    ≡ Ok (Some (formula_of [] (Who (Literal v))))
 formula_ok v good = rw (one_spells v, bad_threshold_who (Literal v), good) refl
 
-licensed : (licensees_in [] (of_field 5 policy_tokens) ≡ Ok (Some (formula_of [] (Who (Literal (codes "alice")))))) × (licensees_in [] (of_field 5 credential_tokens) ≡ Ok (Some (formula_of [] (Who (Literal (codes "bob"))))))
+licensed : (licensees_in [] (of_field 5 policy_tokens) ≡ Ok (Some (formula_of [] (Who (Literal (codes "alice"))))))
+    × (licensees_in [] (of_field 5 credential_tokens) ≡ Ok (Some (formula_of [] (Who (Literal (codes "bob"))))))
 unfolding field_with fields_of field_of goes_deep depth_behind run_behind licensees_of L.words_of value_behind
-licensed = (formula_ok (codes "alice") (bad_name_who [] (Literal (codes "alice"))), formula_ok (codes "bob") (bad_name_who [] (Literal (codes "bob"))))
+licensed = (
+  formula_ok (codes "alice") (bad_name_who [] (Literal (codes "alice"))),
+  formula_ok (codes "bob") (bad_name_who [] (Literal (codes "bob"))),
+)
 
-licensees : (licensees_in [] (of_field 5 policy_tokens) ≡ Ok (Some (Licensee (codes "alice")))) × (licensees_in [] (of_field 5 credential_tokens) ≡ Ok (Some (Licensee (codes "bob"))))
+licensees : (licensees_in [] (of_field 5 policy_tokens) ≡ Ok (Some (Licensee (codes "alice"))))
+    × (licensees_in [] (of_field 5 credential_tokens) ≡ Ok (Some (Licensee (codes "bob"))))
 licensees = (
   licensed.0 ∙ ap (λ (f : Formula). Ok (Some f)) (formula_who [] (Literal (codes "alice"))),
   licensed.1 ∙ ap (λ (f : Formula). Ok (Some f)) (formula_who [] (Literal (codes "bob"))),
@@ -134,7 +158,11 @@ credential_parts =
     ∙ field_read (licensees_in [] (of_field 5 credential_tokens)) (Some (Licensee (codes "bob"))) _ _ _ licensees.1
 
 pub policy_reading : reading_of policy_text ≡ Ok policy_assertion
-policy_reading = reads policy_text policy_tokens policy_assertion refl (text_tokens policy_text policy_cuts refl policy_cut (omega arith)) no_faults_in.0 policy_parts
+policy_reading =
+    reads policy_text policy_tokens policy_assertion refl
+    (text_tokens policy_text policy_cuts refl policy_cut (omega arith)) no_faults_in.0 policy_parts
 
 pub credential_reading : reading_of credential_text ≡ Ok credential_assertion
-credential_reading = reads credential_text credential_tokens credential_assertion refl (text_tokens credential_text credential_cuts refl credential_cut (omega arith)) no_faults_in.1 credential_parts
+credential_reading =
+    reads credential_text credential_tokens credential_assertion refl
+    (text_tokens credential_text credential_cuts refl credential_cut (omega arith)) no_faults_in.1 credential_parts

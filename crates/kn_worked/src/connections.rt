@@ -1,8 +1,11 @@
 //! Worked examples of connections. The functions have no body: their clauses are what they say.
 
-ghost use Rattle.kn_worked.specs.Connections.{AliceIsAnswered, AliceIsAnsweredSo, BobIsAnswered, BatchIsRefused, BatchIsMade, VersionIsPinned, UpdateIsHandedOn};
+ghost use Rattle.kn_worked.specs.Connections.{AliceIsAnswered, AliceIsAnsweredSo, BobIsAnswered};
+ghost use Rattle.kn_worked.specs.Connections.{BatchIsRefused, BatchIsMade, VersionIsPinned, UpdateIsHandedOn};
+ghost use Rattle.kn_worked.specs.Connections.{StandingQueryIsTold, RequesterIsKept, BothAreCritical, NeitherIsCritical};
 
-/// A session that asks whether a principal may is answered with the value and the row that proves it, and by no other bytes.
+/// A session that asks whether a principal may is answered with the value and the row that proves it, and by no other
+/// bytes.
 pub fn question_is_answered()
     ensures some { AliceIsAnswered }
     ensures one { AliceIsAnsweredSo }
@@ -24,7 +27,21 @@ pub fn version_is_pinned()
     ensures { VersionIsPinned }
 {}
 
-/// The updates behind the first ones, by their number, are handed on. Where there are fewer, the newest version is told.
+/// The updates behind the first ones, by their number, are handed on. Where there are fewer, the newest version is
+/// told.
 pub fn update_is_handed_on()
     ensures { UpdateIsHandedOn }
+{}
+
+/// A standing query is told over each newer version, and asks with what it was kept with.
+pub fn standing_query_is_told()
+    ensures versions { StandingQueryIsTold }
+    ensures kept { RequesterIsKept }
+{}
+
+/// The assertions without which the level would be lower are told, shared ones and a session's own. Where two say the
+/// same, neither is.
+pub fn critical_assertions_are_told()
+    ensures both { BothAreCritical }
+    ensures neither { NeitherIsCritical }
 {}
