@@ -80,7 +80,7 @@ func (question *Question) requests(number int) ([]string, error) {
 		text := question.Private[at]
 		requests = append(requests, fmt.Sprintf("ASSERT %s %d\n%s\n", session, len(text), text))
 	}
-	query, err := queryOf(number, question.Values)
+	query, err := questionOf("QUERY", number, question.Values)
 	return append(requests, query, "CLOSE "+session+"\n"), err
 }
 

@@ -48,7 +48,7 @@ var causes = map[Code]string{
 	NoValue:     "the value has more than 4,096 bytes",
 	NoValues:    "the values aren't 2 to 64 different names",
 	NoPrincipal: "the principal is empty, has more than 4,096 bytes, or is POLICY",
-	NoUnknown:   "the assertion, credential, attribute or requester isn't there",
+	NoUnknown:   "the assertion, credential, attribute, requester or kept question isn't there",
 	NoLimit:     "a limit is met; Parts are its word and what there is",
 	NoLong:      "the line has more than 8,192 bytes",
 	NoBlock:     "the text has more than 16,384 bytes, or isn't as long as was said; the connection ends",

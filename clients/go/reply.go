@@ -44,12 +44,16 @@ func (answer *Answer) Name() string { return answer.Values[answer.Index] }
 
 // AtLeast says whether the answer is this value of the query or a higher one; it fails for a value of no such name.
 func (answer *Answer) AtLeast(value string) (bool, error) {
-	for index, name := range answer.Values {
+	return atLeast(answer.Index, answer.Values, value)
+}
+
+func atLeast(found int, values []string, value string) (bool, error) {
+	for index, name := range values {
 		if name == value {
-			return answer.Index >= index, nil
+			return found >= index, nil
 		}
 	}
-	return false, wrongArgument("%q is none of the query's values %s", value, strings.Join(answer.Values, ","))
+	return false, wrongArgument("%q is none of the query's values %s", value, strings.Join(values, ","))
 }
 
 // readLine reads the next line of the daemon's: a refusal is an error.
@@ -89,13 +93,23 @@ func (connection *Connection) readForm(form *regexp.Regexp) ([]string, error) {
 	return parts, nil
 }
 
+// indexOf is the index that a line tells, of one of these values, which has to have this name where one is told.
+func indexOf(line string, values []string, digits, name string) (int, error) {
+	index := numberOf(digits)
+	if index >= len(values) || name != "" && values[index] != name {
+		return 0, fmt.Errorf("%w: %s", LinkEnded, line)
+	}
+	return index, nil
+}
+
 // readAnswer reads a whole reply to a query of these values.
 func (connection *Connection) readAnswer(values []string) (*Answer, error) {
 	head, err := connection.readForm(valueForm)
 	if err != nil {
 		return nil, err
 	}
-	answer := &Answer{Index: numberOf(head[1]), Values: append([]string(nil), values...), Version: numberOf(head[3])}
+	index, wrong := indexOf(head[0], values, head[1], head[2])
+	answer := &Answer{Index: index, Values: append([]string(nil), values...), Version: numberOf(head[3])}
 	for rows := numberOf(head[4]); rows > 0; rows-- {
 		parts, err := connection.readRest(rowForm)
 		if err != nil {
@@ -106,8 +120,8 @@ func (connection *Connection) readAnswer(values []string) (*Answer, error) {
 	if _, err := connection.readRest(endForm); err != nil {
 		return nil, err
 	}
-	if answer.Index >= len(values) || values[answer.Index] != head[2] {
-		return nil, fmt.Errorf("%w: %s", LinkEnded, head[0])
+	if wrong != nil {
+		return nil, wrong
 	}
 	return answer, nil
 }

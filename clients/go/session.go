@@ -14,7 +14,8 @@ import (
 type Session struct {
 	Number     int
 	connection *Connection
-	version    int // under the connection's mutex
+	version    int      // under the connection's mutex
+	watched    []string // the same: the values of the question that is kept
 }
 
 func (session *Session) ask(form *regexp.Regexp, block *string, word string, rest ...string) ([]string, error) {
@@ -95,11 +96,7 @@ func (session *Session) Retract(id string) error { return session.expectOK("RETR
 
 // Query asks for the policy's value among these, of which the lowest is the first.
 func (session *Session) Query(values ...string) (*Answer, error) {
-	values, err := session.connection.orderOf(values)
-	if err != nil {
-		return nil, err
-	}
-	line, err := queryOf(session.Number, values)
+	values, line, err := session.question("QUERY", values)
 	if err != nil {
 		return nil, err
 	}
@@ -136,11 +133,22 @@ func (connection *Connection) orderOf(values []string) ([]string, error) {
 	return values, nil
 }
 
-func queryOf(number int, values []string) (string, error) {
+// question is the line that asks for one of these values, which are given too.
+func (session *Session) question(word string, values []string) ([]string, string, error) {
+	values, err := session.connection.orderOf(values)
+	if err != nil {
+		return nil, "", err
+	}
+	line, err := questionOf(word, session.Number, values)
+	return values, line, err
+}
+
+// questionOf is the line that asks for one of these values: QUERY, WATCH or CRITICAL.
+func questionOf(word string, number int, values []string) (string, error) {
 	for _, value := range values {
 		if strings.Contains(value, ",") {
 			return "", wrongArgument("a comma would part the value in two: %q", value)
 		}
 	}
-	return requestOf(nil, "QUERY", strconv.Itoa(number), strings.Join(values, ","))
+	return requestOf(nil, word, strconv.Itoa(number), strings.Join(values, ","))
 }

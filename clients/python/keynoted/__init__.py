@@ -15,9 +15,9 @@ exception of its own. Whatever interrupts a request ends its connection. A gatew
     pool.ask(["alice"], {"action": "read"}).at_least("log")
 """
 
-from .answers import Answer, Row
-from .asynchronous import AsyncConnection, AsyncPool, connect_async
-from .connection import Connection, Session, connect, start
+from .answers import Answer, Critical, News, Row, Value
+from .asynchronous import AsyncConnection, AsyncPool, AsyncWatch, connect_async
+from .connection import Connection, Session, Watch, connect, start
 from .errors import (
     KeynotedError, LinkEnded, NoAdmin, NoAhead, NoAuth, NoBatch, NoBlock, NoCommand, NoItem, NoLimit, NoLong, NoMemory,
     NoName, NoPolicy, NoPrincipal, NoRead, NoRetained, NoSession, NoSyntax, NoUnknown, NoValue, NoValues, Refusal,
@@ -31,9 +31,10 @@ from .version import __version__
 from .wire import Added, Dropped, Update
 
 __all__ = [
-    "Added", "Answer", "AsyncConnection", "AsyncPool", "Batch", "Connection", "Credential", "Dropped", "KeynotedError",
-    "LinkEnded", "NoAdmin", "NoAhead", "NoAuth", "NoBatch", "NoBlock", "NoCommand", "NoItem", "NoLimit", "NoLong",
-    "NoMemory", "NoName", "NoPolicy", "NoPrincipal", "NoRead", "NoRetained", "NoSession", "NoSyntax", "NoUnknown",
-    "NoValue", "NoValues", "Pool", "Refusal", "Row", "Session", "TimedOut", "Update", "__version__", "connect",
-    "connect_async", "credentials_of", "explain", "lint", "start",
+    "Added", "Answer", "AsyncConnection", "AsyncPool", "AsyncWatch", "Batch", "Connection", "Credential",
+    "Critical", "Dropped", "KeynotedError", "LinkEnded", "News", "NoAdmin", "NoAhead", "NoAuth", "NoBatch",
+    "NoBlock", "NoCommand", "NoItem", "NoLimit", "NoLong", "NoMemory", "NoName", "NoPolicy", "NoPrincipal",
+    "NoRead", "NoRetained", "NoSession", "NoSyntax", "NoUnknown", "NoValue", "NoValues", "Pool", "Refusal", "Row",
+    "Session", "TimedOut", "Update", "Value", "Watch", "__version__", "connect", "connect_async", "credentials_of",
+    "explain", "lint", "start",
 ]

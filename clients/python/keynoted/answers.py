@@ -1,4 +1,4 @@
-"""What a query answers: a value by its index, with the rows that prove it."""
+"""What questions come to: values by their indices, with the rows that prove them, or with what they hang on."""
 
 from __future__ import annotations
 
@@ -17,25 +17,25 @@ class Row(NamedTuple):
 
 
 @functools.total_ordering
-class Answer:
-    """The value of a query, by its index among the query's values, with the rows that prove it.
+class Value:
+    """A value of a question, by its index among the question's values.
 
-    It is compared with values of its query by their order there: `answer >= "log"` is `answer.at_least("log")`.
+    It is compared with values of its question by their order there: `value >= "log"` is `value.at_least("log")`.
     """
 
-    def __init__(self, index: int, values: Tuple[str, ...], version: int, rows: Tuple[Row, ...]) -> None:
-        self.index, self.values, self.version, self.rows = index, values, version, rows
+    def __init__(self, index: int, values: Tuple[str, ...]) -> None:
+        self.index, self.values = index, values
 
     @property
     def name(self) -> str:
         return self.values[self.index]
 
     def at_least(self, value: str) -> bool:
-        """Whether the answer is this value of the query or a higher one; ValueError where it has no such value."""
+        """Whether it is this value of the question or a higher one; ValueError where that has no such value."""
         return self.index >= self._index_of(value)
 
     def _index_of(self, value: object) -> int:
-        if isinstance(value, Answer) and value.values == self.values:
+        if isinstance(value, Value) and value.values == self.values:
             return value.index
         if isinstance(value, str) and value in self.values:
             return self.values.index(value)
@@ -53,4 +53,30 @@ class Answer:
         raise TypeError("an answer is neither true nor false: compare it with a value, as in answer.at_least('yes')")
 
     def __repr__(self) -> str:
+        return f"<{self.name}: {self.index} of {','.join(self.values)}>"
+
+
+class News(Value):
+    """What a standing query comes to at a version of the credentials. No rows prove it."""
+
+    def __init__(self, index: int, values: Tuple[str, ...], version: int) -> None:
+        super().__init__(index, values)
+        self.version = version
+
+    def __repr__(self) -> str:
         return f"<{self.name}: {self.index} of {','.join(self.values)}, version {self.version}>"
+
+
+class Answer(News):
+    """The value of a query at a version of the credentials, with the rows that prove it."""
+
+    def __init__(self, index: int, values: Tuple[str, ...], version: int, rows: Tuple[Row, ...]) -> None:
+        super().__init__(index, values, version)
+        self.rows = rows
+
+
+class Critical(NamedTuple):
+    """The value of a question, and the ids of the assertions without each of which it would be lower."""
+
+    value: Value
+    ids: Tuple[str, ...]

@@ -7,16 +7,16 @@ import collections
 import os
 from typing import Deque, Iterable, List, Mapping, Optional, Sequence, Tuple
 
-from .answers import Answer
+from .answers import Answer, Critical, News
 from .arguments import Path, Text, limit_of, order_of, path_of, size_of
 from .connection import LIMIT, Check
-from .errors import KeynotedError, LinkEnded, NoSession, TimedOut
+from .errors import KeynotedError, LinkEnded, NoMemory, NoSession, Refusal, TimedOut
 from .explaining import explain
 from .link import host_and_port
 from .pool import SIZE
 from .question import Desk, Question
 from .recording import Transcript
-from .wire import OPENED, REQUESTS, Replies, Reply, Request
+from .wire import NEWS, OPENED, REQUESTS, Replies, Reply, Request, answer_of, critical_of, news_of, words_of
 
 
 class Exchange(asyncio.Protocol):
@@ -88,22 +88,52 @@ class AsyncConnection:
     async def ask(self, principals: Iterable[Text], attributes: Mapping[Text, Text], values: Sequence[str] = (),
                   private: Iterable[Text] = ()) -> Answer:
         """Asks one question as `Connection.ask` does."""
-        return await self.answer(Question(principals, attributes, values, private, self.order))
+        return answer_of(*await self.settle(Question(principals, attributes, values, private, self.order)))
 
-    async def answer(self, question: Question) -> Answer:
-        """The answer to a question."""
+    async def critical(self, principals: Iterable[Text], attributes: Mapping[Text, Text], values: Sequence[str] = (),
+                       private: Iterable[Text] = ()) -> Critical:
+        """Asks one question as `Connection.critical` does."""
+        question = Question(principals, attributes, values, private, self.order, b"CRITICAL")
+        return critical_of(*await self.settle(question))
+
+    async def watch(self, principals: Iterable[Text], attributes: Mapping[Text, Text], values: Sequence[str] = (),
+                    private: Iterable[Text] = ()) -> AsyncWatch:
+        """Keeps a question as `Connection.watch` does."""
+        question = Question(principals, attributes, values, private, self.order, b"WATCH")
+        async with self._lock:
+            desk = await self._open()
+            try:
+                return AsyncWatch(self, desk.number, news_of(*await self._settle_at(desk, question)))
+            except (Refusal, NoMemory):
+                await self._talk([Request(words_of(b"CLOSE", b"%d" % desk.number))])
+                raise
+
+    async def reply_to(self, request: Request) -> Tuple[Reply, Request]:
+        """The reply to one request, with this; a refusal is raised."""
+        async with self._lock:
+            reply = (await self._talk([request]))[0]
+        reply.raise_refusal(request)
+        return reply, request
+
+    async def settle(self, question: Question) -> Tuple[Reply, Request]:
+        """The reply to a question and its request, on a session that serves for nothing else."""
         async with self._lock:
             if self._desk is None:
-                opening = Request(b"OPEN", None, OPENED)
-                self._desk = Desk(int((await self._talk([opening]))[0].parts(opening)[0]))
-            desk = self._desk
-            requests = question.requests(desk)
-            replies = await self._talk(requests, lambda came: question.settle(desk, requests, came))
+                self._desk = await self._open()
             try:
-                return question.answer(requests, replies)
+                return await self._settle_at(self._desk, question)
             except NoSession:
                 self._desk = None
                 raise
+
+    async def _open(self) -> Desk:
+        opening = Request(b"OPEN", None, OPENED)
+        return Desk(int((await self._talk([opening]))[0].parts(opening)[0]))
+
+    async def _settle_at(self, desk: Desk, question: Question) -> Tuple[Reply, Request]:
+        requests = question.requests(desk)
+        replies = await self._talk(requests, lambda came: question.settle(desk, requests, came))
+        return question.answer(requests, replies)
 
     async def close(self) -> None:
         """Says BYE where that is still possible, and closes the connection."""
@@ -149,6 +179,30 @@ class AsyncConnection:
             self._exchange.transport.abort()
         if self._transcript:
             self._transcript.close()
+
+
+class AsyncWatch:
+    """A question that is kept, as `Watch` has it."""
+
+    def __init__(self, connection: AsyncConnection, number: int, first: News) -> None:
+        self._connection, self._number, self.first = connection, number, first
+
+    async def __aenter__(self) -> AsyncWatch:
+        return self
+
+    async def __aexit__(self, *_: object) -> None:
+        try:
+            await self.close()
+        except KeynotedError:
+            pass  # it was closed before, or the connection has ended
+
+    async def news(self) -> News:
+        """What the question comes to by the newest version."""
+        request = Request(words_of(b"NEWS", b"%d" % self._number), None, NEWS, self.first.values)
+        return news_of(*await self._connection.reply_to(request))
+
+    async def close(self) -> None:
+        await self._connection.reply_to(Request(words_of(b"CLOSE", b"%d" % self._number)))
 
 
 async def connect_async(host: str, port: Optional[int] = None, timeout: Optional[float] = LIMIT, *,
@@ -204,10 +258,17 @@ class AsyncPool:
     async def ask(self, principals: Iterable[Text], attributes: Mapping[Text, Text], values: Sequence[str] = (),
                   private: Iterable[Text] = ()) -> Answer:
         """Asks one question as `Connection.ask` does."""
-        question = Question(principals, attributes, values, private, self.order)
+        return answer_of(*await self._ask(Question(principals, attributes, values, private, self.order)))
+
+    async def critical(self, principals: Iterable[Text], attributes: Mapping[Text, Text], values: Sequence[str] = (),
+                       private: Iterable[Text] = ()) -> Critical:
+        """Asks one question as `Connection.critical` does."""
+        return critical_of(*await self._ask(Question(principals, attributes, values, private, self.order, b"CRITICAL")))
+
+    async def _ask(self, question: Question) -> Tuple[Reply, Request]:
         await self._enter()
         try:
-            return await self._answer(question)
+            return await self._settle(question)
         finally:
             self._used -= 1
             self._wake()
@@ -237,11 +298,11 @@ class AsyncPool:
             if not waiter.done():
                 return waiter.set_result(None)
 
-    async def _answer(self, question: Question) -> Answer:
+    async def _settle(self, question: Question) -> Tuple[Reply, Request]:
         connection = await self._take(question)
         if connection:
             try:
-                return await connection.answer(question)
+                return await connection.settle(question)
             except TimedOut:
                 raise
             except LinkEnded:
@@ -250,7 +311,7 @@ class AsyncPool:
                 await self._give(connection)
         connection = await self._open()
         try:
-            return await connection.answer(question)
+            return await connection.settle(question)
         finally:
             await self._give(connection)
 

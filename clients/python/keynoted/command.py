@@ -12,6 +12,7 @@ from .agent import add_agent
 from .connection import Connection, connect, program_of, start
 from .errors import KeynotedError, LinkEnded
 from .explaining import explain
+from .hanging import add_hanging
 from .keeping import add_log
 from .linting import lint, lint_values
 from .pages import run_drawing
@@ -86,7 +87,7 @@ def run_lint(args: argparse.Namespace) -> int:
 def main(words: Optional[Sequence[str]] = None) -> int:
     """Runs the command with these words, or those of the process, and answers its status."""
     parser = argparse.ArgumentParser(prog="keynoted.py", description="Asks keynoted, explains its errors, and warns of what is surely not meant.")
-    commands = parser.add_subparsers(required=True, metavar="query|why|explain|lint|list|rotate|drop|log|restore|agent|submit")
+    commands = parser.add_subparsers(required=True, metavar="query|why|critical|who|explain|lint|list|rotate|drop|log|restore|agent|submit")
     query = commands.add_parser("query", help="asks once: 0 at least the value named, 1 less, 2 an error")
     query.add_argument("policy", nargs="?", help="the policy file, unless --connect is given")
     query.add_argument("--connect", metavar="HOST:PORT", help="a daemon that serves, as localhost or [::1]:2704")
@@ -110,6 +111,7 @@ def main(words: Optional[Sequence[str]] = None) -> int:
     warned.set_defaults(run=run_lint)
     add_record(commands, connected)
     add_why(commands)
+    add_hanging(commands, connected)
     add_rotating(commands)
     add_log(commands)
     add_restore(commands)

@@ -7,17 +7,17 @@ import subprocess
 import threading
 from typing import Callable, Iterable, List, Mapping, Optional, Sequence, Tuple, Union, overload
 
-from .answers import Answer
+from .answers import Answer, Critical, News
 from .arguments import Path, Text, bytes_of, limit_of, number_of, order_of, path_of, refuse, values_of
-from .errors import KeynotedError, LinkEnded, NoSession, TimedOut
+from .errors import KeynotedError, LinkEnded, NoMemory, NoSession, Refusal, TimedOut
 from .explaining import explain
 from .link import Link, dial, host_and_port
 from .question import Desk, Question
 from .recording import Transcript
 from .updates import Batch, Credential, credentials_of
 from .wire import (
-    ADDED, ANY, OK, OPENED, PINNED, PRIVATE, REQUESTS, VERSION, Replies, Reply, Request, Update, answer_of, log_of,
-    query_of, words_of,
+    ADDED, ANY, NEWS, OK, OPENED, PINNED, PRIVATE, REQUESTS, VERSION, Replies, Reply, Request, Update, answer_of,
+    asked_of, critical_of, log_of, news_of, words_of,
 )
 
 LIMIT = 5.0  # seconds, where nothing is said
@@ -67,21 +67,39 @@ class Connection:
 
         It goes by the newest version of the credentials, and by these private assertions, which are gone afterwards.
         """
-        return self.answer(Question(principals, attributes, values, private, self.order))
+        return answer_of(*self.settle(Question(principals, attributes, values, private, self.order)))
 
-    def answer(self, question: Question) -> Answer:
-        """The answer to a question, on a session that serves for nothing else."""
+    def critical(self, principals: Iterable[Text], attributes: Mapping[Text, Text], values: Sequence[str] = (),
+                 private: Iterable[Text] = ()) -> Critical:
+        """Asks the same, and answers the value with the ids of the assertions without which it would be lower."""
+        return critical_of(*self.settle(Question(principals, attributes, values, private, self.order, b"CRITICAL")))
+
+    def watch(self, principals: Iterable[Text], attributes: Mapping[Text, Text], values: Sequence[str] = (),
+              private: Iterable[Text] = ()) -> Watch:
+        """Keeps a question on a session of its own, so that `news()` asks it again. A connection has 16 sessions."""
+        question = Question(principals, attributes, values, private, self.order, b"WATCH")
+        number = self._open()[0]
+        try:
+            return Watch(self, number, news_of(*self._settle_at(Desk(number), question)))
+        except (Refusal, NoMemory):
+            self.parts(Request(words_of(b"CLOSE", b"%d" % number)))
+            raise
+
+    def settle(self, question: Question) -> Tuple[Reply, Request]:
+        """The reply to a question and its request, on a session that serves for nothing else."""
         with self._lock:
             if self._desk is None:
                 self._desk = Desk(self._open()[0])
-            desk = self._desk
-            requests = question.requests(desk)
-            replies = self.exchange(requests, lambda came: question.settle(desk, requests, came))
             try:
-                return question.answer(requests, replies)
+                return self._settle_at(self._desk, question)
             except NoSession:
                 self._desk = None
                 raise
+
+    def _settle_at(self, desk: Desk, question: Question) -> Tuple[Reply, Request]:
+        requests = question.requests(desk)
+        replies = self.exchange(requests, lambda came: question.settle(desk, requests, came))
+        return question.answer(requests, replies)
 
     def session(self) -> Session:
         """Opens a session, pinned to the newest version of the credentials."""
@@ -253,6 +271,7 @@ class Session:
 
     def __init__(self, connection: Connection, number: int, version: int) -> None:
         self._connection, self.number, self.version = connection, number, version
+        self._watched: Tuple[str, ...] = ()
 
     def __enter__(self) -> Session:
         return self
@@ -322,8 +341,65 @@ class Session:
 
     def query(self, *values: str) -> Answer:
         """Asks for the policy's value among these, of which the lowest is the first."""
-        request = query_of(b"%d" % self.number, values_of(values, self._connection.order))
-        return answer_of(self._connection.exchange([request])[0], request)
+        return answer_of(*self._asked(b"QUERY", values))
+
+    def critical(self, *values: str) -> Critical:
+        """Asks the same, and answers the value with the ids of the assertions without which it would be lower."""
+        return critical_of(*self._asked(b"CRITICAL", values))
+
+    def watch(self, *values: str) -> News:
+        """Asks the same, and keeps the question: what is said to the session later changes nothing of it."""
+        news = news_of(*self._asked(b"WATCH", values))
+        self._watched = news.values
+        return news
+
+    def news(self) -> News:
+        """What the question that `watch` has kept comes to by the newest version."""
+        return news_again(self._connection, self.number, self._watched)
+
+    def unwatch(self) -> None:
+        """Ends the question that `watch` has kept."""
+        self._ok(b"UNWATCH")
+
+    def _asked(self, word: bytes, values: Sequence[str]) -> Tuple[Reply, Request]:
+        request = asked_of(word, b"%d" % self.number, values_of(values, self._connection.order))
+        return self._connection.exchange([request])[0], request
+
+
+def news_again(connection: Connection, number: int, values: Tuple[str, ...]) -> News:
+    """What the standing query of a session comes to by the newest version; its values are these."""
+    request = Request(words_of(b"NEWS", b"%d" % number), None, NEWS, values)
+    reply = connection.exchange([request])[0]
+    reply.raise_refusal(request)
+    if not values:
+        raise ValueError("the question was kept in another way than by `watch`, so its values aren't known here")
+    return news_of(reply, request)
+
+
+class Watch:
+    """A question that is kept on a session of its own; as a context manager it is given up at its end.
+
+    `first` is what it came to when it was asked.
+    """
+
+    def __init__(self, connection: Connection, number: int, first: News) -> None:
+        self._connection, self._number, self.first = connection, number, first
+
+    def __enter__(self) -> Watch:
+        return self
+
+    def __exit__(self, *_: object) -> None:
+        try:
+            self.close()
+        except KeynotedError:
+            pass  # it was closed before, or the connection has ended
+
+    def news(self) -> News:
+        """What the question comes to by the newest version."""
+        return news_again(self._connection, self._number, self.first.values)
+
+    def close(self) -> None:
+        self._connection.parts(Request(words_of(b"CLOSE", b"%d" % self._number)))
 
 
 def connect(host: str, port: Optional[int] = None, timeout: Optional[float] = LIMIT, *, values: Sequence[str] = (),

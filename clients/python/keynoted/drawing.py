@@ -6,19 +6,21 @@ import os
 import re
 import subprocess
 import tempfile
-from typing import Dict, Iterator, List, NamedTuple, Set, Tuple
+from typing import Dict, FrozenSet, Iterator, List, NamedTuple, Set, Tuple
 
 from .answers import Row
 from .connection import program_of
+from .errors import LinkEnded
 from .explaining import explain
 from .parts import Part, normal, parts_of, requests_of, words
+from .sending import requests_in
 from .texts import read_file
-from .wire import VALUE, Replies, Request
+from .wire import ANY, VALUE, Replies, Request
 
 LONGEST = 72  # characters of a principal, and of a line of a text
 LINES = 14  # of a text in its box
 SHAPES = {
-    "credential": "shape=box", "principal": "shape=box, style=rounded",
+    "credential": "shape=box", "critical": "shape=box, style=bold", "principal": "shape=box, style=rounded",
     "requester": 'shape=box, style="rounded,bold"', "absent": 'shape=box, style="rounded,dashed"',
 }
 
@@ -35,7 +37,7 @@ class Box(NamedTuple):
     """A box of the picture: a principal, or a credential with its text."""
 
     key: str
-    sort: str  # requester, principal, absent or credential
+    sort: str  # requester, principal, absent, credential or critical, which is a credential too
     level: int
     head: str
     whole: str
@@ -70,6 +72,8 @@ class Proof:
         self.parts = {f"a{at}": part for at, part in enumerate(parts_of(policy), 1)}
         self.parts.update(self.question.private)
         self.verdict = verdict_of(policy, script, self.reply)
+        # what the answer hangs on; nothing is known of that where the files don't prove the reply
+        self.critical = critical_ids(policy, script) if self.verdict.startswith("PROVED ") else frozenset()
 
     def level(self, index: int) -> str:
         """The name of a value; its index where the script doesn't name it."""
@@ -143,6 +147,22 @@ def verdict_of(policy: str, script: str, reply: bytes) -> str:
     return f"{line} ({told})" if told else line
 
 
+def critical_ids(policy: str, script: str) -> FrozenSet[str]:
+    """What the answer to the script's last query hangs on, by the program: it is asked CRITICAL in place of QUERY."""
+    asked = requests_in(read_file(script))
+    requests = [Request(re.sub(rb"^QUERY ", b"CRITICAL ", it.line), it.block, ANY) for it in asked]
+    given = b"".join(it.text() for it in requests)
+    run = subprocess.run([program_of(), "ask", policy], input=given, stdout=subprocess.PIPE)
+    replies = Replies(requests)
+    try:
+        replies.feed(run.stdout)
+    except LinkEnded:
+        pass  # the line behind the replies that says how the connection ended
+    told = [reply for request, reply in zip(requests, replies.whole) if request.line.startswith(b"CRITICAL ")]
+    meant = [it for it in told if it.lines[0] not in (b"NO 1 syntax", b"NO 3 session", b"NO 10 values")]
+    return frozenset(meant[-1].ids if meant else ())
+
+
 def picture_of(proof: Proof) -> Picture:
     """The boxes and edges of the rows on which the answer leans."""
     boxes: Dict[str, Box] = {}
@@ -178,15 +198,16 @@ def principal_box(who: bytes, sort: str, level: int, rank: int) -> Box:
 
 def credential_box(proof: Proof, row: Row, rank: int) -> Box:
     part, key = proof.parts.get(row.id), f"c{row.id}"
+    sort = "critical" if row.id in proof.critical else "credential"
     if not part:
         lines = ["(added: its text", " isn't in the files)"]
-        return Box(key, "credential", row.level, row.id, f"{row.id}, whose text isn't in the files", tuple(lines), rank)
+        return Box(key, sort, row.level, row.id, f"{row.id}, whose text isn't in the files", tuple(lines), rank)
     place = printable(part.place(0))
     lines = [it for it in words(part.text).split("\n") if it.strip() and not it.startswith("#")]
     lines = [piece for it in lines for piece in wrapped(printable(it.replace("\t", "    ").rstrip()))]
     shown = lines[:LINES] + (["…"] if len(lines) > LINES else [])
     head = shortened(f"{row.id}, {os.path.basename(place)}")
-    return Box(key, "credential", row.level, head, f"{row.id}, {place}", tuple(shown), rank)
+    return Box(key, sort, row.level, head, f"{row.id}, {place}", tuple(shown), rank)
 
 
 def shortened(text: str) -> str:
@@ -216,7 +237,7 @@ def dot_of(proof: Proof) -> Iterator[str]:
     yield "    rankdir=BT; node [fontname=\"monospace\", fontsize=10]; edge [fontname=\"monospace\", fontsize=9];"
     yield f"    label={dot_text(f'POLICY has {proof.name}; check says: {proof.verdict}')};"
     for key, box in picture.boxes.items():
-        level = "" if box.sort in ("credential", "absent") else f"\n{proof.level(box.level)}"
+        level = "" if box.sort in ("credential", "critical", "absent") else f"\n{proof.level(box.level)}"
         text = "\n".join([box.head, *box.lines]) + "\n" if box.lines else box.head + level
         yield f"    {names[key]} [label={dot_text(text, bool(box.lines))}, {SHAPES[box.sort]}];"
     for edge in picture.edges:

@@ -116,6 +116,8 @@ def words_of_refusal(refusal: Refusal) -> str:
         return f"item {refusal.item}: {words_of_refusal(refusal.reason)}; nothing of the batch was done"
     if refusal.code == 7:
         return AUTHS.get(refusal.parts[0], "it isn't admitted")
+    if refusal.code == 13 and refusal.parts[0] == "nodes":
+        return f"the Licensees of this question have {refusal.parts[-1]} nodes: CRITICAL takes 16,384 at most"
     if refusal.code == 13:
         return f"the limit of {refusal.parts[0]} is met: {refusal.parts[-1]}"
     return refusal.__doc__ or ""

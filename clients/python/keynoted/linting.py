@@ -9,7 +9,7 @@ from .clauses import NO
 from .keyfiles import lint_keys
 from .near import plain
 from .naming import take_parts
-from .parts import Part, Script, normal, parts_of, requests_of, texts_in, words
+from .parts import QUESTIONS, Part, Script, normal, parts_of, requests_of, texts_in, words
 from .rules import lint_part
 from .texts import place_of, read_file
 from .trials import Trials, lint_unmet, lint_unset
@@ -85,7 +85,7 @@ def read_script(name: str, script: Script, parts: List[Part]) -> List[Finding]:
             parts.append(Part(name, data, start, end))
         elif word == b"BATCH":
             parts += [Part(name, data, *span) for span in texts_in(data, start, end)]
-        elif word == b"QUERY":
+        elif word in QUESTIONS:
             script.orders.append(rest.split(b","))
             found += [Finding("order", place, it) for it in lint_values(words(rest).split(","))]
         elif word == b"AUTH":

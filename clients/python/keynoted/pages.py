@@ -16,7 +16,8 @@ body { font: 15px/1.45 system-ui, sans-serif; color: #1c2330; background: #fff; 
 h1 { font-size: 1.3rem; margin: 0 0 .3rem } h2 { font-size: 1.05rem; margin: 1.6rem 0 .4rem }
 .picture { overflow-x: auto; border: 1px solid #d5dae3; border-radius: 6px; padding: 12px; background: #fbfcfe }
 svg text { font: 12px ui-monospace, "DejaVu Sans Mono", monospace; fill: #1c2330 } svg .head { font-weight: bold }
-.credential { fill: #fff; stroke: #7b8798 } .principal { stroke: #33507a; stroke-width: 1.5 }
+.credential { fill: #fff; stroke: #7b8798 } .critical { fill: #fff; stroke: #1c2330; stroke-width: 3 }
+.principal { stroke: #33507a; stroke-width: 1.5 }
 .requester { stroke: #33507a; stroke-width: 3 } .absent { fill: #f3f4f6; stroke: #a9b1bd; stroke-dasharray: 4 3 }
 .edge { fill: none; stroke: #33507a; stroke-width: 1.5 } .none { stroke: #b4bac4; stroke-dasharray: 4 3 }
 .tag { stroke: #33507a; stroke-width: .6 }
@@ -133,7 +134,7 @@ def tag_of(proof: Proof, edge: Edge, spots: Dict[str, Spot]) -> Iterator[str]:
 
 
 def box_of(proof: Proof, box: Box, spot: Spot) -> Iterator[str]:
-    round_corners = 3 if box.sort == "credential" else 14
+    round_corners = 3 if box.sort in ("credential", "critical") else 14
     fill = f' fill="{shade(box.level, proof.highest)}"' if box.sort in ("requester", "principal") else ""
     yield f"<g><title>{escape(box.whole)}</title>"
     yield (f'<rect class="{box.sort}" x="{spot.left:.1f}" y="{spot.top:.1f}" width="{spot.width:.1f}" '
@@ -158,7 +159,8 @@ def page_of(proof: Proof, picture: Picture) -> str:
         f"<code>keynoted check</code> says of the rows: <code>{verdict}</code>.</p>",
         '<div class="picture">', *svg_of(proof, picture), "</div>",
         "<p>A thick border marks who asks and so has the highest value; a box with a text is an assertion, which gives "
-        "its authorizer the value on its arrow; what is dashed brought nothing.</p>",
+        "its authorizer the value on its arrow, and without which the answer would be lower where its border is thick; "
+        "what is dashed brought nothing.</p>",
         "<h2>The rows, in their order</h2>", *table_of(proof),
         "<h2>The assertions</h2>", *texts_of(proof), "</body></html>",
     ]

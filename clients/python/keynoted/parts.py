@@ -13,6 +13,7 @@ from .trees import Clause, Node, clauses_of, formula_of
 SPECIAL = (b"_MIN_TRUST", b"_MAX_TRUST", b"_VALUES", b"_ACTION_AUTHORIZERS")
 Found = Tuple[str, int, str]  # a warning: the rule's word, the place in the assertion, and what is wrong
 BLOCK = re.compile(rb"(?:ADD|BATCH|ASSERT %b) %b" % (NUMBER, NUMBER))
+QUESTIONS = (b"QUERY", b"WATCH", b"CRITICAL")
 ITEM = re.compile(rb"ADD %b\n|DROP a%b\n" % (NUMBER, NUMBER))
 
 
@@ -103,7 +104,7 @@ class Script:
             present.add(principal)
         elif word == b"UNAUTH":
             present.discard(principal)
-        elif word == b"QUERY":
+        elif word in QUESTIONS:
             self.asking.append(frozenset(present))
         elif word in (b"OPEN", b"CLEAR", b"CLOSE"):
             present.clear()

@@ -6,14 +6,15 @@ import os
 import threading
 import time
 import weakref
-from typing import Iterable, List, Mapping, Optional, Sequence
+from typing import Iterable, List, Mapping, Optional, Sequence, Tuple
 
-from .answers import Answer
+from .answers import Answer, Critical
 from .arguments import Path, Text, limit_of, order_of, path_of, size_of
 from .connection import LIMIT, Connection, connect
 from .errors import LinkEnded, TimedOut
 from .link import host_and_port
 from .question import Question
+from .wire import Reply, Request, answer_of, critical_of
 
 SIZE = 3  # where nothing is said: a daemon of four workers has one left for its administrators
 
@@ -62,22 +63,29 @@ class Pool:
     def ask(self, principals: Iterable[Text], attributes: Mapping[Text, Text], values: Sequence[str] = (),
             private: Iterable[Text] = ()) -> Answer:
         """Asks one question as `Connection.ask` does."""
-        question = Question(principals, attributes, values, private, self.order)
+        return answer_of(*self._ask(Question(principals, attributes, values, private, self.order)))
+
+    def critical(self, principals: Iterable[Text], attributes: Mapping[Text, Text], values: Sequence[str] = (),
+                 private: Iterable[Text] = ()) -> Critical:
+        """Asks one question as `Connection.critical` does."""
+        return critical_of(*self._ask(Question(principals, attributes, values, private, self.order, b"CRITICAL")))
+
+    def _ask(self, question: Question) -> Tuple[Reply, Request]:
         if self._owner != os.getpid():
             self._begin()  # in a process that was forked, whose connections are the other's
         lease = self._lease()
         try:
-            return self._answer(question)
+            return self._settle(question)
         finally:
             with self._free:
                 self._leases.discard(lease)
                 self._free.notify()
 
-    def _answer(self, question: Question) -> Answer:
+    def _settle(self, question: Question) -> Tuple[Reply, Request]:
         connection = self._take(question)
         if connection:
             try:
-                return connection.answer(question)
+                return connection.settle(question)
             except TimedOut:
                 raise
             except LinkEnded:
@@ -86,7 +94,7 @@ class Pool:
                 self._give(connection)
         connection = self._open()
         try:
-            return connection.answer(question)
+            return connection.settle(question)
         finally:
             self._give(connection)
 

@@ -4,10 +4,9 @@ from __future__ import annotations
 
 from typing import Iterable, List, Mapping, Optional, Sequence, Tuple
 
-from .answers import Answer
 from .arguments import Text, attributes_of, texts_of, values_of
 from .errors import LinkEnded
-from .wire import PRIVATE, VERSION, Reply, Request, answer_of, query_of, words_of
+from .wire import PRIVATE, VERSION, Reply, Request, asked_of, words_of
 
 
 class Desk:
@@ -20,11 +19,13 @@ class Desk:
 class Question:
     """A question that leaves nothing behind: it begins with CLEAR and PIN, and its private assertions are retracted.
 
-    Its answer counts only where each request before it was taken: else the first refusal is raised.
+    It is asked by QUERY, or by WATCH, which keeps copies, or by CRITICAL. Its answer counts only where each request
+    before it was taken: else the first refusal is raised.
     """
 
     def __init__(self, principals: Iterable[Text], attributes: Mapping[Text, Text], values: Sequence[str],
-                 private: Iterable[Text], order: Optional[Tuple[str, ...]]) -> None:
+                 private: Iterable[Text], order: Optional[Tuple[str, ...]], word: bytes = b"QUERY") -> None:
+        self._word = word
         self._principals = texts_of(principals, "principals")
         self._attributes = attributes_of(attributes)
         self._private = texts_of(private, "private")
@@ -38,7 +39,7 @@ class Question:
         made += [Request(words_of(b"ASSERT", session, b"%d" % len(it)), it, PRIVATE) for it in self._private]
         made += [Request(words_of(b"AUTH", session, it)) for it in self._principals]
         made += [set_of(session, *pair) for pair in self._attributes]
-        made.append(query_of(session, self._values))
+        made.append(asked_of(self._word, session, self._values))
         ids = range(desk.made + 1, desk.made + 1 + len(self._private))
         return made + [Request(words_of(b"RETRACT", session, b"p%d" % it)) for it in ids]
 
@@ -54,12 +55,13 @@ class Question:
                 raise LinkEnded("a private assertion wasn't retracted")
         desk.made += len(taken)
 
-    def answer(self, requests: Sequence[Request], replies: Sequence[Reply]) -> Answer:
-        """The answer by these replies; the first refusal is raised."""
+    def answer(self, requests: Sequence[Request], replies: Sequence[Reply]) -> Tuple[Reply, Request]:
+        """The reply to what is asked, and its request; the first refusal of one before it is raised."""
         last = self.size - len(self._private) - 1
         for request, reply in zip(requests[:last], replies):
             reply.raise_refusal(request)
-        return answer_of(replies[last], requests[last])
+        replies[last].raise_refusal(requests[last])
+        return replies[last], requests[last]
 
 
 def set_of(session: bytes, name: bytes, value: bytes) -> Request:

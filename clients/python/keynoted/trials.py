@@ -17,6 +17,7 @@ from .vocabulary import COUNTER, NULLS
 
 MOST = 12  # comparisons that are tried
 TIME = 10.0  # seconds for one run
+INDEX = re.compile(rb"^(?:VALUE|NEWS|CRITICAL) ([0-9]+) ", re.M)  # of the reply to a question
 YES = {b"yes", b"true", b"1", b"on", b"y"}
 
 
@@ -29,7 +30,7 @@ class Trials:
         self.first = self.indices(self.policy)
 
     def indices(self, policy: bytes) -> List[int]:
-        """The indices of all replies to queries; none where the program gives none in its time."""
+        """The indices of all replies to questions; none where the program gives none in its time."""
         with tempfile.TemporaryDirectory() as room:
             name = os.path.join(room, "policy.kn")
             with open(name, "wb") as file:
@@ -39,7 +40,7 @@ class Trials:
                 outputs = [run_once(told, script) for script in self.scripts]
             except subprocess.TimeoutExpired:
                 return []
-        return [int(it) for output in outputs for it in re.findall(rb"^VALUE ([0-9]+) ", output, re.M)]
+        return [int(it) for output in outputs for it in INDEX.findall(output)]
 
     def with_text(self, part: Part, node: Node, text: bytes) -> List[int]:
         start, end = part.start + node.start, part.start + node.end

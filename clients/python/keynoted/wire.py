@@ -5,7 +5,7 @@ from __future__ import annotations
 import re
 from typing import List, NamedTuple, NoReturn, Optional, Sequence, Tuple, Union
 
-from .answers import NUMBER, Answer, Row
+from .answers import NUMBER, Answer, Critical, News, Row, Value
 from .errors import REFUSAL, LinkEnded, NoMemory, NoRead, refusal_of
 from .explaining import explain_text
 
@@ -22,16 +22,20 @@ PRIVATE = re.compile(rb"OK (p%b)" % NUMBER)
 BATCHED = re.compile(rb"OK (a%b) %b %b" % (NUMBER, NUMBER, NUMBER))
 PINNED = re.compile(rb"OK %b %b" % (NUMBER, NUMBER))
 VALUE = re.compile(rb"VALUE %b ([!-+\--~]{1,128}) %b %b" % (NUMBER, NUMBER, NUMBER))
+NEWS = re.compile(rb"NEWS %b ([!-+\--~]{1,128}) %b" % (NUMBER, NUMBER))
+CRITICAL = re.compile(rb"CRITICAL %b %b" % (NUMBER, NUMBER))
+NEED = re.compile(rb"NEED ([ap]%b)" % NUMBER)
+ASKED = {b"QUERY": VALUE, b"WATCH": NEWS, b"CRITICAL": CRITICAL}  # what the reply to each begins with
 ROW = re.compile(rb'ROW %b ([ap]%b) "((?:[ !#-\[\]-~]|\\["\\]|\\[0-7]{3})*)"' % (NUMBER, NUMBER))
 LOG = re.compile(rb"LOG %b %b %b" % (NUMBER, NUMBER, NUMBER))
 UPDATE = re.compile(rb"UPDATE %b %b" % (NUMBER, NUMBER))
 ITEM = re.compile(rb"ADD %b|DROP (a%b)" % (NUMBER, NUMBER))
 DIGITS = re.compile(rb"\d+")
-ANY = re.compile(rb"OK(?: [ap]?%b)*|(?:VALUE|LOG) .*" % NUMBER)
+ANY = re.compile(rb"OK(?: [ap]?%b)*|(?:VALUE|NEWS|CRITICAL|LOG) .*" % NUMBER)
 
 
 class Request(NamedTuple):
-    """A line, its block, and what its reply begins with where it isn't refused; `values` are those of a QUERY."""
+    """A line, its block, and what its reply begins with where it isn't refused; `values` are those of a question."""
 
     line: bytes
     block: Optional[bytes] = None
@@ -66,11 +70,12 @@ class Update(NamedTuple):
 
 
 class Reply(NamedTuple):
-    """The lines of a reply, without their ends, and the rows or the updates among them."""
+    """The lines of a reply, without their ends, and the rows, the updates or the ids among them."""
 
     lines: Tuple[bytes, ...]
     rows: Tuple[Row, ...] = ()
     updates: Tuple[Update, ...] = ()
+    ids: Tuple[str, ...] = ()
 
     def text(self) -> bytes:
         """What came."""
@@ -102,6 +107,18 @@ def answer_of(reply: Reply, request: Request) -> Answer:
     return Answer(int(index), request.values, int(version), reply.rows)
 
 
+def news_of(reply: Reply, request: Request) -> News:
+    """What a standing query comes to, by the reply to WATCH or NEWS; a refusal is raised."""
+    index, _, version = reply.parts(request)
+    return News(int(index), request.values, int(version))
+
+
+def critical_of(reply: Reply, request: Request) -> Critical:
+    """The answer of a CRITICAL; a refusal is raised."""
+    index, _ = reply.parts(request)
+    return Critical(Value(int(index), request.values), reply.ids)
+
+
 class Replies:
     """Cuts what the daemon sends into the replies to these requests, and raises `LinkEnded` at anything else.
 
@@ -110,7 +127,7 @@ class Replies:
 
     def __init__(self, requests: Sequence[Request]) -> None:
         self._requests, self._rest = requests, b""
-        self._begun: Union[RowLines, LogLines, None] = None  # a reply of several lines
+        self._begun: Union[RowLines, NeedLines, LogLines, None] = None  # a reply of several lines
         self.whole: List[Reply] = []
         self.ended = False  # by a refusal after which the daemon ends the connection
 
@@ -137,8 +154,10 @@ class Replies:
                 self._begun = None
         elif len(self.whole) == len(self._requests):
             fail(line)
-        elif line.startswith((b"VALUE ", b"LOG ")):
+        elif line.startswith((b"VALUE ", b"CRITICAL ", b"LOG ")):
             self._begun = self._begin(line)
+        elif line.startswith(b"NEWS "):
+            self._take_news(line)
         elif line.startswith(b"NO "):
             if not REFUSAL.fullmatch(line.decode("utf-8", "replace")):
                 fail(line)
@@ -149,11 +168,26 @@ class Replies:
         else:
             fail(line)
 
-    def _begin(self, line: bytes) -> Union[RowLines, LogLines]:
+    def _begin(self, line: bytes) -> Union[RowLines, NeedLines, LogLines]:
         request = self._requests[len(self.whole)]
         if not request.form.fullmatch(line):
             fail(line)
-        return RowLines(line, request.values) if line.startswith(b"VALUE ") else LogLines(line)
+        if line.startswith(b"LOG "):
+            return LogLines(line)
+        return RowLines(line, request.values) if line.startswith(b"VALUE ") else NeedLines(line, request.values)
+
+    def _take_news(self, line: bytes) -> None:
+        request, match = self._requests[len(self.whole)], NEWS.fullmatch(line)
+        if not match or not request.form.fullmatch(line):
+            fail(line)
+        check_value(line, request.values, int(match[1]), match[2])
+        self.whole.append(Reply((line,)))
+
+
+def check_value(line: bytes, values: Tuple[str, ...], index: int, name: Optional[bytes] = None) -> None:
+    """Sees that a line tells one of the values that were asked for, and by its name."""
+    if values and (index >= len(values) or name not in (None, values[index].encode())):
+        fail(line)
 
 
 class RowLines:
@@ -163,9 +197,7 @@ class RowLines:
         match = VALUE.fullmatch(line)
         if not match:
             fail(line)
-        index = int(match[1])
-        if values and (index >= len(values) or match[2] != values[index].encode()):
-            fail(line)
+        check_value(line, values, int(match[1]), match[2])
         self._lines, self._due = [line], int(match[4])
         self._rows: List[Row] = []
 
@@ -182,6 +214,34 @@ class RowLines:
 
     def reply(self) -> Reply:
         return Reply(tuple(self._lines), tuple(self._rows))
+
+
+class NeedLines:
+    """The lines of a reply to CRITICAL, of which the first one is there."""
+
+    def __init__(self, line: bytes, values: Tuple[str, ...]) -> None:
+        match = CRITICAL.fullmatch(line)
+        if not match:
+            fail(line)
+        check_value(line, values, int(match[1]))
+        self._lines, self._due = [line], int(match[2])
+        self._ids: List[str] = []
+
+    def take(self, line: bytes) -> bool:
+        """Takes the next line, and answers whether it is the last one."""
+        self._lines.append(line)
+        if len(self._ids) == self._due:
+            if line != b"END":
+                fail(line)
+            return True
+        match = NEED.fullmatch(line)
+        if not match:
+            fail(line)
+        self._ids.append(match[1].decode())
+        return False
+
+    def reply(self) -> Reply:
+        return Reply(tuple(self._lines), ids=tuple(self._ids))
 
 
 class LogLines:
@@ -293,9 +353,10 @@ def words_of(*parts: bytes) -> bytes:
     return b" ".join(parts)
 
 
-def query_of(session: bytes, values: Tuple[str, ...]) -> Request:
+def asked_of(word: bytes, session: bytes, values: Tuple[str, ...]) -> Request:
+    """The request that asks for one of these values: QUERY, WATCH or CRITICAL."""
     listed = ",".join(values).encode("utf-8", "surrogateescape")
-    return Request(words_of(b"QUERY", session, listed), None, VALUE, values)
+    return Request(words_of(word, session, listed), None, ASKED[word], values)
 
 
 def log_of(length: int) -> Request:
