@@ -56,7 +56,7 @@ def end_of_reply(text, at):
     """Where the reply that begins at this place ends; 0 where it breaks off."""
     line = text.find(b"\n", at) + 1
     log = LOG_LINE.match(text, at)
-    if text.startswith(b"VALUE ", at):
+    if text.startswith((b"VALUE ", b"CRITICAL "), at):
         end = text.find(b"\nEND\n", line - 1) if line else -1
         return end + len(b"\nEND\n") if end >= 0 else 0
     if not log:
@@ -71,7 +71,7 @@ def end_of_reply(text, at):
 
 
 def split_replies(text):
-    """The replies of an output: lines, from VALUE to END, and from LOG to END. An `error` line behind them is none."""
+    """The replies of an output: lines, and from VALUE, LOG or CRITICAL to END. An `error` line behind them is none."""
     replies, at = [], 0
     while end := end_of_reply(text, at):
         if not text.startswith(b"error ", at):

@@ -61,6 +61,8 @@ def line(rng):
         lambda: b"AUTH " + s + b" " + rest(rng) + end,
         lambda: b"UNAUTH " + s + b" " + rest(rng) + end,
         lambda: b"QUERY " + s + b" " + rest(rng) + end,
+        lambda: rng.choice([b"WATCH ", b"CRITICAL "]) + s + b" " + rest(rng) + end,
+        lambda: rng.choice([b"NEWS ", b"UNWATCH "]) + s + end,
         lambda: b"ADMIN " + rng.choice([digits(rng), b"733363726574"]) + end,
         lambda: b"DROP a" + number(rng) + end,
         lambda: block(rng, b"ADD "),

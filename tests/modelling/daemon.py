@@ -16,7 +16,7 @@ NAME = re.compile(rb"[A-Za-z][A-Za-z0-9_]{0,127}")
 VALUE_NAME = re.compile(rb"[!-+\--~]{1,128}")
 SESSIONS, ATTRIBUTES, REQUESTERS, PRIVATE, PRIVATE_BYTES = 16, 256, 64, 64, 262144
 LIVE, LIVE_BYTES, CHANGES, LOG_BYTES = 4096, 8388608, 65536, 67108864
-TEXT_BYTES, LOGGED = 4096, 16
+TEXT_BYTES, LOGGED, CRITICAL_NODES = 4096, 16, 16384
 
 
 class Refusal(Exception):
@@ -99,6 +99,17 @@ class Session:
     def __init__(self, version):
         self.version, self.asserted = version, 0
         self.private, self.attributes, self.requesters = {}, {}, []
+        # the standing query, a `Standing`
+        self.standing = None
+
+
+class Standing:
+    """What a session asked when it said WATCH."""
+
+    def __init__(self, session, values):
+        self.version, self.values = session.version, values
+        self.private, self.attributes = dict(session.private), dict(session.attributes)
+        self.requesters = list(session.requesters)
 
 
 class Value:
@@ -257,16 +268,65 @@ class Daemon:
     def queried_version(self, session):
         return session.version
 
-    def answer_query(self, s, names):
-        session, values = self.session(s), names.split(b",")
+    def values(self, names):
+        values = names.split(b",")
         formed = all(VALUE_NAME.fullmatch(value) for value in values)
         if not formed or not 2 <= len(set(values)) == len(values) <= 64:
             raise Refusal(b"10 values")
-        live = self.store(self.queried_version(session)).live
+        return values
+
+    def equations(self, asker, values, version):
+        """What a session or a standing query asks at this version."""
+        live = self.store(version).live
         assertions = [(b"a%d" % number, read(text)) for number, text in live.items()]
-        assertions += [(b"p%d" % number, read(text)) for number, text in session.private.items()]
-        query = reading.Query(values, dict(session.attributes), list(session.requesters))
-        return Value(reading.Equations(assertions, query), values, session.version)
+        assertions += [(b"p%d" % number, read(text)) for number, text in asker.private.items()]
+        query = reading.Query(values, dict(asker.attributes), list(asker.requesters))
+        return reading.Equations(assertions, query)
+
+    def answer_query(self, s, names):
+        session = self.session(s)
+        values = self.values(names)
+        return Value(self.equations(session, values, self.queried_version(session)), values, session.version)
+
+    def news(self, standing):
+        index = self.equations(standing, standing.values, standing.version).least().get(b"POLICY", 0)
+        return b"NEWS %d %s %d\n" % (index, standing.values[index], standing.version)
+
+    def answer_watch(self, s, names):
+        session = self.session(s)
+        session.standing = Standing(session, self.values(names))
+        return self.news(session.standing)
+
+    def standing(self, s):
+        session = self.session(s)
+        if session.standing is None:
+            raise Refusal(b"12 unknown")
+        return session.standing
+
+    def answer_news(self, s):
+        standing = self.standing(s)
+        standing.version = self.newest()
+        return self.news(standing)
+
+    def answer_unwatch(self, s):
+        self.standing(s)
+        self.session(s).standing = None
+        return b"OK\n"
+
+    def refuse_nodes(self, nodes):
+        if nodes > CRITICAL_NODES:
+            raise Refusal(b"13 limit nodes %d" % nodes)
+
+    def critical_ids(self, equations):
+        return equations.critical()
+
+    def answer_critical(self, s, names):
+        session = self.session(s)
+        values = self.values(names)
+        equations = self.equations(session, values, self.queried_version(session))
+        self.refuse_nodes(equations.nodes())
+        index, ids = equations.least().get(b"POLICY", 0), self.critical_ids(equations)
+        return b"CRITICAL %d %d\n%sEND\n" % (index, len(ids), b"".join(b"NEED %s\n" % name for name in ids))
 
     def answer_admin(self, digits):
         if bytes.fromhex(digits.decode()) != SECRET:

@@ -345,6 +345,215 @@ class OpensAtTheOldest(Daemon):
         return reply
 
 
+class PinsByNews(Daemon):
+    """NEWS pins the session too"""
+
+    def answer_news(self, s):
+        reply = super().answer_news(s)
+        self.session(s).version = self.newest()
+        return reply
+
+
+class WatchesTheNewest(Daemon):
+    """WATCH answers by the newest version, and not by that of the session"""
+
+    def answer_watch(self, s, names):
+        reply = super().answer_watch(s, names)
+        standing = self.standing(s)
+        standing.version = self.newest()
+        return self.news(standing) if reply.startswith(b"NEWS") else reply
+
+
+class StaysWhereItWasWatched(Daemon):
+    """NEWS tells the newest version, and answers by that of WATCH"""
+
+    def answer_news(self, s):
+        standing = self.standing(s)
+        index = self.equations(standing, standing.values, standing.version).least().get(b"POLICY", 0)
+        return b"NEWS %d %s %d\n" % (index, standing.values[index], self.newest())
+
+
+class StandsAtThePin(Daemon):
+    """NEWS answers by the version to which the session is pinned"""
+
+    def answer_news(self, s):
+        self.standing(s).version = self.session(s).version
+        return self.news(self.standing(s))
+
+
+class SharesAttributes(Daemon):
+    """NEWS goes by the session's attributes as they are now"""
+
+    def answer_news(self, s):
+        self.standing(s).attributes = self.session(s).attributes
+        return super().answer_news(s)
+
+
+class SharesRequesters(Daemon):
+    """NEWS goes by the session's requesters as they are now"""
+
+    def answer_news(self, s):
+        self.standing(s).requesters = self.session(s).requesters
+        return super().answer_news(s)
+
+
+class SharesPrivateAssertions(Daemon):
+    """NEWS goes by the session's private assertions as they are now"""
+
+    def answer_news(self, s):
+        self.standing(s).private = self.session(s).private
+        return super().answer_news(s)
+
+
+class ForgetsPrivateAssertions(Daemon):
+    """WATCH keeps no private assertions"""
+
+    def answer_watch(self, s, names):
+        super().answer_watch(s, names)
+        self.standing(s).private = {}
+        return self.news(self.standing(s))
+
+
+class KeepsTheFirstQuery(Daemon):
+    """WATCH answers its query, and keeps an earlier one"""
+
+    def answer_watch(self, s, names):
+        before = self.session(s).standing
+        reply = super().answer_watch(s, names)
+        self.session(s).standing = before or self.session(s).standing
+        return reply
+
+
+class WatchesWhatIsRefused(Daemon):
+    """a WATCH that is refused for its values ends the earlier standing query"""
+
+    def answer_watch(self, s, names):
+        try:
+            return super().answer_watch(s, names)
+        except Refusal:
+            if int(s) in self.sessions:
+                self.session(s).standing = None
+            raise
+
+
+class EndsByClear(Daemon):
+    """CLEAR ends the standing query"""
+
+    def answer_clear(self, s):
+        self.session(s).standing = None
+        return super().answer_clear(s)
+
+
+class EndsByPin(Daemon):
+    """PIN ends the standing query"""
+
+    def answer_pin(self, s):
+        self.session(s).standing = None
+        return super().answer_pin(s)
+
+
+class EndsNothingTwice(Daemon):
+    """UNWATCH without a standing query is OK"""
+
+    def answer_unwatch(self, s):
+        self.session(s).standing = None
+        return b"OK\n"
+
+
+class HasOneForAll(Daemon):
+    """a connection has one standing query, whatever its session"""
+
+    def answer_watch(self, s, names):
+        reply = super().answer_watch(s, names)
+        for session in self.sessions.values():
+            session.standing = self.session(s).standing
+        return reply
+
+
+class LooksAtTheValuesFirst(Daemon):
+    """the values of CRITICAL are looked at before its session"""
+
+    def answer_critical(self, s, names):
+        self.values(names)
+        return super().answer_critical(s, names)
+
+
+class NeedsAllRows(Daemon):
+    """CRITICAL tells each assertion that is worth something"""
+
+    def critical_ids(self, equations):
+        levels = equations.least()
+        held = levels.get(b"POLICY", 0)
+        return [name for name in equations.assertions if held and equations.worth(name, levels)]
+
+
+class NeedsTheLastFirst(Daemon):
+    """CRITICAL tells the assertions from the last one to the first"""
+
+    def critical_ids(self, equations):
+        return super().critical_ids(equations)[::-1]
+
+
+class NeedsWhatGivesAnything(Daemon):
+    """an assertion is critical only where POLICY has the lowest value without it"""
+
+    def critical_ids(self, equations):
+        return [name for name in super().critical_ids(equations) if not equations.least(name).get(b"POLICY", 0)]
+
+
+class NeedsSharedOnes(Daemon):
+    """private assertions are never critical"""
+
+    def critical_ids(self, equations):
+        return [name for name in super().critical_ids(equations) if name.startswith(b"a")]
+
+
+class AsksTheNewestForCritical(Daemon):
+    """CRITICAL goes by the newest version"""
+
+    def answer_critical(self, s, names):
+        session = self.session(s)
+        version, session.version = session.version, self.newest()
+        try:
+            return super().answer_critical(s, names)
+        finally:
+            session.version = version
+
+
+class TakesOneNodeLess(Daemon):
+    """CRITICAL is refused from 16,384 nodes on"""
+
+    policy_size = "nodes"
+
+    def refuse_nodes(self, nodes):
+        super().refuse_nodes(nodes)
+        if nodes == 16384:
+            raise Refusal(b"13 limit nodes %d" % nodes)
+
+
+class TakesAnyNodes(Daemon):
+    """CRITICAL takes any number of nodes"""
+
+    policy_size = "nodes"
+
+    def refuse_nodes(self, nodes):
+        return
+
+
+class CountsNoEmptyLicensees(Daemon):
+    """missing licensees are no node"""
+
+    policy_size = "nodes"
+
+    def refuse_nodes(self, nodes):
+        super().refuse_nodes(nodes - self.empty)
+
+    def equations(self, asker, values, version):
+        found = super().equations(asker, values, version)
+        self.empty = sum(it.licensees is None for it in found.assertions.values())
+        return found
+
+
 FAULTS = [
     CountsRemovalsInIds, TellsTheFirstChange, TellsTheLastAddition, CountsAllChanges, JudgesRemovalsBefore,
     TriesItemsInTurn, MakesARefusedBatchInPart, MakesAVersionForEachItem, LooksAtTheFormFirst,
@@ -352,5 +561,9 @@ FAULTS = [
     KeepsNoVersionZero, ForgetsOldVersions, AsksTheNewest, LogsNoRemovals, LogsFifteen, LogsFromOneBefore,
     RefusesTheEndOfTheLog, LogsForAnybody, TakesBackAnAdmin, UsesPrivateIdsAgain, UsesSessionsAgain,
     ClearsPrivateAssertions, ClearsThePin, ComparesSpellings, RefusesWhatIsThere, FreesNoRoom, LetsLiveGoOn,
-    PinsWhatIsRefused, OpensAtTheOldest,
+    PinsWhatIsRefused, OpensAtTheOldest, PinsByNews, WatchesTheNewest, StaysWhereItWasWatched, StandsAtThePin,
+    SharesAttributes, SharesRequesters, SharesPrivateAssertions, ForgetsPrivateAssertions, KeepsTheFirstQuery,
+    WatchesWhatIsRefused, EndsByClear, EndsByPin, EndsNothingTwice, HasOneForAll, LooksAtTheValuesFirst, NeedsAllRows,
+    NeedsTheLastFirst, NeedsWhatGivesAnything, NeedsSharedOnes, AsksTheNewestForCritical, TakesOneNodeLess,
+    TakesAnyNodes, CountsNoEmptyLicensees,
 ]

@@ -365,6 +365,13 @@ def formula_value(formula, levels):
     return parts[needed(formula) - 1]
 
 
+def nodes_of(formula):
+    """How many principals and lists licensees have; where there are none, they are a list of no parts."""
+    if formula is None:
+        return 1
+    return 1 if formula[0] == "who" else 1 + sum(map(nodes_of, formula[-1]))
+
+
 def needed(formula):
     """How many parts have to reach a value."""
     return {"all": len(formula[-1]), "any": 1, "of": formula[1]}[formula[0]]
@@ -384,19 +391,30 @@ class Equations:
     def start(self):
         return {requester: self.top for requester in self.query.requesters}
 
-    def round(self, levels):
+    def round(self, levels, without):
         """The levels that the assertions give where principals have these."""
         given = self.start()
         for name, assertion in self.assertions.items():
-            given[assertion.authorizer] = max(given.get(assertion.authorizer, 0), self.worth(name, levels))
+            if name != without:
+                given[assertion.authorizer] = max(given.get(assertion.authorizer, 0), self.worth(name, levels))
         return given
 
-    def least(self):
-        """The levels of the least solution, from the lowest ones up until a round changes nothing."""
-        levels, following = self.start(), self.round(self.start())
+    def least(self, without=None):
+        """The levels of the least solution, from the lowest ones up until a round changes nothing; without one of the
+        assertions where that is named."""
+        levels, following = self.start(), self.round(self.start(), without)
         while following != levels:
-            levels, following = following, self.round(following)
+            levels, following = following, self.round(following, without)
         return levels
+
+    def nodes(self):
+        return sum(nodes_of(assertion.licensees) for assertion in self.assertions.values())
+
+    def critical(self):
+        """The assertions without which POLICY has less, in their order; one that is worth nothing never counts."""
+        levels = self.least()
+        worthy = [name for name in self.assertions if self.worth(name, levels)]
+        return [name for name in worthy if self.least(name).get(b"POLICY", 0) < levels.get(b"POLICY", 0)]
 
     def why_no_proof(self, rows, index):
         """Why rows of a level, an id and a principal don't prove that POLICY has this value, or nothing."""

@@ -4,7 +4,7 @@ A request is drawn by what the daemon has at that moment, so that ids, versions 
 """
 
 from modelling import reading, texts, wire
-from modelling.daemon import CHANGES, Daemon, Store
+from modelling.daemon import CHANGES, CRITICAL_NODES, Daemon, Store
 
 MANY = [b"w%d" % i for i in range(65)]
 QUERIES = [b"no,yes", b"no,maybe,yes", b"v0,v1,v2,v3", b"yes,no", b"other,v1", b",".join(MANY[:64])]
@@ -17,7 +17,9 @@ STRANGE_LINES = [
     b"PIN 1 x", b"PIN", b"RETRACT 1 a1", b"SET 1", b"SET 1  x", b"SETX 1 v 1", b"SETX 1 v 1g", b"ADMIN", b"ADMIN 1",
     b"DROP 1", b"DROP a01", b"DROP a1 ", b"LOG", b"LOG x", b"LOG 01", b"LOG 1000000000", b"LOG 1 1", b"BATCH",
     b"BATCH 01", b"BATCH 1 1", b"ADD x", b"ASSERT 1", b"BYE 1", b"QUERY 1", b"AUTH 1", b"AUTH x alice", b"LOGS 0",
-    b"\xff", b"\0", b"LOOK 1 no,yes", b"NOMEM", b"A" * 8192, b"OPEN\t",
+    b"\xff", b"\0", b"LOOK 1 no,yes", b"NOMEM", b"A" * 8192, b"OPEN\t", b"WATCH", b"WATCH 1", b"WATCH 01 no,yes",
+    b"NEWS", b"NEWS 1 no,yes", b"NEWS 1 ", b"NEWS x", b"UNWATCH", b"UNWATCH 1 1", b"UNWATCH 1000000000", b"CRITICAL",
+    b"CRITICAL 1", b"CRITICAL  1 no,yes", b"news 1", b"CRITICALS 1 no,yes", b"NEED a1",
 ]
 STRANGE_ITEMS = [
     b"DROP a01\n", b"drop a1\n", b"DROP p1\n", b"DROP a1\r\n", b"DROP a1 \n", b" DROP a1\n", b"DROP a1000000000\n",
@@ -27,8 +29,8 @@ STRANGE_ITEMS = [
 BATCH_SIZES = [1, 1, 1, 2, 2, 3, 4, 6, 10, 20, 60, 256, 256, 257]
 KINDS = {
     "open": 3, "close": 1.5, "pin": 3, "pin_at": 10, "assert": 6, "retract": 3, "set": 5, "setx": 2, "unset": 3,
-    "auth": 12, "unauth": 2, "clear": 1, "query": 12, "admin": 1, "add": 8, "drop": 7, "batch": 14, "log": 8,
-    "strange": 5, "long": 1, "fill": 0.4,
+    "auth": 12, "unauth": 2, "clear": 1, "query": 12, "watch": 6, "news": 10, "unwatch": 2, "critical": 8, "admin": 1,
+    "add": 8, "drop": 7, "batch": 14, "log": 8, "strange": 5, "long": 1, "fill": 0.4, "story": 2,
 }
 
 
@@ -134,12 +136,35 @@ class Script:
     def draw_clear(self):
         return self.line(b"CLEAR %d", self.last)
 
-    def draw_query(self):
+    def question(self, word):
+        """A line that asks a question, most often of a session that has requesters."""
         asked = [s for s, session in self.daemon.sessions.items() if session.requesters]
         if asked and self.is_likely(0.7):
             self.last = self.rng.choice(asked)
         values = self.rng.choice(QUERIES if self.is_likely(0.85) else WRONG_QUERIES)
-        return self.line(b"QUERY %d %s", self.last, values)
+        return self.line(b"%s %d %s", word, self.last, values)
+
+    def draw_query(self):
+        return self.question(b"QUERY")
+
+    def draw_watch(self):
+        return self.question(b"WATCH")
+
+    def draw_critical(self):
+        return self.question(b"CRITICAL")
+
+    def about_standing(self, word, chance):
+        """A line about a standing query, so often of a session that has one."""
+        watching = [s for s, session in self.daemon.sessions.items() if session.standing]
+        if watching and self.is_likely(chance):
+            self.last = self.rng.choice(watching)
+        return self.line(b"%s %d", word, self.last)
+
+    def draw_news(self):
+        return self.about_standing(b"NEWS", 0.85)
+
+    def draw_unwatch(self):
+        return self.about_standing(b"UNWATCH", 0.5)
 
     def draw_admin(self):
         wrong = [b"00", b"733363726575", b"73336372657473"]
@@ -183,12 +208,13 @@ class Script:
     def malform(self, items):
         """Has the block depart from its form at some place."""
         at = self.rng.randint(0, len(items))
-        way = self.rng.choice(["item", "item", "cut", "byte", "end"])
+        way = self.rng.choice(["item", "item", "cut", "byte", "end", "none"])
         if way == "item":
             return b"".join([*items[:at], self.rng.choice(STRANGE_ITEMS), *items[at:]])
         block = b"".join(items)
         place = self.rng.randint(0, len(block))
-        return {"cut": block[:place], "byte": block[:place] + b"\n" + block[place:], "end": block + b"\n"}[way]
+        changed = {"cut": block[:place], "byte": block[:place] + b"\n" + block[place:], "end": block + b"\n"}
+        return changed.get(way, b"")
 
     def draw_batch(self):
         changes = self.items(self.rng.choice(BATCH_SIZES))
@@ -225,10 +251,27 @@ class Script:
         ]
         return self.rng.choice(ways)
 
+    def story(self):
+        """Requests to one session about a guest, for whom its own assertions and attributes decide."""
+        s, rng = self.any_session(), self.rng
+        values = rng.choice(QUERIES[:2])
+        ways = [
+            lambda: self.block(b"ASSERT %d %d", s, texts.draw_link(rng)),
+            lambda: self.line(b"RETRACT %d p%d", s, rng.randint(1, 4)),
+            lambda: self.line(b"SET %d %s %s", s, rng.choice([b"hour", b"action"]), rng.choice([b"9", b"read", b"17"])),
+            lambda: self.line(b"%s %d guest", rng.choice([b"AUTH", b"AUTH", b"UNAUTH"]), s),
+            lambda: self.line(b"WATCH %d %s", s, values),
+            lambda: self.line(b"NEWS %d", s),
+            lambda: self.line(b"CRITICAL %d %s", s, values),
+            lambda: self.line(rng.choice([b"CLEAR %d", b"PIN %d", b"UNSET %d hour", b"UNWATCH %d"]), s),
+        ]
+        first = [self.line(b"CLEAR %d", s), ways[0](), self.line(b"AUTH %d guest", s), ways[4]()]
+        return first + [way() for way in rng.choices(ways, [3, 2, 3, 2, 2, 6, 3, 1], k=rng.randint(1, 9))]
+
     def draw(self):
         """One request, or several that go together."""
         kind = self.rng.choices(list(KINDS), KINDS.values())[0]
-        return self.fill() if kind == "fill" else [self.request(kind)]
+        return getattr(self, kind)() if kind in ("fill", "story") else [self.request(kind)]
 
     def end(self):
         """What stands at the very end of a script: nothing, BYE, or something that isn't whole or breaks off."""
@@ -241,14 +284,43 @@ class Script:
         ])
 
 
+def draw_wide(rng, most):
+    """A text whose licensees have many nodes, at most so many, and how many they are."""
+    members = rng.randint(2, max(2, min(2000, most)))
+    names = [b'"z"'] * members
+    threshold = b"%d-of(%s)" % (rng.randint(1, members), b",".join(names))
+    ways = [
+        (1, b"\nLicensees:"), (1, b""), (members + 1, b"\nLicensees: " + threshold),
+        (members + 1, b"\nLicensees: " + rng.choice([b"||", b"&&"]).join(names)),
+        (members + 3, b'\nLicensees: "y" || ' + threshold),
+    ]
+    nodes, licensees = rng.choice([way for way in ways if way[0] <= most])
+    return b'Authorizer: "z"%s\n' % licensees, nodes
+
+
+def draw_nodes(rng, made):
+    """These texts and others: the licensees of all of them have about as many nodes as CRITICAL takes."""
+    left = CRITICAL_NODES - rng.choice([0, 0, 1, 2, 10, 20])
+    left -= sum(reading.nodes_of(reading.read(text).licensees) for text in made)
+    while left:
+        text, nodes = draw_wide(rng, left)
+        made.append(text)
+        left -= nodes
+    return made
+
+
 def draw_policy(rng, drawn, size):
-    """The texts of a policy file. Those of `live` and `live-bytes` are near these limits."""
+    """The texts of a policy file. Those of `live`, `live-bytes` and `nodes` are near these limits."""
     if size == "live":
         few = [texts.draw_assertion(rng, rng.choice([b"POLICY", b"alice"])) for _ in range(6)]
         few = [text for text in few if len(text) < 2000]
         return few + [b'Authorizer:"a"\n'] * (rng.choice([4090, 4096, 4095]) - len(few))
     if size == "live-bytes":
         return [drawn.sized(16384)] * 511 + [drawn.sized(16384 - rng.choice([0, 16, 60, 4000]))]
+    if size == "nodes":
+        return draw_nodes(rng, [rng.choice(texts.STRONG) for _ in range(rng.choice([0, 1, 3]))])
+    if rng.random() < 0.3:
+        return texts.draw_chain(rng)
     count = rng.choice([0, 1, 2, 5, 18])
     return [rng.choice([texts.draw_assertion(rng), rng.choice(texts.STRONG)]) for _ in range(count)]
 

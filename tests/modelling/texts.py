@@ -97,6 +97,25 @@ def draw_assertion(rng, authorizer=None):
     return b"\n".join(fields) + b"\n"
 
 
+def draw_link(rng):
+    """A text by which somebody trusts the guest, whom nothing else licenses."""
+    some = b'Conditions: action != "read" -> "maybe"; @hour > 8;\n'
+    conditions = rng.choice([b"", b"", b'Conditions: hour == "9";\n', some])
+    return b"Authorizer: %s\nLicensees: \"guest\"\n%s" % (quote(rng.choice(PRINCIPALS[:4])), conditions)
+
+
+def draw_chain(rng):
+    """Texts by which POLICY trusts somebody, who trusts the next one, and so on; some links stand there twice."""
+    links = [b"POLICY", *rng.sample(PRINCIPALS, rng.randint(2, len(PRINCIPALS)))]
+    chain = []
+    for authorizer, licensee in zip(links, links[1:]):
+        conditions = rng.choice([b"", b"", b'Conditions: true -> "maybe"; true -> "v2";\n'])
+        text = b"Authorizer: %s\nLicensees: %s\n%s" % (quote(authorizer), quote(licensee), conditions)
+        chain += [text] * rng.choice([1, 1, 1, 1, 2])
+    rng.shuffle(chain)
+    return chain
+
+
 class Texts:
     """The texts and keys of one script."""
 

@@ -169,7 +169,7 @@ class Conduct:
         policy = daemon.make_assertion("POLICY", "u0")
         return self.rng.choice([
             b"open\n", b"\n", b"OPEN x\n", b"QUERY 99 no,yes\n", b"QUERY %d yes\n" % s, b"QUERY %d no,no\n" % s,
-            b"AUTH %d POLICY\n" % s, b"SET %d _x 1\n" % s, b"ADMIN 00\n", block(b"ASSERT %d" % s, self.texts.enter(policy)),
+            b"WATCH 99 no,yes\n", b"NEWS 99\n", b"UNWATCH 99\n", b"CRITICAL %d no\n" % s, b"AUTH %d POLICY\n" % s, b"SET %d _x 1\n" % s, b"ADMIN 00\n", block(b"ASSERT %d" % s, self.texts.enter(policy)),
             block(b"ASSERT %d" % s, b""), b"RETRACT %d p999\n" % s, b"UNSET %d none\n" % s, b"UNAUTH %d none\n" % s,
         ])
 
@@ -189,7 +189,11 @@ class Conduct:
             lambda: b"CLEAR %d\n" % s,
             lambda: self.ask_assert(s),
             lambda: b"RETRACT %d p%d\n" % (s, rng.randint(1, max(1, self.open[s]))),
-        ], [30, 8, 8, 6, 3, 14, 6, 3, 1, 1, 5, 3])[0]()
+            lambda: b"WATCH %d %s\n" % (s, rng.choice(VALUES).encode()),
+            lambda: b"NEWS %d\n" % s,
+            lambda: b"UNWATCH %d\n" % s,
+            lambda: b"CRITICAL %d %s\n" % (s, rng.choice(VALUES).encode()),
+        ], [30, 8, 8, 6, 3, 14, 6, 3, 1, 1, 5, 3, 4, 10, 1, 2])[0]()
 
     def draw(self):
         draw = self.rng.random()
@@ -213,6 +217,8 @@ class Conduct:
             ids = range(first, first + (added[0] if added else 1))
             self.own += ids
             self.texts.told += ids
+        if reply.startswith(b"NEWS ") and request.startswith(b"NEWS "):
+            self.newest = int(reply.split()[-1])
         if reply.startswith(b"OK ") and request.split(None, 1)[0] in (b"OPEN", b"PIN", b"ADD", b"DROP", b"BATCH"):
             self.newest = int(reply.split()[-1])
 

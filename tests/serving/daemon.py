@@ -20,6 +20,7 @@ ITEMS, RETAINED, LOGGED = 256, 16, 16
 VALUE = re.compile(rb"VALUE (\d+) (\S+) (\d+) (\d+)\n((?:ROW [^\n]*\n)*)END\n")
 ROW = re.compile(rb'ROW (\d+) ([ap])(\d+) "([^"\n]*)"\n')
 LOG = re.compile(rb"LOG \d+ \d+ (\d+)\n")
+NEWS = re.compile(rb"NEWS \d+ \S+ (\d+)\n")
 
 # `formula` is a name, or a pair (how many parts it needs, its parts); `clauses` are pairs (number, value), or None
 Assertion = collections.namedtuple("Assertion", "text authorizer formula clauses")
@@ -65,7 +66,7 @@ def formula_level(formula, levels):
 
 
 class Query:
-    """The assertions, requesters, attributes and values of a query."""
+    """The assertions, requesters, attributes and values of a question."""
 
     def __init__(self, assertions, requesters, attributes, values):
         self.assertions, self.requesters, self.values = assertions, requesters, values
@@ -97,6 +98,16 @@ class Query:
                     levels[authorizer] = level
                     rows.append((level, name, authorizer))
         return levels.get("POLICY", 0), rows
+
+    def critical(self):
+        """POLICY's level, and the assertions without which it is lower: rows of its proof name each of them."""
+        level, rows = self.solve()
+        named, whole, found = {name for _, name, _ in rows}, self.assertions, []
+        for tried in [name for name in whole if name in named]:
+            self.assertions = {name: it for name, it in whole.items() if name != tried}
+            found += [tried] if self.solve()[0] < level else []
+        self.assertions = whole
+        return level, found
 
     def judge(self, value, rows):
         """Raises a fault where these rows are no proof of the value."""
@@ -141,6 +152,12 @@ class Session:
         self.attributes, self.requesters = {}, []
         # the requests that made it what it is, without its number
         self.script = []
+        # what was asked by WATCH
+        self.standing = None
+
+
+# a standing query: private assertions, requesters, attributes and values, as a session had them
+Standing = collections.namedtuple("Standing", "private requesters attributes values")
 
 
 # a VALUE reply, with the version that its session is pinned to and a script that makes the same query
@@ -301,9 +318,43 @@ class Connection:
         session.script.append(b"CLEAR 1\n")
         return b"OK\n"
 
+    def news(self, standing, version):
+        private, requesters, attributes, values = standing
+        level = Query({**self.credentials(version), **private}, requesters, attributes, values).solve()[0]
+        return b"NEWS %d %s %d\n" % (level, values[level].encode(), version)
+
+    def on_watch(self, number, session, rest, block, reply):
+        values = rest.decode().split(",")
+        if not are_values(values):
+            return b"NO 10 values\n"
+        kept = Standing(dict(session.private), list(session.requesters), dict(session.attributes), values)
+        session.standing = kept
+        return self.news(kept, session.version)
+
+    def on_news(self, number, session, rest, block, reply):
+        if session.standing is None:
+            return b"NO 12 unknown\n"
+        told = NEWS.fullmatch(reply)
+        return self.news(session.standing, int(told[1])) if told else b"NEWS index name version\n"
+
+    def on_unwatch(self, number, session, rest, block, reply):
+        if session.standing is None:
+            return b"NO 12 unknown\n"
+        session.standing = None
+        return b"OK\n"
+
+    def on_critical(self, number, session, rest, block, reply):
+        values = rest.decode().split(",")
+        if not are_values(values):
+            return b"NO 10 values\n"
+        shared = self.credentials(session.version)
+        query = Query({**shared, **session.private}, session.requesters, session.attributes, values)
+        level, ids = query.critical()
+        return b"CRITICAL %d %d\n%sEND\n" % (level, len(ids), b"".join(b"NEED %s\n" % name.encode() for name in ids))
+
     def on_query(self, number, session, rest, block, reply):
         values = rest.decode().split(",")
-        if not 2 <= len(values) <= 64 or len(set(values)) < len(values):
+        if not are_values(values):
             return b"NO 10 values\n"
         index, name, version, rows = read_value(reply)
         if version != session.version:
@@ -316,6 +367,10 @@ class Connection:
         script = b"OPEN\n" + b"".join(session.script) + b"QUERY 1 " + rest + b"\n"
         self.asked.append(Asked(version, script, reply))
         return reply
+
+
+def are_values(values):
+    return 2 <= len(set(values)) == len(values) <= 64
 
 
 def last_number(reply):

@@ -1,6 +1,7 @@
 """What `serve` does where words, files, the address or the output are at fault, and how its connections end."""
 
 import contextlib
+import hashlib
 import os
 import random
 import socket
@@ -17,6 +18,7 @@ from serving.talk import HOST, LIMIT, Daemon, free_port
 EXAMPLES = os.path.join(os.path.dirname(os.path.abspath(__file__)), "..", "..", "examples")
 
 POLICY = b'Authorizer: "POLICY"\nLicensees: "alice"\n'
+CREDENTIAL = b'Authorizer: "alice"\nLicensees: "bob"\n'
 # requests of a connection
 BUDGET = 1_000_000
 # random streams
@@ -34,6 +36,7 @@ class Room:
         self.write("bad.kn", b'Authorizer: "POLICY"\nLicensees: 4-of("x","y","z")\n')
         self.write("keys", b"# the secret is s3cret\nsecret 733363726574\n")
         self.write("bad.keys", b"# keys\nsecret s3cret\n")
+        self.write("listed.keys", b"digest %s\nsecret 733363726574\n" % hashlib.sha256(CREDENTIAL).hexdigest().encode())
         os.mkdir(os.path.join(folder, "folder"))
         with open(os.path.join(folder, "large.kn"), "wb") as file:
             file.truncate(16_777_217)
@@ -141,6 +144,7 @@ class Doors:
         if socket.has_ipv6 and os.path.exists("/proc/net/if_inet6"):
             yield "the loopback of IPv6", lambda: self.serve(1, 1, host="::1").expect_end(1)
         yield "each way in which a connection ends", self.try_ends
+        yield "requests that come byte by byte", self.try_single_bytes
         yield "random streams are answered as ask answers them", self.try_streams
         yield "a million requests end a connection", self.try_budget
 
@@ -220,6 +224,22 @@ class Doors:
                 (one.expect_end if by_itself else one.end_input)()
             run.expect_end(1)
 
+    def try_single_bytes(self):
+        """Each request is answered behind its last byte, and not before."""
+        run = Daemon(self.program, self.room.path("p.kn"), self.room.path("listed.keys"), 1, 2)
+        with contextlib.closing(run):
+            one = run.connect("one")
+            for request, due in BYTE_BY_BYTE:
+                for at in range(len(request)):
+                    if not one.is_silent():
+                        raise Fault(f"{request[:at]!r} is answered before it is whole")
+                    one.send(request[at:at + 1])
+                reply = one.reply(request)
+                if reply != due:
+                    raise Fault(f"{request!r} is answered {reply!r}, and not {due!r}")
+            one.end_input()
+            run.expect_end(3)
+
     def try_streams(self):
         """Random streams in random pieces, each to a daemon of its own."""
         self.room.write("streamed", streams.KEYS.encode())
@@ -258,6 +278,22 @@ class Doors:
             run.expect_end(1)
 
 
+BYTE_BY_BYTE = [
+    (b"OPEN\n", b"OK 1 1\n"),
+    (b"ADMIN 733363726574\n", b"OK\n"),
+    (b"AUTH 1 bob\n", b"OK\n"),
+    (b"WATCH 1 no,yes\n", b"NEWS 0 no 1\n"),
+    (b"ASSERT 1 37\n" + CREDENTIAL + b"\n", b"OK p1\n"),
+    (b"CRITICAL 1 no,yes\n", b"CRITICAL 1 2\nNEED a1\nNEED p1\nEND\n"),
+    (b"RETRACT 1 p1\n", b"OK\n"),
+    (b"ADD 37\n" + CREDENTIAL + b"\n", b"OK a2 2\n"),
+    (b"NEWS 1\n", b"NEWS 1 yes 2\n"),
+    (b"DROP a1\r\n", b"OK 3\n"),
+    (b"NEWS 1\r\n", b"NEWS 0 no 3\n"),
+    (b"QUERY 1 no,yes\n", b"VALUE 0 no 1 0\nEND\n"),
+    (b"UNWATCH 1\n", b"OK\n"),
+    (b"NEWS 1\n", b"NO 12 unknown\n"),
+]
 ASK = b"OPEN\nAUTH 1 alice\nQUERY 1 no,yes\n"
 TOLD = [b"OK 1 1\n", b"OK\n", b'VALUE 1 yes 1 1\nROW 1 a1 "POLICY"\nEND\n']
 ENDS = [

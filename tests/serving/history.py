@@ -22,7 +22,7 @@ Transcript = collections.namedtuple("Transcript", "client exchanges")
 Update = collections.namedtuple("Update", "client exchange")
 UPDATE = re.compile(rb"UPDATE (\d+) (\d+)\n")
 # where a reply that isn't OK tells the newest version
-NEWEST = re.compile(rb"(?:NO 18 retained|NO 19 ahead|LOG \d+ \d+) (\d+)\n")
+NEWEST = re.compile(rb"(?:NO 18 retained|NO 19 ahead|LOG \d+ \d+|NEWS \d+ \S+) (\d+)\n")
 # an item that was refused because what it names isn't there
 UNKNOWN = re.compile(rb"NO (?:17 item (\d+) )?12 unknown\n")
 # the most faults that are told
@@ -46,7 +46,7 @@ def is_update(exchange):
 
 
 def is_placed(exchange):
-    return word_of(exchange) in (b"OPEN", b"PIN", b"LOG") or is_update(exchange)
+    return word_of(exchange) in (b"OPEN", b"PIN", b"LOG", b"NEWS") or is_update(exchange)
 
 
 def items_of(exchange):
@@ -63,7 +63,7 @@ def told_version(exchange):
     if exchange.reply is None or not is_placed(exchange):
         return None
     other = NEWEST.match(exchange.reply)
-    if other and word_of(exchange) in (b"PIN", b"LOG"):
+    if other and word_of(exchange) in (b"PIN", b"LOG", b"NEWS"):
         return int(other[1])
     return daemon.last_number(exchange.reply) if is_ok(exchange) else None
 

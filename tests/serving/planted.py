@@ -10,6 +10,8 @@ from serving.history import Exchange, Transcript
 
 # requests of a client in a simulated run, and the most of a burst
 REQUESTS, BURST = 160, 6
+# of so many runs with a planted fault one at least has to be refused
+RUNS = 8
 # faults are planted from this update on
 PLANTED_AT = 12
 
@@ -86,6 +88,9 @@ class Simulated:
         kept = self.newest() - 16 < version <= self.newest()
         return b"OK %d %d\n" % (version, self.newest()) if kept else b"NO 18 retained %d\n" % self.newest()
 
+    def news(self, caller):
+        return self.newest()
+
     def half_block(self, caller, assertion):
         """A connection ended within the block of an ADD."""
 
@@ -111,6 +116,8 @@ class Simulated:
             due = b"OK a1 %d 1\n" % sum(text is not None for text, _ in items)
             permitted = model.expected(request, due)
             return permitted if permitted != due else self.batch(caller, items)
+        if word == b"NEWS":
+            return model.expected(request, b"NEWS 0 no %d\n" % self.news(caller))
         if word in (b"OPEN", b"PIN"):
             return model.expected(request, b"OK %d\n" % self.pin(caller))
         if word == b"ADD":
@@ -333,10 +340,52 @@ class RetainsMore(Simulated):
         return b"OK %d %d\n" % (version, self.newest()) if gone else reply
 
 
+class TellsOldNews(Simulated):
+    """NEWS answers by a version from before the newest one"""
+
+    def news(self, caller):
+        return max(len(conduct.LOADED), self.newest() - 3)
+
+
+class TellsNewsOfThePin(Simulated):
+    """NEWS tells the newest version, and answers by that to which the session is pinned"""
+
+    def reply(self, caller, request):
+        reply = super().reply(caller, request)
+        if not request.startswith(b"NEWS ") or not reply.startswith(b"NEWS "):
+            return reply
+        session = caller.model.sessions[request.split()[1]]
+        index, name = caller.model.news(session.standing, session.version).split()[1:3]
+        return b"NEWS %s %s %d\n" % (index, name, self.newest())
+
+
+class TellsNewsOfNow(Simulated):
+    """NEWS goes by the session's attributes and requesters as they are now"""
+
+    def reply(self, caller, request):
+        session = caller.model.sessions.get(request.split()[1]) if request.startswith(b"NEWS ") else None
+        if session and session.standing:
+            session.standing = session.standing._replace(requesters=session.requesters, attributes=session.attributes)
+        return super().reply(caller, request)
+
+
+class NeedsOneMore(Simulated):
+    """of the critical credentials the last one isn't told"""
+
+    def reply(self, caller, request):
+        reply = super().reply(caller, request)
+        lines = reply.splitlines(True)
+        if not reply.startswith(b"CRITICAL ") or len(lines) < 3:
+            return reply
+        index, count = lines[0].split()[1:]
+        return b"CRITICAL %s %d\n" % (index, int(count) - 1) + b"".join(lines[1:-2]) + lines[-1]
+
+
 FAULTS = [
     MakesABatchInParts, DoesARefusedBatchInPart, RefusesABatch, LogsInAnotherOrder, LogsAnotherText, PinsTheNewest, RetainsFewer,
     RetainsMore, LosesAnUpdate, TellsTwoSets, GivesAVersionTwice, SkipsAVersion, AddsTwice, PinsBack, PinsLate, AnswersNewest, TellsNewest,
     DropsTheGone, KeepsTheDropped, RefusesADrop, ForgetsPrivate, CountsHalfABlock, TellsAnotherId, LeavesOutARow,
+    TellsOldNews, TellsNewsOfThePin, TellsNewsOfNow, NeedsOneMore,
 ]
 
 
@@ -419,6 +468,11 @@ def lose_a_reply(run):
     said[5:] = [e._replace(reply=next_one.reply) for e, next_one in zip(said[5:], said[6:])]
 
 
+def is_refused(run):
+    run.play()
+    return bool(run.faults())
+
+
 def try_checker():
     """Pairs of what is tried and why it fails, or nothing."""
     for seed in range(3):
@@ -431,9 +485,8 @@ def try_checker():
         run.cut_off(counts)
         yield f"an update whose reply nobody read {'counts' if counts else 'may not count'}", "; ".join(run.faults())
     for fault in FAULTS:
-        run = Run(fault, 1)
-        run.play()
-        yield f"refused: {fault.__doc__}", "" if run.faults() else "the checker accepts it"
+        runs = (Run(fault, seed) for seed in range(1, RUNS + 1))
+        yield f"refused: {fault.__doc__}", "" if any(map(is_refused, runs)) else "the checker accepts it"
     for change in (swap_updates, lose_a_reply):
         run = Run(Simulated, 2)
         run.play()

@@ -9,6 +9,7 @@ import tempfile
 import time
 
 from serving import conduct, history, planted, proving
+from serving.batches import Batches
 from serving.clients import Clients
 from serving.daemon import Fault
 from serving.doors import Doors
@@ -113,7 +114,7 @@ def built_program():
 def read_words():
     parser = argparse.ArgumentParser(prog="tests/serve", description="Tries keynoted serve over TCP on the loopback.")
     parser.add_argument("--seconds", type=float, default=20, help="of the long run; the shorter ones take a tenth (20)")
-    parser.add_argument("--only", choices=["checker", "doors", "waiting", "clients"], help="the self-test of the checker, which wants no program; what is at fault and how connections end; slow and idle clients, and want of descriptors; the long run")
+    parser.add_argument("--only", choices=["checker", "doors", "waiting", "batches", "clients"], help="the self-test of the checker, which wants no program; what is at fault and how connections end; slow and idle clients, and want of descriptors; ten thousand batches; the long run")
     return parser.parse_args()
 
 
@@ -126,6 +127,10 @@ def try_doors(tally, program, room):
 def try_waiting(tally, program, room):
     for name, work in Waiting(program, room).cases():
         tally.attempt(name, work)
+
+
+def try_batches(tally, program, room):
+    tally.attempt("each sees all of a batch or nothing", lambda: Batches(program, room).try_all())
 
 
 def try_clients(tally, program, room, seconds):
@@ -141,7 +146,8 @@ def main():
             tally.note(f"checker: {name}", why)
     if words.only != "checker":
         program = built_program()
-        parts = {"doors": try_doors, "waiting": try_waiting, "clients": lambda *to: try_clients(*to, words.seconds)}
+        parts = {"doors": try_doors, "waiting": try_waiting, "batches": try_batches}
+        parts["clients"] = lambda *to: try_clients(*to, words.seconds)
         for name, part in parts.items():
             if words.only in (None, name):
                 with tempfile.TemporaryDirectory() as room:
