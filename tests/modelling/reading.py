@@ -384,6 +384,8 @@ class Equations:
         self.query, self.top = query, len(query.values) - 1
         self.assertions = dict(assertions)
         self.conditions = {name: conditions_value(it, query) for name, it in self.assertions.items()}
+        # without licensees an assertion gives nothing
+        self.giving = {name: it for name, it in self.assertions.items() if it.licensees}
 
     def worth(self, name, levels):
         return min(self.conditions[name], formula_value(self.assertions[name].licensees, levels))
@@ -394,7 +396,7 @@ class Equations:
     def round(self, levels, without):
         """The levels that the assertions give where principals have these."""
         given = self.start()
-        for name, assertion in self.assertions.items():
+        for name, assertion in self.giving.items():
             if name != without:
                 given[assertion.authorizer] = max(given.get(assertion.authorizer, 0), self.worth(name, levels))
         return given
@@ -413,7 +415,7 @@ class Equations:
     def critical(self):
         """The assertions without which POLICY has less, in their order; one that is worth nothing never counts."""
         levels = self.least()
-        worthy = [name for name in self.assertions if self.worth(name, levels)]
+        worthy = [name for name in self.giving if self.worth(name, levels)]
         return [name for name in worthy if self.least(name).get(b"POLICY", 0) < levels.get(b"POLICY", 0)]
 
     def why_no_proof(self, rows, index):
