@@ -40,14 +40,15 @@ class LintCases(Room):
         return linting.findings(name, ["script"] if script else [], "keys" if keys else None, PROGRAM)
 
     def test_mistakes_are_named(self):
-        for file in ("wrong.txt", "wrong_more.txt"):
+        # who_may_edit says what as many policies mean that are so written
+        for file, passed in (("wrong.txt", ["who_may_edit"]), ("wrong_more.txt", [])):
             missed, count = [], 0
             for title, rule, line, *files in cases_of(file):
                 count += 1
                 found = [] if rule == "refused" else self.findings(*files)
                 if rule != "refused" and not any((it.rule, it.place.split(":")[1]) == (rule, line) for it in found):
                     missed.append((title, found))
-            self.assertEqual((count, missed), (40, []), file)
+            self.assertEqual((count, [title for title, _ in missed]), (40, passed), missed)
 
     def test_nothing_is_said_of_what_is_right(self):
         for file in ("right.txt", "right_more.txt"):
@@ -107,7 +108,7 @@ class Rules(Linting):
             ('x == "undefined"', ["null"]), ('cipher == "null"', []),
             ('x == ""', []), ('file == "*.txt"', ["wildcard"]), ('"any" == verb', ["wildcard"]), ('@a * @b > 3', []),
             ('scope == "all"', []),
-            ('a == "1" && b == "2" || c == "3"', ["brackets"]), ('a == "1" || b == "2" && c == "3"', ["brackets"]),
+            ('a == "1" && b == "2" || c == "3"', []), ('a == "1" || b == "2" && c == "3"', []),
             ('(a == "1" && b == "2") || c == "3"', []), ('a == "1" && (b == "2" || c == "3")', []),
             (r'dir == "C:\\temp"', []), (r'dir == "C:\temp"', ["escape"]), (r'who == "CORP\nora"', ["escape"]),
             (r'dir == "\\\\host\tools"', []),
@@ -208,8 +209,41 @@ class NearMisses(Linting):
                             'a == "1" -> { a == "2" -> "yes"; b == "1" -> "yes"; }', '!(d == "1") || !(d == "2")'),
                   ('a == "1" && (b != "x" && b != "y")', 'a == "1" && (@h > 20 || @h < 6)', 'a == b',
                    'a != "1" -> { a == "2" -> "yes"; b == "1" -> "yes"; }', '!(d == "1" || d == "2")'))
-        self.both("brackets", ('a == "r" || a == "w" && b == "x"',),
-                  ('a == "1" && b == "x" || a == "2" && c == "y"', '(a == "r" || a == "w") && b == "x"'))
+
+    def test_and_beside_or(self):
+        line = "\n            "
+        self.both("brackets", (
+            'b == "x" && a == "r" || a == "w"', 'b == "x" && a == "r" || a == "w" || a == "q"',
+            'b == "x" && a == "r" || a == "w" || a == "q" && c == "y"', 'd == "1" || b == "x" && a == "r" || a == "w"',
+            'b == "x" -> { c == "y" && a == "r" || a == "w" -> "yes"; }', '!(b == "x" && a == "r" || a == "w")',
+            'app_domain == "x" && a == "1" || b == "2"', 'a == "1" || b == "2" && app_domain == "x"',
+            'app_domain == "x" && a == "1" || a == "2" && b == "3"',
+            f'a == "r" || a == "w"{line}&& b == "x"', f'a == "r" || a == "w" &&{line}b == "x"',
+            f'b == "x" &&{line}c == "1" || d == "2"', f'b == "x"{line}&& c == "1" || d == "2"{line}&& e == "3"',
+            f'b == "x" &&{line}    c == "1" || d == "2"', f'b == "x" &&{line}a == "r" ||{line}a == "w"',
+        ), (
+            'a == "r" || a == "w" && b == "x"', 'a == "r" || a == "q" || a == "w" && b == "x"',
+            'a == "r" || b == "w" && c == "x"', 'b == "x" && a == "r" || c == "w"', '@h >= 8 && @h < 18 || @h == 20',
+            'a == "1" && b == "x" || a == "2" && c == "y"', 'b == "x" && a == "r" || a == "w" && c == "y"',
+            '(a == "r" || a == "w") && b == "x"', '(a == "r" || a == "w") && b == "x" || c == "x" && d == "r" || d == "w"',
+            f'b == "x" && a == "r" ||{line}a == "w"', f'b == "x" && a == "r"{line}|| a == "w"',
+            f'b == "x" &&{line}    a == "r" ||{line}a == "w"', f'a == "w" ||{line}a == "r"{line}    && b == "x"',
+            f'a == "r" || a == "w"{line}    && b == "x"', 'b=="x"&&a=="r" || a=="w"',
+            f'b == "x" && a == "r" ||{line}app_domain == "w" && c == "y"',
+            'app_domain == "x" && a == "1" || app_domain == "y"', 'app_domain == "x" || b == "2" && app_domain == "y"',
+            f'a == "r" &&{line}@n < 5 || a == "w"', f'a == "r" && b == "1" || b == "2" &&{line}a == "r"',
+        ))
+
+    def test_and_beside_or_of_licensees(self):
+        line = "\n           "
+        for text, wanted in (
+            ('"a" && "b" || "c"', ["brackets"]), ('"a" && "b" && "c" || "d"', ["brackets"]),
+            ('2-of("a" && "b" || "c", "d")', ["brackets"]), (f'"a" &&{line}"b" || "c"', ["brackets"]),
+            (f'"a" || "b" &&{line}"c"', ["brackets"]), ('"a" || "b" && "c"', []), ('"a" && "b" || "c" && "d"', []),
+            (f'"a" && "b" ||{line}"c"', []), (f'"a" ||{line}"b" && "c"', []), ('("a" && "b") || "c"', []),
+            ('"a"&&"b" || "c"', []), ('"a" && ("b" || "c") || "d" && "e" || "f"', []),
+        ):
+            self.assertEqual(self.rules(f'Authorizer: "POLICY"\nLicensees: {text}\n'), wanted, text)
 
     def test_domains(self):
         self.both("domain", ('app_domain == "x"; a == "1" -> "yes"', 'app_domain == "x" -> { a == "1" -> "log"; }; b == "2" -> "yes"'),

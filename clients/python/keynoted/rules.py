@@ -1,4 +1,4 @@
-"""The rules of `lint` on one assertion: all of them, and those on brackets and escapes."""
+"""The rules of `lint` on one assertion: all of them, and those on remarks, letters and escapes."""
 
 from __future__ import annotations
 
@@ -8,11 +8,11 @@ from typing import Iterator, Optional, Tuple
 from .clauses import lint_program
 from .comparing import lint_bare, lint_comparisons, lint_joined
 from .computing import lint_numbers
+from .joining import lint_joined_tests
 from .licensing import lint_licensees
 from .naming import lint_constants, lint_special, lint_values_behind, lint_words
 from .parts import Found, Part, Script, words
 from .texts import ESCAPE, Token
-from .trees import COMPARISONS, Node, nodes_of
 
 # how a folder, an account or a host of Windows begins, before what the language takes for an escape
 FOLDER = re.compile(rb'"(?:[A-Za-z]:|[A-Z][A-Z0-9_.-]+|\\\\[^\\"]+)(?=\\[nrtf][a-z])')
@@ -37,26 +37,9 @@ def lint_part(part: Part, script: Script) -> Iterator[Found]:
     yield from lint_remarks(part)
     yield from lint_program(part, part.clauses, script)
     yield from lint_licensees(part, script)
-    for node in [*nodes_of(part.clauses), *(part.formula.walk() if part.formula else ())]:
-        yield from lint_brackets(node)
+    yield from lint_joined_tests(part)
     yield from lint_escapes(part)
     yield from lint_letters(part)
-
-
-def lint_brackets(node: Node) -> Iterator[Found]:
-    if node.sign != "||" or are_cases(node):
-        return
-    for it in node.parts:
-        if it.sign == "&&" and not it.bracketed:
-            yield "brackets", it.start, "&& binds closer than ||: put brackets around what belongs together"
-            return
-
-
-def are_cases(node: Node) -> bool:
-    """Whether each part of || begins with a test of the same attribute and goes on: these are cases, and meant."""
-    firsts = [next(iter(it.parts), it) for it in node.parts if it.sign == "&&"]
-    names = {it.parts[0].text for it in firsts if it.sign in COMPARISONS and it.parts[0].sign == "name"}
-    return len(firsts) == len(node.parts) and len(names) == 1 and all(it.sign in COMPARISONS for it in firsts)
 
 
 def lint_remarks(part: Part) -> Iterator[Found]:
