@@ -2,8 +2,10 @@
 
 import asyncio
 import contextlib
+import hashlib
 import os
 import subprocess
+import sys
 import threading
 import time
 from unittest import mock
@@ -11,9 +13,10 @@ from unittest import mock
 import keynoted
 from keynoted import asynchronous, connection
 
-from tests_room import CREDENTIAL, POLICY, PROGRAM, Room, talk
+from tests_room import CREDENTIAL, HERE, POLICY, PROGRAM, Room, talk
 
 VALUES = ("no", "yes")
+SECONDS = float(os.environ.get("KEYNOTED_SECONDS", "3"))  # of a gateway's questions
 
 
 class Questions(Room):
@@ -187,10 +190,10 @@ class Pools(Room):
 
     def test_a_gateway_over_tcp(self):
         """Questions by threads that share a pool, for KEYNOTED_SECONDS, 3 where nothing is said."""
-        seconds, count, wrong = float(os.environ.get("KEYNOTED_SECONDS", "3")), [], []
+        count, wrong = [], []
         self.write("p.kn", POLICY + b'Conditions: door == "front" -> "yes";\n')
         with keynoted.Pool(self.serve(workers=4)[1], size=3, values=VALUES) as pool:
-            until = time.monotonic() + seconds
+            until = time.monotonic() + SECONDS
 
             def ask(number):
                 asked = 0
@@ -209,8 +212,8 @@ class Pools(Room):
             for thread in threads:
                 thread.join()
         self.assertEqual(wrong, [])
-        print(f"a gateway of three threads asks {sum(count) / seconds:.0f} questions a second by a pool of 3 over TCP")
-        self.assertGreater(sum(count) / seconds, 20)
+        print(f"a gateway of three threads asks {sum(count) / SECONDS:.0f} questions a second by a pool of 3 over TCP")
+        self.assertGreater(sum(count) / SECONDS, 20)
 
 
 class Tasks(Room):
@@ -219,7 +222,7 @@ class Tasks(Room):
     def run_tasks(self, work, *daemon, **how):
         async def run():
             async with keynoted.AsyncPool(*daemon, values=VALUES, **how) as pool:
-                await asyncio.wait_for(work(pool), 60)
+                await asyncio.wait_for(work(pool), SECONDS + 60)
 
         asyncio.run(run())
 
@@ -309,10 +312,10 @@ class Tasks(Room):
         self.run_tasks(junk, self.fake(say={b"OPEN": b"error link read"}).address)
 
     def test_a_gateway_over_tcp(self):
-        seconds, asked = float(os.environ.get("KEYNOTED_SECONDS", "3")), [0]
+        asked = [0]
 
         async def work(pool):
-            until = time.monotonic() + seconds
+            until = time.monotonic() + SECONDS
 
             async def ask(who, index):
                 while time.monotonic() < until:
@@ -322,8 +325,8 @@ class Tasks(Room):
             await asyncio.gather(*[ask(*it) for it in [("alice", 1), ("mallory", 0)] * 3])
 
         self.run_tasks(work, self.serve()[1])
-        print(f"six tasks ask {asked[0] / seconds:.0f} questions a second by a pool of 3 over TCP")
-        self.assertGreater(asked[0] / seconds, 20)
+        print(f"six tasks ask {asked[0] / SECONDS:.0f} questions a second by a pool of 3 over TCP")
+        self.assertGreater(asked[0] / SECONDS, 20)
 
 
 class Transcripts(Room):
@@ -361,6 +364,53 @@ class Transcripts(Room):
         # the stored requests have the same replies, but for what the secret allowed
         played = b"NO 4 admin\nNO 4 admin\nNO 4 admin\nNO 1 syntax\nNO 14 long\nOK\n"
         self.assertEqual(self.replayed("talk.requests"), played)
+
+    def test_a_misspelled_secret_is_left_out_too(self):
+        with keynoted.start("p.kn", "keys", record="talk") as daemon:
+            for line in (b"admin 733363726574", b"ADMIN\t733363726574", b" ADMIN 733363726574", b"ADMIN: 733363726574"):
+                self.assertRaises(keynoted.NoCommand, daemon.request, line)
+            self.assertRaises(keynoted.NoSyntax, daemon.request, b"ADMIN  733363726574")
+            self.assertRaises(keynoted.NoLong, daemon.request, b"admin 733363726574" + b" " * 9000)
+        self.assertNotIn(b"7333", self.read("talk.requests"))
+        self.assertEqual(self.replayed("talk.requests"), self.read("talk.replies"))
+
+    def recorded(self, name, script):
+        """What `record` prints, the two files that it keeps, and what `ask` writes for the same script."""
+        files = ["p.kn", "--keys", "keys"]
+        command = [sys.executable, "-B", os.path.join(HERE, "keynoted.py"), "record", name, *files]
+        run = subprocess.run(command, input=script, stdout=subprocess.PIPE, check=True)
+        asked = subprocess.run([PROGRAM, "ask", "p.kn", "keys"], input=script, stdout=subprocess.PIPE)
+        return run.stdout, self.read(f"{name}.requests"), self.read(f"{name}.replies"), asked.stdout
+
+    def test_each_request_is_kept_as_it_stands(self):
+        self.write("keys", b"digest %b\nsecret 733363726574\n" % hashlib.sha256(CREDENTIAL).hexdigest().encode())
+        add = b"ADD 37\n" + CREDENTIAL + b"\n"
+        batch = add + b"DROP a2\n" + add
+        script = b"".join([
+            b"OPEN\nOPEN\nPIN 2\nADMIN 733363726574\n", add, b"BATCH %d\n%b\n" % (len(batch), batch),
+            b"PIN 1 1\nPIN 1 3\nSET 1 x a b \nSETX 1 y 0a0d\nUNSET 1 x\nAUTH 1 bob\nAUTH 1 x\nUNAUTH 1 x\n",
+            b"ASSERT 1 37\n", CREDENTIAL, b"\nRETRACT 1 p1\nQUERY 1 no,yes\nWATCH 1 no,yes\n",
+            b"DROP a3\nNEWS 1\nCRITICAL 1 no,yes\nUNWATCH 1\nLOG 0\nLOG 9\nDROP a3\nBATCH 3\nxyz\nBATCH 9\nDROP a99\n\n",
+            b"nothing\nOPEN 1\n\nCLEAR 1\nCLOSE 1\nCLEAR 1\nBYE\n",
+        ])
+        printed, requests, replies, asked = self.recorded("talk", script + b"OPEN\n")
+        self.assertEqual(requests, script.replace(b"733363726574", b"00"))
+        self.assertEqual((printed, replies), (asked, asked))
+        for word in (b"VALUE 1 ", b"NEWS 1 ", b"CRITICAL ", b"LOG 0 ", b"NO 19 ", b"NO 12 ", b"NO 16 ", b"NO 17 "):
+            self.assertRegex(replies, b"(?m)^" + word)
+
+    def test_a_block_that_is_refused_ends_it(self):
+        for number, (block, kept) in enumerate((
+            (b"ASSERT 1 3\nabcd\nOPEN\nBYE\n", b"ASSERT 1 3\nabcd\n"), (b"ADD 3\nabc\r\n", b"ADD 3\nabc\r\n"),
+            (b"ADD 16385\nOPEN\n", b"ADD 16385\n"), (b"BATCH 99999\n", b"BATCH 99999\n"), (b"ADD 3\nabc", b""),
+            (b"ADD 3\n", b""), (b"BYE", b""), (b"ADD 03\nOPEN\n", b"ADD 03\nOPEN\n"),
+        )):
+            printed, requests, replies, asked = self.recorded(f"talk{number}", b"OPEN\n" + block)
+            ends = b"" if replies.endswith(b"NO 15 block\n") else b"BYE\n"
+            self.assertEqual(requests, b"OPEN\n" + kept + ends, block)
+            self.assertEqual(printed, b"".join(it for it in asked.splitlines(True) if not it.startswith(b"error ")))
+            self.assertEqual(replies, printed + (b"OK\n" if ends else b""))
+            self.assertEqual(bool(ends), number > 3)
 
     def test_a_request_whose_reply_is_lost_is_left_out(self):
         with keynoted.connect(self.fake(say={b"PIN": b"OK 1\nerror link read"}).address, record="talk") as daemon:

@@ -7,6 +7,10 @@ from typing import Iterable, Tuple
 from .wire import Reply, Request
 
 
+# for what is no right form of ADMIN a text that is refused alike
+REFUSED = {b"NO 1 syntax": b"ADMIN\n", b"NO 2 command": b"ADMIN?\n", b"NO 14 long": b"ADMIN " + b"0" * 8192 + b"\n"}
+
+
 class Transcript:
     """Two new files, PREFIX.requests and PREFIX.replies, which hold the requests whose replies came whole, and these.
 
@@ -32,12 +36,10 @@ class Transcript:
 
 
 def without_secret(request: Request, reply: Reply) -> bytes:
-    """The text of the request; of ADMIN one without the secret that has the same reply."""
-    if not request.line.startswith(b"ADMIN"):
+    """The text of the request; of ADMIN, also a misspelled one, a text without the secret that has the same reply."""
+    if not request.line.lstrip().upper().startswith(b"ADMIN"):
         return request.text()
-    if reply.lines[0] == b"NO 1 syntax":
-        return b"ADMIN\n"
-    return b"ADMIN " + b"0" * (8192 if reply.lines[0] == b"NO 14 long" else 2) + b"\n"
+    return REFUSED.get(reply.lines[0], b"ADMIN 00\n")
 
 
 def write_all(file: object, data: bytes) -> None:

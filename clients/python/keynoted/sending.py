@@ -8,15 +8,25 @@ from typing import Callable, Iterator
 
 from .connection import Connection
 from .parts import BLOCK, requests_of
-from .wire import ANY, Request
+from .wire import ANY, BLOCK_BYTES, Request
 
 
 def requests_in(script: bytes) -> Iterator[Request]:
-    """The requests of a script through BYE; what breaks off within one is none."""
+    """The requests of a script through BYE, or a block that is refused; what breaks off within one is none."""
     for _, line, start, end in requests_of(script):
-        block = script[start:end] if BLOCK.fullmatch(line) else None
-        if script[start - 1:start] == b"\n" and (block is None or script[end:end + 1] == b"\n"):
-            yield Request(line, block, ANY)
+        if script[start - 1:start] != b"\n":
+            return
+        if not BLOCK.fullmatch(line):
+            yield Request(line, None, ANY)
+        elif end - start > BLOCK_BYTES:
+            yield Request(line, None, ANY)  # it is refused before its block
+            return
+        elif script[end:end + 1] == b"\n":
+            yield Request(line, script[start:end], ANY)
+        else:
+            if end < len(script):  # the block with what goes on behind it, which ends the connection
+                yield Request(line + b"\n" + script[start:end + 1], None, ANY)
+            return
         if line == b"BYE":
             return
 
