@@ -222,7 +222,8 @@ class Pictures(Room):
         if not CHROMIUM:
             print("pictures in Chromium are left out: there is no chromium")
             return
-        self.write("page.html", self.picture("--html").encode())
+        page = self.picture("--html")
+        self.write("page.html", page.encode())
         words = [CHROMIUM, "--headless", "--no-sandbox", "--disable-gpu", f"--user-data-dir={self.room}/profile",
                  "--window-size=1200,1400", "--dump-dom", "file://" + os.path.join(self.room, "page.html")]
         run = subprocess.run(words, stdout=subprocess.PIPE, stderr=subprocess.DEVNULL, timeout=120)
@@ -231,4 +232,6 @@ class Pictures(Room):
             return
         dom = run.stdout.decode()
         self.assertIn("<title>POLICY has &lt;i&gt;read</title>", dom)
-        self.assertEqual(dom.count("<rect"), self.picture("--html").count("<rect"))
+        for it in ("<rect", 'class="critical"', 'class="requester"'):
+            self.assertGreater(page.count(it), 0)
+            self.assertEqual(dom.count(it), page.count(it))

@@ -158,9 +158,9 @@ def page_of(proof: Proof, picture: Picture) -> str:
         f"<p>It is value {proof.index} of {values}, by version {proof.version} of the credentials. "
         f"<code>keynoted check</code> says of the rows: <code>{verdict}</code>.</p>",
         '<div class="picture">', *svg_of(proof, picture), "</div>",
-        "<p>A thick border marks who asks and so has the highest value; a box with a text is an assertion, which gives "
-        "its authorizer the value on its arrow, and without which the answer would be lower where its border is thick; "
-        "what is dashed brought nothing.</p>",
+        "<p>A box with a text is an assertion, which gives its authorizer the value on its arrow; where its border is "
+        "thick, the answer would be lower without it. A round box with a thick border asks, and so has the highest "
+        "value. What is dashed brought nothing.</p>",
         "<h2>The rows, in their order</h2>", *table_of(proof),
         "<h2>The assertions</h2>", *texts_of(proof), "</body></html>",
     ]
