@@ -1,5 +1,7 @@
 -- Replies that hand on updates, one after the other.
-use Rattle.std.proofs.Common.{◌≡◌, ℕ, zero, suc, ◌-◌, List, [], ◌∷◌, ◌++◌, length, take, drop, refl, sym, ap, ◌∙◌, subst, arith, append_assoc, take-append-drop}
+use Rattle.std.proofs.Common.{◌≡◌, ℕ, zero, suc, ◌-◌, min, List, [], ◌∷◌, ◌++◌, length, take, drop, refl, sym, ap, ◌∙◌, subst, arith, append_assoc, take-append-drop}
+use Rattle.std.proofs.lemmas.List.{length-take, length-drop}
+use Rattle.kn_base.specs.declared.limits.TheConstants.{LOG_UPDATES}
 use Rattle.kn_history.specs.declared.update.Update.{Update}
 use Rattle.kn_reply.specs.Logs.{log_part, held_after}
 use Rattle.kn_reply.specs.Laws.{IsBeginning}
@@ -25,3 +27,6 @@ behind held rest (place ∷ places) =
 
 pub logs-are_a_beginning : (history : List Update) (places : List ℕ) → IsBeginning history (held_after history [] places)
 logs-are_a_beginning history places = behind [] history places
+
+pub logs-go_on : (history : List Update) (n : ℕ) → length (log_part n history) ≡ min LOG_UPDATES (length history - n)
+logs-go_on history n = length-take 16 (drop n history) ∙ ap (λ k. min 16 k) (length-drop n history)
