@@ -14,3 +14,7 @@ pub mod Standing
 pub mod Told
 pub mod Unplaced
 pub mod Asked
+pub mod Pinning
+pub mod Admins
+pub mod Lifetimes
+pub mod Batching

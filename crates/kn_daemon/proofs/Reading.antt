@@ -18,7 +18,7 @@ by_fault : (r : Result Assertion ReadFault) (fault : ReadFault) → result_err r
 by_fault (Ok assertion) fault e = cc
 by_fault (Err other) fault e = cc
 
-by_assertion : (r : Result Assertion ReadFault) (assertion : Assertion) → result_ok r ≡ Some assertion
+pub by_assertion : (r : Result Assertion ReadFault) (assertion : Assertion) → result_ok r ≡ Some assertion
     → r ≡ Ok assertion
 by_assertion (Ok other) assertion e = cc
 by_assertion (Err fault) assertion e = cc

@@ -7,3 +7,4 @@ pub mod Played
 pub mod Alone
 pub mod Laws
 pub mod QuestionLaws
+pub mod PermissionLaws

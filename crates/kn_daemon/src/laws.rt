@@ -11,6 +11,11 @@ ghost use Rattle.kn_daemon.specs.QuestionLaws.{NewsIsOfPlace, WatchIsOfPin, Stan
 ghost use Rattle.kn_daemon.specs.QuestionLaws.{WatchTellsTheValue, CriticalTellsTheValue, NewsTellsTheValue};
 ghost use Rattle.kn_daemon.specs.QuestionLaws.{CriticalIsOne, CriticalIsSmall, CriticalIsLarge};
 ghost use Rattle.kn_daemon.specs.QuestionLaws.{ClosedIsRefused, NamesAreRefused, NoneStandingIsRefused};
+ghost use Rattle.kn_daemon.specs.PermissionLaws.{PinIsTold, RetainedPinIsTold};
+ghost use Rattle.kn_daemon.specs.PermissionLaws.{OthersAreRefused, SecretMakesAdmin, AdminStays};
+ghost use Rattle.kn_daemon.specs.PermissionLaws.{AddedIsAdmitted, BatchIsAdmitted, BatchTellsIds};
+ghost use Rattle.kn_daemon.specs.PermissionLaws.{OpenIsNew, StartedNeverFalls, CloseEnds, UnwatchEnds};
+ghost use Rattle.kn_daemon.specs.PermissionLaws.{RefusedLookIsNotTold, NothingBehindBye};
 
 /// At first nothing is taken and nothing written.
 pub fn serving_begins()
@@ -146,4 +151,50 @@ pub fn questions_are_refused()
     ensures closed { ClosedIsRefused }
     ensures names { NamesAreRefused }
     ensures standing { NoneStandingIsRefused }
+{}
+
+/// A reply to PIN tells the version that the session is then pinned to: that of its place, or the retained one that was
+/// asked for.
+pub fn pins_are_told()
+    ensures newest { PinIsTold }
+    ensures retained { RetainedPinIsTold }
+{}
+
+/// Only ADMIN with the secret makes a connection an administrator's, and nothing takes that away. Each other one is
+/// refused updates and LOG for that.
+pub fn secret_makes_administrators()
+    ensures others { OthersAreRefused }
+    ensures secret { SecretMakesAdmin }
+    ensures stays { AdminStays }
+{}
+
+/// What a permitted reply says was added is admitted: the text of ADD, and each item of a batch.
+pub fn additions_are_admitted()
+    ensures text { AddedIsAdmitted }
+    ensures items { BatchIsAdmitted }
+{}
+
+/// OPEN gives a number that wasn't given before. Behind CLOSE the session isn't open, and behind UNWATCH it has no
+/// standing query.
+pub fn sessions_begin_and_end()
+    ensures begins { OpenIsNew }
+    ensures count { StartedNeverFalls }
+    ensures ends { CloseEnds }
+    ensures standing { UnwatchEnds }
+{}
+
+/// A look that the history refuses isn't answered besides.
+pub fn refused_looks_are_not_told()
+    ensures { RefusedLookIsNotTold }
+{}
+
+/// A reply to BATCH tells the id of its first addition, which is the next one behind the history before it, how many it
+/// has, and the version that it makes.
+pub fn batches_tell_ids()
+    ensures { BatchTellsIds }
+{}
+
+/// What stands behind BYE isn't answered.
+pub fn nothing_stands_behind_bye()
+    ensures { NothingBehindBye }
 {}
