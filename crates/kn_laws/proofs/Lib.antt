@@ -7,3 +7,4 @@ pub mod Tabled
 pub mod Followed
 pub mod Exists
 pub mod Unnamed
+pub mod Fewer

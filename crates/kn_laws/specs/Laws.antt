@@ -1,5 +1,5 @@
 -- Laws of least levels and of proofs.
-use Rattle.std.specs.Prelude.{ℕ, ◌≡◌, ◌≤◌, false, List}
+use Rattle.std.specs.Prelude.{ℕ, ◌≡◌, ◌≤◌, Bool, false, List, filter}
 use Rattle.kn_env.specs.Environment.{Asked}
 use Rattle.kn_proof.specs.declared.named.Id.{Id}
 use Rattle.kn_principal.specs.Principals.{policy}
@@ -65,3 +65,13 @@ UnnamedIsNotCritical = (asked : Asked) (parts : List Part) (id : Id) (rows : Lis
 -- the critical assertions are one list
 abbrev pub CriticalIsOne : Type 0
 CriticalIsOne = (asked : Asked) (all parts : List Part) (ids others : List Id) → AreCritical asked all parts ids → AreCritical asked all parts others → ids ≡ others
+
+-- Where some of the assertions are taken away, no principal's least level rises,
+abbrev pub FewerLowerAll : Type 0
+FewerLowerAll = (asked : Asked) (keeps : Part → Bool) (parts : List Part) (at lower : Levels) → IsLeast (equations_over asked parts) at
+    → IsLeast (equations_over asked (filter keeps parts)) lower → (name : List ℕ) → lower name ≤ at name
+
+-- and so the policy's doesn't.
+abbrev pub FewerNeverRaise : Type 0
+FewerNeverRaise = (asked : Asked) (keeps : Part → Bool) (parts : List Part) (level lower : ℕ) → IsPolicyLevel (equations_over asked parts) level
+    → IsPolicyLevel (equations_over asked (filter keeps parts)) lower → lower ≤ level

@@ -4,6 +4,7 @@ ghost use Rattle.kn_laws.specs.Laws.{LeastLevelsAreLeast, PlainLevelsAreLeast, P
 ghost use Rattle.kn_laws.specs.Laws.{EveryQueryHasALevel, EveryQueryHasOneLevel, LeastLevelsAreWithin};
 ghost use Rattle.kn_laws.specs.Laws.{ProofDeterminesLevel, EveryQueryHasAProof};
 ghost use Rattle.kn_laws.specs.Laws.{RowsStayAProof, UnnamedIsNotCritical, CriticalIsOne};
+ghost use Rattle.kn_laws.specs.Laws.{FewerLowerAll, FewerNeverRaise};
 
 /// As many rounds as a query has principals times the top, from the requesters at the top and all others at 0, give the
 /// least levels.
@@ -42,4 +43,10 @@ pub fn unnamed_is_not_critical()
     ensures rows { RowsStayAProof }
     ensures uncritical { UnnamedIsNotCritical }
     ensures one { CriticalIsOne }
+{}
+
+/// Where assertions are taken away, no principal's least level rises, and so the policy's doesn't.
+pub fn fewer_never_raise()
+    ensures all { FewerLowerAll }
+    ensures policy { FewerNeverRaise }
 {}
