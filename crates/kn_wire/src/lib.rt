@@ -12,8 +12,6 @@ mod feed;
 mod first;
 mod head;
 mod items;
-#[cfg(test)]
-mod items_tests;
 pub mod laws;
 mod line;
 mod part;
