@@ -1,9 +1,10 @@
 -- Lists of pages, of whatever items: an item at the end, and one taken out.
 use Rattle.std.proofs.Common.{◌≡◌, ℕ, zero, suc, ◌+◌, ◌-◌, ◌<◌, ◌≤◌, Bool, true, false, cond, List, [], ◌∷◌, ◌++◌, length, take, drop, refl, sym, ap, ◌∙◌, subst, inl, inr, ⊎_elim, arith, append_assoc, append-nil, length-append}
-use Rattle.std.specs.Prelude.{◌⊎◌, nat_lt, remove, map, slice_get, slice_index_or, get_or, Some}
+use Rattle.std.specs.Prelude.{◌⊎◌, nat_lt, remove, map, slice_get, slice_index_or, slice_set, get_or, Some}
 use Rattle.std.proofs.lemmas.Bool.{cond-true, cond-false, ltb-true, ltb-false}
 use Rattle.std.specs.List.{All}
-use Rattle.std.proofs.lemmas.List.{drop_more, drop_all, take_at, take-append-le, drop-append-le, get_or_append_left, get_or-append_right, take-append-drop, length-map, map-append, take-map, drop-map, length-take, length-drop}
+use Rattle.std.proofs.lemmas.List.{drop_more, drop_all, take_at, get_or-append_right, get_or-map, take-append-drop, length-map, map-append, map-set, set-set, set_split, take-map, drop-map, length-take, length-drop}
+use Rattle.std.proofs.lemmas.List.Edits.{length-remove}
 use Rattle.std.proofs.lemmas.List.Elements.{All-head, All-tail, All-cons, All-nil}
 use Rattle.std.proofs.lemmas.Option.{get_or_from_slice_get, slice_get-map, slice_get_read, slice_get_within}
 use Rattle.std.specs.Option.{option_map}
@@ -12,6 +13,22 @@ use Rattle.std.specs.Arc.{arc_value}
 use Rattle.std.specs.declared.sync.Arc.{Arc}
 use Rattle.std.specs.declared.alloc.Global.{Global}
 use Rattle.kn_store.specs.Pages.{pages_of, joined, AreSized, AreFilled, with_item, unless_empty, without_item}
+
+pub map-remove : {A B : Type 0} (f : A → B) (items : List A) (place : ℕ) → map f (remove items place) ≡ remove (map f items) place
+map-remove f items place =
+    map-append f (take place items) (drop (suc place) items)
+    ∙ ap (λ l. l ++ map f (drop (suc place) items)) (sym (take-map f place items))
+    ∙ ap (λ l. take place (map f items) ++ l) (sym (drop-map f (suc place) items))
+
+-- the only item taken out
+one_left : {A : Type 0} (items : List A) (place : ℕ) → length items ≤ 1 → place < length items → remove items place ≡ []
+one_left [] place few within = absurd (omega arith)
+one_left (x ∷ []) zero few within = refl
+one_left (x ∷ []) (suc place) few within = absurd (omega arith)
+one_left (x ∷ y ∷ items) place few within = absurd (omega arith)
+
+pub some_left : {A : Type 0} (items rest : List A) (place : ℕ) → rest ≡ remove items place → 1 < length items → place < length items → 1 ≤ length rest
+some_left items rest place out many within = let fewer = length-remove items place within in let same = ap length out in omega arith
 
 module _ {T : Type 0} where
   pub joined-append : (xs ys : List (List T)) → joined (xs ++ ys) ≡ joined xs ++ joined ys
@@ -31,23 +48,11 @@ module _ {T : Type 0} where
   pages_of-shares [] = refl
   pages_of-shares (x ∷ xs) = ap (λ rest. map arc_value (arc_value x) ∷ rest) (pages_of-shares xs)
 
-  pub pages_of-more : (after before more : List (Arc (List (Arc T Global)) Global)) → map arc_value after ≡ map arc_value before ++ map arc_value more
-      → pages_of after ≡ pages_of before ++ pages_of more
-  pages_of-more after before more same =
-      pages_of-shares after ∙ ap (λ pages. map (λ page. map arc_value page) pages) (same ∙ sym (map-append arc_value before more))
-      ∙ sym (pages_of-shares (before ++ more)) ∙ pages_of-append before more
-
   pub pages_of-same : (after before : List (Arc (List (Arc T Global)) Global)) → map arc_value after ≡ map arc_value before → pages_of after ≡ pages_of before
   pages_of-same after before same = pages_of-shares after ∙ ap (λ pages. map (λ page. map arc_value page) pages) same ∙ sym (pages_of-shares before)
 
   pub pages_of-push : (xs : List (Arc (List (Arc T Global)) Global)) (page : Arc (List (Arc T Global)) Global) → pages_of (xs ++ page ∷ []) ≡ pages_of xs ++ map arc_value (arc_value page) ∷ []
   pages_of-push xs page = pages_of-append xs (page ∷ [])
-
-  pub pages_of-take : (n : ℕ) (xs : List (Arc (List (Arc T Global)) Global)) → pages_of (take n xs) ≡ take n (pages_of xs)
-  pages_of-take n xs = sym (take-map (λ page. map arc_value (arc_value page)) n xs)
-
-  pub pages_of-drop : (n : ℕ) (xs : List (Arc (List (Arc T Global)) Global)) → pages_of (drop n xs) ≡ drop n (pages_of xs)
-  pages_of-drop n xs = sym (drop-map (λ page. map arc_value (arc_value page)) n xs)
 
   -- The item at a place of all.
 
@@ -212,7 +217,7 @@ module _ {T : Type 0} where
       let first : page - length front ≡ 0 = omega arith in
       get_or-append_right front (last ∷ []) (length front) page [] refl (omega arith) ∙ ap (λ n. slice_index_or (last ∷ []) n []) first
 
-  pub out_of_last : (front : List (List T)) (last : List T) (page place : ℕ) → length front ≤ page → page < length (front ++ unless_empty last)
+  out_of_last : (front : List (List T)) (last : List T) (page place : ℕ) → length front ≤ page → page < length (front ++ unless_empty last)
       → without_item (front ++ unless_empty last) page place ≡ front ++ unless_empty (remove last place)
   out_of_last front [] page place behind within = absurd (omega (arith, length-append front []))
   out_of_last front (x ∷ last) page place behind within =
@@ -223,54 +228,27 @@ module _ {T : Type 0} where
       let after : drop (page + 1) (front ++ (x ∷ last) ∷ []) ≡ [] = drop_all (page + 1) (front ++ (x ∷ last) ∷ []) (omega arith) in
       rw (at, before, after) (append-nil (front ++ unless_empty (remove (x ∷ last) place)))
 
-  pub out_of_front : (front more : List (List T)) (page place : ℕ) → page < length front
-      → without_item (front ++ more) page place ≡ (take page front ++ unless_empty (remove (slice_index_or front page []) place) ++ drop (page + 1) front) ++ more
-  out_of_front front more page place within =
-      let before = take-append-le page front more (omega arith) in
-      let at : slice_index_or (front ++ more) page [] ≡ slice_index_or front page [] = get_or_append_left front more [] page within in
-      let after = drop-append-le (page + 1) front more (omega arith) in
-      rw (before, at, after) (sym (append_assoc (take page front ++ unless_empty (remove (slice_index_or front page []) place)) (drop (page + 1) front) more))
+  -- the same taken out of the last page, where pages are shared
+  pub shared-out_of_last : (closed : List (Arc (List (Arc T Global)) Global)) (last : List (Arc T Global)) (page place : ℕ) → length closed ≤ page
+      → page < length (pages_of closed ++ unless_empty (map arc_value last))
+      → pages_of closed ++ unless_empty (remove (map arc_value last) place) ≡ without_item (pages_of closed ++ unless_empty (map arc_value last)) page place
+  shared-out_of_last closed last page place behind within =
+      let sizes = length-map closed (λ (p : Arc (List (Arc T Global)) Global). map (arc_value {X = T} {Z = Global}) (arc_value p)) in
+      sym (out_of_last (pages_of closed) (map arc_value last) page place (omega arith) within)
 
-  -- the same of pages that are shared, of which one has these items, and its copy these without one
-  module _ (closed : List (Arc (List (Arc T Global)) Global)) (last : List (Arc T Global)) (page place : ℕ) (items left : List (Arc T Global))
-      (there : slice_get (pages_of closed ++ unless_empty (map arc_value last)) page ≡ Some (map arc_value items))
-      (without : map arc_value left ≡ map arc_value (take place items) ++ map arc_value (drop (place + 1) items)) where
-    left_is : map (arc_value {X = T} {Z = Global}) left ≡ remove (map arc_value items) place
-    left_is =
-        let before = take-map (arc_value {X = T} {Z = Global}) place items in
-        let after = drop-map (arc_value {X = T} {Z = Global}) (suc place) items in
-        let next : place + 1 ≡ suc place = omega arith in
-        without ∙ rw (next, before, after) refl
+  pub last_shorter : (closed : List (Arc (List (Arc T Global)) Global)) (last rest : List (Arc T Global)) (place : ℕ) → rest ≡ remove last place
+      → pages_of closed ++ unless_empty (map arc_value rest) ≡ pages_of closed ++ unless_empty (remove (map arc_value last) place)
+  last_shorter closed last rest place out = ap (λ l. pages_of closed ++ unless_empty l) (ap (map arc_value) out ∙ map-remove arc_value last place)
 
-    items_are : slice_index_or (pages_of closed ++ unless_empty (map arc_value last)) page [] ≡ map arc_value items
-    items_are = get_or_from_slice_get (pages_of closed ++ unless_empty (map arc_value last)) page (map arc_value items) [] there
+  none_left : (last : List (Arc T Global)) (place : ℕ) → length last ≤ 1 → place < length last → remove (map (arc_value {X = T} {Z = Global}) last) place ≡ []
+  none_left last place few within =
+      let sizes = length-map last (arc_value {X = T} {Z = Global}) in
+      one_left (map arc_value last) place (omega arith) (omega arith)
 
-    pub shared-out_of_last : length closed ≤ page
-        → pages_of closed ++ unless_empty (map arc_value left) ≡ without_item (pages_of closed ++ unless_empty (map arc_value last)) page place
-    shared-out_of_last behind =
-        let sizes = length-map closed (λ (p : Arc (List (Arc T Global)) Global). map (arc_value {X = T} {Z = Global}) (arc_value p)) in
-        let within = slice_get_within (pages_of closed ++ unless_empty (map arc_value last)) page (map arc_value items) there in
-        let whole = out_of_last (pages_of closed) (map arc_value last) page place (omega arith) within in
-        let same : map (arc_value {X = T} {Z = Global}) last ≡ map arc_value items = last_is (map arc_value last) (omega arith) within items_are in
-        sym (whole ∙ ap (λ l. pages_of closed ++ unless_empty (remove l place)) same ∙ ap (λ l. pages_of closed ++ unless_empty l) (sym left_is))
-      where
-        last_is : (l : List T) → length (pages_of closed) ≤ page → page < length (pages_of closed ++ unless_empty l)
-            → slice_index_or (pages_of closed ++ unless_empty l) page [] ≡ map arc_value items → l ≡ map arc_value items
-        last_is [] behind within is = absurd (omega (arith, length-append (pages_of closed) []))
-        last_is (x ∷ l) behind within is =
-            let both = length-append (pages_of closed) ((x ∷ l) ∷ []) in
-            sym (at_end (pages_of closed) (x ∷ l) page (omega arith)) ∙ is
-
-    pub shared-out_of_closed : (after : List (Arc (List (Arc T Global)) Global)) (copy : List (Arc T Global)) → page < length closed
-        → pages_of after ≡ pages_of (take page closed) ++ unless_empty (map arc_value left) ++ pages_of (drop (page + 1) closed)
-        → map arc_value copy ≡ map arc_value last
-        → pages_of after ++ unless_empty (map arc_value copy) ≡ without_item (pages_of closed ++ unless_empty (map arc_value last)) page place
-    shared-out_of_closed after copy within made same =
-        let sizes = length-map closed (λ (p : Arc (List (Arc T Global)) Global). map (arc_value {X = T} {Z = Global}) (arc_value p)) in
-        let at : slice_index_or (pages_of closed) page [] ≡ map arc_value items = sym (get_or_append_left (pages_of closed) (unless_empty (map arc_value last)) [] page (omega arith)) ∙ items_are in
-        let front = pages_of-take page closed in
-        let back = pages_of-drop (page + 1) closed in
-        rw (made, same, left_is, front, back, ← at) (sym (out_of_front (pages_of closed) (unless_empty (map arc_value last)) page place (omega arith)))
+  pub last_out : (closed : List (Arc (List (Arc T Global)) Global)) (last : List (Arc T Global)) (place : ℕ) → closed ≡ [] → length last ≤ 1 → place < length last
+      → [] ≡ pages_of closed ++ unless_empty (remove (map arc_value last) place)
+  last_out closed last place none few within =
+      sym (ap (λ l. pages_of l ++ unless_empty (remove (map arc_value last) place)) none ∙ ap unless_empty (none_left last place few within))
 
   -- the last of these pages opened again
   all-last : (P : List T → Type 0) (front : List (List T)) (last : List T) → All P (front ++ last ∷ []) → P last
@@ -281,21 +259,79 @@ module _ {T : Type 0} where
   unless_empty-some [] some = absurd (omega arith)
   unless_empty-some (x ∷ items) some = refl
 
-  pub opened_again : (pages front closed : List (Arc (List (Arc T Global)) Global)) (last : Arc (List (Arc T Global)) Global) (copy page : List (Arc T Global))
-      → pages ≡ front ++ last ∷ [] → page ≡ [] → map arc_value closed ≡ map arc_value front → map arc_value copy ≡ map arc_value (arc_value last)
-      → All (λ items. 1 ≤ length items) (pages_of pages)
-      → (1 ≤ length copy) × (pages_of closed ++ unless_empty (map arc_value copy) ≡ pages_of pages ++ unless_empty (map arc_value page))
-  opened_again pages front closed last copy page cut none same items all =
-      let whole = ap pages_of cut ∙ pages_of-push front last in
-      let some : 1 ≤ length (map (arc_value {X = T} {Z = Global}) (arc_value last)) = all-last (λ l. 1 ≤ length l) (pages_of front) (map arc_value (arc_value last)) (subst (All (λ (l : List T). 1 ≤ length l)) whole all) in
+  opened_again : (pages front : List (Arc (List (Arc T Global)) Global)) (page : Arc (List (Arc T Global)) Global) (copy : List (Arc T Global)) → pages ≡ front ++ page ∷ []
+      → map arc_value copy ≡ map arc_value (arc_value page) → All (λ items. 1 ≤ length items) (pages_of pages)
+      → (1 ≤ length copy) × (pages_of front ++ unless_empty (map arc_value copy) ≡ pages_of pages)
+  opened_again pages front page copy cut items all =
+      let whole = ap pages_of cut ∙ pages_of-push front page in
+      let some : 1 ≤ length (map (arc_value {X = T} {Z = Global}) (arc_value page)) = all-last (λ l. 1 ≤ length l) (pages_of front) (map arc_value (arc_value page)) (subst (All (λ (l : List T). 1 ≤ length l)) whole all) in
       let sizes = length-map copy (arc_value {X = T} {Z = Global}) in
       let sizes_seen = ap length items in (
         omega arith,
-        ap (λ l. l ++ unless_empty (map arc_value copy)) (pages_of-same closed front same)
-            ∙ ap (λ l. pages_of front ++ unless_empty l) items
-            ∙ ap (λ l. pages_of front ++ l) (unless_empty-some (map arc_value (arc_value last)) some)
-            ∙ sym (ap (λ l. pages_of pages ++ unless_empty (map arc_value l)) none ∙ append-nil (pages_of pages) ∙ whole),
+        ap (λ l. pages_of front ++ unless_empty l) items ∙ ap (λ l. pages_of front ++ l) (unless_empty-some (map arc_value (arc_value page)) some) ∙ sym whole,
       )
+
+  pub last_opened : (pages front : List (Arc (List (Arc T Global)) Global)) (page : Arc (List (Arc T Global)) Global) (copy last : List (Arc T Global)) (place : ℕ)
+      → pages ≡ front ++ page ∷ [] → map arc_value copy ≡ map arc_value (arc_value page) → All (λ items. 1 ≤ length items) (pages_of pages) → length last ≤ 1 → place < length last
+      → (1 ≤ length copy) × (pages_of front ++ unless_empty (map arc_value copy) ≡ pages_of pages ++ unless_empty (remove (map arc_value last) place))
+  last_opened pages front page copy last place cut items all few within =
+      let again = opened_again pages front page copy cut items all in (
+        again.0,
+        again.1 ∙ sym (append-nil (pages_of pages)) ∙ ap (λ l. pages_of pages ++ unless_empty l) (sym (none_left last place few within)),
+      )
+
+  pub place_in_copy : (page : Arc (List (Arc T Global)) Global) (copy : List (Arc T Global)) (place : ℕ) → map arc_value copy ≡ map arc_value (arc_value page)
+      → place < length (arc_value page) → place < length copy
+  place_in_copy page copy place same within =
+      let sizes = length-map copy (arc_value {X = T} {Z = Global}) in
+      let before = length-map (arc_value page) (arc_value {X = T} {Z = Global}) in
+      let seen = ap length same in
+      omega arith
+
+  -- the same taken out of a closed page, which stands at a place of these
+  module _ (pages : List (Arc (List (Arc T Global)) Global)) (page place : ℕ) (here : Arc (List (Arc T Global)) Global) (there : slice_get pages page ≡ Some here) where
+    page_is : slice_index_or (pages_of pages) page [] ≡ map arc_value (arc_value here)
+    page_is =
+        get_or-map (λ (p : Arc (List (Arc T Global)) Global). map (arc_value {X = T} {Z = Global}) (arc_value p)) pages page here [] (slice_get_within pages page here there)
+        ∙ ap (λ p. map arc_value (arc_value p)) (get_or_from_slice_get pages page here here there)
+
+    pub place_on_page : place < length (slice_index_or (pages_of pages) page []) → place < length (arc_value here)
+    place_on_page inside =
+        let same = ap length page_is in
+        let sizes = length-map (arc_value here) (arc_value {X = T} {Z = Global}) in
+        omega arith
+
+    pub page_out : length (arc_value here) ≤ 1 → place < length (arc_value here) → pages_of (remove pages page) ≡ without_item (pages_of pages) page place
+    page_out few within =
+        let ps = pages_of pages in
+        let none : remove (slice_index_or ps page []) place ≡ [] = ap (λ l. remove l place) page_is ∙ none_left (arc_value here) place few within in
+        let next : page + 1 ≡ suc page = omega arith in
+        map-remove (λ (p : Arc (List (Arc T Global)) Global). map (arc_value {X = T} {Z = Global}) (arc_value p)) pages page
+        ∙ sym (ap (λ l. (take page ps ++ unless_empty l) ++ drop (page + 1) ps) none
+        ∙ ap (λ l. l ++ drop (page + 1) ps) (append-nil (take page ps)) ∙ ap (λ n. take page ps ++ drop n ps) next)
+
+    pub page_shorter : (emptied after : List (Arc (List (Arc T Global)) Global)) (other shorter : Arc (List (Arc T Global)) Global) (items rest : List (Arc T Global))
+        → emptied ≡ slice_set pages page other → after ≡ slice_set emptied page shorter → map arc_value items ≡ map arc_value (arc_value here)
+        → rest ≡ remove items place → arc_value shorter ≡ rest → 1 < length (arc_value here) → place < length (arc_value here)
+        → pages_of after ≡ without_item (pages_of pages) page place
+    page_shorter emptied after other shorter items rest first second same out value many within =
+        let ps = pages_of pages in
+        let left = remove (map (arc_value {X = T} {Z = Global}) (arc_value here)) place in
+        let seen : map (arc_value {X = T} {Z = Global}) (arc_value shorter) ≡ left =
+        ap (map arc_value) (value ∙ out) ∙ map-remove arc_value items place ∙ ap (λ l. remove l place) same in
+        let sizes = length-map (arc_value here) (arc_value {X = T} {Z = Global}) in
+        let some : 1 ≤ length left = some_left (map arc_value (arc_value here)) left place refl (omega arith) (omega arith) in
+        let next : page + 1 ≡ suc page = omega arith in
+        let count = length-map pages (λ (p : Arc (List (Arc T Global)) Global). map (arc_value {X = T} {Z = Global}) (arc_value p)) in
+        let there_in = slice_get_within pages page here there in
+        ap pages_of (second ∙ ap (λ l. slice_set l page shorter) first ∙ set-set pages page other shorter)
+        ∙ map-set (λ (p : Arc (List (Arc T Global)) Global). map (arc_value {X = T} {Z = Global}) (arc_value p)) pages page shorter
+        ∙ ap (slice_set ps page) seen
+        ∙ set_split ps page left (omega arith)
+        ∙ sym (append_assoc (take page ps) (left ∷ []) (drop (suc page) ps))
+        ∙ ap (λ l. (take page ps ++ l) ++ drop (suc page) ps) (sym (unless_empty-some left some))
+        ∙ ap (λ l. (take page ps ++ unless_empty (remove l place)) ++ drop (suc page) ps) (sym page_is)
+        ∙ ap (λ n. (take page ps ++ unless_empty (remove (slice_index_or ps page []) place)) ++ drop n ps) (sym next)
 
   pub joined-with_item : (most : ℕ) (pages : List (List T)) (item : T) → joined (with_item most pages item) ≡ joined pages ++ item ∷ []
   joined-with_item most [] item = refl

@@ -196,10 +196,10 @@ impl LiveSet {
     }
 
     /// These without the one of this id.
-    pub(crate) fn with_removal(&self, alloc: Global, id: u32) -> Result<LiveSet, StoreFault>
-        ensures ok { IfOk result (λ set. set ≡ with_removal self.now id) }
-        ensures accepted { OnOk result (refusal_of_removal self.now id ≡ None) }
-        ensures refused { IfErr result (λ fault. RefusesChange (refusal_of_removal self.now id) fault) }
+    pub(crate) fn with_removal(self, alloc: Global, id: u32) -> Result<LiveSet, StoreFault>
+        ensures ok { IfOk result (λ set. set ≡ with_removal self id) }
+        ensures accepted { OnOk result (refusal_of_removal self id ≡ None) }
+        ensures refused { IfErr result (λ fault. RefusesChange (refusal_of_removal self id) fault) }
     {
         let Some((page, place)) = place_of(&self.pages, id) else {
             return Err(StoreFault::Unknown { id });
@@ -210,16 +210,24 @@ impl LiveSet {
             });
         }
         let size = self.pages.item(page, place).credential().text.len() as u32;
-        let Ok(pages) = self.pages.without_item(alloc, page, place) else {
+        let LiveSet {
+            pages,
+            count,
+            bytes,
+            changes,
+            logged,
+            added,
+        } = self;
+        let Ok(pages) = pages.without_item(alloc, page, place) else {
             return Err(StoreFault::NoMemory);
         };
         Ok(LiveSet {
             pages,
-            count: self.count - 1,
-            bytes: self.bytes - size,
-            changes: self.changes + 1,
-            logged: self.logged,
-            added: self.added,
+            count: count - 1,
+            bytes: bytes - size,
+            changes: changes + 1,
+            logged,
+            added,
         })
     }
 }

@@ -1,11 +1,11 @@
 //! Lists in pages, which the lists that are made of them share.
 
 ghost use Rattle.std.specs.Prelude.{◌≡◌, ◌<◌, ◌≤◌, ◌+◌, [], ◌∷◌, ◌++◌, map, length, Some, IfOk, OnOk};
-ghost use Rattle.std.specs.Prelude.{slice_get, slice_index_or};
+ghost use Rattle.std.specs.Prelude.{slice_get, slice_index_or, remove};
 ghost use Rattle.std.specs.Arc.{arc_value};
 ghost use Rattle.std.specs.List.{All};
 ghost use Rattle.std.specs.Option.{option_copied};
-ghost use Rattle.kn_store.specs.Pages.{joined, pages_of, page_of, with_item, without_item};
+ghost use Rattle.kn_store.specs.Pages.{joined, pages_of, unless_empty, with_item, without_item};
 
 use kn_base::{List, NoMemory, Reserved};
 use std::alloc::Global;
@@ -17,8 +17,9 @@ pub(crate) type Page<T> = List<Arc<T>>;
 
 /// A list in pages. It is seen as the list of its pages, each of them the list of its items.
 ///
-/// An item is added in place. A list that is to stay as it is has to be shared first: that copies the pointers to the
-/// closed pages and those of the last one, and the closed pages belong to both.
+/// Items are added and taken out in place. A list that is to stay as it is has to be shared first: that copies the
+/// pointers to the closed pages and those of the last one, and the closed pages belong to both. Of these a page is
+/// copied when an item is taken out of it for the first time.
 #[derive(Drop)]
 pub(crate) struct Pages<T> {
     /// The pages that get no more items.
@@ -129,28 +130,25 @@ impl<T: Drop> Pages<T> {
         })
     }
 
-    /// The same without the item at a place of a page, and without that page where it was the only one.
+    /// The list without the item at a place of a page, and without that page where it was the only one.
     pub(crate) fn without_item(
-        &self,
+        self,
         alloc: Global,
         page: usize,
         place: usize,
     ) -> Result<Pages<T>, NoMemory>
-        requires page { page < length self.now }
-        requires place { place < length (slice_index_or self.now page []) }
-        requires none_empty { All (λ items. 1 ≤ length items) self.now }
-        ensures { IfOk result (λ pages. pages ≡ without_item self.now page place) }
+        requires page { page < length self }
+        requires place { place < length (slice_index_or self page []) }
+        requires none_empty { All (λ items. 1 ≤ length items) self }
+        ensures { IfOk result (λ pages. pages ≡ without_item self page place) }
     {
-        let items = self.page(page);
-        let left = joined_page(alloc, items.split_at(place).0, items.split_at(place + 1).1)?;
-        let closed = self.closed.as_slice();
-        if page >= closed.len() {
-            return reopen_last(alloc, closed, left);
+        let Pages { closed, last } = self;
+        if page >= closed.len() as usize {
+            return without_last(alloc, closed, last, place);
         }
-        let (front, back) = (closed.split_at(page).0, closed.split_at(page + 1).1);
         Ok(Pages {
-            closed: around(alloc, front, left, back)?,
-            last: share_items(alloc, self.last.as_slice())?,
+            closed: without_closed(alloc, closed, page as u32, place)?,
+            last,
         })
     }
 }
@@ -181,117 +179,86 @@ fn begin_page<T: Drop>(alloc: Global, most: u32, item: Arc<T>) -> Result<Page<T>
     Ok(room.finish())
 }
 
-/// These pages and one behind them, which gets the next item. Where it is empty the last of them gets it.
-fn reopen_last<'a, T: Drop>(
+/// These closed pages and the last one without the item at a place of it. Where it was the only one, the page in front
+/// of it is the last one again.
+fn without_last<T: Drop>(
     alloc: Global,
-    pages: &'a [Arc<Page<T>>],
-    page: Page<T>,
+    closed: List<Arc<Page<T>>>,
+    last: Page<T>,
+    place: usize,
 ) -> Result<Pages<T>, NoMemory>
-    requires { All (λ items. 1 ≤ length items) (pages_of pages.now) }
-    ensures { IfOk result (λ all. all ≡ pages_of pages.now ++ page_of page) }
+    requires place { place < length last }
+    requires none_empty { All (λ items. 1 ≤ length items) (pages_of closed) }
+    ensures { IfOk result (λ pages. pages ≡ pages_of closed ++ unless_empty (remove (map arc_value last) place)) }
 {
-    if !page.is_empty() {
-        return Ok(Pages {
-            closed: share_items(alloc, pages)?,
-            last: page,
-        });
+    let (mut closed, mut last) = (closed, last);
+    if last.len() > 1 {
+        let _item = last.remove(place as u32);
+        return Ok(Pages { closed, last });
     }
-    let Some((last, front)) = pages.split_last() else {
-        return Ok(Pages::empty(alloc));
-    };
-    Ok(Pages {
-        closed: share_items(alloc, front)?,
-        last: share_items(alloc, last.as_slice())?,
-    })
+    match closed.pop() {
+        Some(page) => Ok(Pages {
+            closed,
+            last: own_page(alloc, page)?,
+        }),
+        None => Ok(Pages::empty(alloc)),
+    }
 }
 
-/// A page with the same items.
+/// These closed pages without the item at a place of one of them, and without that page where it was the only one.
+fn without_closed<T: Drop>(
+    alloc: Global,
+    closed: List<Arc<Page<T>>>,
+    page: u32,
+    place: usize,
+) -> Result<List<Arc<Page<T>>>, NoMemory>
+    requires page { page < length closed }
+    requires place { place < length (slice_index_or (pages_of closed) page []) }
+    ensures { IfOk result (λ pages. pages_of pages ≡ without_item (pages_of closed) page place) }
+{
+    let mut closed = closed;
+    let count = closed.as_slice()[page as usize].len();
+    if count <= 1 {
+        let _page = closed.remove(page);
+        return Ok(closed);
+    }
+    // a page of no items stands there as long as the page is out
+    let Ok(empty) = Arc::new(alloc, List::new(alloc)) else {
+        return Err(NoMemory);
+    };
+    let mut items = own_page(alloc, closed.replace(page, empty))?;
+    let _item = items.remove(place as u32);
+    let Ok(shorter) = Arc::new(alloc, items) else {
+        return Err(NoMemory);
+    };
+    let _empty = closed.replace(page, shorter);
+    Ok(closed)
+}
+
+/// The items of a page: the page itself where no other list has it, and else a copy.
+fn own_page<T: Drop>(alloc: Global, page: Arc<Page<T>>) -> Result<Page<T>, NoMemory>
+    ensures { IfOk result (λ items. map arc_value items ≡ map arc_value (arc_value page)) }
+{
+    match Arc::try_unwrap(page) {
+        Ok(items) => Ok(items),
+        Err(shared) => share_items(alloc, shared.as_slice()),
+    }
+}
+
+/// A page with the same items, and room for one more.
 pub(crate) fn share_items<'a, T: Drop>(
     alloc: Global,
     items: &'a [Arc<T>],
 ) -> Result<Page<T>, NoMemory>
     ensures { IfOk result (λ page. map arc_value page ≡ map arc_value items.now) }
 {
-    joined_page(alloc, items, &[])
-}
-
-/// The page of these items, one list behind the other.
-fn joined_page<'a, T: Drop>(
-    alloc: Global,
-    before: &'a [Arc<T>],
-    after: &'a [Arc<T>],
-) -> Result<Page<T>, NoMemory>
-    ensures { IfOk result (λ page. map arc_value page ≡ map arc_value before.now ++ map arc_value after.now) }
-{
-    let mut room = room_for(alloc, before, after)?;
-    share(&mut room, before)?;
-    share(&mut room, after)?;
-    Ok(room.finish())
-}
-
-/// The pages of a front, this page unless it is empty, and the pages of a back.
-fn around<'a, T: Drop>(
-    alloc: Global,
-    front: &'a [Arc<Page<T>>],
-    page: Page<T>,
-    back: &'a [Arc<Page<T>>],
-) -> Result<List<Arc<Page<T>>>, NoMemory>
-    ensures { IfOk result (λ pages. pages_of pages ≡ pages_of front.now ++ page_of page ++ pages_of back.now) }
-{
-    let mut room = room_for(alloc, front, back)?;
-    share_pages(&mut room, front)?;
-    put_page(alloc, &mut room, page)?;
-    share_pages(&mut room, back)?;
-    Ok(room.finish())
-}
-
-/// Adds these pages at the end, for which there is room.
-fn share_pages<T: Drop>(
-    room: &mut Reserved<Arc<Page<T>>>,
-    pages: &[Arc<Page<T>>],
-) -> Result<(), NoMemory>
-    requires room { length pages.now ≤ room.old.spare }
-    ensures pages { OnOk result (pages_of room.new.items ≡ pages_of room.old.items ++ pages_of pages.now) }
-    ensures spare { OnOk result (room.old.spare ≤ room.new.spare + length pages.now) }
-{
-    share(room, pages)
-}
-
-/// Adds a page at the end, for which there is room, unless it is empty.
-fn put_page<T: Drop>(
-    alloc: Global,
-    room: &mut Reserved<Arc<Page<T>>>,
-    page: Page<T>,
-) -> Result<(), NoMemory>
-    requires room { 0 < room.old.spare }
-    ensures pages { OnOk result (pages_of room.new.items ≡ pages_of room.old.items ++ page_of page) }
-    ensures spare { OnOk result (room.old.spare ≤ room.new.spare + 1) }
-{
-    if page.is_empty() {
-        return Ok(());
-    }
-    let Ok(page) = Arc::new(alloc, page) else {
+    let Ok(most) = u32::try_from(items.len() + 1) else {
         return Err(NoMemory);
     };
-    room.put(page);
-    Ok(())
-}
-
-/// No items, with room for these and one more.
-fn room_for<'a, T: Drop>(
-    alloc: Global,
-    before: &'a [Arc<T>],
-    after: &'a [Arc<T>],
-) -> Result<Reserved<Arc<T>>, NoMemory>
-    ensures items { IfOk result (λ room. room.items ≡ []) }
-    ensures spare { IfOk result (λ room. length before.now + length after.now < room.spare) }
-{
     let mut room = Reserved::new(alloc);
-    let Ok(more) = u32::try_from(before.len() + after.len() + 1) else {
-        return Err(NoMemory);
-    };
-    room.reserve(more)?;
-    Ok(room)
+    room.reserve(most)?;
+    share(&mut room, items)?;
+    Ok(room.finish())
 }
 
 /// Adds a share of each of these at the end, for which there is room.

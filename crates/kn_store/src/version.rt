@@ -211,7 +211,8 @@ impl Version {
         ensures follows { OnOk result (UpdateFollows self.now (removal_by caller id)) }
         ensures refused { IfErr result (λ fault. RefusesChange (refusal_of_id (all_changes self.now) id) fault) }
     {
-        let live = self.live.with_removal(alloc, id)?;
+        let shared = self.live.share(alloc)?;
+        let live = shared.with_removal(alloc, id)?;
         let update = removal(alloc, caller, id)?;
         let updates = self.updates.share(alloc)?.with_update(alloc, update)?;
         Ok(Version {

@@ -14,7 +14,8 @@ after : (c : goal.After-number) → IsVersion (record { live = c.in_ok-live.live
     × (joined c.in_ok-updates.updates ≡ c.args.self.now ++ c.in_ok-update.update ∷ [])
 after c =
     let past = all_changes c.args.self.now in
-    let before : c.self.inside.live ≡ live_view past = c.self.invariant.live ∙ ap (λ l. live_view (all_changes l)) c.self.view_is in
+    let before : c.in_ok-shared.shared ≡ live_view past =
+    c.in_ok-shared.ensures ∙ c.self.invariant.live ∙ ap (λ l. live_view (all_changes l)) c.self.view_is in
     let accepted : refusal_of_removal (live_view past) c.args.id ≡ None = ap (λ v. refusal_of_removal v c.args.id) (sym before) ∙ c.in_ok-live.ensures.accepted in
     version_after c.self.inside c.in_ok-updates.updates c.in_ok-update.update c.in_ok-live.live c.args.self.now c.number.result
     (c.in_ok-updates.ensures ∙ ap (λ log. with_item UPDATES_PAGE log c.in_ok-update.update) c.in_ok-share.ensures) c.self.view_is c.number.ensures.number c.self.invariant
