@@ -1,0 +1,5 @@
+pub mod Readers
+pub mod Numerals
+pub mod Replies
+pub mod Takings
+pub mod Followers

@@ -1,0 +1,4 @@
+pub mod Forms
+pub mod Following
+pub mod Reading
+pub mod Laws
