@@ -103,8 +103,10 @@ class UpdateLog:
 
     def _dial(self, address: str) -> http.client.HTTPConnection:
         parts = urlsplit(address)
-        kind = http.client.HTTPSConnection if parts.scheme == "https" else http.client.HTTPConnection
-        return kind(parts.hostname or "", parts.port or 2379, timeout=self._timeout)
+        host, port = parts.hostname or "", parts.port or 2379
+        if parts.scheme == "https":
+            return http.client.HTTPSConnection(host, port, timeout=self._timeout)
+        return http.client.HTTPConnection(host, port, timeout=self._timeout)
 
 
 def answer_over(link: http.client.HTTPConnection, path: str, wanted: Json) -> Json:

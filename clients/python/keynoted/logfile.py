@@ -34,7 +34,7 @@ class LogText:
         try:
             for line in lines:
                 self._take(line)
-            if not (self._begun.can_begin(part) if self._begun else is_begun(part, b"LOG 0 0 0")):
+            if not self._can_begin(part):
                 raise ValueError(NO_LINE)
         except (LinkEnded, ValueError) as why:
             told = NO_LINE if isinstance(why, LinkEnded) else why
@@ -46,6 +46,9 @@ class LogText:
     def held(self) -> int:
         """The number of the last update, counted from 1."""
         return (self.start or 0) + len(self.updates)
+
+    def _can_begin(self, part: bytes) -> bool:
+        return self._begun.can_begin(part) if self._begun else is_begun(part, b"LOG 0 0 0")
 
     def _take(self, line: bytes) -> None:
         if self._begun is None:
