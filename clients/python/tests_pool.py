@@ -239,6 +239,20 @@ class Tasks(Room):
         self.run_tasks(work, daemon.address)
         self.assertLessEqual(daemon.accepted, 3)
 
+    def test_each_task_gets_its_turn(self):
+        daemon, counts = self.fake(), [0] * 6
+
+        async def work(pool):
+            async def ask(number):
+                while sum(counts) < 600:
+                    self.assertEqual((await pool.ask(["alice"], {})).index, 1)
+                    counts[number] += 1
+
+            await asyncio.gather(*[ask(it) for it in range(6)])
+
+        self.run_tasks(work, daemon.address, size=2)
+        self.assertGreater(min(counts), 50, counts)
+
     def test_a_task_that_is_cancelled_leaves_no_answer_behind(self):
         daemon = self.fake(delay=0.0003)
 

@@ -270,33 +270,35 @@ class AsyncPool:
         try:
             return await self._settle(question)
         finally:
-            self._used -= 1
-            self._wake()
+            self._leave()
 
     async def _enter(self) -> None:
-        """Waits until less than `size` questions are under way, and counts one more."""
+        """Takes one of the `size` places, in the order of those who wait for one."""
+        if self._used < self._size:
+            self._used += 1
+            return
         loop = asyncio.get_running_loop()
-        deadline = None if self._timeout is None else loop.time() + self._timeout
-        while self._used >= self._size:
-            late = TimedOut(f"all {self._size} connections of the pool were in use for {self._timeout} s")
-            waiter = loop.create_future()
-            timer = None if deadline is None else loop.call_at(deadline, fail, waiter, late)
-            self._waiting.append(waiter)
-            try:
-                await waiter
-            except BaseException:
-                self._wake()  # for the one that was woken in vain
-                raise
-            finally:
-                if timer:
-                    timer.cancel()
-        self._used += 1
+        late = TimedOut(f"all {self._size} connections of the pool were in use for {self._timeout} s")
+        waiter = loop.create_future()
+        timer = None if self._timeout is None else loop.call_later(self._timeout, fail, waiter, late)
+        self._waiting.append(waiter)
+        try:
+            await waiter
+        except BaseException:
+            if waiter.done() and not waiter.cancelled() and not waiter.exception():
+                self._leave()  # it was given the place, and cancelled before it knew
+            raise
+        finally:
+            if timer:
+                timer.cancel()
 
-    def _wake(self) -> None:
+    def _leave(self) -> None:
+        """Gives the place to the first who waits: who asks again at once must not be quicker."""
         while self._waiting:
             waiter = self._waiting.popleft()
             if not waiter.done():
                 return waiter.set_result(None)
+        self._used -= 1
 
     async def _settle(self, question: Question) -> Tuple[Reply, Request]:
         connection = await self._take(question)
