@@ -155,6 +155,22 @@ class Pools(Room):
         self.assertEqual(wrong, [])
         self.assertLessEqual(daemon.accepted, 3)
 
+    def test_each_thread_gets_its_turn(self):
+        daemon, counts = self.fake(), [0] * 6
+        with keynoted.Pool(daemon.address, size=2, values=VALUES) as pool:
+            def ask(number):
+                while sum(counts) < 1200:
+                    self.assertEqual(pool.ask(["alice"], {}).index, 1)
+                    counts[number] += 1
+
+            threads = [threading.Thread(target=ask, args=(it,)) for it in range(6)]
+            for thread in threads:
+                thread.start()
+            for thread in threads:
+                thread.join(60)
+        self.assertGreater(min(counts), 100, counts)
+        self.assertEqual(pool._turns, [])
+
     def test_all_taken_is_told_after_the_limit(self):
         daemon = self.fake(delay=0.3)
         with keynoted.Pool(daemon.address, size=1, timeout=0.2, values=VALUES) as pool:

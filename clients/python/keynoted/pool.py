@@ -44,6 +44,7 @@ class Pool:
         self._owner = os.getpid()
         self._free = threading.Condition()
         self._leases: weakref.WeakSet[Lease] = weakref.WeakSet()
+        self._turns: List[weakref.ref[Lease]] = []  # of those who wait, the first one first
         self._idle: List[Connection] = []
         self._made = 0
         self._closed = False
@@ -79,7 +80,7 @@ class Pool:
         finally:
             with self._free:
                 self._leases.discard(lease)
-                self._free.notify()
+                self._free.notify_all()
 
     def _settle(self, question: Question) -> Tuple[Reply, Request]:
         connection = self._take(question)
@@ -99,15 +100,28 @@ class Pool:
             self._give(connection)
 
     def _lease(self) -> Lease:
+        """A place, in the order of those who wait for one: who asks again at once isn't quicker."""
         deadline = None if self._timeout is None else time.monotonic() + self._timeout
+        lease = Lease()
+        turn = weakref.ref(lease)
         with self._free:
-            while len(self._leases) >= self._size:
-                if deadline is not None and time.monotonic() >= deadline:
-                    raise TimedOut(f"all {self._size} connections of the pool were in use for {self._timeout} s")
-                self._free.wait(0.05)  # a lease whose holder was interrupted ends without a word
-            lease = Lease()
-            self._leases.add(lease)
+            self._turns.append(turn)
+            try:
+                while not self._is_due(turn):
+                    if deadline is not None and time.monotonic() >= deadline:
+                        raise TimedOut(f"all {self._size} connections of the pool were in use for {self._timeout} s")
+                    self._free.wait(0.05)  # a lease whose holder was interrupted ends without a word
+                self._leases.add(lease)
+            finally:
+                self._turns.remove(turn)
+                self._free.notify_all()
             return lease
+
+    def _is_due(self, turn: weakref.ref[Lease]) -> bool:
+        """Whether a place is free for the first who waits, and that is this one."""
+        while self._turns[0]() is None:
+            del self._turns[0]
+        return len(self._leases) < self._size and self._turns[0] is turn
 
     def _take(self, question: Question) -> Optional[Connection]:
         """A connection that is free and has requests enough left."""
