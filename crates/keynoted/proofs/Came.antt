@@ -1,10 +1,8 @@
--- What a line that is due tells of the files, whose contents are told.
-use Rattle.std.proofs.Common.{◌≡◌, ℕ, ◌⊎◌, inl, inr, List, [], ◌∷◌, ◌++◌, length, sym, ap, ◌∙◌, subst, ⊎_elim, true, false, Option, Some, None}
-use Rattle.std.specs.Prelude.{codes, IfSome}
+-- What files led to whose contents are told, where no read of one failed.
+use Rattle.std.proofs.Common.{◌≡◌, ℕ, ◌⊎◌, inl, inr, List, [], ◌∷◌, length, refl, sym, subst, Option, Some, None}
+use Rattle.std.specs.Prelude.{IfSome}
 use Rattle.kn_outside.specs.Seen.{FilesSeen, LinkSeen}
 use Rattle.kn_outside.specs.Faults.{Rose}
-use Rattle.kn_outside.specs.Asked.{HasAsked, HasFailed}
-use Rattle.kn_outside.specs.Printing.{Writes}
 use Rattle.kn_fields.specs.declared.fault.ReadFault.{ReadFault}
 use Rattle.kn_auth.specs.declared.key_file.KeyFile.{KeyFile}
 use Rattle.kn_auth.proofs.Whole.{file_or_line}
@@ -20,207 +18,180 @@ use Rattle.kn_daemon.specs.Daemon.{equations_of}
 use Rattle.kn_daemon.specs.declared.ended.Ended.{Ended}
 use Rattle.kn_daemon.specs.declared.ended.Ended.TheVariants as E
 use Rattle.kn_meaning.specs.Proofs.{IsProof}
-use Rattle.kn_play.specs.Meaning.{OneQueryOfScript}
 use Rattle.kn_verify.specs.Verdicts.{IsReplyTo}
 use Rattle.kn_serve.specs.Serving.{IsOrderly, IsFaultless}
+use Rattle.kn_workers.specs.Connections.{ServedSeen}
+use Rattle.kn_workers.specs.Doors.{DoorSeen}
+use Rattle.kn_workers.specs.Nets.{NetSeen}
+use Rattle.kn_commands.specs.declared.stop.Stop.{Stop}
+use Rattle.kn_commands.specs.declared.stop.Stop.TheVariants as S
+use Rattle.kn_commands.specs.declared.ask_ending.AskEnding.{AskEnding}
+use Rattle.kn_commands.specs.declared.ask_ending.AskEnding.TheVariants as A
+use Rattle.kn_commands.specs.declared.serve_ending.ServeEnding.{ServeEnding}
+use Rattle.kn_commands.specs.declared.serve_ending.ServeEnding.TheVariants as V
 use Rattle.kn_commands.specs.declared.ending.Source.{Source}
 use Rattle.kn_commands.specs.declared.ending.Source.TheVariants.{Policy, Script as TheScript, Reply}
+use Rattle.kn_commands.specs.declared.ending.Ending.{Ending}
+use Rattle.kn_commands.specs.declared.ending.Ending.TheVariants.{Stopped, NoQuery, Faulty, Rejected, Proved}
 use Rattle.kn_commands.specs.Names.{AskNames, CheckNames}
-use Rattle.kn_commands.specs.Held.{HasContent, IsTooLarge, AreKeys}
-use Rattle.kn_commands.specs.Stopping.{IsLimitAt, policy_fault_line, limit_line}
-use Rattle.kn_commands.specs.Asking.{status_of_ended}
-use Rattle.kn_commands.specs.Checking.{HasQuery, Reached, name_of, IsFaultyText, IsUnprovedText}
-use Rattle.kn_commands.specs.declared.generating.GenNumbers.{GenNumbers}
-use Rattle.keynoted.specs.Commands.{AskFor, CheckFor, GenFor, IsNoCommand}
-use Rattle.keynoted.specs.Running.{AsksServed, ChecksText, IsNext, IsDone, IsPolicyFault, IsReplyFault, IsDue, IsPrinted, IsEnded}
-use Rattle.keynoted.specs.Running as D
-use Rattle.keynoted.specs.Calling.{TooLarge, Failed, Passed, KeysLead, AskLeads, IsProofText, ReplyLeads, CheckLeads, CallsFor, CallsToServe, IsCalm, EndsWith}
-use Rattle.keynoted.proofs.Known.{Tells, ask_is_no_check, same_ask, same_names, told_by, held, held_too_much}
-use Rattle.keynoted.proofs.Leading.{ask_once, check_once}
-use Rattle.keynoted.proofs.Gen.{gen_is_no_ask, gen_is_no_check}
+use Rattle.kn_commands.specs.Held.{IsTooLarge, IsPolicy, AreKeys}
+use Rattle.kn_commands.specs.Stopping.{IsLimitAt, status_of}
+use Rattle.kn_commands.specs.Asking.{AskCause, StopsAtPolicy, StopsAtKeys, AreKeysStopped, status_of_ended}
+use Rattle.kn_commands.specs.Asking.{status_of_ask}
+use Rattle.kn_commands.specs.Checking.{HasQuery, Reached, name_of, CheckCause, IsFaultyText, IsUnprovedText}
+use Rattle.kn_commands.specs.Checking.{status_of_ending}
+use Rattle.kn_commands.specs.Serving.{Order, ServeCause, status_of_serve}
+use Rattle.keynoted.specs.Calling.{TooLarge, Failed, Passed, KeysLead, AskLeads, IsProofText, ReplyLeads, CheckLeads}
+use Rattle.keynoted.proofs.Known.{Tells, held, held_too_much}
 
 -- an input that is in order is served to its end, if no call of the link fails and there is memory
 abbrev pub IsServedSo : LinkSeen → LinkSeen → ℕ → Type 0
 IsServedSo o o' status = (ended : Ended) × (status ≡ status_of_ended ended)
     × IfSome o.left (λ input. IsOrderly input → IsFaultless o o' → (ended ≡ E.Done) ⊎ (ended ≡ E.Memory))
 
--- what the words and the files came to, with the status that is due
-pub data Came (given : List (List ℕ)) (f : FilesSeen) (o o' : LinkSeen) (due : ℕ) : Type 0 where
-  ByAsk : (names : AskNames) → AskFor given names → AskLeads f names (IsServedSo o o') due → Came given f o o' due
-  ByCheck : (names : CheckNames) → CheckFor given names → CheckLeads f names due → Came given f o o' due
-  ByGen : (numbers : GenNumbers) → GenFor given numbers → Came given f o o' due
-  ByNone : IsNoCommand given → Came given f o o' due
-  ByMemory : due ≡ 5 → Came given f o o' due
+-- a service that was served whole
+abbrev pub IsServedWhole : ℕ → Type 0
+IsServedWhole status = status ≡ 0
 
 -- texts of which one is faulty or refused make no history
-pub not_loadable : (bytes : List ℕ) (name line : List ℕ) → ((n : ℕ) × (fault : ReadFault) × IsFaultyAt (pieces_of bytes) n fault × (line ≡ policy_fault_line name n fault))
-    ⊎ ((n : ℕ) × (word : LimitWord) × (count : ℕ) × IsLimitAt (pieces_of bytes) n word count × (line ≡ limit_line name n word count)) → IsLoadable (pieces_of bytes) → ⊥
-not_loadable bytes name line (inl bad) loadable = (ends_once (pieces_of bytes)).faulty bad.0 bad.1 loadable bad.2
-not_loadable bytes name line (inr bad) loadable = (ends_once (pieces_of bytes)).full bad.0 bad.3.refusal loadable bad.3.full
+faulty_policy : (bytes : List ℕ) (n : ℕ) (fault : ReadFault) → IsFaultyAt (pieces_of bytes) n fault
+    → ¬ IsLoadable (pieces_of bytes)
+faulty_policy bytes n fault faulty loadable = (ends_once (pieces_of bytes)).faulty n fault loadable faulty
+
+full_policy : (bytes : List ℕ) (n : ℕ) (word : LimitWord) (count : ℕ) → IsLimitAt (pieces_of bytes) n word count
+    → ¬ IsLoadable (pieces_of bytes)
+full_policy bytes n word count limit loadable = (ends_once (pieces_of bytes)).full n limit.refusal loadable limit.full
 
 -- a text with a fault, or one to another query, is no proof
-no_proof_of_fault : (session : Session) (values : List (List ℕ)) (text : List ℕ) (fault place : ℕ) → IsFaultyText session values text fault place → (reply : ReadReply) → ¬ IsProofText session values text reply
-no_proof_of_fault session values text fault place (inl own) reply proof = reply_without_fault text reply own.0 proof.read own.1
-no_proof_of_fault session values text fault place (inr other) reply proof =
+faulty_is_no_proof : (session : Session) (values : List (List ℕ)) (text : List ℕ) (fault place : ℕ)
+    → IsFaultyText session values text fault place → (reply : ReadReply) → ¬ IsProofText session values text reply
+faulty_is_no_proof session values text fault place (inl own) reply proof =
+    reply_without_fault text reply own.0 proof.read own.1
+faulty_is_no_proof session values text fault place (inr other) reply proof =
     let same : reply ≡ other.2.0 = one_reply text reply other.2.0 proof.read other.2.1 in
     other.2.2 (subst (λ (r : ReadReply). IsReplyTo (length session.pinned) values r) same proof.to_query)
 
-no_proof_of_reject : (session : Session) (values : List (List ℕ)) (text : List ℕ) (reject : Reject) → IsUnprovedText session values text reject → (reply : ReadReply) → ¬ IsProofText session values text reply
-no_proof_of_reject session values text reject unproved reply proof =
+rejected_is_no_proof : (session : Session) (values : List (List ℕ)) (text : List ℕ) (reject : Reject)
+    → IsUnprovedText session values text reject → (reply : ReadReply) → ¬ IsProofText session values text reply
+rejected_is_no_proof session values text reject unproved reply proof =
     let same : reply ≡ unproved.reply = one_reply text reply unproved.reply proof.read unproved.read in
-    unproved.unproved.unproved (subst (λ (r : ReadReply). IsProof (equations_of session values) r.rows r.value) same proof.proof)
+    unproved.unproved.unproved
+    (subst (λ (r : ReadReply). IsProof (equations_of session values) r.rows r.value) same proof.proof)
 
-module _ (given : List (List ℕ)) (f f' : FilesSeen) (o o' : LinkSeen) (told : Tells f) (calm : ¬ Rose f.faults f'.faults) where
-  keys_passed : (name : Option (List ℕ)) (keys : KeyFile) (due : ℕ) → AreKeys f name keys → IsServedSo o o' due → KeysLead f name (IsServedSo o o') due
-  keys_passed None keys due known so = so
-  keys_passed (Some name) keys due known so = Passed known.0 (held f name known.0 told known.1) (keys, known.2, so)
+module _ (f f' : FilesSeen) (told : Tells f) (calm : ¬ Rose f.faults f'.faults) where
+  -- the files of `ask` and `serve`
+  module _ (names : AskNames) (On : ℕ → Type 0) (due : ℕ) where
+    abbrev Comes : Type 0
+    Comes = AskLeads f names On due ⊎ (due ≡ 5)
 
-  by_served : (ended : Ended) (due : ℕ) → due ≡ status_of_ended ended → AsksServed given f f' o o' ended → Came given f o o' due
-  by_served ended due at asks =
-      let a = asks.answered in
-      ByAsk asks.names asks.words
-      (Passed a.bytes (held f asks.names.policy a.bytes told a.policy.content) (a.policy.loadable, keys_passed asks.names.keys a.keys due a.known (ended, at, a.runs.complete)))
+    stopped_policy : (stop : Stop) → StopsAtPolicy f f' names.policy stop → due ≡ status_of stop → Comes
+    stopped_policy S.FileFailed stops at = absurd (calm stops.rose)
+    stopped_policy S.FileTooLarge stops at =
+        let much = held_too_much f names.policy told stops.1 in inl (TooLarge much.0 much.1 at)
+    stopped_policy (S.Policy n fault) (bytes, read, faulty) at =
+        inl (Failed bytes (held f names.policy bytes told read.content) (faulty_policy bytes n fault faulty) at)
+    stopped_policy (S.Limit n word count) (bytes, read, limit) at =
+        inl (Failed bytes (held f names.policy bytes told read.content) (full_policy bytes n word count limit) at)
+    stopped_policy S.Memory stops at = inr at
+    stopped_policy S.Words stops at = absurd stops
+    stopped_policy (S.KeyLine n) stops at = absurd stops
 
-  -- the files of `check` up to a query
-  query_passed : (names : CheckNames) (session : Session) (values : List (List ℕ)) (due : ℕ) → HasQuery f names session values → ReplyLeads f names.reply session values due → CheckLeads f names due
-  query_passed names session values due has leads =
-      Passed has.bytes (held f names.policy has.bytes told has.policy.content) (
-        has.policy.loadable,
-        Passed has.script (held f names.script has.script told has.content) (session, values, has.query, leads),
-      )
+    passed_policy : (bytes : List ℕ) → IsPolicy f names.policy bytes → KeysLead f names.keys On due → Comes
+    passed_policy bytes policy on =
+        inl (Passed bytes (held f names.policy bytes told policy.content) (policy.loadable, on))
 
-  by_large_keys : (names : AskNames) (name : List ℕ) (due : ℕ) → due ≡ 2 → names.keys ≡ Some name → IsTooLarge f name → KeysLead f names.keys (IsServedSo o o') due
-  by_large_keys names name due at named large =
-      let much = held_too_much f name told large in
-      subst (λ (k : Option (List ℕ)). KeysLead f k (IsServedSo o o') due) (sym named) (TooLarge much.0 much.1 at)
+    module _ (name bytes : List ℕ) (named : names.keys ≡ Some name) (policy : IsPolicy f names.policy bytes) where
+      tried_keys : KeysLead f (Some name) On due → Comes
+      tried_keys lead =
+          passed_policy bytes policy (subst (λ (k : Option (List ℕ)). KeysLead f k On due) (sym named) lead)
 
-  by_large_check : (names : CheckNames) (source : Source) (due : ℕ) → due ≡ 2 → Reached f names source → IsTooLarge f (name_of names source) → CheckLeads f names due
-  by_large_check names Policy due at reached large = let much = held_too_much f names.policy told large in TooLarge much.0 much.1 at
-  by_large_check names TheScript due at reached large =
-      let much = held_too_much f names.script told large in
-      Passed reached.0 (held f names.policy reached.0 told reached.1.content) (reached.1.loadable, TooLarge much.0 much.1 at)
-  by_large_check names Reply due at reached large =
-      let much = held_too_much f names.reply told large in
-      query_passed names reached.0 reached.1 due reached.2 (TooLarge much.0 much.1 at)
+      stopped_keys : (stop : Stop) → StopsAtKeys f f' (names.policy ∷ []) name stop → due ≡ status_of stop → Comes
+      stopped_keys S.FileFailed stops at = absurd (calm stops.rose)
+      stopped_keys S.FileTooLarge stops at =
+          let much = held_too_much f name told stops.1 in tried_keys (TooLarge much.0 much.1 at)
+      stopped_keys (S.KeyLine n) (asked, text, content, first) at =
+          tried_keys (Failed text (held f name text told content) (λ keys is. file_or_line text keys n is first) at)
+      stopped_keys S.Memory stops at = inr at
+      stopped_keys S.Words stops at = absurd stops
+      stopped_keys (S.Policy n fault) stops at = absurd stops
+      stopped_keys (S.Limit n word count) stops at = absurd stops
 
-  by_large : (front : List (List ℕ)) (name : List ℕ) (due : ℕ) → due ≡ 2 → IsNext given f front name → IsTooLarge f name → Came given f o o' due
-  by_large front name due at (D.PolicyOfAsk names words behind named) large =
-      let much = held_too_much f names.policy told (subst (IsTooLarge f) named large) in
-      ByAsk names words (TooLarge much.0 much.1 at)
-  by_large front name due at (D.KeysOfAsk names bytes words policy behind named) large =
-      ByAsk names words (Passed bytes (held f names.policy bytes told policy.content) (policy.loadable, by_large_keys names name due at named large))
-  by_large front name due at (D.PolicyOfCheck names words behind named) large = ByCheck names words (by_large_check names Policy due at tt (subst (IsTooLarge f) named large))
-  by_large front name due at (D.ScriptOfCheck names bytes words policy behind named) large =
-      ByCheck names words (by_large_check names TheScript due at (bytes, policy) (subst (IsTooLarge f) named large))
-  by_large front name due at (D.ReplyOfCheck names session values words query behind named) large =
-      ByCheck names words (by_large_check names Reply due at (session, values, query) (subst (IsTooLarge f) named large))
+    keys_stopped : (stop : Stop) → AreKeysStopped f f' names stop → due ≡ status_of stop → Comes
+    keys_stopped stop k at = stopped_keys k.name k.bytes k.named k.policy stop k.stops at
 
-  by_policy : (name bytes line : List ℕ) (due : ℕ) → due ≡ 3 → IsNext given f [] name → HasContent f name bytes → (IsLoadable (pieces_of bytes) → ⊥) → Came given f o o' due
-  by_policy name bytes line due at (D.PolicyOfAsk names words behind named) has none =
-      ByAsk names words (Failed bytes (held f names.policy bytes told (subst (λ (n : List ℕ). HasContent f n bytes) named has)) none at)
-  by_policy name bytes line due at (D.KeysOfAsk names held_bytes words policy behind named) has none = let wrong : [] ≡ names.policy ∷ [] = behind in absurd (cc)
-  by_policy name bytes line due at (D.PolicyOfCheck names words behind named) has none =
-      ByCheck names words (Failed bytes (held f names.policy bytes told (subst (λ (n : List ℕ). HasContent f n bytes) named has)) none at)
-  by_policy name bytes line due at (D.ScriptOfCheck names held_bytes words policy behind named) has none = let wrong : [] ≡ names.policy ∷ [] = behind in absurd (cc)
-  by_policy name bytes line due at (D.ReplyOfCheck names session values words query behind named) has none =
-      let wrong : [] ≡ names.policy ∷ names.script ∷ [] = behind in absurd (cc)
+    passed_keys : (name : Option (List ℕ)) (keys : KeyFile) → AreKeys f name keys → On due → KeysLead f name On due
+    passed_keys None keys known on = on
+    passed_keys (Some name) keys (text, content, is) on = Passed text (held f name text told content) (keys, is, on)
 
-  by_reply : (session : Session) (values : List (List ℕ)) (text : List ℕ) (due : ℕ) → due ≡ 6 → ChecksText given f f' session values text →
-      ((reply : ReadReply) → ¬ IsProofText session values text reply) → Came given f o o' due
-  by_reply session values text due at checks none =
-      ByCheck checks.names checks.words
-      (query_passed checks.names session values due checks.tried.query (Failed text (held f checks.names.reply text told checks.tried.content) none at))
+  pub ask_came : (o o' : LinkSeen) (names : AskNames) (due : ℕ) (ending : AskEnding) → AskCause f f' o o' names ending
+      → due ≡ status_of_ask ending → AskLeads f names (IsServedSo o o') due ⊎ (due ≡ 5)
+  ask_came o o' names due (A.PolicyStopped stop) cause at = stopped_policy names (IsServedSo o o') due stop cause.0 at
+  ask_came o o' names due (A.KeysStopped stop) cause at = keys_stopped names (IsServedSo o o') due stop cause.0 at
+  ask_came o o' names due (A.Served ended) cause at =
+      passed_policy names (IsServedSo o o') due cause.bytes cause.policy
+      (passed_keys names (IsServedSo o o') due names.keys cause.keys cause.known (ended, at, cause.runs.complete))
 
-  by_done : (line : List ℕ) (due : ℕ) → due ≡ 0 → IsDone given f f' o o' line → Came given f o o' due
-  by_done line due at (inl ask) = by_served E.Done due at ask.0
-  by_done line due at (inr (inr gen)) = ByGen gen.numbers gen.words
-  by_done line due at (inr (inl (session, values, text, checks, value, name, proved, told_line, same))) =
-      let proof : IsProofText session values text proved.reply = record { read = proved.read; to_query = proved.proved.to_query; proof = proved.proved.proof } in
-      ByCheck checks.names checks.words
-      (query_passed checks.names session values due checks.tried.query (Passed text (held f checks.names.reply text told checks.tried.content) (proved.reply, proof, at)))
+  module _ {C R : Type 0} (door : R → DoorSeen (ServedSeen C)) (link : C → LinkSeen) (n n' : NetSeen R)
+      (net_calm : ¬ Rose n.faults n'.faults) where
+    pub serve_came : (order : Order) (due : ℕ) (ending : ServeEnding) → ServeCause door link f f' n n' order ending
+        → due ≡ status_of_serve ending → AskLeads f order.files IsServedWhole due ⊎ (due ≡ 5)
+    serve_came order due (V.PolicyStopped stop) cause at = stopped_policy order.files IsServedWhole due stop cause.0 at
+    serve_came order due (V.KeysStopped stop) cause at = keys_stopped order.files IsServedWhole due stop cause.0 at
+    serve_came order due V.BindMemory cause at = inr at
+    serve_came order due V.Unbound cause at = absurd (net_calm cause.runs.0)
+    serve_came order due V.WorkMemory cause at = inr at
+    serve_came order due V.DoorFailed cause at = absurd (net_calm cause.runs.3)
+    serve_came order due (V.Served finished version) cause at =
+        passed_policy order.files IsServedWhole due cause.bytes cause.policy
+        (passed_keys order.files IsServedWhole due order.files.keys cause.keys cause.known at)
 
-  by_fault : (line : List ℕ) (due : ℕ) → due ≡ 6 → IsReplyFault given f f' o o' line → Came given f o o' due
-  by_fault line due at (session, values, text, checks, inl bad, same) = by_reply session values text due at checks (no_proof_of_fault session values text bad.0 bad.1 bad.2)
-  by_fault line due at (session, values, text, checks, inr bad, same) = by_reply session values text due at checks (no_proof_of_reject session values text bad.0 bad.1)
+  -- the files of `check`
+  module _ (names : CheckNames) (due : ℕ) where
+    passed_script : (session : Session) (values : List (List ℕ)) → HasQuery f names session values
+        → ReplyLeads f names.reply session values due → CheckLeads f names due
+    passed_script session values has leads =
+        Passed has.bytes (held f names.policy has.bytes told has.policy.content) (
+          has.policy.loadable,
+          Passed has.script (held f names.script has.script told has.content) (session, values, has.query, leads),
+        )
 
-  pub came_of : (due : ℕ) (line : List ℕ) → IsDue given f f' o o' due line → Came given f o o' due
-  came_of due line (D.Done at cause) = by_done line due at cause
-  came_of due line (D.Words at cause) = ByNone cause.words
-  came_of due line (D.File at cause) =
-      ⊎_elim
-      (λ (failed : HasFailed (cause.front ++ cause.name ∷ []) f f' × (line ≡ codes "error file " ++ cause.name ++ codes " read\n")). absurd (calm failed.0.rose))
-      (λ (large : HasAsked (cause.front ++ cause.name ∷ []) f f' × IsTooLarge f cause.name × (line ≡ codes "error file " ++ cause.name ++ codes " large\n")).
-      by_large cause.front cause.name due at cause.next large.1)
-      cause.fault
-  came_of due line (D.PolicyFile at cause) = by_policy cause.name cause.bytes line due at cause.next cause.read.content (not_loadable cause.bytes cause.name line cause.fault)
-  came_of due line (D.Link at cause) = by_served cause.ended due (at ∙ sym cause.early) cause.served
-  came_of due line (D.Memory at cause) = ByMemory at
-  came_of due line (D.Reply at cause) = by_fault line due at cause
-  came_of due line (D.Keys at cause) =
-      let k = cause.stopped in
-      ByAsk cause.names cause.words
-      (Passed k.bytes (held f cause.names.policy k.bytes told k.policy.content) (
-        k.policy.loadable,
-        subst (λ (key : Option (List ℕ)). KeysLead f key (IsServedSo o o') due) (sym k.named)
-            (Failed k.stops.1 (held f k.name k.stops.1 told k.stops.2) (λ keys is. file_or_line k.stops.1 keys cause.number is k.stops.3) at),
-      ))
-  came_of due line (D.Query at cause) =
-      let none = cause.none in
-      ByCheck cause.names cause.words
-      (Passed none.bytes (held f cause.names.policy none.bytes told none.policy.content) (
-        none.policy.loadable,
-        Failed none.script (held f cause.names.script none.script told none.content) none.none at,
-      ))
+    too_large : (source : Source) → due ≡ 2 → Reached f names source → IsTooLarge f (name_of names source)
+        → CheckLeads f names due
+    too_large Policy at reached large = let much = held_too_much f names.policy told large in TooLarge much.0 much.1 at
+    too_large TheScript at (bytes, policy) large =
+        let much = held_too_much f names.script told large in
+        Passed bytes (held f names.policy bytes told policy.content) (policy.loadable, TooLarge much.0 much.1 at)
+    too_large Reply at (session, values, query) large =
+        let much = held_too_much f names.reply told large in
+        passed_script session values query (TooLarge much.0 much.1 at)
 
-module _ (law : OneQueryOfScript) (given : List (List ℕ)) (f f' : FilesSeen) (o o' s s' : LinkSeen) (status : ℕ) (ended : IsEnded given f f' o o' s s' status) (calm : IsCalm f f' s s') where
-  is_due : status ≡ ended.due
-  is_due =
-      ⊎_elim (λ (t : (status ≡ ended.due) × Writes true ended.line s s'). t.0) (λ (t : (status ≡ 9) × Writes false ended.line s s'). absurd (calm.sink t.1.2)) ended.told
-
-  ends : (due : ℕ) → EndsWith due ended.due → EndsWith due status
-  ends due (inl at) = inl (is_due ∙ at)
-  ends due (inr five) = inr (is_due ∙ five)
-
-  came : Tells f → Came given f o o' ended.due
-  came told = came_of given f f' o o' told calm.files ended.due ended.line ended.cause
-
-  -- the status is the one that the words and the files call for
-  pub ends_called : (due : ℕ) → CallsFor given f due → EndsWith due status
-  ends_called due (inl (names, words, leads)) = ends due (by (came (told_by f names.policy _ _ _ due leads)))
-    where
-      by : Came given f o o' ended.due → EndsWith due ended.due
-      by (ByAsk others asks came_to) =
-          ask_once f names (λ served. ⊥) (IsServedSo o o') due ended.due (λ none so. absurd none) leads
-          (subst (λ (n : AskNames). AskLeads f n (IsServedSo o o') ended.due) (same_ask given others names asks words) came_to)
-      by (ByCheck others checks came_to) = absurd (ask_is_no_check given names others words checks)
-      by (ByGen numbers gen) = absurd (gen_is_no_ask given numbers names gen words)
-      by (ByNone none) = absurd (none.ask names words)
-      by (ByMemory five) = inr five
-  ends_called due (inr (names, words, leads)) = ends due (by (came (told_by f names.policy _ _ _ due leads)))
-    where
-      by : Came given f o o' ended.due → EndsWith due ended.due
-      by (ByAsk others asks came_to) = absurd (ask_is_no_check given others names asks words)
-      by (ByCheck others checks came_to) =
-          check_once law f names due ended.due leads (subst (λ (n : CheckNames). CheckLeads f n ended.due) (same_names given others names checks words) came_to)
-      by (ByGen numbers gen) = absurd (gen_is_no_check given numbers names gen words)
-      by (ByNone none) = absurd (none.check names words)
-      by (ByMemory five) = inr five
-
-  -- an input that is in order is served to its end
-  pub ends_served : (input : List ℕ) → CallsToServe given f o o' input → IsOrderly input → EndsWith 0 status
-  ends_served input calls orderly = ends 0 (by (came (told_by f calls.names.policy _ _ _ 0 calls.files)))
-    where
-      so_ends : (due : ℕ) → IsServedSo o o' due → EndsWith 0 due
-      so_ends due (e, at, complete) =
-          let full : IfSome (Some input) (λ i. IsOrderly i → IsFaultless o o' → (e ≡ E.Done) ⊎ (e ≡ E.Memory)) =
-          subst (λ (left : Option (List ℕ)). IfSome left (λ i. IsOrderly i → IsFaultless o o' → (e ≡ E.Done) ⊎ (e ≡ E.Memory))) calls.left complete in
-          ⊎_elim (λ (done : e ≡ E.Done). inl (at ∙ ap status_of_ended done)) (λ (memory : e ≡ E.Memory). inr (at ∙ ap status_of_ended memory)) (full orderly calls.link)
-
-      by : Came given f o o' ended.due → EndsWith 0 ended.due
-      by (ByAsk others asks came_to) =
-          ask_once f calls.names (λ served. served ≡ 0) (IsServedSo o o') 0 ended.due (λ zero so. so_ends ended.due so) calls.files
-          (subst (λ (n : AskNames). AskLeads f n (IsServedSo o o') ended.due) (same_ask given others calls.names asks calls.words) came_to)
-      by (ByCheck others checks came_to) = absurd (ask_is_no_check given calls.names others calls.words checks)
-      by (ByGen numbers gen) = absurd (gen_is_no_ask given numbers calls.names gen calls.words)
-      by (ByNone none) = absurd (none.ask calls.names calls.words)
-      by (ByMemory five) = inr five
+    pub check_came : (ending : Ending) → CheckCause f f' names ending → due ≡ status_of_ending ending
+        → CheckLeads f names due ⊎ (due ≡ 5)
+    check_came (Stopped source S.FileFailed) cause at = absurd (calm cause.1.rose)
+    check_came (Stopped source S.FileTooLarge) cause at = inl (too_large source at cause.0 cause.2)
+    check_came (Stopped source (S.Policy n fault)) (is, bytes, read, faulty) at =
+        inl (Failed bytes (held f names.policy bytes told read.content) (faulty_policy bytes n fault faulty) at)
+    check_came (Stopped source (S.Limit n word count)) (is, bytes, read, limit) at =
+        inl (Failed bytes (held f names.policy bytes told read.content) (full_policy bytes n word count limit) at)
+    check_came (Stopped source S.Memory) cause at = inr at
+    check_came (Stopped source S.Words) cause at = absurd cause
+    check_came (Stopped source (S.KeyLine n)) cause at = absurd cause
+    check_came NoQuery (asked, none) at =
+        inl (Passed none.bytes (held f names.policy none.bytes told none.policy.content) (
+          none.policy.loadable,
+          Failed none.script (held f names.script none.script told none.content) none.none at,
+        ))
+    check_came (Faulty fault line) c at =
+        inl (passed_script c.session c.values c.tried.query
+        (Failed c.text (held f names.reply c.text told c.tried.content)
+        (faulty_is_no_proof c.session c.values c.text fault line c.shows) at))
+    check_came (Rejected reject) c at =
+        inl (passed_script c.session c.values c.tried.query
+        (Failed c.text (held f names.reply c.text told c.tried.content)
+        (rejected_is_no_proof c.session c.values c.text reject c.shows) at))
+    check_came (Proved value name) c at =
+        let shows = c.shows in
+        let proof : IsProofText c.session c.values c.text shows.reply =
+        record { read = shows.read; to_query = shows.proved.to_query; proof = shows.proved.proof } in
+        inl (passed_script c.session c.values c.tried.query
+        (Passed c.text (held f names.reply c.text told c.tried.content) (shows.reply, proof, at)))

@@ -2,7 +2,8 @@
 use Rattle.std.proofs.Common.{◌≡◌, List, [], refl, sym, ap, ◌∙◌, subst, true, Option, Some, None}
 use Rattle.std.specs.Prelude.{codes, slice_get, All, option_and_then, IfSome, IfNone}
 use Rattle.std.specs.Str.{IsUtf8}
-use Rattle.clap.specs.Words.{Text, first_of, first_value, found_of, fault_of, is_simple, is_simple_and_free, HasMatchesOf}
+use Rattle.clap.specs.Words.{Text, first_of, first_value, found_of, fault_of, is_simple, is_simple_and_free}
+use Rattle.clap.specs.Words.{HasMatchesOf}
 use Rattle.clap.specs.declared.parser.matches.ArgMatches.{ArgMatches}
 use Rattle.clap.proofs.OnLiterals.{clap_on_literals}
 use Rattle.clap.proofs.WalkLemmas.{first_value-rows}
@@ -33,26 +34,36 @@ if_none_then None then p = then p
 if_none_then (Some x) then p = tt
 
 -- the same values make the same service
-same_values : (v w : Text → Option Text) (order : Order) → ((id : Text) → v id ≡ w id) → AreValuesOf v order → AreValuesOf w order
+same_values : (v w : Text → Option Text) (order : Order) → ((id : Text) → v id ≡ w id) → AreValuesOf v order
+    → AreValuesOf w order
 same_values v w order same a = record {
   address = sym (same (codes "ADDR")) ∙ a.address;
   policy = sym (same (codes "policy")) ∙ a.policy;
   keys = sym (same (codes "keys")) ∙ a.keys;
   workers = ap (λ (x : Option Text). option_and_then decimal_of x) (sym (same (codes "workers"))) ∙ a.workers;
-  connections = ap (λ (x : Option Text). option_and_then decimal_of x) (sym (same (codes "connections"))) ∙ a.connections;
+  connections =
+      ap (λ (x : Option Text). option_and_then decimal_of x) (sym (same (codes "connections"))) ∙ a.connections;
   some_workers = a.some_workers;
   some_connections = a.some_connections;
 }
 
 -- what was read is what the words give
-read_value : (words : List Text) (m : ArgMatches) → HasMatchesOf serve_app words m → (id : Text) → first_value (found_of m) id ≡ option_value words id
+read_value : (words : List Text) (m : ArgMatches) → HasMatchesOf serve_app words m → (id : Text)
+    → first_value (found_of m) id ≡ option_value words id
 read_value words m matches id = first_value-rows (found_of m) id ∙ ap (first_of id) (matches serve_app_is_simple).0
 
-pub words_taken : (words : List Text) (m : ArgMatches) (order : Order) → slice_get words 0 ≡ Some (codes "serve") → All IsUtf8 words → HasMatchesOf serve_app words m → fault_of serve_app words ≡ [] →
-    AreValuesOf (first_value (found_of m)) order → ServeFor words order
-words_taken words m order serve texts matches taken values =
-    record { serve = serve; texts = texts; taken = taken; values = same_values (first_value (found_of m)) (option_value words) order (read_value words m matches) values }
+pub words_taken : (words : List Text) (m : ArgMatches) (order : Order) → slice_get words 0 ≡ Some (codes "serve")
+    → All IsUtf8 words → HasMatchesOf serve_app words m → fault_of serve_app words ≡ []
+    → AreValuesOf (first_value (found_of m)) order → ServeFor words order
+words_taken words m order serve texts matches taken values = record {
+  serve = serve;
+  texts = texts;
+  taken = taken;
+  values = same_values (first_value (found_of m)) (option_value words) order (read_value words m matches) values;
+}
 
-pub words_without_service : (words : List Text) (m : ArgMatches) → HasMatchesOf serve_app words m → ((order : Order) → ¬ AreValuesOf (first_value (found_of m)) order) → IsNo ServeFor words
+pub words_without_service : (words : List Text) (m : ArgMatches) → HasMatchesOf serve_app words m
+    → ((order : Order) → ¬ AreValuesOf (first_value (found_of m)) order) → IsNo ServeFor words
 words_without_service words m matches none order asks =
-    none order (same_values (option_value words) (first_value (found_of m)) order (λ id. sym (read_value words m matches id)) asks.values)
+    none order (same_values (option_value words) (first_value (found_of m)) order
+    (λ id. sym (read_value words m matches id)) asks.values)

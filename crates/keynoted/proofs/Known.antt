@@ -5,22 +5,9 @@ use Rattle.kn_base.specs.declared.limits.TheConstants.{FILE_BYTES}
 use Rattle.kn_outside.specs.Seen.{FilesSeen}
 use Rattle.kn_commands.specs.Names.{AskNames, ask_order, CheckNames, in_order}
 use Rattle.kn_commands.specs.Held.{HasContent, IsTooLarge}
-use Rattle.keynoted.specs.Commands.{AskFor, CheckFor}
-use Rattle.keynoted.specs.Calling.{Holds, Leads, TooLarge, Failed, Passed}
-
--- the file of this name holds these bytes, and isn't too large
-abbrev pub HoldsWithin : FilesSeen → List ℕ → List ℕ → Type 0
-HoldsWithin f name bytes = Holds f name bytes × (length bytes ≤ FILE_BYTES)
-
--- and is too large
-abbrev pub HoldsTooMuch : FilesSeen → List ℕ → List ℕ → Type 0
-HoldsTooMuch f name bytes = Holds f name bytes × (FILE_BYTES < length bytes)
-
--- the words of `ask` aren't those of `check`
-pub ask_is_no_check : (given : List (List ℕ)) (names : AskNames) (others : CheckNames) → AskFor given names → CheckFor given others → ⊥
-ask_is_no_check given names others ask check =
-    let both : codes "ask" ∷ ask_order names ≡ codes "check" ∷ in_order others = sym ask ∙ check in
-    absurd (cc)
+use Rattle.kn_commands.specs.Serving.{Order}
+use Rattle.keynoted.specs.Commands.{AskFor, CheckFor, ServeFor}
+use Rattle.keynoted.specs.Calling.{Holds, HoldsWithin, HoldsTooMuch, Leads, TooLarge, Failed, Passed}
 
 -- a key file that is named or isn't
 same_keys : (a b : Option (List ℕ)) → option_to_list a ≡ option_to_list b → a ≡ b
@@ -35,7 +22,8 @@ same_ask given a b first second =
     let both : codes "ask" ∷ ask_order a ≡ codes "ask" ∷ ask_order b = sym first ∙ second in
     let policy : a.policy ≡ b.policy = cc in
     let rest : option_to_list a.keys ≡ option_to_list b.keys = cc in
-    ap (λ (p : List ℕ). record { policy = p; keys = a.keys }) policy ∙ ap (λ (k : Option (List ℕ)). record { policy = b.policy; keys = k }) (same_keys a.keys b.keys rest)
+    ap (λ (p : List ℕ). record { policy = p; keys = a.keys }) policy
+    ∙ ap (λ (k : Option (List ℕ)). record { policy = b.policy; keys = k }) (same_keys a.keys b.keys rest)
 
 pub same_names : (given : List (List ℕ)) (a b : CheckNames) → CheckFor given a → CheckFor given b → a ≡ b
 same_names given a b first second =
@@ -47,6 +35,15 @@ same_names given a b first second =
     ∙ ap (λ (t : List ℕ). record { policy = b.policy; script = t; reply = a.reply }) script
     ∙ ap (λ (r : List ℕ). record { policy = b.policy; script = b.script; reply = r }) reply
 
+-- the words of `serve` name one policy file, and one key file or none
+pub same_files : (given : List (List ℕ)) (a b : Order) → ServeFor given a → ServeFor given b → a.files ≡ b.files
+same_files given a b first second =
+    let both : Some a.files.policy ≡ Some b.files.policy = sym first.values.policy ∙ second.values.policy in
+    let policy : a.files.policy ≡ b.files.policy = cc in
+    let keys : a.files.keys ≡ b.files.keys = sym first.values.keys ∙ second.values.keys in
+    ap (λ (p : List ℕ). record { policy = p; keys = a.files.keys }) policy
+    ∙ ap (λ (k : Option (List ℕ)). record { policy = b.files.policy; keys = k }) keys
+
 -- the contents are told
 abbrev pub Tells : FilesSeen → Type 0
 Tells f = IsSomeAnd f.content (λ content_of. Unit {0})
@@ -54,12 +51,14 @@ Tells f = IsSomeAnd f.content (λ content_of. Unit {0})
 told_there : (f : FilesSeen) (name bytes : List ℕ) → Holds f name bytes → Tells f
 told_there f name bytes holds = by f.content holds
   where
-    by : (told : Option (List ℕ → Option (List ℕ))) → IsSomeAnd told (λ c. c name ≡ Some bytes) → IsSomeAnd told (λ c. Unit {0})
+    by : (told : Option (List ℕ → Option (List ℕ))) → IsSomeAnd told (λ c. c name ≡ Some bytes)
+        → IsSomeAnd told (λ c. Unit {0})
     by None x = absurd x
     by (Some c) x = tt
 
 -- a file that leads to a status is told
-pub told_by : (f : FilesSeen) (name : List ℕ) (Fails : List ℕ → Type 0) (failed : ℕ) (On : List ℕ → ℕ → Type 0) (status : ℕ) → Leads f name Fails failed On status → Tells f
+pub told_by : (f : FilesSeen) (name : List ℕ) (Fails : List ℕ → Type 0) (failed : ℕ) (On : List ℕ → ℕ → Type 0)
+    (status : ℕ) → Leads f name Fails failed On status → Tells f
 told_by f name Fails failed On status (TooLarge bytes h e) = told_there f name bytes h.0
 told_by f name Fails failed On status (Failed bytes h fails e) = told_there f name bytes h.0
 told_by f name Fails failed On status (Passed bytes h on) = told_there f name bytes h.0
@@ -68,21 +67,25 @@ told_by f name Fails failed On status (Passed bytes h on) = told_there f name by
 pub held : (f : FilesSeen) (name bytes : List ℕ) → Tells f → HasContent f name bytes → HoldsWithin f name bytes
 held f name bytes told has = (by f.content told has.content, has.within)
   where
-    by : (told : Option (List ℕ → Option (List ℕ))) → IsSomeAnd told (λ c. Unit {0}) → IfSome told (λ c. c name ≡ Some bytes) → IsSomeAnd told (λ c. c name ≡ Some bytes)
+    by : (told : Option (List ℕ → Option (List ℕ))) → IsSomeAnd told (λ c. Unit {0})
+        → IfSome told (λ c. c name ≡ Some bytes) → IsSomeAnd told (λ c. c name ≡ Some bytes)
     by None x h = absurd x
     by (Some c) x h = h
 
 -- a told file that is too large has too many bytes
-pub held_too_much : (f : FilesSeen) (name : List ℕ) → Tells f → IsTooLarge f name → (bytes : List ℕ) × HoldsTooMuch f name bytes
+pub held_too_much : (f : FilesSeen) (name : List ℕ) → Tells f → IsTooLarge f name
+    → (bytes : List ℕ) × HoldsTooMuch f name bytes
 held_too_much f name told large =
     let found = by f.content told large in
     (found.0, (found.1, found.2))
   where
-    in_file : (content : Option (List ℕ)) → IsSomeAnd content (λ bytes. FILE_BYTES < length bytes) → (bytes : List ℕ) × (content ≡ Some bytes) × (FILE_BYTES < length bytes)
+    in_file : (content : Option (List ℕ)) → IsSomeAnd content (λ bytes. FILE_BYTES < length bytes)
+        → (bytes : List ℕ) × (content ≡ Some bytes) × (FILE_BYTES < length bytes)
     in_file None h = absurd h
     in_file (Some bytes) h = (bytes, refl, h)
 
-    by : (told : Option (List ℕ → Option (List ℕ))) → IsSomeAnd told (λ c. Unit {0}) → IfSome told (λ c. IsSomeAnd (c name) (λ bytes. FILE_BYTES < length bytes)) →
-        (bytes : List ℕ) × IsSomeAnd told (λ c. c name ≡ Some bytes) × (FILE_BYTES < length bytes)
+    by : (told : Option (List ℕ → Option (List ℕ))) → IsSomeAnd told (λ c. Unit {0})
+        → IfSome told (λ c. IsSomeAnd (c name) (λ bytes. FILE_BYTES < length bytes))
+        → (bytes : List ℕ) × IsSomeAnd told (λ c. c name ≡ Some bytes) × (FILE_BYTES < length bytes)
     by None x h = absurd x
     by (Some c) x h = in_file (c name) h

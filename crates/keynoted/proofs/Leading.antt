@@ -12,29 +12,32 @@ use Rattle.kn_history.specs.History.{loaded_history}
 use Rattle.kn_history.specs.Loading.{IsLoadable}
 use Rattle.kn_play.specs.Meaning.{Means, OneQueryOfScript}
 use Rattle.kn_commands.specs.Names.{AskNames, CheckNames}
-use Rattle.keynoted.specs.Calling.{Holds, Leads, TooLarge, Failed, Passed, KeysLead, AskLeads, IsProofText, ReplyLeads, ScriptLeads, CheckLeads, EndsWith}
-use Rattle.keynoted.proofs.Known.{HoldsWithin, HoldsTooMuch}
+use Rattle.keynoted.specs.Calling.{Holds, HoldsWithin, HoldsTooMuch, Leads, TooLarge, Failed, Passed, KeysLead}
+use Rattle.keynoted.specs.Calling.{AskLeads, IsProofText, ReplyLeads, MeansNothing, ScriptLeads, CheckLeads, EndsWith}
 
 -- a told file has one content
 holds_once : (f : FilesSeen) (name a b : List ℕ) → Holds f name a → Holds f name b → a ≡ b
 holds_once f name a b first second = by f.content first second
   where
-    by : (told : Option (List ℕ → Option (List ℕ))) → IsSomeAnd told (λ c. c name ≡ Some a) → IsSomeAnd told (λ c. c name ≡ Some b) → a ≡ b
+    by : (told : Option (List ℕ → Option (List ℕ))) → IsSomeAnd told (λ c. c name ≡ Some a)
+        → IsSomeAnd told (λ c. c name ≡ Some b) → a ≡ b
     by None x y = absurd x
     by (Some c) x y = let both : Some a ≡ Some b = sym x ∙ y in cc
 
 -- which is too large or isn't
 not_both : (f : FilesSeen) (name a b : List ℕ) → HoldsTooMuch f name a → HoldsWithin f name b → ⊥
 not_both f name a b large small =
-    let within : length a ≤ FILE_BYTES = subst (λ (x : List ℕ). length x ≤ FILE_BYTES) (holds_once f name b a small.0 large.0) small.1 in
+    let within : length a ≤ FILE_BYTES =
+    subst (λ (x : List ℕ). length x ≤ FILE_BYTES) (holds_once f name b a small.0 large.0) small.1 in
     let over = large.1 in
     omega arith
 
 same_content : (f : FilesSeen) (name a b : List ℕ) → HoldsWithin f name a → HoldsWithin f name b → a ≡ b
 same_content f name a b first second = holds_once f name a b first.0 second.0
 
-module _ (f : FilesSeen) (name : List ℕ) (Fails : List ℕ → Type 0) (failed : ℕ) (On Next : List ℕ → ℕ → Type 0) (status other : ℕ)
-    (apart : (bytes : List ℕ) → Fails bytes → On bytes status → ⊥) (apart' : (bytes : List ℕ) → Fails bytes → Next bytes other → ⊥)
+module _ (f : FilesSeen) (name : List ℕ) (Fails : List ℕ → Type 0) (failed : ℕ) (On Next : List ℕ → ℕ → Type 0)
+    (status other : ℕ) (apart : (bytes : List ℕ) → Fails bytes → On bytes status → ⊥)
+    (apart' : (bytes : List ℕ) → Fails bytes → Next bytes other → ⊥)
     (once : (bytes : List ℕ) → On bytes status → Next bytes other → EndsWith status other) where
   -- a file that is tried leads to one status
   pub leads_once : Leads f name Fails failed On status → Leads f name Fails failed Next other → EndsWith status other
@@ -43,52 +46,68 @@ module _ (f : FilesSeen) (name : List ℕ) (Fails : List ℕ → Type 0) (failed
   leads_once (TooLarge a h e) (Passed b h' on) = absurd (not_both f name a b h h')
   leads_once (Failed a h fails e) (TooLarge b h' e') = absurd (not_both f name b a h' h)
   leads_once (Failed a h fails e) (Failed b h' fails' e') = inl (e' ∙ sym e)
-  leads_once (Failed a h fails e) (Passed b h' on) = absurd (apart' b (subst Fails (same_content f name a b h h') fails) on)
+  leads_once (Failed a h fails e) (Passed b h' on) =
+      absurd (apart' b (subst Fails (same_content f name a b h h') fails) on)
   leads_once (Passed a h on) (TooLarge b h' e') = absurd (not_both f name b a h' h)
-  leads_once (Passed a h on) (Failed b h' fails e') = absurd (apart a (subst Fails (same_content f name b a h' h) fails) on)
-  leads_once (Passed a h on) (Passed b h' on') = once b (subst (λ (x : List ℕ). On x status) (same_content f name a b h h') on) on'
+  leads_once (Passed a h on) (Failed b h' fails e') =
+      absurd (apart a (subst Fails (same_content f name b a h' h) fails) on)
+  leads_once (Passed a h on) (Passed b h' on') =
+      once b (subst (λ (x : List ℕ). On x status) (same_content f name a b h h') on) on'
 
 -- so do a key file, where one is named
-keys_once : (f : FilesSeen) (name : Option (List ℕ)) (On Next : ℕ → Type 0) (status other : ℕ) → (On status → Next other → EndsWith status other) →
-    KeysLead f name On status → KeysLead f name Next other → EndsWith status other
-keys_once f None On Next status other once a b = once a b
-keys_once f (Some name) On Next status other once a b =
-    leads_once f name (λ text. (keys : KeyFile) → ¬ IsKeyFile text keys) 8
-    (λ text next. (keys : KeyFile) × IsKeyFile text keys × On next) (λ text next. (keys : KeyFile) × IsKeyFile text keys × Next next) status other
-    (λ text fails on. fails on.0 on.1) (λ text fails on. fails on.0 on.1) (λ text on on'. once on.2 on'.2) a b
+module _ (f : FilesSeen) (On Next : ℕ → Type 0) (status other : ℕ)
+    (once : On status → Next other → EndsWith status other) where
+  keys_once : (name : Option (List ℕ)) → KeysLead f name On status → KeysLead f name Next other → EndsWith status other
+  keys_once None a b = once a b
+  keys_once (Some name) a b =
+      leads_once f name (λ text. (keys : KeyFile) → ¬ IsKeyFile text keys) 8
+      (λ text next. (keys : KeyFile) × IsKeyFile text keys × On next)
+      (λ text next. (keys : KeyFile) × IsKeyFile text keys × Next next) status other
+      (λ text fails on. fails on.0 on.1) (λ text fails on. fails on.0 on.1) (λ text on on'. once on.2 on'.2) a b
 
--- the files of `ask`
-pub ask_once : (f : FilesSeen) (names : AskNames) (On Next : ℕ → Type 0) (status other : ℕ) → (On status → Next other → EndsWith status other) →
-    AskLeads f names On status → AskLeads f names Next other → EndsWith status other
-ask_once f names On Next status other once a b =
-    leads_once f names.policy (λ bytes. ¬ IsLoadable (pieces_of bytes)) 3
-    (λ bytes next. IsLoadable (pieces_of bytes) × KeysLead f names.keys On next) (λ bytes next. IsLoadable (pieces_of bytes) × KeysLead f names.keys Next next) status other
-    (λ bytes fails on. fails on.0) (λ bytes fails on. fails on.0) (λ bytes on on'. keys_once f names.keys On Next status other once on.1 on'.1) a b
+  -- the files of `ask`
+  pub ask_once : (names : AskNames) → AskLeads f names On status → AskLeads f names Next other → EndsWith status other
+  ask_once names a b =
+      leads_once f names.policy (λ bytes. ¬ IsLoadable (pieces_of bytes)) 3
+      (λ bytes next. IsLoadable (pieces_of bytes) × KeysLead f names.keys On next)
+      (λ bytes next. IsLoadable (pieces_of bytes) × KeysLead f names.keys Next next) status other
+      (λ bytes fails on. fails on.0) (λ bytes fails on. fails on.0)
+      (λ bytes on on'. keys_once names.keys on.1 on'.1) a b
 
--- the reply to a query
-reply_once : (f : FilesSeen) (name : List ℕ) (session : Session) (values : List (List ℕ)) (status other : ℕ) → ReplyLeads f name session values status → ReplyLeads f name session values other → EndsWith status other
-reply_once f name session values status other a b =
-    leads_once f name (λ text. (reply : ReadReply) → ¬ IsProofText session values text reply) 6
-    (λ text next. (reply : ReadReply) × IsProofText session values text reply × (next ≡ 0)) (λ text next. (reply : ReadReply) × IsProofText session values text reply × (next ≡ 0)) status other
-    (λ text fails on. fails on.0 on.1) (λ text fails on. fails on.0 on.1) (λ text on on'. inl (on'.2 ∙ sym on.2)) a b
+module _ (law : OneQueryOfScript) (f : FilesSeen) (names : CheckNames) (status other : ℕ) where
+  -- the reply to a query
+  reply_once : (session : Session) (values : List (List ℕ)) → ReplyLeads f names.reply session values status
+      → ReplyLeads f names.reply session values other → EndsWith status other
+  reply_once session values a b =
+      leads_once f names.reply (λ text. (reply : ReadReply) → ¬ IsProofText session values text reply) 6
+      (λ text next. (reply : ReadReply) × IsProofText session values text reply × (next ≡ 0))
+      (λ text next. (reply : ReadReply) × IsProofText session values text reply × (next ≡ 0)) status other
+      (λ text fails on. fails on.0 on.1) (λ text fails on. fails on.0 on.1) (λ text on on'. inl (on'.2 ∙ sym on.2)) a b
 
-module _ (law : OneQueryOfScript) (f : FilesSeen) (names : CheckNames) where
-  script_once : (bytes : List ℕ) (status other : ℕ) → ScriptLeads f names bytes status → ScriptLeads f names bytes other → EndsWith status other
-  script_once bytes status other a b =
-      leads_once f names.script (λ script. (session : Session) (values : List (List ℕ)) → ¬ Means (loaded_history (pieces_of bytes)) script session values) 10
-      (λ script next. (session : Session) × (values : List (List ℕ)) × Means (loaded_history (pieces_of bytes)) script session values × ReplyLeads f names.reply session values next)
-      (λ script next. (session : Session) × (values : List (List ℕ)) × Means (loaded_history (pieces_of bytes)) script session values × ReplyLeads f names.reply session values next)
-      status other
-      (λ script fails on. fails on.0 on.1 on.2) (λ script fails on. fails on.0 on.1 on.2)
-      (λ script on on'.
-      let same = law (loaded_history (pieces_of bytes)) script on.0 on'.0 on.1 on'.1 on.2 on'.2 in
-      reply_once f names.reply on'.0 on'.1 status other
-      (subst (λ (v : List (List ℕ)). ReplyLeads f names.reply on'.0 v status) same.1 (subst (λ (s : Session). ReplyLeads f names.reply s on.1 status) same.0 on.3)) on'.3)
-      a b
+  -- the script means one query
+  abbrev ScriptOn : List ℕ → List ℕ → ℕ → Type 0
+  ScriptOn bytes script next = (session : Session) × (values : List (List ℕ))
+      × Means (loaded_history (pieces_of bytes)) script session values × ReplyLeads f names.reply session values next
+
+  one_script : (bytes script : List ℕ) → ScriptOn bytes script status → ScriptOn bytes script other
+      → EndsWith status other
+  one_script bytes script (session, values, means, leads) (session', values', means', leads') =
+      let same = law (loaded_history (pieces_of bytes)) script session session' values values' means means' in
+      reply_once session' values'
+      (subst (λ (v : List (List ℕ)). ReplyLeads f names.reply session' v status) same.1
+      (subst (λ (s : Session). ReplyLeads f names.reply s values status) same.0 leads)) leads'
+
+  script_once : (bytes : List ℕ) → ScriptLeads f names bytes status → ScriptLeads f names bytes other
+      → EndsWith status other
+  script_once bytes a b =
+      leads_once f names.script (λ script. MeansNothing bytes script) 10
+      (λ script next. ScriptOn bytes script next) (λ script next. ScriptOn bytes script next) status other
+      (λ script fails on. fails on.0 on.1 on.2) (λ script fails on. fails on.0 on.1 on.2) (one_script bytes) a b
 
   -- the files of `check`
-  pub check_once : (status other : ℕ) → CheckLeads f names status → CheckLeads f names other → EndsWith status other
-  check_once status other a b =
+  pub check_once : CheckLeads f names status → CheckLeads f names other → EndsWith status other
+  check_once a b =
       leads_once f names.policy (λ bytes. ¬ IsLoadable (pieces_of bytes)) 3
-      (λ bytes next. IsLoadable (pieces_of bytes) × ScriptLeads f names bytes next) (λ bytes next. IsLoadable (pieces_of bytes) × ScriptLeads f names bytes next) status other
-      (λ bytes fails on. fails on.0) (λ bytes fails on. fails on.0) (λ bytes on on'. script_once bytes status other on.1 on'.1) a b
+      (λ bytes next. IsLoadable (pieces_of bytes) × ScriptLeads f names bytes next)
+      (λ bytes next. IsLoadable (pieces_of bytes) × ScriptLeads f names bytes next) status other
+      (λ bytes fails on. fails on.0) (λ bytes fails on. fails on.0) (λ bytes on on'. script_once bytes on.1 on'.1) a b

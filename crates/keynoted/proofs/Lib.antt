@@ -1,13 +1,10 @@
 pub mod Spelled
-pub mod Due
-pub mod Statuses
+pub mod Apart
 pub mod Known
 pub mod Leading
 pub mod Came
+pub mod Called
 pub mod Gen
-pub mod ServiceStatuses
-pub mod ServiceCalled
-pub mod ServiceDue
 pub mod ClapLaws
 pub mod Texts
 pub mod Specified

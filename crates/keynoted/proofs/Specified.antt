@@ -1,33 +1,36 @@
 -- A run that ended so is as specified.
-use Rattle.std.proofs.Common.{ℕ, List}
-use Rattle.kn_outside.specs.Seen.{FilesSeen, LinkSeen}
+use Rattle.std.proofs.Common.{◌≡◌, ℕ, ◌⊎◌, inl, inr, List, ⊎_elim, true, false}
+use Rattle.kn_outside.specs.Seen.{LinkSeen}
+use Rattle.kn_outside.specs.Printing.{Writes}
 use Rattle.kn_workers.specs.Connections.{ServedSeen}
 use Rattle.kn_workers.specs.Doors.{DoorSeen}
-use Rattle.kn_workers.specs.Nets.{NetSeen}
 use Rattle.kn_play.specs.Meaning.{OneQueryOfScript}
-use Rattle.keynoted.specs.Serving.{IsRun}
+use Rattle.keynoted.specs.Commands.{IsNoCommand}
+use Rattle.keynoted.specs.Outcomes.{OutsideSeen, Outcome, IsOutcome, IsEnded, IsPrinted, status_of, line_of}
+use Rattle.keynoted.specs.Outcomes.{NoCommand, Unread, AskEnded, ServeEnded, CheckEnded, GenEnded}
+use Rattle.keynoted.specs.Calling.{EndsRefused}
 use Rattle.keynoted.specs.Specified.{IsSpecified}
-use Rattle.keynoted.proofs.ServiceStatuses.{run_done, run_words, run_file, run_policy, run_link, run_memory, run_reply, run_listener, run_keys, run_query, run_cut, run_refused}
-use Rattle.keynoted.proofs.ServiceCalled.{run_called, run_asked, run_served, run_generated}
+use Rattle.keynoted.proofs.Called.{called}
 
-pub specified : {C R : Type 0} (door : R → DoorSeen (ServedSeen C)) (link : C → LinkSeen) (given : List (List ℕ)) (f f' : FilesSeen) (n n' : NetSeen R) (o o' s s' : LinkSeen) (status : ℕ)
-    → IsRun door link given f f' n n' o o' s s' status → OneQueryOfScript → IsSpecified door link given f f' n n' o o' s s' status
-specified door link given f f' n n' o o' s s' status run one = record {
-  ends = run;
-  done = run_done door link given f f' n n' o o' s s' status run;
-  words = run_words door link given f f' n n' o o' s s' status run;
-  file = run_file door link given f f' n n' o o' s s' status run;
-  policy = run_policy door link given f f' n n' o o' s s' status run;
-  link = run_link door link given f f' n n' o o' s s' status run;
-  memory = run_memory door link given f f' n n' o o' s s' status run;
-  reply = run_reply door link given f f' n n' o o' s s' status run;
-  listener = run_listener door link given f f' n n' o o' s s' status run;
-  keys = run_keys door link given f f' n n' o o' s s' status run;
-  cut = run_cut door link given f f' n n' o o' s s' status run;
-  query = run_query door link given f f' n n' o o' s s' status run;
-  no_words = run_refused door link given f f' n n' o o' s s' status run;
-  generates = run_generated door link given f f' n n' o o' s s' status run;
-  calls = λ due calls calm. run_called door link given f f' n n' o o' s s' status run calm one due calls;
-  complete = λ input calls orderly calm. run_asked door link given f f' n n' o o' s s' status run calm one input calls orderly;
-  serves = λ order words due leads calm net_calm. run_served door link given f f' n n' o o' s s' status run calm order words due leads net_calm;
-}
+module _ {C R : Type 0} (door : R → DoorSeen (ServedSeen C)) (link : C → LinkSeen) (given : List (List ℕ))
+    (before after : OutsideSeen R) (status : ℕ) where
+  -- words of no command are refused
+  refused_as : IsNoCommand given → (outcome : Outcome) → IsOutcome door link given before after outcome
+      → IsPrinted (line_of outcome) (status_of outcome) before.output after.output status
+      → EndsRefused given before.output after.output status
+  refused_as none NoCommand cause (inl whole) = inl whole.0
+  refused_as none NoCommand cause (inr part) = inr (inl (part.0, part.1.2))
+  refused_as none Unread cause (inl whole) = inr (inr (whole.0, cause.0))
+  refused_as none Unread cause (inr part) = inr (inl (part.0, part.1.2))
+  refused_as none (AskEnded names ending) cause told = absurd (none.ask names cause.0)
+  refused_as none (ServeEnded order ending) cause told = absurd (none.serve order cause.0)
+  refused_as none (CheckEnded names ending) cause told = absurd (none.check names cause.0)
+  refused_as none (GenEnded numbers made) cause told = absurd (none.gen numbers cause.0)
+
+  pub specified : IsEnded door link given before after status → OneQueryOfScript
+      → IsSpecified door link given before after status
+  specified ended law = record {
+    ends = ended;
+    refused = λ none. refused_as none ended.outcome ended.cause ended.told;
+    called = λ due calls. called door link law given before after due status ended calls;
+  }

@@ -15,28 +15,43 @@ use Rattle.kn_meaning.specs.Proofs.{IsProof}
 use Rattle.kn_daemon.specs.Daemon.{equations_of}
 use Rattle.kn_play.specs.Meaning.{Means}
 use Rattle.kn_verify.specs.Verdicts.{IsReplyTo}
-use Rattle.kn_serve.specs.Serving.{IsFaultless}
+use Rattle.kn_serve.specs.Serving.{IsOrderly, IsFaultless}
 use Rattle.kn_commands.specs.Names.{AskNames, CheckNames}
-use Rattle.keynoted.specs.Commands.{AskFor, CheckFor}
+use Rattle.kn_commands.specs.Serving.{Order}
+use Rattle.kn_commands.specs.declared.generating.GenNumbers.{GenNumbers}
+use Rattle.keynoted.specs.Commands.{AskFor, CheckFor, GenFor, ServeFor}
+use Rattle.keynoted.specs.Outcomes.{OutsideSeen, AreServeTexts}
 
 -- the contents of the files are told, and the file of this name has these bytes
 abbrev pub Holds : FilesSeen → List ℕ → List ℕ → Type 0
 Holds f name bytes = IsSomeAnd f.content (λ content_of. content_of name ≡ Some bytes)
 
--- A file is tried. It is too large, which has status 2; or what it holds fails, which has this status; or what it holds leads on.
-pub data Leads (f : FilesSeen) (name : List ℕ) (Fails : List ℕ → Type 0) (failed : ℕ) (On : List ℕ → ℕ → Type 0) (status : ℕ) : Type 0 where
-  TooLarge : (bytes : List ℕ) → Holds f name bytes × (FILE_BYTES < length bytes) → status ≡ 2 → Leads f name Fails failed On status
-  Failed : (bytes : List ℕ) → Holds f name bytes × (length bytes ≤ FILE_BYTES) → Fails bytes → status ≡ failed → Leads f name Fails failed On status
-  Passed : (bytes : List ℕ) → Holds f name bytes × (length bytes ≤ FILE_BYTES) → On bytes status → Leads f name Fails failed On status
+-- and isn't too large
+abbrev pub HoldsWithin : FilesSeen → List ℕ → List ℕ → Type 0
+HoldsWithin f name bytes = Holds f name bytes × (length bytes ≤ FILE_BYTES)
+
+-- and is too large
+abbrev pub HoldsTooMuch : FilesSeen → List ℕ → List ℕ → Type 0
+HoldsTooMuch f name bytes = Holds f name bytes × (FILE_BYTES < length bytes)
+
+-- A file is tried: it is too large, which has status 2; or what it holds fails, which has this status; or it leads on.
+pub data Leads (f : FilesSeen) (name : List ℕ) (Fails : List ℕ → Type 0) (failed : ℕ)
+    (On : List ℕ → ℕ → Type 0) (status : ℕ) : Type 0 where
+  TooLarge : (bytes : List ℕ) → HoldsTooMuch f name bytes → status ≡ 2 → Leads f name Fails failed On status
+  Failed : (bytes : List ℕ) → HoldsWithin f name bytes → Fails bytes → status ≡ failed
+      → Leads f name Fails failed On status
+  Passed : (bytes : List ℕ) → HoldsWithin f name bytes → On bytes status → Leads f name Fails failed On status
 
 -- the file of this name is tried as a policy: it fails where its assertions make no history
 abbrev pub PolicyLeads : FilesSeen → List ℕ → (List ℕ → ℕ → Type 0) → ℕ → Type 0
-PolicyLeads f name On status = Leads f name (λ bytes. ¬ IsLoadable (pieces_of bytes)) 3 (λ bytes next. IsLoadable (pieces_of bytes) × On bytes next) status
+PolicyLeads f name On status = Leads f name (λ bytes. ¬ IsLoadable (pieces_of bytes)) 3
+    (λ bytes next. IsLoadable (pieces_of bytes) × On bytes next) status
 
 -- the file of this name is tried as a key file
 abbrev pub KeysLead : FilesSeen → Option (List ℕ) → (ℕ → Type 0) → ℕ → Type 0
 KeysLead f None On status = On status
-KeysLead f (Some name) On status = Leads f name (λ text. (keys : KeyFile) → ¬ IsKeyFile text keys) 8 (λ text next. (keys : KeyFile) × IsKeyFile text keys × On next) status
+KeysLead f (Some name) On status = Leads f name (λ text. (keys : KeyFile) → ¬ IsKeyFile text keys) 8
+    (λ text next. (keys : KeyFile) × IsKeyFile text keys × On next) status
 
 -- the files of `ask` are tried
 abbrev pub AskLeads : FilesSeen → AskNames → (ℕ → Type 0) → ℕ → Type 0
@@ -51,38 +66,55 @@ pub record IsProofText (session : Session) (values : List (List ℕ)) (text : Li
 -- the file of this name is tried as the reply to a query: a proof has status 0
 abbrev pub ReplyLeads : FilesSeen → List ℕ → Session → List (List ℕ) → ℕ → Type 0
 ReplyLeads f name session values status =
-    Leads f name (λ text. (reply : ReadReply) → ¬ IsProofText session values text reply) 6 (λ text next. (reply : ReadReply) × IsProofText session values text reply × (next ≡ 0)) status
+    Leads f name (λ text. (reply : ReadReply) → ¬ IsProofText session values text reply) 6
+    (λ text next. (reply : ReadReply) × IsProofText session values text reply × (next ≡ 0)) status
+
+-- over a policy of these bytes the script means no query
+abbrev pub MeansNothing : List ℕ → List ℕ → Type 0
+MeansNothing bytes script =
+    (session : Session) (values : List (List ℕ)) → ¬ Means (loaded_history (pieces_of bytes)) script session values
 
 -- the script is tried over a policy of these bytes: it fails where it means no query
 abbrev pub ScriptLeads : FilesSeen → CheckNames → List ℕ → ℕ → Type 0
-ScriptLeads f names bytes status =
-    Leads f names.script (λ script. (session : Session) (values : List (List ℕ)) → ¬ Means (loaded_history (pieces_of bytes)) script session values) 10
-    (λ script next. (session : Session) × (values : List (List ℕ)) × Means (loaded_history (pieces_of bytes)) script session values × ReplyLeads f names.reply session values next) status
+ScriptLeads f names bytes status = Leads f names.script (λ script. MeansNothing bytes script) 10
+    (λ script next. (session : Session) × (values : List (List ℕ))
+    × Means (loaded_history (pieces_of bytes)) script session values
+    × ReplyLeads f names.reply session values next) status
 
 -- the files of `check` are tried
 abbrev pub CheckLeads : FilesSeen → CheckNames → ℕ → Type 0
 CheckLeads f names status = PolicyLeads f names.policy (λ bytes next. ScriptLeads f names bytes next) status
 
--- The words and the files, whose contents are told, call for this status. Where `ask` serves the link they call for none.
-abbrev pub CallsFor : List (List ℕ) → FilesSeen → ℕ → Type 0
-CallsFor given f status =
-    ((names : AskNames) × AskFor given names × AskLeads f names (λ served. ⊥) status)
-    ⊎ ((names : CheckNames) × CheckFor given names × CheckLeads f names status)
-
--- neither reading a file nor printing a line failed
-pub record IsCalm (f f' : FilesSeen) (s s' : LinkSeen) : Type 0 where
-  pub files : ¬ Rose f.faults f'.faults
-  pub sink : ¬ Rose s.faults s'.faults
-
--- The words are `ask` and files that hold a policy and, where one is named, a key file. The link has this input, and no call of
--- it failed.
-pub record CallsToServe (given : List (List ℕ)) (f : FilesSeen) (o o' : LinkSeen) (input : List ℕ) : Type 0 where
-  pub names : AskNames
-  pub words : AskFor given names
-  pub files : AskLeads f names (λ served. served ≡ 0) 0
+-- the link's input is told and in order, and no call of the link failed
+pub record IsOrderlyLink (o o' : LinkSeen) : Type 0 where
+  pub input : List ℕ
   pub left : o.left ≡ Some input
-  pub link : IsFaultless o o'
+  pub orderly : IsOrderly input
+  pub faultless : IsFaultless o o'
+
+-- no read of a file failed
+abbrev pub AreCalm : FilesSeen → FilesSeen → Type 0
+AreCalm f f' = ¬ Rose f.faults f'.faults
+
+module _ {R : Type 0} (given : List (List ℕ)) (before after : OutsideSeen R) where
+  -- The words call for this status: by the files that they name, which are tried in their order, and behind these by
+  -- the link's input for `ask`, and where no call of the net failed for `serve`; `gen` needs nothing.
+  pub data CallsFor (status : ℕ) : Type 0 where
+    ByAsk : (names : AskNames) → AskFor given names → AreCalm before.files after.files
+        → AskLeads before.files names (λ next. IsOrderlyLink before.link after.link × (next ≡ 0)) status
+        → CallsFor status
+    ByServe : (order : Order) → ServeFor given order → AreCalm before.files after.files
+        → ¬ Rose before.net.faults after.net.faults
+        → AskLeads before.files order.files (λ next. next ≡ 0) status → CallsFor status
+    ByCheck : (names : CheckNames) → CheckFor given names → AreCalm before.files after.files
+        → CheckLeads before.files names status → CallsFor status
+    ByGen : (numbers : GenNumbers) → GenFor given numbers → status ≡ 0 → CallsFor status
 
 -- the run has this status, or memory lacked
 abbrev pub EndsWith : ℕ → ℕ → Type 0
 EndsWith due status = (status ≡ due) ⊎ (status ≡ 5)
+
+-- words of no command end with status 1, or with 9 in its place; only those that `clap` reads may lack memory
+abbrev pub EndsRefused : List (List ℕ) → LinkSeen → LinkSeen → ℕ → Type 0
+EndsRefused given s s' status =
+    (status ≡ 1) ⊎ (((status ≡ 9) × Rose s.faults s'.faults) ⊎ ((status ≡ 5) × AreServeTexts given))

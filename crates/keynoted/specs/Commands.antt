@@ -34,8 +34,8 @@ pub record GenFor (words : List (List ℕ)) (numbers : GenNumbers) : Type 0 wher
 abbrev pub AreNoGenNumbers : List ℕ → List ℕ → Type 0
 AreNoGenNumbers first second = (numbers : GenNumbers) → AreGenNumbers first second numbers → ⊥
 
--- The command that reads the words of `serve`, as `clap` sees it: one address, and options of which each has a value. The first
--- word stands where a program has its name.
+-- The command that reads the words of `serve`, as `clap` sees it: one address, and options of which each has a value.
+-- The first word stands where a program has its name.
 abbrev pub address_rule : Rule
 address_rule = record (new_rule (codes "ADDR")) { required = true }
 
@@ -52,7 +52,9 @@ abbrev pub connections_rule : Rule
 connections_rule = record (new_rule (codes "connections")) { long = Some (codes "connections"); required = true }
 
 abbrev pub serve_app : App
-serve_app = with_rule (with_rule (with_rule (with_rule (with_rule (new_app (codes "serve")) address_rule) policy_rule) keys_rule) workers_rule) connections_rule
+serve_app =
+    with_rule (with_rule (with_rule (with_rule (with_rule (new_app (codes "serve"))
+    address_rule) policy_rule) keys_rule) workers_rule) connections_rule
 
 -- the value that words give an option, or its default
 abbrev pub option_value : List Text → Text → Option Text
@@ -68,8 +70,8 @@ pub record AreValuesOf (value : Text → Option Text) (order : Order) : Type 0 w
   pub some_workers : (1 ≤ order.binding.doors) × (order.binding.doors ≤ WORKERS)
   pub some_connections : (1 ≤ order.binding.quota) × (order.binding.quota ≤ CONNECTIONS)
 
--- The words ask for a service: the first is `serve`, all are UTF-8, `clap` finds no fault in them, and their values are those of
--- the service.
+-- The words ask for a service: the first is `serve`, all are UTF-8, `clap` finds no fault in them, and their values are
+-- those of the service.
 pub record ServeFor (words : List (List ℕ)) (order : Order) : Type 0 where
   pub serve : slice_get words 0 ≡ Some (codes "serve")
   pub texts : All IsUtf8 words

@@ -1,6 +1,5 @@
 pub mod Commands
-pub mod Running
-pub mod Serving
+pub mod Outcomes
 pub mod Calling
 pub mod Generating
 pub mod Specified

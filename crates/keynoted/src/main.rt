@@ -14,11 +14,11 @@ mod run_tests;
 #[cfg(test)]
 mod service_tests;
 mod service_words;
-mod start;
 mod words;
 
 use crate::idle::{IdleFault, idle_timeout};
 use kn_base::NoMemory;
+use kn_commands::Stop;
 use kn_outside::Passing;
 use kn_real::{RealFiles, StdLink, StdOut};
 use kn_tcp::TcpNet;
@@ -41,15 +41,18 @@ fn main(rt: HostRuntime) -> ExitCode {
     let mut net = TcpNet::new(rt, timeout);
     let mut own = StdLink::new(rt.stdin(), rt.stdout());
     let mut out = StdOut::new(rt.stdout());
-    let status = start::start(
-        &rt,
-        rt.alloc(),
-        words,
-        &mut files,
-        &mut net,
-        &mut own,
-        &mut out,
-        &Passing,
-    );
+    let status = match words {
+        Ok(words) => run::run(
+            &rt,
+            rt.alloc(),
+            words.as_slice(),
+            &mut files,
+            &mut net,
+            &mut own,
+            &mut out,
+            &Passing,
+        ),
+        Err(NoMemory) => run::end(&mut out, Stop::Memory),
+    };
     ExitCode::from(status)
 }

@@ -9,8 +9,8 @@ use std::thread;
 /// How often a gate looks before it gives up.
 const LOOKS: u32 = 100_000_000;
 
-/// Where it holds any reply, it holds caller 2's reply 1 until caller 1 has come to its reply 3, and that one until caller 2 has
-/// come to its reply 4.
+/// Where it holds any reply, it holds caller 2's reply 1 until caller 1 has come to its reply 3, and that one until
+/// caller 2 has come to its reply 4.
 #[derive(Drop)]
 pub(crate) struct Meeting {
     holds: bool,

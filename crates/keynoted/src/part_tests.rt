@@ -20,8 +20,9 @@ use std::thread::Threads;
 const CREDENTIAL: &[u8] = b"Authorizer: \"alice\"\nLicensees: \"bob\"";
 
 // A key, the digest of no text, and the secret `s3cret`.
-const OTHER_DIGEST: &[u8] =
-    b"# keys\nmac 0b0b alice\ndigest 0000000000000000000000000000000000000000000000000000000000000000\nsecret 733363726574\n";
+const OTHER_DIGEST: &[u8] = b"# keys\nmac 0b0b alice
+digest 0000000000000000000000000000000000000000000000000000000000000000
+secret 733363726574\n";
 
 const HALF_A_BYTE: &[u8] = b"# keys\nmac 0b0 alice\n";
 
@@ -89,8 +90,8 @@ fn is_proper_front(bytes: &[u8], text: &[u8]) -> bool {
     }
 }
 
-// The input comes with call 1, and calls 2 to 4 write a reply each. A credential stands from the moment at which it was added,
-// whether its reply is written or not.
+// The input comes with call 1, and calls 2 to 4 write a reply each. A credential stands from the moment at which it was
+// added, whether its reply is written or not.
 #[test]
 fn an_update_stands_where_its_reply_is_lost(rt: HostRuntime) -> Result<(), Fail> {
     let keys = read_keys(rt.alloc(), DIGEST)?;

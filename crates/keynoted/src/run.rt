@@ -3,9 +3,8 @@ ghost use Rattle.std.specs.Prelude.{◌≡◌, [], IfSome, IfNone, None, option_
 ghost use Rattle.kn_commands.specs.Stopping.{stop_line, status_of};
 ghost use Rattle.kn_commands.specs.Asking.{line_of_ask, status_of_ask};
 ghost use Rattle.kn_commands.specs.Checking.{line_of_ending, status_of_ending};
-ghost use Rattle.keynoted.specs.Commands.{AskFor, CheckFor, ServeFor, IsNo};
-ghost use Rattle.keynoted.specs.Running.{IsPrinted, IsEnded};
-ghost use Rattle.keynoted.specs.Serving.{IsRun};
+ghost use Rattle.keynoted.specs.Commands.{AskFor, CheckFor, IsNo};
+ghost use Rattle.keynoted.specs.Outcomes.{IsPrinted, IsEnded};
 ghost use Rattle.keynoted.specs.Specified.{IsSpecified};
 
 use crate::generating::{gen_numbers, run_gen};
@@ -72,7 +71,8 @@ pub(crate) fn end<O: Sink>(out: &mut O, stop: Stop) -> u8
 
 /// Ends with the status and the line of serving a link, or with 9 where the line can't be written.
 fn end_ask<O: Sink>(out: &mut O, ending: AskEnding, names: &AskFiles<'_>) -> u8
-    ensures { IsPrinted (line_of_ask names.now ending) (status_of_ask ending) (O.seen out.old) (O.seen out.new) result }
+    ensures { IsPrinted (line_of_ask names.now ending) (status_of_ask ending)
+        (O.seen out.old) (O.seen out.new) result }
 {
     match print_ask(out, ending, names) {
         Ok(()) => ending.status(),
@@ -82,7 +82,8 @@ fn end_ask<O: Sink>(out: &mut O, ending: AskEnding, names: &AskFiles<'_>) -> u8
 
 /// Ends with the status and the line of a check, or with 9 where the line can't be written.
 fn end_check<O: Sink>(out: &mut O, ending: Ending, names: &CheckFiles<'_>) -> u8
-    ensures { IsPrinted (line_of_ending names.now ending) (status_of_ending ending) (O.seen out.old) (O.seen out.new) result }
+    ensures { IsPrinted (line_of_ending names.now ending) (status_of_ending ending)
+        (O.seen out.old) (O.seen out.new) result }
 {
     match print_ending(out, &ending, names) {
         Ok(()) => ending.status(),
@@ -90,19 +91,29 @@ fn end_check<O: Sink>(out: &mut O, ending: Ending, names: &CheckFiles<'_>) -> u8
     }
 }
 
-/// Does what the words ask, where they don't ask for a service, and tells how it ended.
-fn carry_out_apart<R: Threads + Wait + Sync, F: Files, L: Link, O: Sink, G: Gate>(
+/// Does what the words ask and tells how it ended.
+fn dispatch<R: Threads + Wait + Sync, F: Files, N: Net, L: Link, O: Sink, G: Gate>(
     rt: &R,
     alloc: Global,
     words: &[Octets],
     files: &mut F,
+    net: &mut N,
     own: &mut L,
     out: &mut O,
     gate: &G,
 ) -> u8
-    requires serve { IsNo ServeFor words.now }
-    ensures { IsEnded words.now (F.seen files.old) (F.seen files.new) (L.seen own.old) (L.seen own.new) (O.seen out.old) (O.seen out.new) result }
+where
+    <N::Room as Door>::Conn: Send,
+    requires unbound { (N.seen net.old).bound ≡ None }
+    requires none { (N.seen net.old).rooms ≡ [] }
+    ensures { IsEnded N.Room.seen N.Room.Conn.seen words.now
+        (record { files = F.seen files.old; net = N.seen net.old; link = L.seen own.old; output = O.seen out.old })
+        (record { files = F.seen files.new; net = N.seen net.new; link = L.seen own.new; output = O.seen out.new })
+        result }
 {
+    if asks_to_serve(words) {
+        return run_service(rt, alloc, words, files, net, out, gate);
+    }
     if let Some(names) = ask_files(words) {
         let ending = ask(rt, alloc, &names, files, own, gate);
         return end_ask(out, ending, &names);
@@ -119,60 +130,43 @@ fn carry_out_apart<R: Threads + Wait + Sync, F: Files, L: Link, O: Sink, G: Gate
     }
 }
 
-/// Does what the words ask and tells how it ended.
-fn carry_out<R: Threads + Wait + Sync, F: Files, N: Net, L: Link, O: Sink, G: Gate>(
-    rt: &R,
-    alloc: Global,
-    words: &[Octets],
-    files: &mut F,
-    net: &mut N,
-    own: &mut L,
-    out: &mut O,
-    gate: &G,
-) -> u8
-where
-    <N::Room as Door>::Conn: Send,
-    requires unbound { (N.seen net.old).bound ≡ None }
-    requires none { (N.seen net.old).rooms ≡ [] }
-    ensures { IsRun N.Room.seen N.Room.Conn.seen words.now (F.seen files.old) (F.seen files.new) (N.seen net.old) (N.seen net.new) (L.seen own.old) (L.seen own.new) (O.seen out.old) (O.seen out.new) result }
-{
-    if asks_to_serve(words) {
-        return run_service(rt, alloc, words, files, net, out, gate);
-    }
-    carry_out_apart(rt, alloc, words, files, own, out, gate)
-}
-
 /// The whole program, over the words after its name: it answers the exit status.
 ///
-/// `ask POLICY [KEYS]` loads the policy file and, where one is named, the key file, and serves `own` as the one connection of a
-/// daemon. `check POLICY SCRIPT REPLY` tells whether the reply proves the value of the query that the requests of the script
-/// mean over the policy. `serve ADDR --policy FILE --connections N` with `--keys FILE` and `--workers N`, 4 where it isn't said,
-/// loads its files, binds the address and serves so many connections by so many workers side by side. The files are read in the
-/// order of the words, each once those before it hold what they have to. `gen START N` makes N credentials by the draws from
-/// START, adds them to a new registry, and settles one query over them; both are decimal numbers, START of at most nine digits
-/// and N from 1 to 2,048. What a run has to tell is a line on `out`. The words, the statuses and the lines are keynoted's own.
+/// `ask POLICY [KEYS]` loads the policy file and, where one is named, the key file, and serves `own` as the one
+/// connection of a daemon. `check POLICY SCRIPT REPLY` tells whether the reply proves the value of the query that the
+/// requests of the script mean over the policy. `serve ADDR --policy FILE --connections N` with `--keys FILE` and
+/// `--workers N`, 4 where it isn't said, loads its files, binds the address and serves so many connections by so many
+/// workers side by side. The files are read in the order of the words, each once those before it hold what they have
+/// to. `gen START N` makes N credentials by the draws from START, adds them to a new registry, and settles one query
+/// over them; both are decimal numbers, START of at most nine digits and N from 1 to 2,048. What a run has to tell is a
+/// line on `out`. The words, the statuses and the lines are keynoted's own.
 ///
-/// | status | line | cause |
+/// | status | line | outcome |
 /// |---|---|---|
 /// | 0 | none | `ask`: BYE was answered, or the input ended behind a whole request |
 /// | 0 | `PROVED INDEX NAME` | `check`: the rows prove that the query has this value, of this name |
-/// | 0 | `GEN INDEX NAME N ROWS PRINCIPALS NODES USES LEVELS` | `gen`: the query has this value, of this name, and N is the version; ROWS principals are granted more than the lowest value and are no requesters; the system has so many principals, nodes and uses of principals in its formulas, and levels |
+/// | 0 | `GEN INDEX NAME N ROWS PRINCIPALS NODES USES LEVELS` | `gen`: the value, its name, and what was counted |
 /// | 0 | `served F version V` | `serve`: all F connections were served, and V is the last version |
 /// | 1 | `error words` | the words are those of no command |
-/// | 2 | `error file NAME read`, `error file NAME large` | this file couldn't be read, or has more than 16,777,216 bytes |
-/// | 3 | `error policy NAME ASSERTION FAULT PLACE` | the assertion of this number, counted from 1, is the first that has a fault or that a limit refuses; it has this fault, at this place |
-/// | 3 | `error policy NAME ASSERTION limit WORD N` | the same, where it reads and a limit refuses it; N is the counted quantity before it |
+/// | 2 | `error file NAME read` | this file couldn't be read |
+/// | 2 | `error file NAME large` | this file has more than 16,777,216 bytes |
+/// | 3 | `error policy NAME ASSERTION FAULT PLACE` | the first assertion that fails has this fault, at this place |
+/// | 3 | `error policy NAME ASSERTION limit WORD N` | or a limit refuses it; N is the counted quantity before it |
 /// | 4 | `error link read`, `error link write` | `ask`: reading the link or writing to it failed |
 /// | 4 | `error link cut HELD` | `ask`: the input ended while so many bytes of an unfinished request were held |
 /// | 4 | `error link block N` | `ask`: a block of this length was refused |
 /// | 4 | `error link budget` | `ask`: 1,000,000 requests were answered, as many as a connection has |
-/// | 5 | `error memory` | want of memory; nothing was read from `own` or written to it, and no connection was accepted |
-/// | 6 | `error proof text FAULT LINE` | `check`: the text of the reply has this fault first, or it is the reply to another query |
-/// | 6 | `error proof reject REASON ROW FOUND` | `check`: the rows prove no such value, and this is the first item that fails |
+/// | 5 | `error memory` | want of memory; `own` wasn't touched, and no connection was accepted |
+/// | 6 | `error proof text FAULT LINE` | `check`: the reply's text has this fault first, or is to another query |
+/// | 6 | `error proof reject REASON ROW FOUND` | `check`: the rows prove no such value; this is what fails first |
 /// | 7 | `error listener` | `serve`: the address couldn't be bound, or a door gave fewer connections than its quota |
 /// | 8 | `error keys LINE` | `ask`, `serve`: this line of the key file, counted from 1, is the first malformed one |
 /// | 9 | a proper front of the line | the line couldn't be written |
 /// | 10 | `error query` | `check`: the script means no query |
+///
+/// In the line of `gen`, N is the version; ROWS principals are granted more than the lowest value and are no
+/// requesters; the system has so many principals, nodes and uses of principals in its formulas, and levels. ASSERTION
+/// is counted from 1.
 pub fn run<R: Threads + Wait + Sync, F: Files, N: Net, L: Link, O: Sink, G: Gate>(
     rt: &R,
     alloc: Global,
@@ -187,9 +181,11 @@ where
     <N::Room as Door>::Conn: Send,
     requires unbound { (N.seen net.old).bound ≡ None }
     requires none { (N.seen net.old).rooms ≡ [] }
-    ensures { IsSpecified N.Room.seen N.Room.Conn.seen words.now (F.seen files.old) (F.seen files.new) (N.seen net.old) (N.seen net.new)
-        (L.seen own.old) (L.seen own.new) (O.seen out.old) (O.seen out.new) result }
+    ensures { IsSpecified N.Room.seen N.Room.Conn.seen words.now
+        (record { files = F.seen files.old; net = N.seen net.old; link = L.seen own.old; output = O.seen out.old })
+        (record { files = F.seen files.new; net = N.seen net.new; link = L.seen own.new; output = O.seen out.new })
+        result }
 {
     one_query_is_meant();
-    carry_out(rt, alloc, words, files, net, own, out, gate)
+    dispatch(rt, alloc, words, files, net, own, out, gate)
 }

@@ -2,8 +2,7 @@
 ghost use Rattle.std.specs.Prelude.{◌≡◌, ◌≢◌, [], None, Some, true, false, codes, slice_get};
 ghost use Rattle.kn_outside.specs.Seen.{LinkSeen};
 ghost use Rattle.kn_commands.specs.Serving.{status_of_serve, line_of_serve};
-ghost use Rattle.keynoted.specs.Running.{IsPrinted};
-ghost use Rattle.keynoted.specs.Serving.{IsRun};
+ghost use Rattle.keynoted.specs.Outcomes.{IsPrinted, IsEnded};
 
 use crate::run::end;
 use crate::service_words::{service_of, texts_of};
@@ -38,7 +37,10 @@ where
     requires serve { slice_get words.now 0 ≡ Some (codes "serve") }
     requires unbound { (N.seen net.old).bound ≡ None }
     requires none { (N.seen net.old).rooms ≡ [] }
-    ensures { (o : LinkSeen) → IsRun N.Room.seen N.Room.Conn.seen words.now (F.seen files.old) (F.seen files.new) (N.seen net.old) (N.seen net.new) o o (O.seen out.old) (O.seen out.new) result }
+    ensures { (link : LinkSeen) → IsEnded N.Room.seen N.Room.Conn.seen words.now
+        (record { files = F.seen files.old; net = N.seen net.old; link = link; output = O.seen out.old })
+        (record { files = F.seen files.new; net = N.seen net.new; link = link; output = O.seen out.new })
+        result }
 {
     let texts = match texts_of(alloc, words) {
         Ok(Some(texts)) => texts,
@@ -57,7 +59,8 @@ where
 
 /// Ends with the status and the line of a service, or with 9 where the line can't be written.
 fn end_serve<O: Sink>(out: &mut O, ending: ServeEnding, service: &Service<'_>) -> u8
-    ensures { IsPrinted (line_of_serve service.now ending) (status_of_serve ending) (O.seen out.old) (O.seen out.new) result }
+    ensures { IsPrinted (line_of_serve service.now ending) (status_of_serve ending)
+        (O.seen out.old) (O.seen out.new) result }
 {
     match print_serve(out, ending, service) {
         Ok(()) => ending.status(),

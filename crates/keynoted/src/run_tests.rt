@@ -17,8 +17,9 @@ use std::test::Fail;
 use std::thread::Threads;
 
 // Two of three may do what is asked, of which y may only log where w asks.
-const POLICY: &[u8] =
-    b"Authorizer: \"POLICY\"\nLicensees: 2-of(\"x\",\"y\",\"z\")\n\nAuthorizer: \"y\"\nLicensees: \"w\"\nConditions: true -> \"log\";\n";
+const POLICY: &[u8] = b"Authorizer: \"POLICY\"\nLicensees: 2-of(\"x\",\"y\",\"z\")
+
+Authorizer: \"y\"\nLicensees: \"w\"\nConditions: true -> \"log\";\n";
 
 const FAULTY: &[u8] = b"Authorizer: \"x\ny\"\n";
 
@@ -67,7 +68,12 @@ pub(crate) struct NarrowLink {
 }
 
 impl Sink for NarrowLink {
-    ghost seen = { λ n. record { written = Some n.link.written; taken = Some n.link.taken; left = Some n.link.left; faults = n.link.faults } };
+    ghost seen = { λ n. record {
+      written = Some n.link.written;
+      taken = Some n.link.taken;
+      left = Some n.link.left;
+      faults = n.link.faults;
+    } };
 
     fn write(&mut self, piece: &[u8]) -> Result<usize, Failed> {
         let front = piece.split_at(piece.len().min(7)).0;
@@ -192,7 +198,8 @@ pub(crate) fn status_of<R: Threads + Wait + Sync>(
     )
 }
 
-// Over the script a run of these words ends with this status, so many files asked for, these bytes on the link, and this line.
+// Over the script a run of these words ends with this status, so many files asked for, these bytes on the link, and
+// this line.
 fn ends<R: Abort + Threads + Wait + Sync>(
     rt: &R,
     alloc: Global,
@@ -211,7 +218,8 @@ fn ends<R: Abort + Threads + Wait + Sync>(
     Ok(())
 }
 
-// The reads of the link are its calls 1, 4 and 14. The others write, where a reply of 51 bytes is written by calls 6 to 13.
+// The reads of the link are its calls 1, 4 and 14. The others write, where a reply of 51 bytes is written by calls 6 to
+// 13.
 #[test]
 fn each_failed_file_and_call_is_told(rt: HostRuntime) -> Result<(), Fail> {
     let all_but_two: &[u8] =

@@ -239,7 +239,8 @@ fn each_failed_door_is_told(rt: HostRuntime) -> Result<(), Fail> {
     serves(&rt, alloc, rooms, 0, &gate, &due)
 }
 
-/// What is written to a link on which a credential is added, whose call of this number fails, and to the next one of its door.
+/// What is written to a link on which a credential is added, whose call of this number fails, and to the next one of
+/// its door.
 fn add_over<R: Threads + Wait + Sync>(
     rt: &R,
     alloc: Global,

@@ -1,11 +1,13 @@
 //! The words of a service.
-ghost use Rattle.std.specs.Prelude.{◌≡◌, ◌≤◌, ℕ, Some, false, All, IfOk, OnErr, IfSome, IfNone, codes, map, slice_get, option_and_then};
+ghost use Rattle.std.specs.Prelude.{◌≡◌, ◌≤◌, ℕ, Some, false, All, IfOk, OnErr, IfSome, IfNone};
+ghost use Rattle.std.specs.Prelude.{codes, map, slice_get, option_and_then};
 ghost use Rattle.std.specs.Bool.{OnTrue, OnFalse};
 ghost use Rattle.std.specs.Str.{IsUtf8};
 ghost use Rattle.clap.specs.Words.{app_of, rule_of, first_value, found_of};
 ghost use Rattle.kn_base.specs.Decimal.{decimal_of};
 ghost use Rattle.kn_commands.specs.Serving.{Order};
-ghost use Rattle.keynoted.specs.Commands.{serve_app, address_rule, policy_rule, keys_rule, workers_rule, connections_rule, AreValuesOf, ServeFor, IsNo};
+ghost use Rattle.keynoted.specs.Commands.{serve_app, address_rule, policy_rule, keys_rule, workers_rule};
+ghost use Rattle.keynoted.specs.Commands.{connections_rule, AreValuesOf, ServeFor, IsNo};
 
 use clap::{Arg, ArgMatches, Command};
 use kn_base::limits::{CONNECTIONS, WORKERS};
@@ -19,7 +21,8 @@ pub(crate) fn texts_of<'a>(
     alloc: Global,
     words: &'a [Octets],
 ) -> Result<Option<Vec<&'a str>>, NoMemory>
-    ensures texts { IfOk result (λ texts. IfSome texts (λ t. (map (λ s. s.now) t.items ≡ words.now) × All IsUtf8 words.now)) }
+    ensures texts { IfOk result (λ texts. IfSome texts (λ t.
+        (map (λ s. s.now) t.items ≡ words.now) × All IsUtf8 words.now)) }
     ensures none { IfOk result (λ texts. IfNone texts (¬ All IsUtf8 words.now)) }
     ensures lacks { OnErr result (All IsUtf8 words.now) }
 {
@@ -149,8 +152,10 @@ fn service_in<'a>(matches: &ArgMatches<'a>) -> Option<Service<'a>>
 
 /// The number of an option, from 1 to this one.
 fn number_in(matches: &ArgMatches<'_>, id: &str, most: u32) -> Option<u32>
-    ensures some { IfSome result (λ n. (option_and_then decimal_of (first_value (found_of matches.now) id.now) ≡ Some n) × (1 ≤ n) × (n ≤ most)) }
-    ensures none { IfNone result ((n : ℕ) → option_and_then decimal_of (first_value (found_of matches.now) id.now) ≡ Some n → 1 ≤ n → ¬ (n ≤ most)) }
+    ensures some { IfSome result (λ n. (option_and_then decimal_of (first_value (found_of matches.now) id.now) ≡ Some n)
+        × (1 ≤ n) × (n ≤ most)) }
+    ensures none { IfNone result ((n : ℕ)
+        → option_and_then decimal_of (first_value (found_of matches.now) id.now) ≡ Some n → 1 ≤ n → ¬ (n ≤ most)) }
 {
     let number = decimal(matches.get_str(id)?.as_bytes())?;
     if number < 1 || number > most {

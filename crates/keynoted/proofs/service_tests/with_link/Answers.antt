@@ -8,7 +8,8 @@ one_new : (l : LinkInMemory) → IsNewLink l → All IsNewLink (l ∷ [])
 one_new l is zero d lt = is
 one_new l is (suc k) d lt = absurd (omega (arith, lt))
 
-more_new : (links : List LinkInMemory) (l : LinkInMemory) → All IsNewLink links → IsNewLink l → All IsNewLink (links ++ l ∷ [])
+more_new : (links : List LinkInMemory) (l : LinkInMemory) → All IsNewLink links → IsNewLink l → All IsNewLink
+    (links ++ l ∷ [])
 more_new links l are is = All-append IsNewLink links (l ∷ []) are (one_new l is)
 
 pub returns-in-Ok : goal.returns-in-Ok

@@ -4,4 +4,5 @@ use Rattle.std.specs.Vec.Iter.{into_iter_items}
 use Rattle.keynoted.proofs.words.behind_first.Given as goal
 
 abbrev pub invariant-loop-text : goal.invariant-loop-text
-invariant-loop-text l = l.words ++ map string_bytes (into_iter_items l.text-iterator) ≡ map string_bytes (drop 1 (into_iter_items l.fn.texts))
+invariant-loop-text l = l.words ++ map string_bytes (into_iter_items l.text-iterator) ≡ map string_bytes (drop 1
+    (into_iter_items l.fn.texts))

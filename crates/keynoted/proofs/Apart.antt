@@ -1,0 +1,69 @@
+-- Words are those of one command at most.
+use Rattle.std.proofs.Common.{◌≡◌, ℕ, List, [], ◌∷◌, sym, ap, ◌∙◌, arith, get_or, Option, Some, None}
+use Rattle.std.specs.Prelude.{codes, slice_get, All}
+use Rattle.std.specs.Str.{IsUtf8}
+use Rattle.kn_commands.specs.Names.{AskNames, CheckNames}
+use Rattle.kn_commands.specs.declared.generating.GenNumbers.{GenNumbers}
+use Rattle.keynoted.specs.Commands.{AskFor, CheckFor, GenFor, ServeFor, IsNo, IsNoCommand}
+
+-- the first letter of the first word, or 0
+abbrev pub first_letter : Option (List ℕ) → ℕ
+first_letter None = 0
+first_letter (Some word) = get_or word 0 0
+
+abbrev pub letter_of : List (List ℕ) → ℕ
+letter_of words = first_letter (slice_get words 0)
+
+abbrev pub StartsServe : List (List ℕ) → Type 0
+StartsServe given = slice_get given 0 ≡ Some (codes "serve")
+
+pub ask_is_no_check : (given : List (List ℕ)) (names : AskNames) (others : CheckNames) → AskFor given names
+    → CheckFor given others → ⊥
+ask_is_no_check given names others ask check =
+    let letters : 97 ≡ 99 = sym (ap letter_of ask) ∙ ap letter_of check in
+    absurd (omega (arith, letters))
+
+pub gen_is_no_ask : (given : List (List ℕ)) (numbers : GenNumbers) (names : AskNames) → GenFor given numbers
+    → AskFor given names → ⊥
+gen_is_no_ask given numbers names gen ask =
+    let letters : 103 ≡ 97 = sym (ap letter_of gen.spelled) ∙ ap letter_of ask in
+    absurd (omega (arith, letters))
+
+pub gen_is_no_check : (given : List (List ℕ)) (numbers : GenNumbers) (names : CheckNames) → GenFor given numbers
+    → CheckFor given names → ⊥
+gen_is_no_check given numbers names gen check =
+    let letters : 103 ≡ 99 = sym (ap letter_of gen.spelled) ∙ ap letter_of check in
+    absurd (omega (arith, letters))
+
+pub ask_is_no_serve : (given : List (List ℕ)) (names : AskNames) → AskFor given names → StartsServe given → ⊥
+ask_is_no_serve given names ask serve =
+    let letters : 97 ≡ 115 = sym (ap letter_of ask) ∙ ap first_letter serve in
+    absurd (omega (arith, letters))
+
+pub check_is_no_serve : (given : List (List ℕ)) (names : CheckNames) → CheckFor given names → StartsServe given → ⊥
+check_is_no_serve given names check serve =
+    let letters : 99 ≡ 115 = sym (ap letter_of check) ∙ ap first_letter serve in
+    absurd (omega (arith, letters))
+
+pub gen_is_no_serve : (given : List (List ℕ)) (numbers : GenNumbers) → GenFor given numbers → StartsServe given → ⊥
+gen_is_no_serve given numbers gen serve =
+    let letters : 103 ≡ 115 = sym (ap letter_of gen.spelled) ∙ ap first_letter serve in
+    absurd (omega (arith, letters))
+
+-- words that begin otherwise ask for no service
+pub no_serve_otherwise : (given : List (List ℕ)) → (slice_get given 0 ≡ Some (codes "serve") → ⊥) → IsNo ServeFor given
+no_serve_otherwise given other order words = other words.serve
+
+-- words of which one isn't UTF-8 ask for no service
+pub no_serve_text : (given : List (List ℕ)) → ¬ All IsUtf8 given → IsNo ServeFor given
+no_serve_text given other order words = other words.texts
+
+-- words that begin with `serve` and ask for no service are those of no command
+pub no_command : (given : List (List ℕ)) → slice_get given 0 ≡ Some (codes "serve") → IsNo ServeFor given
+    → IsNoCommand given
+no_command given serve none = record {
+  ask = λ names words. ask_is_no_serve given names words serve;
+  check = λ names words. check_is_no_serve given names words serve;
+  gen = λ numbers words. gen_is_no_serve given numbers words serve;
+  serve = none;
+}

@@ -1,0 +1,92 @@
+-- How a run of the program ends (keynoted's own): with one outcome, which has a status, a line and a cause.
+use Rattle.std.specs.Prelude.{ℕ, ◌≡◌, true, false, List, codes, slice_get, All, Option, Some, None, IfSome, ◌⊎◌}
+use Rattle.std.specs.Str.{IsUtf8}
+use Rattle.kn_outside.specs.Seen.{FilesSeen, LinkSeen}
+use Rattle.kn_outside.specs.Printing.{Writes}
+use Rattle.kn_workers.specs.Connections.{ServedSeen}
+use Rattle.kn_workers.specs.Doors.{DoorSeen}
+use Rattle.kn_workers.specs.Nets.{NetSeen}
+use Rattle.kn_commands.specs.Names.{AskNames, CheckNames}
+use Rattle.kn_commands.specs.Asking.{AskCause, status_of_ask, line_of_ask}
+use Rattle.kn_commands.specs.Checking.{CheckCause, status_of_ending, line_of_ending}
+use Rattle.kn_commands.specs.Generating.{IsGenLine}
+use Rattle.kn_commands.specs.Serving.{Order, ServeCause, status_of_serve, line_of_serve}
+use Rattle.kn_commands.specs.declared.ask_ending.AskEnding.{AskEnding}
+use Rattle.kn_commands.specs.declared.ending.Ending.{Ending}
+use Rattle.kn_commands.specs.declared.serve_ending.ServeEnding.{ServeEnding}
+use Rattle.kn_commands.specs.declared.generating.GenNumbers.{GenNumbers}
+use Rattle.keynoted.specs.Commands.{AskFor, CheckFor, GenFor, ServeFor, IsNoCommand}
+
+-- all that is seen of what a run is given: its files, its net, the link that `ask` serves, and the output for its line
+pub record OutsideSeen (R : Type 0) : Type 0 where
+  pub files : FilesSeen
+  pub net : NetSeen R
+  pub link : LinkSeen
+  pub output : LinkSeen
+
+-- How a run ends: the words were those of no command; there was no memory to read those of `serve`; or a command over
+-- these files or numbers ended so. `gen` made its line, or memory lacked.
+pub data Outcome : Type 0 where
+  NoCommand : Outcome
+  Unread : Outcome
+  AskEnded : AskNames → AskEnding → Outcome
+  ServeEnded : Order → ServeEnding → Outcome
+  CheckEnded : CheckNames → Ending → Outcome
+  GenEnded : GenNumbers → Option (List ℕ) → Outcome
+
+-- the exit status
+abbrev pub status_of : Outcome → ℕ
+status_of NoCommand = 1
+status_of Unread = 5
+status_of (AskEnded names ending) = status_of_ask ending
+status_of (ServeEnded order ending) = status_of_serve ending
+status_of (CheckEnded names ending) = status_of_ending ending
+status_of (GenEnded numbers (Some line)) = 0
+status_of (GenEnded numbers None) = 5
+
+-- the line that tells it
+abbrev pub line_of : Outcome → List ℕ
+line_of NoCommand = codes "error words\n"
+line_of Unread = codes "error memory\n"
+line_of (AskEnded names ending) = line_of_ask names ending
+line_of (ServeEnded order ending) = line_of_serve order ending
+line_of (CheckEnded names ending) = line_of_ending names ending
+line_of (GenEnded numbers (Some line)) = line
+line_of (GenEnded numbers None) = codes "error memory\n"
+
+-- files, net and link are as they were
+pub record IsUntouched {R : Type 0} (before after : OutsideSeen R) : Type 0 where
+  pub files : after.files ≡ before.files
+  pub net : after.net ≡ before.net
+  pub link : after.link ≡ before.link
+
+-- the words are those of which `clap` says what they ask: the first is `serve`, and all are UTF-8
+pub record AreServeTexts (given : List (List ℕ)) : Type 0 where
+  pub serve : slice_get given 0 ≡ Some (codes "serve")
+  pub texts : All IsUtf8 given
+
+-- the line was written whole, and the status is its own; or writing it failed, the status is 9 and a front of it stands
+abbrev pub IsPrinted : List ℕ → ℕ → LinkSeen → LinkSeen → ℕ → Type 0
+IsPrinted line due s s' status = ((status ≡ due) × Writes true line s s') ⊎ ((status ≡ 9) × Writes false line s s')
+
+module _ {C R : Type 0} (door : R → DoorSeen (ServedSeen C)) (connection : C → LinkSeen)
+    (given : List (List ℕ)) (before after : OutsideSeen R) where
+  -- Why a run of these words has this outcome, and what it leaves of its files, its net and its link.
+  abbrev pub IsOutcome : Outcome → Type 0
+  IsOutcome NoCommand = IsNoCommand given × IsUntouched before after
+  IsOutcome Unread = AreServeTexts given × IsUntouched before after
+  IsOutcome (AskEnded names ending) = AskFor given names
+      × AskCause before.files after.files before.link after.link names ending × (after.net ≡ before.net)
+  IsOutcome (ServeEnded order ending) = ServeFor given order
+      × ServeCause door connection before.files after.files before.net after.net order ending
+      × (after.link ≡ before.link)
+  IsOutcome (CheckEnded names ending) = CheckFor given names
+      × CheckCause before.files after.files names ending × (after.net ≡ before.net) × (after.link ≡ before.link)
+  IsOutcome (GenEnded numbers made) = GenFor given numbers
+      × IfSome made (λ line. IsGenLine numbers line) × IsUntouched before after
+
+  -- a run of these words ended: it had one outcome, whose line was printed, and whose status is its own
+  pub record IsEnded (status : ℕ) : Type 0 where
+    pub outcome : Outcome
+    pub cause : IsOutcome outcome
+    pub told : IsPrinted (line_of outcome) (status_of outcome) before.output after.output status
