@@ -1,0 +1,5 @@
+pub mod Followed
+pub mod Texts
+pub mod Accepted
+pub mod Faulty
+pub mod Laws

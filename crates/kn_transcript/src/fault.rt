@@ -1,0 +1,21 @@
+//! Why a transcript isn't accepted.
+
+/// The most faults that an authenticator has.
+pub const AUTH_FAULTS: u8 = 5;
+
+/// Why a transcript isn't accepted (keynoted's own). Requests are counted from 1.
+#[derive(Debug, Clone, Copy, PartialEq, Eq, Drop)]
+pub enum TranscriptFault {
+    /// Fault 1: the replies end where that to this request should begin.
+    Missing { request: u32 },
+    /// Fault 2: no text of a reply stands there.
+    Text { request: u32 },
+    /// Fault 3: one stands there, and none that is permitted.
+    Wrong { request: u32 },
+    /// Fault 4: all requests are answered, and bytes follow the first `at` ones.
+    Rest { at: u32 },
+    /// Fault 5: the request is WATCH, NEWS, UNWATCH, LOG or CRITICAL, which a transcript doesn't judge.
+    Foreign { request: u32 },
+    /// There was no memory.
+    NoMemory,
+}
