@@ -2,4 +2,5 @@ pub mod Followed
 pub mod Texts
 pub mod Accepted
 pub mod Faulty
+pub mod Judging
 pub mod Laws
