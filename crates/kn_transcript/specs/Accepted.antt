@@ -65,8 +65,8 @@ requests_in answered = map (λ a. a.request) answered
 abbrev pub text_in : List Answered → List ℕ
 text_in answered = flat_map (λ a. reply_text a.reply) answered
 
--- The first requests of a script were answered by the first bytes of the replies, each by a reply that is permitted. Then
--- these requests and these bytes are left, and these are the history and the state.
+-- The first requests of a script were answered by the first bytes of the replies, each by a reply that is permitted.
+-- Then these requests and these bytes are left, and these are the history and the state.
 pub record IsFollowed (past : List Update) (script replies : List ℕ) (answered : List Answered) (behind : List Request)
     (left : List ℕ) (history : List Update) (state : State) : Type 0 where
   pub requests : List Request
@@ -78,8 +78,8 @@ pub record IsFollowed (past : List Update) (script replies : List ℕ) (answered
   pub each : All (λ a. HasText a.reply) answered
   pub follows : Follows past first_state answered history state
 
--- The transcript is accepted: all requests that are meant are answered, and no bytes are left. So many replies give a value,
--- and then there are so many updates.
+-- The transcript is accepted: all requests that are meant are answered, and no bytes are left. So many replies give a
+-- value, and then there are so many updates.
 pub record IsAcceptedTranscript (past : List Update) (script replies : List ℕ) (answers version : ℕ) : Type 0 where
   pub answered : List Answered
   pub history : List Update

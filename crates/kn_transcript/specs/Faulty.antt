@@ -11,8 +11,8 @@ use Rattle.kn_transcript.specs.Followed.{Answered, IsPermitted}
 use Rattle.kn_transcript.specs.Texts.{HasText}
 use Rattle.kn_transcript.specs.Accepted.{IsFollowed, is_foreign, text_in}
 
--- The requests before this one were answered. It has this number, counted from 1, and these bytes are left for it and for those
--- behind it.
+-- The requests before this one were answered. It has this number, counted from 1, and these bytes are left for it and
+-- for those behind it.
 pub record IsReached (past : List Update) (script replies : List ℕ) (request : Request) (number : ℕ)
     (left : List ℕ) : Type 0 where
   pub answered : List Answered

@@ -22,9 +22,9 @@ with_update past (Some update) = past ++ update ∷ []
 abbrev pub history_behind : List Update → Shape → Reply → List Update
 history_behind past shape reply = with_update past (update_by 0 shape reply)
 
--- Whether a secret was right, and what the authenticator said of each text, are told by the reply alone: it is permitted
--- where the daemon was started with some secret, and with some authenticator that has no more faults than there are.
--- The connection is the only one, so each place is behind the updates so far and its own.
+-- Whether a secret was right, and what the authenticator said of each text, are told by the reply alone: it is
+-- permitted where the daemon was started with some secret, and with some authenticator that has no more faults than
+-- there are. The connection is the only one, so each place is behind the updates so far and its own.
 pub record IsPermitted (past : List Update) (old : State) (shape : Shape) (reply : Reply) (new : State) : Type 0 where
   pub grounds : Grounds
   pub faults : (text : List ℕ) (assertion : Assertion) → grounds.verdict text assertion ≤ AUTH_FAULTS

@@ -22,7 +22,8 @@ abbrev pub IsBehind : List ℕ → List ℕ → Option (List ℕ) → Type 0
 IsBehind left text None = (rest : List ℕ) → left ≢ text ++ rest
 IsBehind left text (Some rest) = left ≡ text ++ rest
 
--- the bytes begin with the text of this reply to a request of this shape, which is permitted, and these are left behind it
+-- the bytes begin with the text of this reply to a request of this shape, which is permitted, and these are left
+-- behind it
 pub record IsTaken (past : List Update) (old : State) (shape : Shape) (left : List ℕ) (reply : Reply) (rest : List ℕ)
     (new : State) : Type 0 where
   pub text : HasText reply

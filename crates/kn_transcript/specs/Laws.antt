@@ -25,8 +25,8 @@ RunsAreFollowed = (g : Grounds) (past : List Update) (old : State) (exchanges : 
     → ((text : List ℕ) (assertion : Assertion) → g.verdict text assertion ≤ AUTH_FAULTS)
     → RunsAlone g 0 past old exchanges history new → Follows past old (map answered_of exchanges) history new
 
--- Behind these replies a request is a QUERY on an open session, and this is the policy's level in the least fixed point of what the
--- session then asks.
+-- Behind these replies a request is a QUERY on an open session, and this is the policy's level in the least fixed
+-- point of what the session then asks.
 pub record IsLeastBehind (past : List Update) (old : State) (front : List Answered) (request : Request)
     (index : ℕ) : Type 0 where
   pub history : List Update
@@ -45,5 +45,6 @@ pub record IsLeastBehind (past : List Update) (old : State) (front : List Answer
 abbrev pub ValuesAreLeast : Type 0
 ValuesAreLeast = (past : List Update) (old : State) (front behind : List Answered) (request : Request) (index : ℕ)
     (name : List ℕ) (version : ℕ) (rows : List NamedRow) (history : List Update) (new : State)
-    → Follows past old (front ++ record { request = request; reply = Value index name version rows } ∷ behind) history new
+    → Follows past old (front ++ record { request = request; reply = Value index name version rows } ∷ behind)
+    history new
     → IsLeastBehind past old front request index

@@ -1,5 +1,5 @@
--- The texts that replies may have (keynoted's own): those of the forms of the line protocol, with any numbers and words. The
--- numbers and names of a VALUE reply and of one that hands on updates are in the range of their readers.
+-- The texts that replies may have (keynoted's own): those of the forms of the line protocol, with any numbers and
+-- words. The numbers and names of a VALUE reply and of one that hands on updates are in the range of their readers.
 use Rattle.std.specs.Prelude.{ℕ, ◌≡◌, ◌≤◌, ◌<◌, ⊤, true, List, length, All}
 use Rattle.kn_base.specs.declared.limits.TheConstants.{CHANGES}
 use Rattle.kn_proof.specs.declared.named.NamedRow.{NamedRow}

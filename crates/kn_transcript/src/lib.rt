@@ -1,7 +1,7 @@
 //! Transcripts: what a client sent on a whole connection and what it got, judged from the policy alone.
 //!
-//! Here stand the definitions of an accepted transcript and of each fault of one, their laws, and judges of single replies:
-//! those to calls of a session, OPEN, PIN, ADMIN, BYE and what is no request. No query is settled.
+//! Here stand the definitions of an accepted transcript and of each fault of one, their laws, and judges of single
+//! replies: those to calls of a session, OPEN, PIN, ADMIN, BYE and what is no request. No query is settled.
 #![tactic(auto)]
 
 mod admitting;
