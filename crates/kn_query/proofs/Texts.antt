@@ -17,10 +17,7 @@ use Rattle.kn_daemon.specs.Daemon.{part_by, parts_of}
 use Rattle.kn_answer.specs.declared.types.TheConstants.{QUERY_BYTES}
 use Rattle.kn_answer.specs.Numbering.{IsNumber, AreDistinct}
 use Rattle.kn_answer.specs.Sizes.{HaveTexts}
-
--- each text has a reading
-abbrev pub AreRead : List NumberedText → Type 0
-AreRead texts = AllByRecursion (λ c. IsSome (assertion_of c.text)) texts
+use Rattle.kn_query.specs.SharedParts.{AreRead}
 
 abbrev pub texts_in : List NumberedText → List (List ℕ)
 texts_in texts = map (λ (c : NumberedText). c.text) texts
@@ -52,7 +49,7 @@ own_read : (privates : List Private) → AreReadPrivates privates → AreRead (m
 own_read [] readings = tt
 own_read (p ∷ privates) readings = (ap is_some readings.0, own_read privates readings.1)
 
-found : (o : Option Assertion) → IsSome o → (a : Assertion) × (o ≡ Some a)
+pub found : (o : Option Assertion) → IsSome o → (a : Assertion) × (o ≡ Some a)
 found None some = absurd (cc)
 found (Some a) some = (a, refl)
 

@@ -1,11 +1,14 @@
 //! The query of a session: what its view asks becomes the assertions of a query, which is built into a system and
-//! answered, or searched for those that are critical. Each statement is over the session's equations of the sequential
-//! specification.
+//! answered, or searched for those that are critical. A base of the shared credentials may be kept from one query to the
+//! next. Each statement is over the session's equations of the sequential specification.
 #![tactic(auto)]
 
+mod credentials;
 mod critical;
 mod parts;
 mod query;
+mod shared_base;
 
 pub use critical::find_critical;
-pub use query::{answer_query, build_query};
+pub use query::{answer_query, answer_with_base, build_query};
+pub use shared_base::SharedBase;

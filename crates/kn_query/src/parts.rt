@@ -1,13 +1,12 @@
 //! The assertions of a session by their ids.
-ghost use Rattle.std.specs.Prelude.{◌≡◌, ◌++◌, map, IfOk, IsSome, OnOk};
-ghost use Rattle.std.specs.List.{AllByRecursion};
+ghost use Rattle.std.specs.Prelude.{◌≡◌, ◌++◌, map, IfOk, OnOk};
 ghost use Rattle.kn_proof.specs.declared.named.Id.TheVariants.{Shared, Private as Own};
 ghost use Rattle.kn_session.specs.Views.{session_of_view, numbered_text, AreReadPrivates, ArePrivates};
 ghost use Rattle.kn_history.specs.History.{credentials_of};
 ghost use Rattle.kn_daemon.specs.Daemon.{session_parts, parts_of};
 ghost use Rattle.kn_answer.specs.Numbering.{AreDistinct};
 ghost use Rattle.kn_answer.specs.Sizes.{HaveTexts};
-ghost use Rattle.kn_assert.specs.Reading.{assertion_of};
+ghost use Rattle.kn_query.specs.SharedParts.{AreRead};
 
 use kn_answer::Part;
 use kn_base::{List, NoMemory};
@@ -35,10 +34,13 @@ pub(crate) fn parts_of_view<'a>(alloc: Global, view: &View<'a>) -> Result<List<P
     Ok(parts)
 }
 
-// Adds the credentials of a version under their ids.
-fn push_shared<'a>(parts: &mut List<Part<'a>>, version: &'a Version) -> Result<(), NoMemory>
+/// Adds the credentials of a version under their ids.
+pub(crate) fn push_shared<'a>(
+    parts: &mut List<Part<'a>>,
+    version: &'a Version,
+) -> Result<(), NoMemory>
     ensures parts { OnOk result (parts.new ≡ parts.old ++ parts_of Shared (credentials_of version.now)) }
-    ensures read { OnOk result (AllByRecursion (λ c. IsSome (assertion_of c.text)) (credentials_of version.now)) }
+    ensures read { OnOk result (AreRead (credentials_of version.now)) }
 {
     for place in 0..version.len() {
         let part = Part {

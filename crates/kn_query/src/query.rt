@@ -1,18 +1,22 @@
 //! The system of what a session asks, and the answer to it.
-ghost use Rattle.std.specs.Prelude.{◌<◌, length, IfOk};
+ghost use Rattle.std.specs.Prelude.{◌≡◌, ◌⊎◌, ◌<◌, None, length, IfOk, IfSome};
 ghost use Rattle.kn_env.specs.Environment.{AreRequesters};
-ghost use Rattle.kn_meaning.specs.Equations.{IsPolicyLevel};
+ghost use Rattle.kn_meaning.specs.Equations.{IsPolicyLevel, equations_over};
 ghost use Rattle.kn_meaning.specs.Proofs.{IsProof};
 ghost use Rattle.kn_session.specs.Views.{session_of_view, AreReadPrivates, ArePrivates};
 ghost use Rattle.kn_daemon.specs.Daemon.{equations_of};
 ghost use Rattle.kn_answer.specs.Built.{IsBuilt};
 ghost use Rattle.kn_answer.specs.Numbering.{AreDistinct};
+ghost use Rattle.kn_query.specs.SharedBases.{IsByNumber, IsOfVersion};
+ghost use Rattle.kn_query.specs.SharedParts.{shared_parts};
 
 use crate::parts::parts_of_view;
+use crate::shared_base::SharedBase;
 use kn_answer::{Answer, Built, answer, build};
 use kn_base::NoMemory;
 use kn_env::{Query, Values};
 use kn_session::View;
+use kn_store::Version;
 use std::alloc::Global;
 
 /// The system of what a session asks where these are the compliance values: a row for each credential of the version
@@ -46,4 +50,69 @@ pub fn answer_query(alloc: Global, view: &View<'_>, values: &Values) -> Result<A
     let parts = parts_of_view(alloc, view)?;
     let query = Query::of(alloc, view.attributes, values, view.requesters)?;
     answer(alloc, &parts, &query)
+}
+
+/// The same answer, from a base that is kept from one query to the next.
+///
+/// What is kept is a base of shared credentials. One that has the number of the session's version is asked, and else
+/// one is built. A session with private assertions is answered without it. `NoMemory` comes only for want of memory.
+pub fn answer_with_base(
+    alloc: Global,
+    view: &View<'_>,
+    values: &Values,
+    kept: &mut Option<SharedBase>,
+) -> Result<Answer, NoMemory>
+    requires privates { ArePrivates (session_of_view view.now).privates }
+    requires readings { AreReadPrivates view.now.private.now }
+    requires requesters { AreRequesters view.now.requesters.now }
+    requires by_number { IfSome kept.old (IsByNumber (session_of_view view.now).pinned) }
+    ensures proof { IfOk result (λ a. IsProof (equations_of (session_of_view view.now) values.now) a.rows a.value) }
+    ensures least { IfOk result (λ a. IsPolicyLevel (equations_of (session_of_view view.now) values.now) a.value) }
+    ensures below { IfOk result (λ a. a.value < length values.now) }
+    ensures of_version { (kept.new ≡ kept.old) ⊎ IfSome kept.new (IsOfVersion (session_of_view view.now).pinned) }
+{
+    let query = Query::of(alloc, view.attributes, values, view.requesters)?;
+    if view.private.is_empty() {
+        answer_shared(alloc, view.snapshot, &query, kept)
+    } else {
+        let parts = parts_of_view(alloc, view)?;
+        answer(alloc, &parts, &query)
+    }
+}
+
+// The answer over the credentials of a version alone.
+fn answer_shared(
+    alloc: Global,
+    version: &Version,
+    query: &Query<'_>,
+    kept: &mut Option<SharedBase>,
+) -> Result<Answer, NoMemory>
+    requires by_number { IfSome kept.old (IsByNumber version.now) }
+    ensures proof { IfOk result (λ a. IsProof (equations_over query.now (shared_parts version.now)) a.rows a.value) }
+    ensures least { IfOk result (λ a. IsPolicyLevel (equations_over query.now (shared_parts version.now)) a.value) }
+    ensures below { IfOk result (λ a. a.value < length query.now.values) }
+    ensures of_version { IfSome kept.new (IsOfVersion version.now) }
+{
+    let mut shared = take_or_build(alloc, version, kept)?;
+    let answer = shared.answer(alloc, version, query);
+    *kept = shared.into_kept();
+    answer
+}
+
+// The base that is kept where it is of the version, or a new one. Another one goes first, and none is kept meanwhile.
+fn take_or_build(
+    alloc: Global,
+    version: &Version,
+    kept: &mut Option<SharedBase>,
+) -> Result<SharedBase, NoMemory>
+    requires by_number { IfSome kept.old (IsByNumber version.now) }
+    ensures of_version { IfOk result (IsOfVersion version.now) }
+    ensures taken { kept.new ≡ None }
+{
+    if let Some(shared) = kept.take() {
+        if shared.number() == version.number() {
+            return Ok(shared);
+        }
+    }
+    SharedBase::of(alloc, version)
 }

@@ -3,7 +3,8 @@ use Rattle.kn_proof.specs.declared.named.Id.TheVariants.{Shared}
 use Rattle.kn_meaning.specs.Equations.{Part}
 use Rattle.kn_history.specs.History.{NumberedText, credentials_of}
 use Rattle.kn_daemon.specs.Daemon.{parts_of}
-use Rattle.kn_query.proofs.Texts.{AreRead, parts_more, read_more}
+use Rattle.kn_query.specs.SharedParts.{AreRead}
+use Rattle.kn_query.proofs.Texts.{parts_more, read_more}
 use Rattle.kn_query.proofs.parts.push_shared.Goals as goal
 
 pub loop-place-preserved : goal.loop-place-preserved

@@ -1,0 +1,75 @@
+-- The credentials of a version by their places, and what a query over them needs.
+use Rattle.std.proofs.Common.{◌≡◌, ℕ, zero, suc, ◌≤◌, List, [], ◌∷◌, ◌++◌, length, map, slice_get, Option, Some, refl, sym, ap, subst, ◌∙◌, arith}
+use Rattle.std.specs.List.{IsDistinct}
+use Rattle.std.proofs.lemmas.List.{append-nil}
+use Rattle.kn_base.specs.declared.limits.TheConstants.{LIVE_BYTES}
+use Rattle.kn_trees.specs.declared.assertion.Assertion.{Assertion}
+use Rattle.kn_assert.specs.Reading.{assertion_of}
+use Rattle.kn_proof.specs.declared.named.Id.{Id}
+use Rattle.kn_proof.specs.declared.named.Id.TheVariants.{Shared, Private as Own}
+use Rattle.kn_meaning.specs.Equations.{Part, equations_over}
+use Rattle.kn_history.specs.History.{NumberedText, text_bytes}
+use Rattle.kn_env.specs.Environment.{Asked}
+use Rattle.kn_session.specs.Sessions.{Session}
+use Rattle.kn_session.specs.Views.{ArePrivates}
+use Rattle.kn_session.specs.Laws.{TextsAreShort}
+use Rattle.kn_daemon.specs.Daemon.{part_by, parts_of, asked_of, equations_of, session_parts}
+use Rattle.kn_answer.specs.Numbering.{IsNumber}
+use Rattle.kn_answer.specs.Sizes.{HaveTexts}
+use Rattle.kn_query.specs.SharedParts.{AreRead, shared_parts}
+use Rattle.kn_query.proofs.Texts.{found, have_texts}
+
+-- there is one for each text
+pub parts-count : (name : ℕ → Id) (texts : List NumberedText) → AreRead texts → length (parts_of name texts) ≡ length texts
+parts-count name [] read = refl
+parts-count name (c ∷ texts) read =
+    let one : (a : Assertion) × (assertion_of c.text ≡ Some a) = found (assertion_of c.text) read.0 in
+    ap (λ (o : Option Assertion). length (part_by name c.id o ++ parts_of name texts)) one.1 ∙ ap suc (parts-count name texts read.1)
+
+-- its id is that of the text
+pub id-at : (name : ℕ → Id) (texts : List NumberedText) → AreRead texts → (i k : ℕ) → slice_get (map (λ (c : NumberedText). c.id) texts) i ≡ Some k
+    → IsNumber (map (λ (p : Part). p.id) (parts_of name texts)) (name k) i
+id-at name [] read i k here = absurd (cc)
+id-at name (c ∷ texts) read zero k here =
+    let one : (a : Assertion) × (assertion_of c.text ≡ Some a) = found (assertion_of c.text) read.0 in
+    let same : c.id ≡ k = cc in
+    ap (λ (o : Option Assertion). slice_get (map (λ (p : Part). p.id) (part_by name c.id o ++ parts_of name texts)) zero) one.1
+    ∙ ap (λ (n : ℕ). Some (name n)) same
+id-at name (c ∷ texts) read (suc i) k here =
+    let one : (a : Assertion) × (assertion_of c.text ≡ Some a) = found (assertion_of c.text) read.0 in
+    ap (λ (o : Option Assertion). slice_get (map (λ (p : Part). p.id) (part_by name c.id o ++ parts_of name texts)) (suc i)) one.1
+    ∙ id-at name texts read.1 i k here
+
+-- and its assertion is the reading of the text
+pub assertion-at : (name : ℕ → Id) (texts : List NumberedText) → AreRead texts → (i : ℕ) (text : List ℕ) (a : Assertion)
+    → slice_get (map (λ (c : NumberedText). c.text) texts) i ≡ Some text → assertion_of text ≡ Some a
+    → IsNumber (map (λ (p : Part). p.assertion) (parts_of name texts)) a i
+assertion-at name [] read i text a here is = absurd (cc)
+assertion-at name (c ∷ texts) read zero text a here is =
+    let there : c.text ≡ text = cc in
+    ap (λ (o : Option Assertion). slice_get (map (λ (p : Part). p.assertion) (part_by name c.id o ++ parts_of name texts)) zero)
+    (ap assertion_of there ∙ is)
+assertion-at name (c ∷ texts) read (suc i) text a here is =
+    let one : (b : Assertion) × (assertion_of c.text ≡ Some b) = found (assertion_of c.text) read.0 in
+    ap (λ (o : Option Assertion). slice_get (map (λ (p : Part). p.assertion) (part_by name c.id o ++ parts_of name texts)) (suc i)) one.1
+    ∙ assertion-at name texts read.1 i text a here is
+
+-- a session may have no private assertions
+no-privates : ArePrivates []
+unfolding IsDistinct
+no-privates = record { few = omega arith; short = omega arith; from_one = tt; different = tt }
+
+-- a query takes the credentials alone
+pub shared-texts : TextsAreShort → (texts : List NumberedText) → AreRead texts → text_bytes texts ≤ LIVE_BYTES → HaveTexts (parts_of Shared texts)
+shared-texts are_short texts read few =
+    subst (λ (l : List Part). HaveTexts l) (append-nil (parts_of Shared texts)) (have_texts are_short texts [] read tt few no-privates)
+
+-- a session without private assertions asks with the credentials alone
+pub asked-alone : (session : Session) (query : Asked) (values : List (List ℕ)) → query.attributes ≡ session.attributes
+    → query.values ≡ values → query.requesters ≡ session.requesters → session.privates ≡ []
+    → equations_over query (shared_parts session.pinned) ≡ equations_of session values
+asked-alone session query values attributes named requesters none =
+    let same : query ≡ asked_of session values = λ i. record { attributes = attributes i; values = named i; requesters = requesters i } in
+    let parts : shared_parts session.pinned ≡ session_parts session =
+    sym (append-nil (shared_parts session.pinned)) ∙ ap (λ ps. shared_parts session.pinned ++ parts_of Own ps) (sym none) in
+    λ i. equations_over (same i) (parts i)

@@ -1,0 +1,31 @@
+use Rattle.std.proofs.Common.{◌≡◌, ◌<◌, ℕ, List, [], length, map, inr, sym, ap, subst, ◌∙◌}
+use Rattle.std.specs.Prelude.{IfOk, IfSome}
+use Rattle.kn_meaning.specs.Equations.{Equations, IsPolicyLevel, equations_over}
+use Rattle.kn_meaning.specs.Proofs as proof
+use Rattle.kn_history.specs.declared.update.Update.{Update}
+use Rattle.kn_session.specs.Sessions.{Session}
+use Rattle.kn_session.specs.Views.{numbered_text, session_of_view}
+use Rattle.kn_daemon.specs.Daemon.{equations_of}
+use Rattle.kn_query.specs.SharedBases.{IsByNumber, IsOfVersion}
+use Rattle.kn_query.specs.SharedParts.{shared_parts}
+use Rattle.kn_query.proofs.SharedParts.{asked-alone}
+use Rattle.kn_query.proofs.query.answer_with_base.Goals as goal
+
+pub answer_shared-requires : goal.answer_shared-requires
+answer_shared-requires c = record {
+  by_number = subst (λ (u : List Update). IfSome c.args.kept.now (λ shared. IsByNumber u shared)) (sym c.deref.ensures) c.requires.by_number;
+}
+
+pub returns-then-is_empty : goal.returns-then-is_empty
+returns-then-is_empty c =
+    let session : Session = session_of_view c.args.view.now in
+    let none : session.privates ≡ [] = ap (map numbered_text) (c.is_empty.ensures.0 c.if-is_empty.true) in
+    let same : equations_over c.in_ok-query.query (shared_parts c.deref.result.now) ≡ equations_of session c.args.values.now =
+    ap (λ (u : List Update). equations_over c.in_ok-query.query (shared_parts u)) c.deref.ensures
+    ∙ asked-alone session c.in_ok-query.query c.args.values.now c.in_ok-query.ensures.attributes c.in_ok-query.ensures.values c.in_ok-query.ensures.requesters none in
+    record {
+      proof = subst (λ (e : Equations). IfOk c.answer_shared.result (λ a. proof.IsProof e a.rows a.value)) same c.answer_shared.ensures.proof;
+      least = subst (λ (e : Equations). IfOk c.answer_shared.result (λ a. IsPolicyLevel e a.value)) same c.answer_shared.ensures.least;
+      below = subst (λ (vs : List (List ℕ)). IfOk c.answer_shared.result (λ a. a.value < length vs)) c.in_ok-query.ensures.values c.answer_shared.ensures.below;
+      of_version = inr (subst (λ (u : List Update). IfSome c.answer_shared.new.kept (λ shared. IsOfVersion u shared)) c.deref.ensures c.answer_shared.ensures.of_version);
+    }

@@ -1,0 +1,27 @@
+-- Which version a base is of (keynoted's own).
+use Rattle.std.specs.Prelude.{ℕ, ◌≡◌, ◌≤◌, ◌^◌, true, List, length, replicate}
+use Rattle.kn_base.specs.declared.limits.TheConstants.{REQUESTERS}
+use Rattle.kn_history.specs.declared.update.Update.{Update}
+use Rattle.kn_history.specs.History.{credentials_of}
+use Rattle.kn_answer.specs.Based.{IsBaseOf}
+use Rattle.kn_answer.specs.Numbering.{with_names}
+use Rattle.kn_query.specs.SharedParts.{AreRead, shared_parts}
+use Rattle.kn_query.specs.declared.shared_base.SharedBase.{SharedBase}
+
+-- The base is of the credentials of the version that these updates made: it has a row for each, and each of them is
+-- there.
+pub record HasCredentials (version : List Update) (shared : SharedBase) : Type 0 where
+  pub number : shared.number ≡ length version
+  pub read : AreRead (credentials_of version)
+  pub of : IsBaseOf (shared_parts version) shared.base.names shared.base.system
+  pub live : shared.base.live ≡ replicate (length (shared_parts version)) true
+
+-- And there is room for the requesters of a query.
+pub record IsOfVersion (version : List Update) (shared : SharedBase) : Type 0 where
+  pub credentials : HasCredentials version shared
+  pub room : (requesters : List (List ℕ)) → length requesters ≤ REQUESTERS
+      → length (with_names shared.base.names requesters) ≤ 2 ^ 24
+
+-- It is of this version if it has its number.
+abbrev pub IsByNumber : List Update → SharedBase → Type 0
+IsByNumber version shared = shared.number ≡ length version → IsOfVersion version shared
