@@ -1,11 +1,11 @@
 -- The critical assertions that were found so far.
-use Rattle.std.proofs.Common.{◌≡◌, ◌⊎◌, ℕ, suc, ◌+◌, Bool, true, false, List, [], ◌∷◌, ◌++◌, drop, inl, inr, refl, sym, ap, ◌∙◌, subst, append_assoc, add-one, true≢false}
+use Rattle.std.proofs.Common.{◌≡◌, ◌⊎◌, ℕ, ◌+◌, List, [], ◌∷◌, ◌++◌, drop, inl, inr, refl, sym, ap, subst, append_assoc, add-one}
 use Rattle.std.proofs.lemmas.List.{append-nil}
 use Rattle.kn_env.specs.Environment.{Asked}
 use Rattle.kn_proof.specs.declared.named.Id.{Id}
 use Rattle.kn_meaning.specs.Critical.{AreCritical, IsCritical}
 use Rattle.kn_meaning.specs.Equations.{Part}
-use Rattle.kn_critical.specs.Searching.{DecidesCritical, HasRow}
+use Rattle.kn_critical.specs.Searching.{HasRow}
 use Rattle.kn_critical.proofs.Rows.{first-of_rest}
 
 -- these ids, and those of the assertions from this row on that are critical, are those of all

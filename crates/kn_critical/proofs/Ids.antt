@@ -1,5 +1,5 @@
 -- When two ids are one.
-use Rattle.std.proofs.Common.{◌≡◌, ℕ, Bool, true, false, refl, ap, ◌∙◌, sym}
+use Rattle.std.proofs.Common.{◌≡◌, true, false, refl, ap, ◌∙◌, sym}
 use Rattle.std.proofs.lemmas.Bool.{eqb-true, eq-eqb, false_from_ne_true}
 use Rattle.kn_proof.specs.declared.named.Id.{Id}
 use Rattle.kn_proof.specs.declared.named.Id.TheVariants.{Shared, Private}

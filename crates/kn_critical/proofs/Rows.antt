@@ -1,18 +1,12 @@
 -- Assertions by the rows of a base: the flags of those that are there, and those without one.
-use Rattle.std.proofs.Common.{◌≡◌, ℕ, zero, suc, ◌<◌, ◌≤◌, Bool, true, false, cond, not, List, [], ◌∷◌, length, map, drop, replicate, slice_get, slice_set, Some, refl, sym, ap, ◌∙◌, subst, arith}
+use Rattle.std.proofs.Common.{◌≡◌, ℕ, zero, suc, ◌<◌, true, false, cond, not, List, [], ◌∷◌, length, map, drop, replicate, slice_set, Some, refl, sym, ap, ◌∙◌, arith}
 use Rattle.kn_proof.specs.declared.named.Id.{Id}
 use Rattle.kn_meaning.specs.Critical.{is_same_id, without_part}
 use Rattle.kn_meaning.specs.Equations.{Part}
-use Rattle.kn_answer.specs.Numbering.{AreDistinct, IsAbsent, IsNumber}
+use Rattle.kn_answer.specs.Numbering.{AreDistinct, IsAbsent}
 use Rattle.kn_answer.specs.Removed.{live_parts}
 use Rattle.kn_critical.specs.Searching.{HasRow}
 use Rattle.kn_critical.proofs.Ids.{is_same_id-other, is_same_id-same}
-
--- an assertion is taken out and put back
-pub put-back : (n row : ℕ) → row < n → slice_set (slice_set (replicate n true) row false) row true ≡ replicate n true
-put-back zero row within = absurd (omega (arith, within))
-put-back (suc n) zero within = refl
-put-back (suc n) (suc row) within = ap (λ flags. true ∷ flags) (put-back n row (omega (arith, within)))
 
 -- where all are there
 all-live : (parts : List Part) → live_parts parts (replicate (length parts) true) ≡ parts

@@ -2,6 +2,7 @@
 #![tactic(auto)]
 
 mod fault;
+mod runs;
 mod search;
 
 pub use fault::CriticalFault;

@@ -1,21 +1,22 @@
 //! The search for critical assertions.
-ghost use Rattle.std.specs.Prelude.{◌≡◌, ◌⊎◌, ◌<◌, None, Some, length, map, IfErr, IfOk, OnOk};
-ghost use Rattle.kn_meaning.specs.Critical.{AreCritical, equation_nodes, is_row_by};
+ghost use Rattle.std.specs.Prelude.{◌≡◌, ◌⊎◌, ◌+◌, ◌<◌, None, Some, length, map, IfErr, IfOk, OnOk};
+ghost use Rattle.kn_meaning.specs.Critical.{AreCritical, equation_nodes};
 ghost use Rattle.kn_meaning.specs.Equations.{IsPolicyLevel, equations_over};
 ghost use Rattle.kn_meaning.specs.Proofs.{IsProof};
 ghost use Rattle.kn_answer.specs.Numbering.{AreDistinct};
 ghost use Rattle.kn_answer.specs.Sizes.{HaveTexts};
 ghost use Rattle.kn_critical.specs.Faults.{critical_fault};
-ghost use Rattle.kn_critical.specs.Searching.{DecidesCritical, IsLevelWithout, IsWhole};
+ghost use Rattle.kn_critical.specs.Searching.{AreUncritical, DecidesCritical, IsWhole};
 
 use crate::fault::CriticalFault;
+use crate::runs::{clear_rows, is_named};
 use kn_answer::laws::bases_have_nodes;
 use kn_answer::{Answer, Assertions, Base, Part};
 use kn_base::limits::CRITICAL_NODES;
 use kn_base::{List, NoMemory};
 use kn_env::Query;
-use kn_laws::laws::{every_query_has_a_level, unnamed_is_not_critical};
-use kn_proof::{Id, NamedRow};
+use kn_laws::laws::unnamed_is_not_critical;
+use kn_proof::Id;
 use std::alloc::Global;
 
 /// The compliance value of a query, and what it stands on.
@@ -61,6 +62,15 @@ pub fn find_critical(
     })
 }
 
+// How far a search has come.
+#[derive(Debug, Clone, Copy, Drop)]
+struct Gallop {
+    // No row before this one is critical, of those that are still to be told.
+    cleared: u32,
+    // How many rows are tried at once the next time.
+    length: u32,
+}
+
 // The ids of the critical assertions, in their order.
 fn critical_ids(
     alloc: Global,
@@ -76,8 +86,12 @@ fn critical_ids(
     ensures { IfOk result (λ ids. AreCritical query.now list.now list.now ids) }
 {
     let mut ids = List::new(alloc);
+    let mut gallop = Gallop {
+        cleared: 0,
+        length: 1,
+    };
     for row in 0..list.len() {
-        let critical = is_critical(alloc, base, list, query, answer, row)?;
+        let critical = is_critical(alloc, base, list, query, answer, row, &mut gallop)?;
         if critical {
             ids.add(list.id(row))?;
         }
@@ -85,7 +99,8 @@ fn critical_ids(
     Ok(ids)
 }
 
-// Whether the assertion of a row is critical. One that no row of a proof names isn't, and only others are tried.
+// Whether the assertion of a row is critical. One that no row of a proof names isn't, nor is one that was cleared with
+// others. Any other is tried with the rows behind it: twice as many as were cleared the last time, and at first alone.
 fn is_critical(
     alloc: Global,
     base: &mut Base,
@@ -93,52 +108,28 @@ fn is_critical(
     query: &Query<'_>,
     answer: &Answer,
     row: u32,
+    gallop: &mut Gallop,
 ) -> Result<bool, NoMemory>
     requires in_range { row < length list.now }
     requires ids { AreDistinct (map (λ part. part.id) list.now) }
     requires whole { IsWhole query.now list.now base.old }
     requires proof { IsProof (equations_over query.now list.now) answer.now.rows answer.now.value }
     requires least { IsPolicyLevel (equations_over query.now list.now) answer.now.value }
+    requires cleared { AreUncritical query.now list.now row gallop.old.cleared }
     ensures critical { IfOk result (DecidesCritical query.now list.now row) }
     ensures whole { IsWhole query.now list.now base.new }
+    ensures cleared { OnOk result (AreUncritical query.now list.now (row + 1) gallop.new.cleared) }
 {
-    every_query_has_a_level();
     unnamed_is_not_critical();
+    if row < gallop.cleared {
+        return Ok(false);
+    }
     if !is_named(&answer.rows, list.id(row)) {
         return Ok(false);
     }
-    let value = value_without(alloc, base, list, query, row)?;
-    Ok(value < answer.value)
-}
-
-// Whether a row of a proof names an assertion.
-fn is_named(rows: &List<NamedRow>, id: Id) -> bool
-    ensures { result ≡ is_row_by rows.now id }
-{
-    for row in rows.as_slice() {
-        if row.id == id {
-            return true;
-        }
-    }
-    false
-}
-
-// The compliance value without the assertion of a row, which is there again afterwards.
-fn value_without(
-    alloc: Global,
-    base: &mut Base,
-    list: &List<Part<'_>>,
-    query: &Query<'_>,
-    row: u32,
-) -> Result<u8, NoMemory>
-    requires in_range { row < length list.now }
-    requires ids { AreDistinct (map (λ part. part.id) list.now) }
-    requires whole { IsWhole query.now list.now base.old }
-    ensures least { IfOk result (IsLevelWithout query.now list.now row) }
-    ensures whole { IsWhole query.now list.now base.new }
-{
-    base.remove(row);
-    let answer = base.answer(alloc, query, list);
-    base.restore(row);
-    Ok(answer?.value)
+    let length = gallop.length.max(1).min(list.len() - row);
+    let cleared = clear_rows(alloc, base, list, query, answer, row, length)?;
+    gallop.cleared = row + cleared;
+    gallop.length = cleared.saturating_mul(2);
+    Ok(cleared == 0)
 }

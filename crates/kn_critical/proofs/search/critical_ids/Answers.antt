@@ -1,11 +1,19 @@
-use Rattle.std.proofs.Common.{◌≡◌, ◌+◌, ◌<◌, ◌≤◌, ℕ, true, false, List, [], length, drop, sym, ◌∙◌, subst, arith}
+use Rattle.std.proofs.Common.{◌≡◌, ◌+◌, ◌<◌, ◌≤◌, ℕ, true, false, List, ◌++◌, length, sym, ◌∙◌, subst, arith}
 use Rattle.std.proofs.lemmas.List.{drop_all}
 use Rattle.kn_env.specs.Environment.{Asked}
+use Rattle.kn_meaning.specs.Critical.{AreCritical}
 use Rattle.kn_meaning.specs.Equations.{Part}
 use Rattle.kn_critical.proofs.Found.{AreFound, found-critical, found-other, all-found}
 use Rattle.kn_critical.proofs.Rows.{row-has}
 use Rattle.kn_critical.proofs.search.critical_ids.Goals.{then-critical+in_ok-add, else-critical}
 use Rattle.kn_critical.proofs.search.critical_ids.Goals as goal
+
+pub loop-row-init : goal.loop-row-init
+loop-row-init c = record {
+  whole = c.requires.whole;
+  cleared = λ row from to. absurd (omega (arith, to));
+  found = λ rest behind. subst (λ ids. AreCritical c.args.query.now c.args.list.now c.args.list.now (ids ++ rest)) (sym c.new-ids.ensures) behind;
+}
 
 pub loop-row-preserved : goal.loop-row-preserved
 loop-row-preserved c =
@@ -15,6 +23,7 @@ loop-row-preserved c =
     let within : row < length parts = omega arith in
     record {
       whole = c.is_critical.ensures.whole;
+      cleared = c.in_ok-critical.ensures.cleared;
       found = elim c.if-critical.branch [
         | then-critical+in_ok-add w ↦
             subst (AreFound asked parts (row + 1)) (sym (w.ids-is ∙ w.in_ok-add.ensures.ok))
