@@ -4,6 +4,8 @@ pub mod AdmittingLaws
 pub mod GainsLaws
 pub mod StepLaws
 pub mod ServingLaws
+pub mod PinnedLaws
+pub mod KeptLaws
 pub mod CompletenessLaws
 pub mod OpeningLaws
 pub mod QueryingLaws

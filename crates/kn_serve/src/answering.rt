@@ -7,6 +7,7 @@ ghost use Rattle.kn_daemon.specs.Shapes.{Controls, Leave, AtFault, shape_of};
 ghost use Rattle.kn_daemon.specs.Daemon.{Grounds, State};
 ghost use Rattle.kn_serve.specs.Grounds.{grounds_of};
 ghost use Rattle.kn_serve.specs.Handling.{moment, state_of, HasRoom, Handles, Tells};
+ghost use Rattle.kn_serve.specs.Kept.{ArePinned, IsKept};
 
 use crate::admitting::show_secret;
 use crate::calling::{call as answer_call, set_digits};
@@ -21,6 +22,7 @@ use crate::watching::{news, watch};
 use kn_auth::Authenticator;
 use kn_daemon::shape::{Shape, shape_of};
 use kn_outside::{Failed, Gate, Link};
+use kn_query::SharedBase;
 use kn_registry::Pass;
 use kn_reply::{Reply, print};
 use kn_wire::{Request, WireFault};
@@ -34,13 +36,17 @@ pub(crate) fn answer<R: Wait, A: Authenticator, L: Link, G: Gate>(
     config: &DaemonConfig<'_, A, G>,
     pass: &mut Pass,
     connection: &mut Connection,
+    kept: &mut Option<SharedBase>,
     request: Request<'_>,
     link: &mut L,
 ) -> Result<(), Failed>
     requires ready { IsReady config.now.registry.now pass.old }
     requires room { HasRoom (state_of connection.old) }
     requires form { IsWellFormed (request_of request) }
+    requires pinned { ArePinned pass.old.seen (state_of connection.old) }
+    requires of_history { IsKept pass.old.seen kept.old }
     ensures ready { IsReady config.now.registry.now pass.new }
+    ensures of_history { IsKept pass.new.seen kept.new }
     ensures handled { Handles (grounds_of A.verdict config.now) (shape_of (request_of request.entry)) (is_whole result)
         (moment pass.old connection.old (L.seen link.old)) (moment pass.new connection.new (L.seen link.new)) }
 {
@@ -58,9 +64,9 @@ pub(crate) fn answer<R: Wait, A: Authenticator, L: Link, G: Gate>(
         Shape::SetDigits { s, name, digits } => set_digits(
             alloc, connection, s, name, digits, link,
         ),
-        Shape::News { s } => news(rt, alloc, config.registry, pass, connection, s, link),
-        Shape::Query { s, values } => query(alloc, connection, s, values, link),
-        Shape::Watch { s, values } => watch(alloc, connection, s, values, link),
+        Shape::News { s } => news(rt, alloc, config.registry, pass, connection, kept, s, link),
+        Shape::Query { s, values } => query(alloc, connection, kept, s, values, link),
+        Shape::Watch { s, values } => watch(alloc, connection, kept, s, values, link),
         Shape::Critical { s, values } => critical(alloc, connection, s, values, link),
         Shape::Admin { digits } => show_secret(config.secret, connection, digits, link),
         Shape::Bye => say_bye(link),

@@ -20,4 +20,4 @@ mod step;
 mod watching;
 
 pub use kn_daemon::ended::Ended;
-pub use serving::serve_connection;
+pub use serving::{serve_connection, serve_with_base};

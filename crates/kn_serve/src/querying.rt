@@ -7,13 +7,14 @@ ghost use Rattle.kn_session.specs.Views.{session_of_view, AreReadPrivates, ArePr
 ghost use Rattle.kn_daemon.specs.Shapes.{Asks, WithProof, WithCritical};
 ghost use Rattle.kn_daemon.specs.Daemon.{Grounds, session_of};
 ghost use Rattle.kn_serve.specs.Handling.{state_of, RefusesQuestions, Tells};
+ghost use Rattle.kn_serve.specs.Kept.{AreAllOfOne, StaysOf};
 
 use crate::connection::Connection;
 use crate::refusals::{print_refusal, refusal_of_critical, refusal_of_values};
 use kn_base::NoMemory;
 use kn_env::Values;
 use kn_outside::{Failed, Link};
-use kn_query::{answer_query, find_critical};
+use kn_query::{SharedBase, answer_with_base, find_critical};
 use kn_reply::{Refusal, Reply, print};
 use kn_session::View;
 use std::alloc::Global;
@@ -47,10 +48,13 @@ pub(crate) fn read_question<'a>(
 pub(crate) fn query<L: Link>(
     alloc: Global,
     connection: &Connection,
+    kept: &mut Option<SharedBase>,
     s: u32,
     names: &[u8],
     link: &mut L,
 ) -> Result<(), Failed>
+    requires one_history { AreAllOfOne (state_of connection.now) kept.old }
+    ensures stays { StaysOf (state_of connection.now) kept.old kept.new }
     ensures told { (g : Grounds) → Tells g (Asks WithProof s names.now) (is_whole result)
         (state_of connection.now) (state_of connection.now) (L.seen link.old) (L.seen link.new) }
 {
@@ -58,7 +62,7 @@ pub(crate) fn query<L: Link>(
         Ok(asked) => asked,
         Err(refusal) => return print_refusal(refusal, link),
     };
-    match answer_query(alloc, &view, &values) {
+    match answer_with_base(alloc, &view, &values, kept) {
         Ok(answer) => {
             let index = answer.value;
             let name = values.name(index);

@@ -2,6 +2,7 @@
 ghost use Rattle.std.specs.Prelude.{◌≡◌, ◌⊎◌, IfSome};
 ghost use Rattle.kn_registry.specs.Passes.{IsReady};
 ghost use Rattle.kn_serve.specs.Grounds.{grounds_by, grounds_of};
+ghost use Rattle.kn_serve.specs.Kept.{IsKept};
 ghost use Rattle.kn_serve.specs.Serving.{Serves, IsOrderly, IsFaultless};
 
 use crate::config::DaemonConfig;
@@ -14,6 +15,7 @@ use kn_base::limits::REQUESTS;
 use kn_daemon::ended::Ended;
 use kn_daemon::laws;
 use kn_outside::{Gate, Link};
+use kn_query::SharedBase;
 use kn_registry::{Pass, Registry};
 use kn_wire::Feed;
 use std::alloc::Global;
@@ -43,13 +45,40 @@ pub fn serve_connection<R: Wait, A: Authenticator, L: Link, G: Gate>(
         IsOrderly input → IsFaultless (L.seen link.old) (L.seen link.new)
         → (result ≡ Ended.Done) ⊎ (result ≡ Ended.Memory)) }
 {
+    let mut kept = None;
+    serve_with_base(rt, alloc, reg, pass, auth, secret, link, gate, &mut kept)
+}
+
+/// Answers the requests of a connection as `serve_connection` does. The base that is kept from one question to the next
+/// may have come from an earlier connection over the same history, and is left for a later one.
+pub fn serve_with_base<R: Wait, A: Authenticator, L: Link, G: Gate>(
+    rt: &R,
+    alloc: Global,
+    reg: &Registry,
+    pass: &mut Pass,
+    auth: &A,
+    secret: &[u8],
+    link: &mut L,
+    gate: &G,
+    kept: &mut Option<SharedBase>,
+) -> Ended
+    requires ready { IsReady reg.now pass.old }
+    requires of_history { IsKept pass.old.seen kept.old }
+    ensures ready { IsReady reg.now pass.new }
+    ensures of_history { IsKept pass.new.seen kept.new }
+    ensures serves { Serves (grounds_by A.verdict auth.now secret.now)
+        pass.old pass.new (L.seen link.old) (L.seen link.new) result }
+    ensures complete { IfSome (L.seen link.old).left (λ input.
+        IsOrderly input → IsFaultless (L.seen link.old) (L.seen link.new)
+        → (result ≡ Ended.Done) ⊎ (result ≡ Ended.Memory)) }
+{
     let config = DaemonConfig {
         registry: reg,
         authenticator: auth,
         secret,
         gate,
     };
-    serve_requests(rt, alloc, &config, pass, link)
+    serve_requests(rt, alloc, &config, pass, link, kept)
 }
 
 fn serve_requests<R: Wait, A: Authenticator, L: Link, G: Gate>(
@@ -58,9 +87,12 @@ fn serve_requests<R: Wait, A: Authenticator, L: Link, G: Gate>(
     config: &DaemonConfig<'_, A, G>,
     pass: &mut Pass,
     link: &mut L,
+    kept: &mut Option<SharedBase>,
 ) -> Ended
     requires ready { IsReady config.now.registry.now pass.old }
+    requires of_history { IsKept pass.old.seen kept.old }
     ensures ready { IsReady config.now.registry.now pass.new }
+    ensures of_history { IsKept pass.new.seen kept.new }
     ensures serves { Serves (grounds_of A.verdict config.now)
         pass.old pass.new (L.seen link.old) (L.seen link.new) result }
 {
@@ -83,6 +115,7 @@ fn serve_requests<R: Wait, A: Authenticator, L: Link, G: Gate>(
             config,
             pass,
             &mut connection,
+            kept,
             &mut feed,
             link,
             answered + 1,

@@ -7,12 +7,14 @@ ghost use Rattle.kn_wire.specs.Feeds.{held};
 ghost use Rattle.kn_registry.specs.Passes.{IsReady};
 ghost use Rattle.kn_serve.specs.Grounds.{grounds_of};
 ghost use Rattle.kn_serve.specs.Handling.{moment, state_of, HasRoom, MakesStep};
+ghost use Rattle.kn_serve.specs.Kept.{ArePinned, IsKept};
 
 use crate::answering::{answer, refuse};
 use crate::config::DaemonConfig;
 use crate::connection::Connection;
 use kn_auth::Authenticator;
 use kn_outside::{Failed, Gate, Link};
+use kn_query::SharedBase;
 use kn_registry::Pass;
 use kn_wire::{Feed, Request, WireFault};
 use std::alloc::Global;
@@ -36,13 +38,17 @@ pub(crate) fn answer_next<R: Wait, A: Authenticator, L: Link, G: Gate>(
     config: &DaemonConfig<'_, A, G>,
     pass: &mut Pass,
     connection: &mut Connection,
+    kept: &mut Option<SharedBase>,
     feed: &mut Feed,
     link: &mut L,
     place: u32,
 ) -> Step
     requires ready { IsReady config.now.registry.now pass.old }
     requires room { HasRoom (state_of connection.old) }
+    requires pinned { ArePinned pass.old.seen (state_of connection.old) }
+    requires of_history { IsKept pass.old.seen kept.old }
     ensures ready { IsReady config.now.registry.now pass.new }
+    ensures of_history { IsKept pass.new.seen kept.new }
     ensures stepped { MakesStep (grounds_of A.verdict config.now)
         (moment pass.old connection.old (L.seen link.old)) (moment pass.new connection.new (L.seen link.new))
         (held feed.old) (held feed.new) result }
@@ -52,7 +58,7 @@ pub(crate) fn answer_next<R: Wait, A: Authenticator, L: Link, G: Gate>(
         Ok(Some(request)) => {
             let is_bye = says_bye(&request);
             config.gate.before_reply(rt, pass.number(), place);
-            match answer(rt, alloc, config, pass, connection, request, link) {
+            match answer(rt, alloc, config, pass, connection, kept, request, link) {
                 Ok(()) => if is_bye {
                     Step::SaidBye
                 } else {

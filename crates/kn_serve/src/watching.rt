@@ -6,13 +6,14 @@ ghost use Rattle.kn_reply.specs.Replies.{News, reply_text};
 ghost use Rattle.kn_daemon.specs.Shapes.{Asks, Looks, ToKeep, ForStanding};
 ghost use Rattle.kn_daemon.specs.Daemon.{Grounds};
 ghost use Rattle.kn_serve.specs.Handling.{moment, state_of, Handles, Tells};
+ghost use Rattle.kn_serve.specs.Kept.{AreAllOfOne, IsKept, StaysOf};
 
 use crate::connection::Connection;
 use crate::querying::read_question;
 use crate::refusals::{print_refusal, refusal_of_session};
 use kn_base::NoMemory;
 use kn_outside::{Failed, Link};
-use kn_query::answer_query;
+use kn_query::{SharedBase, answer_with_base};
 use kn_registry::{Pass, Registry};
 use kn_reply::{Reply, print};
 use kn_session::StandingQuery;
@@ -23,10 +24,13 @@ use std::sync::Wait;
 pub(crate) fn watch<L: Link>(
     alloc: Global,
     connection: &mut Connection,
+    kept: &mut Option<SharedBase>,
     s: u32,
     names: &[u8],
     link: &mut L,
 ) -> Result<(), Failed>
+    requires one_history { AreAllOfOne (state_of connection.old) kept.old }
+    ensures stays { StaysOf (state_of connection.old) kept.old kept.new }
     ensures told { (g : Grounds) → Tells g (Asks ToKeep s names.now) (is_whole result)
         (state_of connection.old) (state_of connection.new) (L.seen link.old) (L.seen link.new) }
 {
@@ -34,7 +38,7 @@ pub(crate) fn watch<L: Link>(
         Ok(asked) => asked,
         Err(refusal) => return print_refusal(refusal, link),
     };
-    let answer = match answer_query(alloc, &view, &values) {
+    let answer = match answer_with_base(alloc, &view, &values, kept) {
         Ok(answer) => answer,
         Err(NoMemory) => return print(&Reply::NoMemory, link),
     };
@@ -57,11 +61,14 @@ pub(crate) fn news<R: Wait, L: Link>(
     reg: &Registry,
     pass: &mut Pass,
     connection: &mut Connection,
+    kept: &mut Option<SharedBase>,
     s: u32,
     link: &mut L,
 ) -> Result<(), Failed>
     requires ready { IsReady reg.now pass.old }
+    requires of_history { IsKept pass.old.seen kept.old }
     ensures ready { IsReady reg.now pass.new }
+    ensures of_history { IsKept pass.new.seen kept.new }
     ensures handled { (g : Grounds) → Handles g (Looks (ForStanding s)) (is_whole result)
         (moment pass.old connection.old (L.seen link.old)) (moment pass.new connection.new (L.seen link.new)) }
 {
@@ -74,7 +81,7 @@ pub(crate) fn news<R: Wait, L: Link>(
         Err(NoMemory) => return print(&Reply::NoMemory, link),
     };
     let view = query.view_over(&snapshot);
-    let answer = match answer_query(alloc, &view, query.values()) {
+    let answer = match answer_with_base(alloc, &view, query.values(), kept) {
         Ok(answer) => answer,
         Err(NoMemory) => return print(&Reply::NoMemory, link),
     };

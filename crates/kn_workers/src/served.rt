@@ -3,12 +3,14 @@ ghost use Rattle.std.specs.Prelude.{◌≡◌, List, length};
 ghost use Rattle.kn_history.specs.declared.update.Update.{Update};
 ghost use Rattle.kn_registry.specs.Passes.{IsReady, Moves};
 ghost use Rattle.kn_serve.specs.Grounds.{grounds_by};
+ghost use Rattle.kn_serve.specs.Kept.{IsKept};
 ghost use Rattle.kn_workers.specs.Connections.{IsNew, IsConnection};
 
 use kn_auth::Authenticator;
 use kn_outside::{Gate, Link};
+use kn_query::SharedBase;
 use kn_registry::{Pass, Registry};
-use kn_serve::{Ended, serve_connection};
+use kn_serve::{Ended, serve_with_base};
 use std::alloc::Global;
 use std::marker::Model;
 use std::snapshot::Snapshot;
@@ -81,7 +83,7 @@ impl<C> Served<C> {
     }
 }
 
-/// Serves a new connection to its end.
+/// Serves a new connection to its end. The base is kept from one question to the next.
 pub(crate) fn serve_link<R: Wait, A: Authenticator, C: Link, G: Gate>(
     rt: &R,
     alloc: Global,
@@ -91,10 +93,13 @@ pub(crate) fn serve_link<R: Wait, A: Authenticator, C: Link, G: Gate>(
     secret: &[u8],
     link: C,
     gate: &G,
+    kept: &mut Option<SharedBase>,
 ) -> Served<C>
     requires ready { IsReady reg.now pass.old }
     requires new { IsNew (C.seen link) }
+    requires of_history { IsKept pass.old.seen kept.old }
     ensures ready { IsReady reg.now pass.new }
+    ensures of_history { IsKept pass.new.seen kept.new }
     ensures connection { IsConnection C.seen (grounds_by A.verdict auth.now secret.now)
         pass.new.seen pass.old.number result }
     ensures from { result.from ≡ length pass.old.seen }
@@ -104,7 +109,7 @@ pub(crate) fn serve_link<R: Wait, A: Authenticator, C: Link, G: Gate>(
     let mut link = link;
     let from = pass.seen_length();
     let before = Snapshot::of(&*pass);
-    let ended = serve_connection(rt, alloc, reg, pass, auth, secret, &mut link, gate);
+    let ended = serve_with_base(rt, alloc, reg, pass, auth, secret, &mut link, gate, kept);
     let after = Snapshot::of(&*pass);
     Served {
         link,

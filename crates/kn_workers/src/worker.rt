@@ -25,7 +25,7 @@ pub struct ServeEnd {
 }
 
 /// One worker's whole work: it serves the connections of a door, one after another, until the door has no more or
-/// fails.
+/// fails. What one connection has built to answer questions serves the next ones.
 pub fn serve_door<R: Wait, A: Authenticator, D: Door, G: Gate>(
     rt: &R,
     alloc: Global,
@@ -44,6 +44,7 @@ pub fn serve_door<R: Wait, A: Authenticator, D: Door, G: Gate>(
     ensures failed { HasGiven result.failed (D.seen door.old) (D.seen door.new) }
 {
     laws::served_longer();
+    let mut kept = None;
     let mut finished: u32 = 0;
     'connections: for _ in rt.forever() {
         let link = match door.accept(rt) {
@@ -61,7 +62,7 @@ pub fn serve_door<R: Wait, A: Authenticator, D: Door, G: Gate>(
                 };
             }
         };
-        let served = serve_link(rt, alloc, reg, pass, auth, secret, link, gate);
+        let served = serve_link(rt, alloc, reg, pass, auth, secret, link, gate, &mut kept);
         door.finish(served);
         finished += 1;
     }

@@ -1,5 +1,7 @@
 use Rattle.std.proofs.Common.{refl}
+use Rattle.kn_serve.specs.Grounds.{grounds_of}
 use Rattle.kn_serve.proofs.HandlingLaws.{told_handled, handles_as}
+use Rattle.kn_serve.proofs.KeptLaws.{kept-handled}
 use Rattle.kn_serve.proofs.answering.answer.Goals as goal
 
 pub returns-in-Call-clause-handled : goal.returns-in-Call-clause-handled
@@ -68,3 +70,47 @@ returns-in-Log-clause-handled g c =
 pub returns-in-News-clause-handled : goal.returns-in-News-clause-handled
 returns-in-News-clause-handled g c =
     handles_as _ _ _ _ _ _ _ c.shape_of.ensures.shape c.in-News.is (c.news.ensures.handled _)
+
+pub returns-in-Open-clause-of_history : goal.returns-in-Open-clause-of_history
+returns-in-Open-clause-of_history g c =
+    kept-handled _ _ _ _ _ _ (c.open.ensures.handled (grounds_of g.A.Authenticator.verdict c.args.config.now)) c.requires.of_history
+
+pub returns-in-Pin-clause-of_history : goal.returns-in-Pin-clause-of_history
+returns-in-Pin-clause-of_history g c =
+    kept-handled _ _ _ _ _ _ (c.pin.ensures.handled (grounds_of g.A.Authenticator.verdict c.args.config.now)) c.requires.of_history
+
+pub returns-in-PinAt-clause-of_history : goal.returns-in-PinAt-clause-of_history
+returns-in-PinAt-clause-of_history g c =
+    kept-handled _ _ _ _ _ _ (c.pin_at.ensures.handled (grounds_of g.A.Authenticator.verdict c.args.config.now)) c.requires.of_history
+
+pub returns-in-Add-clause-of_history : goal.returns-in-Add-clause-of_history
+returns-in-Add-clause-of_history g c =
+    kept-handled _ _ _ _ _ _ (c.add.ensures.handled (grounds_of g.A.Authenticator.verdict c.args.config.now) refl) c.requires.of_history
+
+pub returns-in-Remove-clause-of_history : goal.returns-in-Remove-clause-of_history
+returns-in-Remove-clause-of_history g c =
+    kept-handled _ _ _ _ _ _ (c.remove.ensures.handled (grounds_of g.A.Authenticator.verdict c.args.config.now)) c.requires.of_history
+
+pub returns-in-Batch-clause-of_history : goal.returns-in-Batch-clause-of_history
+returns-in-Batch-clause-of_history g c =
+    kept-handled _ _ _ _ _ _ (c.batch.ensures.handled (grounds_of g.A.Authenticator.verdict c.args.config.now) refl) c.requires.of_history
+
+pub returns-in-Log-clause-of_history : goal.returns-in-Log-clause-of_history
+returns-in-Log-clause-of_history g c =
+    kept-handled _ _ _ _ _ _ (c.log.ensures.handled (grounds_of g.A.Authenticator.verdict c.args.config.now)) c.requires.of_history
+
+pub returns-in-Query-clause-of_history : goal.returns-in-Query-clause-of_history
+returns-in-Query-clause-of_history g c = c.query.ensures.stays c.args.pass.now.seen c.requires.pinned c.requires.of_history
+
+pub returns-in-Watch-clause-of_history : goal.returns-in-Watch-clause-of_history
+returns-in-Watch-clause-of_history g c = c.watch.ensures.stays c.args.pass.now.seen c.requires.pinned c.requires.of_history
+
+pub query-requires : goal.query-requires
+query-requires g c = record {
+  one_history = record { history = c.args.pass.now.seen; pinned = c.requires.pinned; is = c.requires.of_history };
+}
+
+pub watch-requires : goal.watch-requires
+watch-requires g c = record {
+  one_history = record { history = c.args.pass.now.seen; pinned = c.requires.pinned; is = c.requires.of_history };
+}

@@ -2,6 +2,7 @@ use Rattle.std.proofs.Common.{◌+◌, arith}
 use Rattle.kn_serve.proofs.ServingLaws.{serves_nothing, serving_begun, serving_room, serving_answers, serving_reads}
 use Rattle.kn_serve.proofs.ServingLaws.{serving_still, none_still, end_still, serves_bye, serves_block, serves_write}
 use Rattle.kn_serve.proofs.ServingLaws.{serves_read, serves_end, serves_budget}
+use Rattle.kn_serve.proofs.KeptLaws.{serving_pinned}
 use Rattle.kn_serve.proofs.serving.serve_requests.Goals as goal
 
 pub returns-in-Err-clause-serves : goal.returns-in-Err-clause-serves
@@ -12,6 +13,7 @@ requests-init g c = (
   c.requires.ready,
   omega arith,
   serving_begun c.serving_begins.ensures _ _ _ _ _ c.new-connection.ensures c.in-Ok.ensures,
+  c.requires.of_history,
 )
 
 pub returns-then-answered-ge-REQUESTS-clause-serves : goal.returns-then-answered-ge-REQUESTS-clause-serves
@@ -32,6 +34,7 @@ requests-preserved-else-answered-ge-REQUESTS g c =
       c.in-Answered.ensures.ready,
       omega arith,
       serving_answers _ _ _ _ _ _ i.2 c.serving_answers.ensures _ _ _ t.1 t.2 t.3,
+      c.in-Answered.ensures.of_history,
     )
 
 pub returns-in-SaidBye-clause-serves : goal.returns-in-SaidBye-clause-serves
@@ -57,8 +60,12 @@ requests-preserved g c =
     let i = c.requests.invariant in
     let t = c.in-Dry.ensures.stepped in
     let f = c.in-More.ensures in
-    let s = serving_still _ _ _ _ _ _ i.2 _ _ t.1 t.2 in
-    (c.in-Dry.ensures.ready, i.1, serving_reads _ _ _ _ _ _ s c.serving_takes.ensures _ _ f.0 f.1 f.2)
+    let s = serving_still _ _ _ _ _ _ i.2 _ _ t.1 t.2 in (
+      c.in-Dry.ensures.ready,
+      i.1,
+      serving_reads _ _ _ _ _ _ s c.serving_takes.ensures _ _ f.0 f.1 f.2,
+      c.in-Dry.ensures.of_history,
+    )
 
 pub returns-in-Failed-clause-serves : goal.returns-in-Failed-clause-serves
 returns-in-Failed-clause-serves g c =
@@ -82,3 +89,11 @@ pub answer_next-requires-clause-room : goal.answer_next-requires-clause-room
 answer_next-requires-clause-room g c =
     let i = c.requests.invariant in
     λ κs within. serving_room _ _ _ _ _ _ i.2 c.serving_is_small.ensures i.1
+
+pub answer_next-requires-clause-pinned : goal.answer_next-requires-clause-pinned
+answer_next-requires-clause-pinned g c =
+    let i = c.requests.invariant in
+    λ κs within. serving_pinned _ _ _ _ _ _ i.2
+
+pub answer_next-requires-clause-of_history : goal.answer_next-requires-clause-of_history
+answer_next-requires-clause-of_history g c = λ κs within. c.requests.invariant.3

@@ -4,7 +4,7 @@ use Rattle.kn_workers.proofs.WorkLaws.{gave_less, gave_all, count_fits}
 use Rattle.kn_workers.proofs.worker.serve_door.Goals as goal
 
 pub connections-init : goal.connections-init
-connections-init g c = (c.requires.ready, works_nothing _ _ _ _, calm_nothing _)
+connections-init g c = (c.requires.ready, works_nothing _ _ _ _, calm_nothing _, tt)
 
 pub returns-in-Closed-clause-works : goal.returns-in-Closed-clause-works
 returns-in-Closed-clause-works g c = works_closed _ _ _ _ _ _ _ _ c.connections.invariant.1 c.in-Closed.ensures.answer.1
@@ -34,4 +34,5 @@ connections-preserved g c =
       works_more _ _ c.served_longer.ensures _ _ _ _ _ _ _ _ _ c.connections.invariant.1
           c.in-Conn.ensures.answer.2 c.finish.ensures one.connection one.from one.to one.moves one.ready.valid,
       works_calmly _ _ _ _ _ c.connections.invariant.2 c.in-Conn.ensures.answer.2 c.finish.ensures,
+      one.of_history,
     )
