@@ -1,5 +1,6 @@
 -- The base that is kept, while the pass sees more.
-use Rattle.std.proofs.Common.{◌≡◌, ℕ, zero, suc, Bool, List, [], ◌∷◌, ◌++◌, length, take, Option, Some, None, refl, sym, ap}
+use Rattle.std.proofs.Common.{◌≡◌, ℕ, zero, suc, Bool, List, [], ◌∷◌, ◌++◌, length, take, Option, Some, None, refl}
+use Rattle.std.proofs.Common.{sym, ap}
 use Rattle.std.proofs.Common.{◌∙◌, subst, arith}
 use Rattle.std.proofs.Common.{inl, inr}
 use Rattle.std.specs.Prelude.{◌⊎◌, IfSome}
@@ -22,15 +23,18 @@ use Rattle.kn_serve.proofs.PinnedLaws.{underway-pinned}
 take-grown : (n : ℕ) (xs ys : List Update) → n ≡ length (take n xs) → take n xs ≡ take n (xs ++ ys)
 take-grown zero xs ys whole = refl
 take-grown (suc n) [] ys whole = absurd (cc)
-take-grown (suc n) (x ∷ xs) ys whole = let rest : n ≡ length (take n xs) = omega (arith, whole) in ap (λ l. x ∷ l) (take-grown n xs ys rest)
+take-grown (suc n) (x ∷ xs) ys whole =
+    let rest : n ≡ length (take n xs) = omega (arith, whole) in ap (λ l. x ∷ l) (take-grown n xs ys rest)
 
 -- what is kept stays of the history while it grows
-pub kept-grown : (history more : List Update) (kept : Option SharedBase) → IsKept history kept → IsKept (history ++ more) kept
+pub kept-grown : (history more : List Update) (kept : Option SharedBase) → IsKept history kept
+    → IsKept (history ++ more) kept
 kept-grown history more None is = tt
 kept-grown history more (Some shared) is =
     subst (λ (u : List Update). IsOfVersion u shared) (take-grown shared.number history more is.credentials.number) is
 
-pub kept-moved : (v w : PassSeen) (more own : List Update) (entries : List ℕ) (kept : Option SharedBase) → Moves v w more own entries
+pub kept-moved : (v w : PassSeen) (more own : List Update) (entries : List ℕ) (kept : Option SharedBase)
+    → Moves v w more own entries
     → IsKept v.seen kept → IsKept w.seen kept
 kept-moved v w more own entries kept moves is =
     subst (λ (u : List Update). IsKept u kept) (sym moves.seen) (kept-grown v.seen more kept is)
@@ -41,7 +45,8 @@ kept-handled g shape whole m m' kept handled is =
     kept-moved m.pass m'.pass handled.more _ handled.entries kept handled.moves is
 
 -- the base that has the number of a version of the history is of it
-pub kept-by_number : (version history : List Update) (kept : Option SharedBase) → IsFirstOf version history → IsKept history kept
+pub kept-by_number : (version history : List Update) (kept : Option SharedBase) → IsFirstOf version history
+    → IsKept history kept
     → IfSome kept (λ shared. IsByNumber version shared)
 kept-by_number version history None first is = tt
 kept-by_number version history (Some shared) first is = λ at.
@@ -52,12 +57,14 @@ kept-of : (version history : List Update) (new : Option SharedBase) → IsFirstO
     → IfSome new (λ shared. IsOfVersion version shared) → IsKept history new
 kept-of version history None first is = tt
 kept-of version history (Some shared) first is =
-    subst (λ (u : List Update). IsOfVersion u shared) (first ∙ ap (λ (n : ℕ). take n history) (sym is.credentials.number)) is
+    subst (λ (u : List Update). IsOfVersion u shared)
+    (first ∙ ap (λ (n : ℕ). take n history) (sym is.credentials.number)) is
 
 -- what is kept after a question is of the history of which it was before
 pub kept-after : (version history : List Update) (old new : Option SharedBase) → IsFirstOf version history
     → (new ≡ old) ⊎ IfSome new (λ shared. IsOfVersion version shared) → IsKept history old → IsKept history new
-kept-after version history old new first (inl same) is = subst (λ (o : Option SharedBase). IsKept history o) (sym same) is
+kept-after version history old new first (inl same) is =
+    subst (λ (o : Option SharedBase). IsKept history o) (sym same) is
 kept-after version history old new first (inr of) is = kept-of version history new first of
 
 -- all that was seen is a version of itself
@@ -65,13 +72,15 @@ all-first : (history : List Update) → IsFirstOf history history
 all-first history = sym (take_all (length history) history (omega arith))
 
 -- a standing query is asked over all that was seen
-pub newest-first : (asking : Session) (query : StandingQuery) (made seen : List Update) → asking ≡ asker (query_at made query)
+pub newest-first : (asking : Session) (query : StandingQuery) (made seen : List Update)
+    → asking ≡ asker (query_at made query)
     → made ≡ seen → IsFirstOf asking.pinned seen
 newest-first asking query made seen asks same =
     subst (λ (u : List Update). IsFirstOf u seen) (sym (ap (λ (x : Session). x.pinned) asks ∙ same)) (all-first seen)
 
 -- the sessions are pinned between two requests
-pub serving_pinned : (g : Grounds) (u : PassSeen) (l : LinkSeen) (m : Moment) (h : Held) (answered : ℕ) → Serving g u l m h answered
+pub serving_pinned : (g : Grounds) (u : PassSeen) (l : LinkSeen) (m : Moment) (h : Held) (answered : ℕ)
+    → Serving g u l m h answered
     → ArePinned m.pass.seen m.state
 serving_pinned g u l m h answered s =
     underway-pinned g s.taken s.written m.pass.seen (length u.seen) u.number s.stops m.state h answered s.underway

@@ -1,5 +1,6 @@
 -- The open sessions are pinned to first parts of the one history.
-use Rattle.std.proofs.Common.{◌≡◌, ℕ, zero, suc, ◌+◌, Bool, true, false, cond, ◌==◌, not, List, [], ◌∷◌, ◌++◌, length, map, filter}
+use Rattle.std.proofs.Common.{◌≡◌, ℕ, zero, suc, ◌+◌, Bool, true, false, cond, ◌==◌, not, List, [], ◌∷◌, ◌++◌, length}
+use Rattle.std.proofs.Common.{map, filter}
 use Rattle.std.proofs.Common.{find, take, Option, Some, None, refl, sym, ap, ◌∙◌, subst}
 use Rattle.std.specs.List.{AllByRecursion}
 use Rattle.kn_history.specs.declared.update.Update.{Update}
@@ -7,13 +8,15 @@ use Rattle.kn_history.specs.Retained.{is_retained, retained_version}
 use Rattle.kn_env.specs.Values.{values_of}
 use Rattle.kn_principal.specs.Principals.{normal_form}
 use Rattle.kn_session.specs.Sessions.{Session, with_changed, started_session, pin_at, watch_with, move_standing}
-use Rattle.kn_session.specs.Calls.{Call, Close, Clear, Assert, Retract, Set, Unset, Auth, Unauth, Unwatch, after_call, call_change}
+use Rattle.kn_session.specs.Calls.{Call, Close, Clear, Assert, Retract, Set, Unset, Auth, Unauth, Unwatch, after_call}
+use Rattle.kn_session.specs.Calls.{call_change}
 use Rattle.kn_session.specs.Calls.{is_named, add_requester}
 use Rattle.kn_reply.specs.Replies.{Reply, Done, Started, Number, PrivateAdded, Added, Value, Batched, PinnedAt, Log}
 use Rattle.kn_reply.specs.Replies.{News, Critical, No, NoMemory}
 use Rattle.kn_wire.specs.Feeding.{Held}
 use Rattle.kn_daemon.specs.Shapes.{Shape, Calls, Updates, Looks, Asks, Controls, AtFault, ForNew, ForOpen, ForRetained}
-use Rattle.kn_daemon.specs.Shapes.{ForStanding, ForLog, Look, Question, WithProof, WithCritical, ToKeep, Control, ShowSecret, Leave, shape_of}
+use Rattle.kn_daemon.specs.Shapes.{ForStanding, ForLog, Look, Question, WithProof, WithCritical, ToKeep, Control}
+use Rattle.kn_daemon.specs.Shapes.{ShowSecret, Leave, shape_of}
 use Rattle.kn_daemon.specs.Daemon.{Grounds, State, first_state, pinned_to, looked, kept, questioned}
 use Rattle.kn_daemon.specs.Daemon.{controlled, changed, Does, Permits}
 use Rattle.kn_daemon.specs.Linearized.{Exchange, Along}
@@ -26,7 +29,8 @@ IsPinned h x = (n : ℕ) × (x.pinned ≡ take n h)
 abbrev AllPinned : List Update → List Session → Type 0
 AllPinned h sessions = AllByRecursion (IsPinned h) sessions
 
-pinned-push : (h : List Update) (xs : List Session) (y : Session) → AllPinned h xs → IsPinned h y → AllPinned h (xs ++ y ∷ [])
+pinned-push : (h : List Update) (xs : List Session) (y : Session) → AllPinned h xs → IsPinned h y
+    → AllPinned h (xs ++ y ∷ [])
 pinned-push h [] y are last = (last, tt)
 pinned-push h (x ∷ xs) y are last = (are.0, pinned-push h xs y are.1 last)
 
@@ -59,7 +63,8 @@ requester-pinned h text x is = by (is_named x.requesters text)
     by true = is
     by false = is
 
-pinned-call : (h : List Update) (xs : List Session) (s : ℕ) (call : Call) → AllPinned h xs → AllPinned h (after_call xs s call)
+pinned-call : (h : List Update) (xs : List Session) (s : ℕ) (call : Call) → AllPinned h xs
+    → AllPinned h (after_call xs s call)
 pinned-call h xs s Close are = pinned-filter (λ x. not (x.number == s)) h xs are
 pinned-call h xs s Clear are = pinned-change h xs s (call_change Clear) (λ x is. is) are
 pinned-call h xs s (Assert text) are = pinned-change h xs s (call_change (Assert text)) (λ x is. is) are
@@ -77,7 +82,8 @@ taken-twice (suc m) zero h = (0, refl)
 taken-twice (suc m) (suc n) [] = (0, refl)
 taken-twice (suc m) (suc n) (x ∷ h) = let rest = taken-twice m n h in (suc rest.0, ap (λ l. x ∷ l) rest.1)
 
-retained-part : (h : List Update) (n number : ℕ) (version : List Update) → retained_version (take n h) number ≡ Some version
+retained-part : (h : List Update) (n number : ℕ) (version : List Update)
+    → retained_version (take n h) number ≡ Some version
     → (k : ℕ) × (version ≡ take k h)
 retained-part h n number version e = by (is_retained (length (take n h)) number) e
   where
@@ -92,15 +98,18 @@ pinned-retained : (h : List Update) (state : State) (s : ℕ) (found : Option (L
     → ((version : List Update) → found ≡ Some version → (k : ℕ) × (version ≡ take k h)) → AllPinned h state.sessions
     → AllPinned h (pinned_to state s found).sessions
 pinned-retained h state s None each are = are
-pinned-retained h state s (Some version) each are = pinned-change h state.sessions s (pin_at version) (λ x is. each version refl) are
+pinned-retained h state s (Some version) each are =
+    pinned-change h state.sessions s (pin_at version) (λ x is. each version refl) are
 
 pinned-looked : (h : List Update) (n : ℕ) (state : State) (look : Look) → AllPinned h state.sessions
     → AllPinned h (looked (take n h) state look).sessions
-pinned-looked h n state ForNew are = pinned-push h state.sessions (started_session (state.started + 1) (take n h)) are (n, refl)
+pinned-looked h n state ForNew are =
+    pinned-push h state.sessions (started_session (state.started + 1) (take n h)) are (n, refl)
 pinned-looked h n state (ForOpen s) are = pinned-change h state.sessions s (pin_at (take n h)) (λ x is. (n, refl)) are
 pinned-looked h n state (ForRetained s number) are =
     pinned-retained h state s (retained_version (take n h) number) (retained-part h n number) are
-pinned-looked h n state (ForStanding s) are = pinned-change h state.sessions s (move_standing (take n h)) (λ x is. is) are
+pinned-looked h n state (ForStanding s) are =
+    pinned-change h state.sessions s (move_standing (take n h)) (λ x is. is) are
 pinned-looked h n state (ForLog m) are = are
 
 pinned-kept : (h : List Update) (state : State) (s : ℕ) (values : Option (List (List ℕ))) → AllPinned h state.sessions
@@ -108,7 +117,8 @@ pinned-kept : (h : List Update) (state : State) (s : ℕ) (values : Option (List
 pinned-kept h state s None are = are
 pinned-kept h state s (Some values) are = pinned-change h state.sessions s (watch_with values) (λ x is. is) are
 
-pinned-questioned : (h : List Update) (state : State) (question : Question) (s : ℕ) (names : List ℕ) → AllPinned h state.sessions
+pinned-questioned : (h : List Update) (state : State) (question : Question) (s : ℕ) (names : List ℕ)
+    → AllPinned h state.sessions
     → AllPinned h (questioned state question s names).sessions
 pinned-questioned h state WithProof s names are = are
 pinned-questioned h state WithCritical s names are = are
@@ -128,9 +138,11 @@ pinned-changed h n state (Asks question s names) are = pinned-questioned h state
 pinned-changed h n state (Controls control) are = pinned-controlled h state control are
 pinned-changed h n state (AtFault fault) are = are
 
-module _ (h : List Update) (n : ℕ) (g : Grounds) (caller : ℕ) (old new : State) (shape : Shape) (are : AllPinned h old.sessions) where
+module _ (h : List Update) (n : ℕ) (g : Grounds) (caller : ℕ) (old new : State) (shape : Shape)
+    (are : AllPinned h old.sessions) where
   pinned-does : (reply : Reply) → Does g caller (take n h) old shape reply new → AllPinned h new.sessions
-  pinned-does reply d = subst (λ (state : State). AllPinned h state.sessions) (sym d.next) (pinned-changed h n old shape are)
+  pinned-does reply d =
+      subst (λ (state : State). AllPinned h state.sessions) (sym d.next) (pinned-changed h n old shape are)
 
   pinned-same : new ≡ old → AllPinned h new.sessions
   pinned-same e = subst (λ (state : State). AllPinned h state.sessions) (sym e) are
@@ -154,7 +166,8 @@ pinned-along : (h : List Update) (g : Grounds) (caller : ℕ) (old : State) (es 
     → AllPinned h old.sessions → Along g caller h old es new → AllPinned h new.sessions
 pinned-along h g caller old [] new are along = subst (λ (state : State). AllPinned h state.sessions) (sym along) are
 pinned-along h g caller old (e ∷ es) new are (mid, permits, later) =
-    pinned-along h g caller mid es new (pinned-permitted h e.place g caller old mid (shape_of e.request) are e.reply permits) later
+    pinned-along h g caller mid es new
+    (pinned-permitted h e.place g caller old mid (shape_of e.request) are e.reply permits) later
 
 found-pinned : (h : List Update) (s : ℕ) (xs : List Session) (session : Session) → AllPinned h xs
     → find (λ x. x.number == s) xs ≡ Some session → IsPinned h session
@@ -178,6 +191,7 @@ pub underway-pinned : (g : Grounds) (taken written : List ℕ) (history : List U
     (state : State) (held : Held) (answered : ℕ)
     → IsUnderway g taken written history start caller stops state held answered → ArePinned history state
 underway-pinned g taken written history start caller stops state held answered u = λ s session found.
-    let all : AllPinned history state.sessions = pinned-along history g caller first_state u.exchanges state tt u.replies in
+    let all : AllPinned history state.sessions =
+    pinned-along history g caller first_state u.exchanges state tt u.replies in
     let one : IsPinned history session = found-pinned history s state.sessions session all found in
     first-part history session.pinned one.0 one.1

@@ -73,37 +73,46 @@ returns-in-News-clause-handled g c =
 
 pub returns-in-Open-clause-of_history : goal.returns-in-Open-clause-of_history
 returns-in-Open-clause-of_history g c =
-    kept-handled _ _ _ _ _ _ (c.open.ensures.handled (grounds_of g.A.Authenticator.verdict c.args.config.now)) c.requires.of_history
+    kept-handled _ _ _ _ _ _ (c.open.ensures.handled (grounds_of g.A.Authenticator.verdict c.args.config.now))
+    c.requires.of_history
 
 pub returns-in-Pin-clause-of_history : goal.returns-in-Pin-clause-of_history
 returns-in-Pin-clause-of_history g c =
-    kept-handled _ _ _ _ _ _ (c.pin.ensures.handled (grounds_of g.A.Authenticator.verdict c.args.config.now)) c.requires.of_history
+    kept-handled _ _ _ _ _ _ (c.pin.ensures.handled (grounds_of g.A.Authenticator.verdict c.args.config.now))
+    c.requires.of_history
 
 pub returns-in-PinAt-clause-of_history : goal.returns-in-PinAt-clause-of_history
 returns-in-PinAt-clause-of_history g c =
-    kept-handled _ _ _ _ _ _ (c.pin_at.ensures.handled (grounds_of g.A.Authenticator.verdict c.args.config.now)) c.requires.of_history
+    kept-handled _ _ _ _ _ _ (c.pin_at.ensures.handled (grounds_of g.A.Authenticator.verdict c.args.config.now))
+    c.requires.of_history
 
 pub returns-in-Add-clause-of_history : goal.returns-in-Add-clause-of_history
 returns-in-Add-clause-of_history g c =
-    kept-handled _ _ _ _ _ _ (c.add.ensures.handled (grounds_of g.A.Authenticator.verdict c.args.config.now) refl) c.requires.of_history
+    kept-handled _ _ _ _ _ _ (c.add.ensures.handled (grounds_of g.A.Authenticator.verdict c.args.config.now) refl)
+    c.requires.of_history
 
 pub returns-in-Remove-clause-of_history : goal.returns-in-Remove-clause-of_history
 returns-in-Remove-clause-of_history g c =
-    kept-handled _ _ _ _ _ _ (c.remove.ensures.handled (grounds_of g.A.Authenticator.verdict c.args.config.now)) c.requires.of_history
+    kept-handled _ _ _ _ _ _ (c.remove.ensures.handled (grounds_of g.A.Authenticator.verdict c.args.config.now))
+    c.requires.of_history
 
 pub returns-in-Batch-clause-of_history : goal.returns-in-Batch-clause-of_history
 returns-in-Batch-clause-of_history g c =
-    kept-handled _ _ _ _ _ _ (c.batch.ensures.handled (grounds_of g.A.Authenticator.verdict c.args.config.now) refl) c.requires.of_history
+    kept-handled _ _ _ _ _ _ (c.batch.ensures.handled (grounds_of g.A.Authenticator.verdict c.args.config.now) refl)
+    c.requires.of_history
 
 pub returns-in-Log-clause-of_history : goal.returns-in-Log-clause-of_history
 returns-in-Log-clause-of_history g c =
-    kept-handled _ _ _ _ _ _ (c.log.ensures.handled (grounds_of g.A.Authenticator.verdict c.args.config.now)) c.requires.of_history
+    kept-handled _ _ _ _ _ _ (c.log.ensures.handled (grounds_of g.A.Authenticator.verdict c.args.config.now))
+    c.requires.of_history
 
 pub returns-in-Query-clause-of_history : goal.returns-in-Query-clause-of_history
-returns-in-Query-clause-of_history g c = c.query.ensures.stays c.args.pass.now.seen c.requires.pinned c.requires.of_history
+returns-in-Query-clause-of_history g c =
+    c.query.ensures.stays c.args.pass.now.seen c.requires.pinned c.requires.of_history
 
 pub returns-in-Watch-clause-of_history : goal.returns-in-Watch-clause-of_history
-returns-in-Watch-clause-of_history g c = c.watch.ensures.stays c.args.pass.now.seen c.requires.pinned c.requires.of_history
+returns-in-Watch-clause-of_history g c =
+    c.watch.ensures.stays c.args.pass.now.seen c.requires.pinned c.requires.of_history
 
 pub query-requires : goal.query-requires
 query-requires g c = record {

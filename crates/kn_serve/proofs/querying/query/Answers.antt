@@ -19,7 +19,8 @@ pub returns-in-Ok-answer_with_base : goal.returns-in-Ok-answer_with_base
 returns-in-Ok-answer_with_base g c = record {
   stays = λ history pinned is.
       kept-after (session_of_view c.in-Ok.asked.0).pinned history _ _
-      (pinned c.args.s (session_of_view c.in-Ok.asked.0) c.in-Ok.ensures.session) c.answer_with_base.ensures.of_version is;
+      (pinned c.args.s (session_of_view c.in-Ok.asked.0) c.in-Ok.ensures.session) c.answer_with_base.ensures.of_version
+      is;
   told = λ g'. query_answered g' _ (state_of c.args.connection.now) c.args.s c.args.names.now _ _
       (session_of_view c.in-Ok.asked.0) c.in-Ok.asked.1 c.in-Ok.ensures.session c.in-Ok.ensures.named _ _ _ _
       c.in-Ok-answer_with_base.ensures.proof c.in-Ok-answer_with_base.ensures.least c.name-name.ensures
@@ -31,7 +32,8 @@ pub returns : goal.returns
 returns g c = record {
   stays = λ history pinned is.
       kept-after (session_of_view c.in-Ok.asked.0).pinned history _ _
-      (pinned c.args.s (session_of_view c.in-Ok.asked.0) c.in-Ok.ensures.session) c.answer_with_base.ensures.of_version is;
+      (pinned c.args.s (session_of_view c.in-Ok.asked.0) c.in-Ok.ensures.session) c.answer_with_base.ensures.of_version
+      is;
   told = λ g'. told_memory g' (Asks WithProof c.args.s c.args.names.now) _ (state_of c.args.connection.now) _ _ refl
       c.print-in-Err-answer_with_base.ensures;
 }
@@ -40,4 +42,5 @@ pub answer_with_base-requires-clause-by_number : goal.answer_with_base-requires-
 answer_with_base-requires-clause-by_number g c =
     let all = c.requires.one_history in
     let session = session_of_view c.in-Ok.asked.0 in
-    kept-by_number session.pinned all.history c.args.kept.now (all.pinned c.args.s session c.in-Ok.ensures.session) all.is
+    kept-by_number session.pinned all.history c.args.kept.now (all.pinned c.args.s session c.in-Ok.ensures.session)
+    all.is

@@ -21,7 +21,8 @@ pub returns-in-Err-answer_with_base : goal.returns-in-Err-answer_with_base
 returns-in-Err-answer_with_base g c = record {
   stays = λ history pinned is.
       kept-after (session_of_view c.in-Ok.asked.0).pinned history _ _
-      (pinned c.args.s (session_of_view c.in-Ok.asked.0) c.in-Ok.ensures.session) c.answer_with_base.ensures.of_version is;
+      (pinned c.args.s (session_of_view c.in-Ok.asked.0) c.in-Ok.ensures.session) c.answer_with_base.ensures.of_version
+      is;
   told = λ g'. told_memory g' (Asks ToKeep c.args.s c.args.names.now) _ (state_of c.args.connection.now) _ _ refl
       c.print.ensures;
 }
@@ -30,7 +31,8 @@ pub returns-in-Err-watch : goal.returns-in-Err-watch
 returns-in-Err-watch g c = record {
   stays = λ history pinned is.
       kept-after (session_of_view c.in-Ok.asked.0).pinned history _ _
-      (pinned c.args.s (session_of_view c.in-Ok.asked.0) c.in-Ok.ensures.session) c.answer_with_base.ensures.of_version is;
+      (pinned c.args.s (session_of_view c.in-Ok.asked.0) c.in-Ok.ensures.session) c.answer_with_base.ensures.of_version
+      is;
   told = λ g'. watch_unkept g' _ c.args.connection.now.sessions c.watch.new.self c.args.connection.now.is_admin
       c.args.s c.args.names.now _ _ c.in-Err-watch.ensures.err c.print-in-Err-watch.ensures;
 }
@@ -60,7 +62,8 @@ returns g c =
     record {
       stays = λ history pinned is.
           kept-after (session_of_view c.in-Ok.asked.0).pinned history _ _
-          (pinned c.args.s (session_of_view c.in-Ok.asked.0) c.in-Ok.ensures.session) c.answer_with_base.ensures.of_version is;
+          (pinned c.args.s (session_of_view c.in-Ok.asked.0) c.in-Ok.ensures.session)
+          c.answer_with_base.ensures.of_version is;
       told = λ g'. watch_answered g' _ a b c.args.connection.now.is_admin c.args.s c.args.names.now _ _ session
           c.in-Ok.asked.1 _ _ _ there c.in-Ok.ensures.named c.in-Ok-answer_with_base.ensures.least
           (c.number-version.ensures.number ∙ ap (λ (x : List Update). length x) c.deref.ensures) after
@@ -72,4 +75,5 @@ pub answer_with_base-requires-clause-by_number : goal.answer_with_base-requires-
 answer_with_base-requires-clause-by_number g c =
     let all = c.requires.one_history in
     let session = session_of_view c.in-Ok.asked.0 in
-    kept-by_number session.pinned all.history c.args.kept.now (all.pinned c.args.s session c.in-Ok.ensures.session) all.is
+    kept-by_number session.pinned all.history c.args.kept.now (all.pinned c.args.s session c.in-Ok.ensures.session)
+    all.is
