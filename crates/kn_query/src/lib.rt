@@ -10,5 +10,5 @@ mod query;
 mod shared_base;
 
 pub use critical::find_critical;
-pub use query::{answer_query, answer_with_base, build_query};
+pub use query::{answer_query, build_query};
 pub use shared_base::SharedBase;

@@ -38,25 +38,10 @@ pub fn build_query(alloc: Global, view: &View<'_>, values: &Values) -> Result<Bu
 /// The answer to what a session asks where these are the compliance values: its value (RFC 2704, section 5), and the
 /// rows that prove it.
 ///
-/// `NoMemory` comes only for want of memory.
-pub fn answer_query(alloc: Global, view: &View<'_>, values: &Values) -> Result<Answer, NoMemory>
-    requires privates { ArePrivates (session_of_view view.now).privates }
-    requires readings { AreReadPrivates view.now.private.now }
-    requires requesters { AreRequesters view.now.requesters.now }
-    ensures proof { IfOk result (λ a. IsProof (equations_of (session_of_view view.now) values.now) a.rows a.value) }
-    ensures least { IfOk result (λ a. IsPolicyLevel (equations_of (session_of_view view.now) values.now) a.value) }
-    ensures below { IfOk result (λ a. a.value < length values.now) }
-{
-    let parts = parts_of_view(alloc, view)?;
-    let query = Query::of(alloc, view.attributes, values, view.requesters)?;
-    answer(alloc, &parts, &query)
-}
-
-/// The same answer, from a base that is kept from one query to the next.
-///
-/// What is kept is a base of shared credentials. One that has the number of the session's version is asked, and else
-/// one is built. A session with private assertions is answered without it. `NoMemory` comes only for want of memory.
-pub fn answer_with_base(
+/// What is kept from one query to the next is a base of shared credentials. One that has the number of the session's
+/// version is asked, and else one is built. A session with private assertions is answered without it. `NoMemory` comes
+/// only for want of memory.
+pub fn answer_query(
     alloc: Global,
     view: &View<'_>,
     values: &Values,

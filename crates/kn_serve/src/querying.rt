@@ -14,7 +14,7 @@ use crate::refusals::{print_refusal, refusal_of_critical, refusal_of_values};
 use kn_base::NoMemory;
 use kn_env::Values;
 use kn_outside::{Failed, Link};
-use kn_query::{SharedBase, answer_with_base, find_critical};
+use kn_query::{SharedBase, answer_query, find_critical};
 use kn_reply::{Refusal, Reply, print};
 use kn_session::View;
 use std::alloc::Global;
@@ -62,7 +62,7 @@ pub(crate) fn query<L: Link>(
         Ok(asked) => asked,
         Err(refusal) => return print_refusal(refusal, link),
     };
-    match answer_with_base(alloc, &view, &values, kept) {
+    match answer_query(alloc, &view, &values, kept) {
         Ok(answer) => {
             let index = answer.value;
             let name = values.name(index);

@@ -13,7 +13,7 @@ use crate::querying::read_question;
 use crate::refusals::{print_refusal, refusal_of_session};
 use kn_base::NoMemory;
 use kn_outside::{Failed, Link};
-use kn_query::{SharedBase, answer_with_base};
+use kn_query::{SharedBase, answer_query};
 use kn_registry::{Pass, Registry};
 use kn_reply::{Reply, print};
 use kn_session::StandingQuery;
@@ -38,7 +38,7 @@ pub(crate) fn watch<L: Link>(
         Ok(asked) => asked,
         Err(refusal) => return print_refusal(refusal, link),
     };
-    let answer = match answer_with_base(alloc, &view, &values, kept) {
+    let answer = match answer_query(alloc, &view, &values, kept) {
         Ok(answer) => answer,
         Err(NoMemory) => return print(&Reply::NoMemory, link),
     };
@@ -81,7 +81,7 @@ pub(crate) fn news<R: Wait, L: Link>(
         Err(NoMemory) => return print(&Reply::NoMemory, link),
     };
     let view = query.view_over(&snapshot);
-    let answer = match answer_with_base(alloc, &view, query.values(), kept) {
+    let answer = match answer_query(alloc, &view, query.values(), kept) {
         Ok(answer) => answer,
         Err(NoMemory) => return print(&Reply::NoMemory, link),
     };

@@ -15,15 +15,15 @@ returns-in-Err g c = record {
       c.in-Err.ensures.refused c.print_refusal.ensures.prints;
 }
 
-pub returns-in-Ok-answer_with_base : goal.returns-in-Ok-answer_with_base
-returns-in-Ok-answer_with_base g c = record {
+pub returns-in-Ok-answer_query : goal.returns-in-Ok-answer_query
+returns-in-Ok-answer_query g c = record {
   stays = λ history pinned is.
       kept-after (session_of_view c.in-Ok.asked.0).pinned history _ _
-      (pinned c.args.s (session_of_view c.in-Ok.asked.0) c.in-Ok.ensures.session) c.answer_with_base.ensures.of_version
+      (pinned c.args.s (session_of_view c.in-Ok.asked.0) c.in-Ok.ensures.session) c.answer_query.ensures.of_version
       is;
   told = λ g'. query_answered g' _ (state_of c.args.connection.now) c.args.s c.args.names.now _ _
       (session_of_view c.in-Ok.asked.0) c.in-Ok.asked.1 c.in-Ok.ensures.session c.in-Ok.ensures.named _ _ _ _
-      c.in-Ok-answer_with_base.ensures.proof c.in-Ok-answer_with_base.ensures.least c.name-name.ensures
+      c.in-Ok-answer_query.ensures.proof c.in-Ok-answer_query.ensures.least c.name-name.ensures
       (c.number-version.ensures.number ∙ ap (λ (x : List Update). length x) c.deref.ensures)
       c.print.ensures;
 }
@@ -32,14 +32,14 @@ pub returns : goal.returns
 returns g c = record {
   stays = λ history pinned is.
       kept-after (session_of_view c.in-Ok.asked.0).pinned history _ _
-      (pinned c.args.s (session_of_view c.in-Ok.asked.0) c.in-Ok.ensures.session) c.answer_with_base.ensures.of_version
+      (pinned c.args.s (session_of_view c.in-Ok.asked.0) c.in-Ok.ensures.session) c.answer_query.ensures.of_version
       is;
   told = λ g'. told_memory g' (Asks WithProof c.args.s c.args.names.now) _ (state_of c.args.connection.now) _ _ refl
-      c.print-in-Err-answer_with_base.ensures;
+      c.print-in-Err-answer_query.ensures;
 }
 
-pub answer_with_base-requires-clause-by_number : goal.answer_with_base-requires-clause-by_number
-answer_with_base-requires-clause-by_number g c =
+pub answer_query-requires-clause-by_number : goal.answer_query-requires-clause-by_number
+answer_query-requires-clause-by_number g c =
     let all = c.requires.one_history in
     let session = session_of_view c.in-Ok.asked.0 in
     kept-by_number session.pinned all.history c.args.kept.now (all.pinned c.args.s session c.in-Ok.ensures.session)

@@ -18,10 +18,10 @@ returns-in-Err-pin-clause-handled g c = λ g'.
     news_unpinned g' _ _ _ _ _ _ c.in-Ok.query.now (state_of c.args.connection.now) c.in-Ok.ensures.query
     c.in-Err-pin.ensures.refused c.print.ensures
 
-pub returns-in-Err-answer_with_base-clause-handled : goal.returns-in-Err-answer_with_base-clause-handled
-returns-in-Err-answer_with_base-clause-handled g c = λ g'.
+pub returns-in-Err-answer_query-clause-handled : goal.returns-in-Err-answer_query-clause-handled
+returns-in-Err-answer_query-clause-handled g c = λ g'.
     news_unanswered g' _ _ _ _ _ _ c.in-Ok.query.now (state_of c.args.connection.now) c.in-Ok.ensures.query
-    c.in-Ok-pin.ensures.looked c.print-in-Err-answer_with_base.ensures
+    c.in-Ok-pin.ensures.looked c.print-in-Err-answer_query.ensures
 
 pub returns-clause-handled : goal.returns-clause-handled
 returns-clause-handled g c = λ g'.
@@ -29,12 +29,12 @@ returns-clause-handled g c = λ g'.
     news_answered g' _ _ _ _ _ _ c.in-Ok.query.now a c.move_standing.new.self c.args.connection.now.is_admin
     (arc_value c.in-Ok-pin.snapshot) (session_of_view c.view_over-view.result) c.values.result.now _ _
     c.in-Ok.ensures.query c.in-Ok-pin.ensures.looked c.in-Ok-pin.ensures.version c.view_over-view.ensures.session
-    c.values.ensures c.in-Ok-answer_with_base.ensures.least
+    c.values.ensures c.in-Ok-answer_query.ensures.least
     (c.number.ensures.number ∙ ap (λ (x : List Update). length x) c.deref.ensures)
     c.in-Ok-move_standing.ensures.ok c.tell_news-told.ensures.prints
 
-pub answer_with_base-requires-clause-by_number : goal.answer_with_base-requires-clause-by_number
-answer_with_base-requires-clause-by_number g c =
+pub answer_query-requires-clause-by_number : goal.answer_query-requires-clause-by_number
+answer_query-requires-clause-by_number g c =
     let seen = c.pin.new.pass.seen in
     let asking = session_of_view c.view_over-view.result in
     kept-by_number asking.pinned seen c.args.kept.now
@@ -45,13 +45,13 @@ pub returns-in-Err-pin-clause-of_history : goal.returns-in-Err-pin-clause-of_his
 returns-in-Err-pin-clause-of_history g c =
     kept-moved _ _ _ _ _ _ c.in-Err-pin.ensures.refused.moves c.requires.of_history
 
-pub returns-in-Err-answer_with_base-clause-of_history : goal.returns-in-Err-answer_with_base-clause-of_history
-returns-in-Err-answer_with_base-clause-of_history g c =
+pub returns-in-Err-answer_query-clause-of_history : goal.returns-in-Err-answer_query-clause-of_history
+returns-in-Err-answer_query-clause-of_history g c =
     let seen = c.pin.new.pass.seen in
     let asking = session_of_view c.view_over-view.result in
     kept-after asking.pinned seen c.args.kept.now _
     (newest-first asking c.in-Ok.query.now _ seen c.view_over-view.ensures.session c.in-Ok-pin.ensures.version)
-    c.answer_with_base.ensures.of_version
+    c.answer_query.ensures.of_version
     (kept-moved _ _ _ _ _ _ c.in-Ok-pin.ensures.looked.moves c.requires.of_history)
 
 pub returns-clause-of_history : goal.returns-clause-of_history
@@ -60,5 +60,5 @@ returns-clause-of_history g c =
     let asking = session_of_view c.view_over-view.result in
     kept-after asking.pinned seen c.args.kept.now _
     (newest-first asking c.in-Ok.query.now _ seen c.view_over-view.ensures.session c.in-Ok-pin.ensures.version)
-    c.answer_with_base.ensures.of_version
+    c.answer_query.ensures.of_version
     (kept-moved _ _ _ _ _ _ c.in-Ok-pin.ensures.looked.moves c.requires.of_history)

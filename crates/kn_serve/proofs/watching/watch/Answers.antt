@@ -17,11 +17,11 @@ returns-in-Err g c = record {
       c.in-Err.ensures.refused c.print_refusal.ensures.prints;
 }
 
-pub returns-in-Err-answer_with_base : goal.returns-in-Err-answer_with_base
-returns-in-Err-answer_with_base g c = record {
+pub returns-in-Err-answer_query : goal.returns-in-Err-answer_query
+returns-in-Err-answer_query g c = record {
   stays = λ history pinned is.
       kept-after (session_of_view c.in-Ok.asked.0).pinned history _ _
-      (pinned c.args.s (session_of_view c.in-Ok.asked.0) c.in-Ok.ensures.session) c.answer_with_base.ensures.of_version
+      (pinned c.args.s (session_of_view c.in-Ok.asked.0) c.in-Ok.ensures.session) c.answer_query.ensures.of_version
       is;
   told = λ g'. told_memory g' (Asks ToKeep c.args.s c.args.names.now) _ (state_of c.args.connection.now) _ _ refl
       c.print.ensures;
@@ -31,7 +31,7 @@ pub returns-in-Err-watch : goal.returns-in-Err-watch
 returns-in-Err-watch g c = record {
   stays = λ history pinned is.
       kept-after (session_of_view c.in-Ok.asked.0).pinned history _ _
-      (pinned c.args.s (session_of_view c.in-Ok.asked.0) c.in-Ok.ensures.session) c.answer_with_base.ensures.of_version
+      (pinned c.args.s (session_of_view c.in-Ok.asked.0) c.in-Ok.ensures.session) c.answer_query.ensures.of_version
       is;
   told = λ g'. watch_unkept g' _ c.args.connection.now.sessions c.watch.new.self c.args.connection.now.is_admin
       c.args.s c.args.names.now _ _ c.in-Err-watch.ensures.err c.print-in-Err-watch.ensures;
@@ -43,8 +43,8 @@ tell_news-requires g c =
     let is = kept_is c.args.connection.now.sessions c.watch.new.self c.args.s (session_of_view c.in-Ok.asked.0) values
     c.in-Ok.ensures.session c.in-Ok-watch.ensures.ok _ c.in-Ok-standing.ensures.query in
     record {
-      value = subst (λ (q : StandingQuery). c.in-Ok-answer_with_base.answer.value < length q.values) (sym is)
-          c.in-Ok-answer_with_base.ensures.below;
+      value = subst (λ (q : StandingQuery). c.in-Ok-answer_query.answer.value < length q.values) (sym is)
+          c.in-Ok-answer_query.ensures.below;
     }
 
 pub unreachable-requires : goal.unreachable-requires
@@ -63,16 +63,16 @@ returns g c =
       stays = λ history pinned is.
           kept-after (session_of_view c.in-Ok.asked.0).pinned history _ _
           (pinned c.args.s (session_of_view c.in-Ok.asked.0) c.in-Ok.ensures.session)
-          c.answer_with_base.ensures.of_version is;
+          c.answer_query.ensures.of_version is;
       told = λ g'. watch_answered g' _ a b c.args.connection.now.is_admin c.args.s c.args.names.now _ _ session
-          c.in-Ok.asked.1 _ _ _ there c.in-Ok.ensures.named c.in-Ok-answer_with_base.ensures.least
+          c.in-Ok.asked.1 _ _ _ there c.in-Ok.ensures.named c.in-Ok-answer_query.ensures.least
           (c.number-version.ensures.number ∙ ap (λ (x : List Update). length x) c.deref.ensures) after
           (kept_is a b c.args.s session c.in-Ok.asked.1 there after _ c.in-Ok-standing.ensures.query)
           c.tell_news.ensures.prints;
     }
 
-pub answer_with_base-requires-clause-by_number : goal.answer_with_base-requires-clause-by_number
-answer_with_base-requires-clause-by_number g c =
+pub answer_query-requires-clause-by_number : goal.answer_query-requires-clause-by_number
+answer_query-requires-clause-by_number g c =
     let all = c.requires.one_history in
     let session = session_of_view c.in-Ok.asked.0 in
     kept-by_number session.pinned all.history c.args.kept.now (all.pinned c.args.s session c.in-Ok.ensures.session)

@@ -9,7 +9,7 @@ use Rattle.kn_daemon.specs.Daemon.{equations_of}
 use Rattle.kn_query.specs.SharedBases.{IsByNumber, IsOfVersion}
 use Rattle.kn_query.specs.SharedParts.{shared_parts}
 use Rattle.kn_query.proofs.SharedParts.{asked-alone}
-use Rattle.kn_query.proofs.query.answer_with_base.Goals as goal
+use Rattle.kn_query.proofs.query.answer_query.Goals as goal
 
 pub answer_shared-requires : goal.answer_shared-requires
 answer_shared-requires c = record {
