@@ -1,5 +1,5 @@
 -- A replica to which the replies over a history are applied holds its first updates.
-use Rattle.std.proofs.Common.{◌≡◌, ℕ, zero, suc, ◌+◌, ◌-◌, ◌<◌, ◌≤◌, min, true, List, [], ◌∷◌, ◌++◌, length, take, drop, map, refl, sym, ap, ◌∙◌, subst, append_assoc, append-nil, take-append-drop, codes, decimal, arith}
+use Rattle.std.proofs.Common.{◌≡◌, ℕ, zero, suc, ◌+◌, ◌-◌, ◌≤◌, true, List, [], ◌∷◌, ◌++◌, length, take, drop, map, refl, sym, ap, ◌∙◌, subst, append_assoc, append-nil, take-append-drop, codes, decimal, arith}
 use Rattle.std.specs.Prelude.{flat_map}
 use Rattle.std.specs.List.{AllByRecursion}
 use Rattle.std.proofs.lemmas.Bool.{and_parts, and_from}
@@ -15,9 +15,9 @@ use Rattle.kn_history.proofs.Histories.{changes-push}
 use Rattle.kn_wire.specs.Items.{item_text}
 use Rattle.kn_reply.specs.Logs.{log_part, log_text, item_of, item_of_change, update_text, change_text, held_after}
 use Rattle.kn_reply.proofs.Logs.{front-of, logs-are_a_beginning}
-use Rattle.kn_follow.specs.Forms.{ToldUpdate, LogReply, told_update, told_text, form_text, IsTellable, HasForm, IsLogText}
-use Rattle.kn_follow.specs.Following.{Takes, update_behind, may_be_taken, IsApplied, TakesReply, Applies}
-use Rattle.kn_follow.specs.Laws.{TakenInOneWay, IsShort, log_replies, MayAskAt, Follows, FollowersFollow}
+use Rattle.kn_follow.specs.Forms.{LogReply, told_update, told_text, form_text, IsTellable, IsLogText}
+use Rattle.kn_follow.specs.Following.{Takes, update_behind, IsApplied, Applies}
+use Rattle.kn_follow.specs.Laws.{TakenInOneWay, IsShort, log_replies, MayAskAt, FollowersFollow}
 use Rattle.kn_follow.proofs.Replies.{one-reading}
 use Rattle.kn_follow.proofs.Takings.{one_taking}
 

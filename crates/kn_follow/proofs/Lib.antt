@@ -1,5 +1,6 @@
 pub mod Readers
 pub mod Numerals
 pub mod Replies
+pub mod Loops
 pub mod Takings
 pub mod Followers

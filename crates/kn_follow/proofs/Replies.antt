@@ -1,10 +1,9 @@
 -- What is read of a reply to LOG is its form, and where nothing is read the text departs from it.
-use Rattle.std.proofs.Common.{◌≡◌, ◌⊎◌, ℕ, zero, suc, ◌+◌, ◌-◌, ◌<◌, ◌≤◌, min, Bool, true, false, cond, List, [], ◌∷◌, ◌++◌, length, take, drop, codes, decimal, Ok, Err, refl, sym, ap, ◌∙◌, subst, arith, append_assoc, inl, inr}
+use Rattle.std.proofs.Common.{◌≡◌, ◌⊎◌, ℕ, ◌+◌, ◌-◌, ◌<◌, ◌≤◌, min, true, false, cond, List, [], ◌∷◌, ◌++◌, length, take, drop, codes, decimal, Ok, Err, refl, sym, ap, ◌∙◌, subst, arith, append_assoc, inl, inr}
 use Rattle.std.specs.Prelude.{◌==◌, flat_map}
-use Rattle.std.specs.List.{AllByRecursion}
 use Rattle.std.proofs.lemmas.Bool.{cases_Bool, cases_lt, cases_order}
 use Rattle.std.proofs.lemmas.Bool.Decides.{Decides-eqb}
-use Rattle.std.proofs.lemmas.List.{append-nil, append_cancel_left, length-append, length-replicate, take_at, take-append-drop, take-take}
+use Rattle.std.proofs.lemmas.List.{append-nil, length-append, length-replicate, take_at, take-append-drop, take-take}
 use lib.ListN.{replicate}
 use Rattle.kn_base.specs.Decimal.{is_digit}
 use Rattle.kn_wire.specs.Items.{BatchItem, AddText, DropId, item_text, IsShortItem}
@@ -13,7 +12,7 @@ use Rattle.kn_follow.specs.declared.fault.FollowFault.TheVariants.{Line}
 use Rattle.kn_follow.specs.Following.{IsReadFault}
 use Rattle.kn_follow.specs.Forms.{ToldUpdate, LogReply, told_text, form_text, IsTellable, HasForm, IsLogText, IsFront, DepartsAt}
 use Rattle.kn_follow.specs.Laws.{SomeReading, OneReading}
-use Rattle.kn_follow.specs.Reading.{Read, both, mapped, times, literal_at, bytes_at, number_at, addition_at, removal_at, item_at, update_at, reply_at, most_updates, greatest_place}
+use Rattle.kn_follow.specs.Reading.{Read, both, times, literal_at, bytes_at, number_at, addition_at, removal_at, item_at, update_at, reply_at, most_updates, greatest_place}
 use Rattle.kn_follow.proofs.Readers.{IsReader, Fronts, Stands, Always, HasLength, AreTimes, some-times, got, stopped, got_is, stopped_is, chosen, both-reader, mapped-reader, times-reader, literal-reader, bytes-reader, stops-unspelled, not_behind}
 use Rattle.kn_follow.proofs.Numerals.{IsFrom, AreBounds, ended, number-reader}
 

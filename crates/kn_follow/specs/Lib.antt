@@ -1,4 +1,5 @@
 pub mod Forms
 pub mod Following
 pub mod Reading
+pub mod InCode
 pub mod Laws

@@ -1,15 +1,12 @@
 -- Reading a reply from its first byte on. What is read is a value, and the bytes behind it; a text of which none is read
 -- gives the bytes from the first one on that can't stand there, or none where it breaks off.
-use Rattle.std.specs.Prelude.{ℕ, zero, suc, ◌≡◌, ◌+◌, ◌-◌, ◌*◌, ◌/◌, Bool, true, false, ◌==◌, ◌&&◌, ◌||◌, nat_le, nat_lt}
+use Rattle.std.specs.Prelude.{ℕ, zero, suc, ◌+◌, ◌-◌, ◌*◌, ◌/◌, Bool, ◌==◌, ◌&&◌, ◌||◌, nat_le, nat_lt}
 use Rattle.std.specs.Prelude.{min, if◌then◌else◌, List, [], ◌∷◌, length, take, drop, codes, Result, Ok, Err}
 use Rattle.kn_base.specs.Decimal.{is_digit}
 use Rattle.kn_base.specs.declared.limits.TheConstants.{CHANGES, LOG_UPDATES}
 use Rattle.kn_wire.specs.Items.{BatchItem, AddText, DropId}
+use Rattle.kn_follow.specs.declared.reply.TheConstants.{NINE_DIGITS}
 use Rattle.kn_follow.specs.Forms.{ToldUpdate, LogReply}
-
--- the greatest number in a reply: its numbers have at most nine digits
-abbrev pub nine_digits : ℕ
-nine_digits = 999999999
 
 abbrev pub Read : Type 0 → Type 0
 Read A = Result (A × List ℕ) (List ℕ)
@@ -60,6 +57,10 @@ begins_number zero least most n = is_between least most n
 begins_number (suc more) least most n =
     is_between least most n || (nat_lt 0 n && begins_number more (least / 10) (most / 10) n)
 
+-- the byte ends a number from `least` to `most`, whose digits are those of n
+abbrev pub ends_number : ℕ → ℕ → ℕ → ℕ → ℕ → Bool
+ends_number least most end n b = b == end && is_between least most n
+
 -- the byte is one more digit behind those of n, which a number from `least` to `most` may have
 abbrev pub is_next_digit : ℕ → ℕ → ℕ → ℕ → Bool
 is_next_digit least most n b = (nat_lt 0 n && is_digit b) && begins_number 8 least most (n * 10 + (b - 48))
@@ -81,12 +82,12 @@ number_at least most end (b ∷ text) =
 unfoldable pub addition_at : List ℕ → Read BatchItem
 addition_at text =
     mapped (λ p. AddText p.1.1.0)
-    (both (literal_at (codes "ADD ")) (λ _. both (number_at 0 nine_digits 10) (λ n. both (bytes_at n) (λ _. literal_at (10 ∷ [])))))
+    (both (literal_at (codes "ADD ")) (λ _. both (number_at 0 NINE_DIGITS 10) (λ n. both (bytes_at n) (λ _. literal_at (10 ∷ [])))))
     text
 
 unfoldable pub removal_at : List ℕ → Read BatchItem
 removal_at text =
-    mapped (λ p. DropId p.1) (both (literal_at (codes "DROP a")) (λ _. number_at 0 nine_digits 10)) text
+    mapped (λ p. DropId p.1) (both (literal_at (codes "DROP a")) (λ _. number_at 0 NINE_DIGITS 10)) text
 
 -- an item, by its first byte: `A` or `D`
 unfoldable pub item_at : List ℕ → Read BatchItem
@@ -97,21 +98,21 @@ item_at (b ∷ text) =
 unfoldable pub update_at : List ℕ → Read ToldUpdate
 update_at text =
     mapped (λ p. record { caller = p.1.0; items = p.1.1.1 })
-    (both (literal_at (codes "UPDATE ")) (λ _. both (number_at 0 nine_digits 32) (λ _. both (number_at 1 CHANGES 10) (λ n. times item_at n))))
+    (both (literal_at (codes "UPDATE ")) (λ _. both (number_at 0 NINE_DIGITS 32) (λ _. both (number_at 1 CHANGES 10) (λ n. times item_at n))))
     text
 
 -- how many updates a reply may have that is to a client which holds the first `from`
 abbrev pub most_updates : ℕ → ℕ
-most_updates from = min LOG_UPDATES (nine_digits - from)
+most_updates from = min LOG_UPDATES (NINE_DIGITS - from)
 
 -- the greatest place of a reply with so many updates
 abbrev pub greatest_place : ℕ → ℕ → ℕ
-greatest_place from count = if count == LOG_UPDATES then nine_digits else from + count
+greatest_place from count = if count == LOG_UPDATES then NINE_DIGITS else from + count
 
 unfoldable pub reply_at : List ℕ → Read LogReply
 reply_at text =
     mapped (λ p. record { from = p.1.0; place = p.1.1.1.0; updates = p.1.1.1.1.0 })
-    (both (literal_at (codes "LOG ")) (λ _. both (number_at 0 nine_digits 32) (λ from. both (number_at 0 (most_updates from) 32)
+    (both (literal_at (codes "LOG ")) (λ _. both (number_at 0 NINE_DIGITS 32) (λ from. both (number_at 0 (most_updates from) 32)
     (λ count. both (number_at (from + count) (greatest_place from count) 10)
     (λ _. both (times update_at count) (λ _. literal_at (codes "END\n")))))))
     text

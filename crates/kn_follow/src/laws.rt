@@ -9,8 +9,9 @@ pub fn one_reading()
     ensures no_other { (text : List ℕ) → OneReading text }
 {}
 
-/// A replica holds the joined updates of the replies that were applied to it. Where these are replies over a history, each
-/// asked for with the number of updates held, they are the history's first updates, and each version is the history's.
+/// A replica holds the joined updates of the replies that were applied to it. Where these are replies over a history,
+/// each asked for with the number of updates held, they are the history's first updates, and each version is the
+/// history's.
 pub fn followers_follow()
     ensures one_way { TakenInOneWay }
     ensures follow { FollowersFollow }

@@ -1,10 +1,19 @@
-//! Followers: what replies to LOG make of a replica of a history (keynoted's own).
+//! Followers: replicas of a history that grow by the replies to LOG (keynoted's own).
 //!
-//! The definitions stand in `specs/`. Here are the faults that they speak of, and their laws, each of them the contract
-//! of a function that does nothing.
+//! The form of a reply, and the byte at which a text departs from it, are defined in `specs/` apart from the reader
+//! here.
 #![tactic(auto)]
 
 mod fault;
+mod items;
 pub mod laws;
+mod numbers;
+mod reading;
+mod replica;
+mod reply;
+#[cfg(test)]
+mod tests;
 
 pub use fault::FollowFault;
+pub use replica::Replica;
+pub use reply::REPLY_BYTES;

@@ -1,0 +1,23 @@
+use Rattle.std.proofs.Common.{◌≡◌, ℕ, ◌<◌, [], length, ap, arith}
+use Rattle.kn_wire.specs.declared.items.BatchItem.{BatchItem}
+use Rattle.kn_wire.specs.declared.items.BatchItem.TheVariants as B
+use Rattle.kn_follow.proofs.Takings.{asked_more, asked_unreadable}
+use Rattle.kn_follow.proofs.items.make_items.Goals as goal
+
+pub loop-item-preserved : goal.loop-item-preserved
+loop-item-preserved c =
+    let items = c.args.items.now in
+    let same : c.as_slice-item-items.result.now ≡ items = c.as_slice-item-items.ensures in
+    let i : ℕ = c.loop-item.item-index in
+    let within : i < length items = omega (arith, ap length same) in
+    let none : BatchItem = B.Add (record { ref_ptr = (0, 0); now = [] }) in
+    asked_more c.as_slice-item-items.result.now items i none c.loop-item.made _ _ same within c.loop-item.invariant c.in-Ok.ensures.item c.in-Ok-push.ensures.ok
+
+pub returns-in-Err-clause-unreadable : goal.returns-in-Err-clause-unreadable
+returns-in-Err-clause-unreadable c =
+    let items = c.args.items.now in
+    let same : c.as_slice-item-items.result.now ≡ items = c.as_slice-item-items.ensures in
+    let i : ℕ = c.loop-item.item-index in
+    let within : i < length items = omega (arith, ap length same) in
+    let none : BatchItem = B.Add (record { ref_ptr = (0, 0); now = [] }) in
+    asked_unreadable c.as_slice-item-items.result.now items i none _ same within c.in-Err.ensures.unreadable
