@@ -1,9 +1,12 @@
 -- Laws of replies to LOG and of followers.
-use Rattle.std.specs.Prelude.{ℕ, ◌≡◌, ◌⊎◌, ◌<◌, ◌≤◌, true, List, [], ◌∷◌, ◌++◌, length, take, map}
+use Rattle.std.specs.Prelude.{ℕ, ◌≡◌, ◌≢◌, ◌⊎◌, ◌<◌, ◌≤◌, true, List, [], ◌∷◌, ◌++◌, length, take, map}
 use Rattle.std.specs.List.{AllByRecursion}
 use Rattle.kn_history.specs.declared.update.Update.{Update}
 use Rattle.kn_history.specs.History.{is_valid_history}
 use Rattle.kn_reply.specs.Logs.{log_part, log_text, held_after}
+use Rattle.kn_follow.specs.declared.fault.FollowFault.{FollowFault}
+use Rattle.kn_follow.specs.declared.fault.FollowFault.TheVariants.{NoMemory}
+use Rattle.kn_follow.specs.Files.{IsLogFile, IsLogFault}
 use Rattle.kn_follow.specs.Forms.{LogReply, IsTellable, IsLogText, DepartsAt, told_update}
 use Rattle.kn_follow.specs.Following.{IsApplied, Applies}
 
@@ -16,6 +19,19 @@ pub record OneReading (text : List ℕ) : Type 0 where
   pub one_reply : (reply other : LogReply) → IsLogText text reply → IsLogText text other → reply ≡ other
   pub one_byte : (at other : ℕ) → DepartsAt text at → DepartsAt text other → at ≡ other
   pub not_both : (reply : LogReply) (at : ℕ) → IsLogText text reply → DepartsAt text at → ⊥
+
+-- a file of replies has some ending: these make a history, or it has a fault that isn't want of memory
+abbrev pub SomeEnding : Type 0
+SomeEnding = (text : List ℕ)
+    → ((new : List Update) × IsLogFile text new) ⊎ ((fault : FollowFault) × (fault ≢ NoMemory) × IsLogFault text fault)
+
+-- it has one ending: its replies make one history alone, or it has one fault that isn't want of memory, and never both
+pub record OneEnding (text : List ℕ) : Type 0 where
+  pub one_history : (new other : List Update) → IsLogFile text new → IsLogFile text other → new ≡ other
+  pub one_fault : (fault other : FollowFault) → fault ≢ NoMemory → other ≢ NoMemory
+      → IsLogFault text fault → IsLogFault text other → fault ≡ other
+  pub not_both : (new : List Update) (fault : FollowFault) → fault ≢ NoMemory
+      → IsLogFile text new → IsLogFault text fault → ⊥
 
 -- replies are taken in one way
 abbrev pub TakenInOneWay : Type 0

@@ -5,6 +5,7 @@
 #![tactic(auto)]
 
 mod fault;
+mod files;
 mod items;
 pub mod laws;
 mod numbers;
@@ -15,5 +16,6 @@ mod reply;
 mod tests;
 
 pub use fault::FollowFault;
+pub use files::follow;
 pub use replica::Replica;
 pub use reply::REPLY_BYTES;

@@ -79,7 +79,7 @@ impl Replica {
 
     /// Takes the updates of a reply.
     #[tactic(auto, using(crate::proofs::Takings::reply_fault))]
-    fn take_reply(&mut self, reply: &Reply<'_>) -> Result<u32, FollowFault>
+    pub(crate) fn take_reply(&mut self, reply: &Reply<'_>) -> Result<u32, FollowFault>
         requires form { HasForm (reply_of reply.now) }
         ensures taken { IfOk result (λ count. TakesReply self.old (reply_of reply.now) count self.new) }
         ensures fault { IfErr result (λ fault. IsReplyFault self.old (reply_of reply.now) fault self.new) }
@@ -159,7 +159,7 @@ fn read_whole<'a>(alloc: Global, text: &'a [u8]) -> Result<Reply<'a>, FollowFaul
 }
 
 /// The fault of a text of which this is left where it departs from the form.
-fn line_fault(text: &[u8], rest: &[u8]) -> FollowFault
+pub(crate) fn line_fault(text: &[u8], rest: &[u8]) -> FollowFault
     requires short { length text.now ≤ REPLY_BYTES }
     requires rest { length rest.now ≤ length text.now }
     ensures { result ≡ F.Line (length text.now - length rest.now) }

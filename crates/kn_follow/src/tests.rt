@@ -1,8 +1,10 @@
 //! What replies make of replicas.
 
 use crate::fault::FollowFault;
+use crate::files::follow;
 use crate::replica::Replica;
 use crate::reply::REPLY_BYTES;
+use kn_base::{NoMemory, Octets};
 use std::alloc::Global;
 use std::test::Fail;
 
@@ -100,4 +102,83 @@ fn texts_break_off(rt: HostRuntime) {
         let found = outcome(rt.alloc(), part);
         assert_eq!(rt; found, Err(FollowFault::Line { at }));
     }
+}
+
+// A file that begins with the two updates.
+fn behind_two(alloc: Global, rest: &[u8]) -> Result<Octets, NoMemory> {
+    let mut file = Octets::from_slice(alloc, TWO_UPDATES)?;
+    file.extend(rest)?;
+    Ok(file)
+}
+
+// What a file makes of a new replica: how many updates, and how many credentials that live.
+fn ending(alloc: Global, file: &[u8]) -> Result<(u32, u32), FollowFault> {
+    let replica = follow(alloc, file)?;
+    Ok((replica.length(), replica.snapshot().len()))
+}
+
+#[test]
+fn files_are_followed(rt: HostRuntime) -> Result<(), Fail> {
+    let found = ending(rt.alloc(), b"");
+    assert_eq!(rt; found, Ok((0, 0)));
+    let found = ending(rt.alloc(), b"\n");
+    assert_eq!(rt; found, Err(FollowFault::Line { at: 0 }));
+    let cases: [(&[u8], Result<(u32, u32), FollowFault>); 6] = [
+        (b"", Ok((2, 2))),
+        (
+            b"LOG 2 1 3\nUPDATE 7 1\nDROP a2\nEND\nLOG 3 0 3\nEND\n",
+            Ok((3, 1)),
+        ),
+        (TWO_UPDATES, Err(FollowFault::Gap { from: 0, have: 2 })),
+        (b"LOG 2 0 2\nEND\nLOG 2", Err(FollowFault::Line { at: 5 })),
+        (b"LOG 2 0 2\nEND\nx", Err(FollowFault::Line { at: 0 })),
+        (
+            b"LOG 2 1 3\nUPDATE 0 1\nDROP a9\nEND\nx",
+            Err(FollowFault::Refused { place: 3 }),
+        ),
+    ];
+    for (rest, wanted) in cases {
+        let file = behind_two(rt.alloc(), rest).ok().ok_or("memory")?;
+        let found = ending(rt.alloc(), file.as_slice());
+        assert_eq!(rt; found, wanted, "{rest:?}");
+    }
+    Ok(())
+}
+
+// The addition of a credential of so many bytes, which has a comment.
+fn add_commented(file: &mut Octets, head: &[u8], bytes: usize) -> Result<(), NoMemory> {
+    file.extend(head)?;
+    file.extend(b"Authorizer: \"POLICY\"\nComment: ")?;
+    for _ in 31..bytes {
+        file.push(b'x')?;
+    }
+    file.extend(b"\n\n")
+}
+
+// A reply whose last credential has so many bytes: its head tells that.
+fn long_reply(alloc: Global, head: &[u8], bytes: usize) -> Result<Octets, NoMemory> {
+    let mut file = Octets::from_slice(alloc, b"LOG 0 1 1\nUPDATE 0 19\n")?;
+    for _ in 0..18_u32 {
+        add_commented(&mut file, b"ADD 16384\n", 16_384)?;
+    }
+    add_commented(&mut file, head, bytes)?;
+    file.extend(b"END\n")?;
+    Ok(file)
+}
+
+#[test]
+fn replies_have_a_limit(rt: HostRuntime) -> Result<(), Fail> {
+    let longest = long_reply(rt.alloc(), b"ADD 4854\n", 4_854)
+        .ok()
+        .ok_or("memory")?;
+    assert_eq!(rt; longest.len(), REPLY_BYTES);
+    let found = ending(rt.alloc(), longest.as_slice());
+    assert_eq!(rt; found, Ok((1, 19)));
+    let longer = long_reply(rt.alloc(), b"ADD 4855\n", 4_855)
+        .ok()
+        .ok_or("memory")?;
+    assert_eq!(rt; longer.len(), REPLY_BYTES + 1);
+    let found = ending(rt.alloc(), longer.as_slice());
+    assert_eq!(rt; found, Err(FollowFault::Line { at: 300_000 }));
+    Ok(())
 }

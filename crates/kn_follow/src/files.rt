@@ -1,0 +1,72 @@
+//! Files of replies to LOG.
+ghost use Rattle.std.specs.Prelude.{◌≤◌, ◌-◌, take, length, IfOk, IfErr};
+ghost use Rattle.kn_follow.specs.Files.{IsLogFile, IsLogFault, AppliesFront, IsFrontFault};
+ghost use Rattle.kn_follow.specs.Files.{StartsWith, IsFrontReadFault};
+ghost use Rattle.kn_follow.specs.Forms.{HasForm};
+ghost use Rattle.kn_follow.specs.InCode.{reply_of};
+ghost use Rattle.kn_follow.specs.declared.reply.TheConstants.{REPLY_BYTES};
+
+use crate::fault::FollowFault;
+use crate::reading::read_reply;
+use crate::replica::{Replica, line_fault};
+use crate::reply::{REPLY_BYTES, ReadStop, Reply};
+use std::alloc::Global;
+
+/// The replica that the replies of a file make, which is these one after the other.
+///
+/// `Line` comes where no whole reply of at most 300,000 bytes stands behind those that were applied, `Gap` and
+/// `Refused` where one does and isn't applied; `at` counts from where that reply begins, and is 300,000 where it keeps
+/// the form past this. Out of memory nothing is said of the file. No more is kept than the replica and what is read of
+/// one reply.
+pub fn follow(alloc: Global, log: &[u8]) -> Result<Replica, FollowFault>
+    ensures followed { IfOk result (λ replica. IsLogFile log.now replica) }
+    ensures refused { IfErr result (λ fault. IsLogFault log.now fault) }
+{
+    let mut replica = Replica::start(alloc)?;
+    let mut rest = log;
+    'replies: while !rest.is_empty() {
+        rest = match take_front(alloc, &mut replica, rest) {
+            Ok(behind) => behind,
+            Err(fault) => return Err(fault),
+        };
+    }
+    Ok(replica)
+}
+
+/// Applies the reply at the front of these bytes, and gives those behind it.
+fn take_front<'a>(
+    alloc: Global,
+    replica: &mut Replica,
+    bytes: &'a [u8],
+) -> Result<&'a [u8], FollowFault>
+    requires some { 1 ≤ length bytes.now }
+    ensures applied { IfOk result (λ rest. AppliesFront replica.old bytes.now rest.now replica.new) }
+    ensures fault { IfErr result (λ fault. IsFrontFault replica.old bytes.now fault) }
+{
+    let (reply, rest) = match read_front(alloc, bytes) {
+        Ok(read) => read,
+        Err(fault) => return Err(fault),
+    };
+    match replica.take_reply(&reply) {
+        Ok(_) => Ok(rest),
+        Err(fault) => Err(fault),
+    }
+}
+
+/// The reply at the front of these bytes, and those behind it.
+fn read_front<'a>(alloc: Global, bytes: &'a [u8]) -> Result<(Reply<'a>, &'a [u8]), FollowFault>
+    requires some { 1 ≤ length bytes.now }
+    ensures form { IfOk result (λ x. StartsWith bytes.now (reply_of x.0) x.1.now) }
+    ensures fault { IfErr result (λ fault. IsFrontReadFault bytes.now fault) }
+{
+    let most = bytes.len().min(REPLY_BYTES);
+    let (window, _) = bytes.split_at(most);
+    match read_reply(alloc, window) {
+        Ok((reply, behind)) => {
+            let (_, rest) = bytes.split_at(window.len() - behind.len());
+            Ok((reply, rest))
+        }
+        Err(ReadStop::Departs(left)) => Err(line_fault(window, left)),
+        Err(ReadStop::NoMemory) => Err(FollowFault::NoMemory),
+    }
+}
