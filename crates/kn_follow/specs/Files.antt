@@ -55,14 +55,18 @@ IsFrontFault held left (Gap from have) = RefusesFront held left (Gap from have)
 IsFrontFault held left (Refused place) = RefusesFront held left (Refused place)
 IsFrontFault held left NoMemory = Unit {0}
 
--- The replies in front make this history of a new replica, and this is why it doesn't go on with the bytes behind them.
-pub record IsLogFault (text : List ℕ) (fault : FollowFault) : Type 0 where
+-- the first replies of a file make this history of a new replica, and these bytes are left behind them
+pub record AppliesFirst (text left : List ℕ) (held : List Update) : Type 0 where
   pub replies : List (List ℕ)
-  pub held : List Update
-  pub left : List ℕ
   pub cut : text ≡ concat replies ++ left
   pub short : AllByRecursion IsWithinLimit replies
   pub applied : Applies [] replies held
+
+-- why a file isn't replies that a new replica applies: after those in front it doesn't go on with what is left
+pub record IsLogFault (text : List ℕ) (fault : FollowFault) : Type 0 where
+  pub held : List Update
+  pub left : List ℕ
+  pub first : AppliesFirst text left held
   pub why : IsFrontFault held left fault
 
 -- What the reader of a file in code is told: a reply stands at the front of these bytes, and these are behind it.

@@ -1,5 +1,5 @@
 //! Files of replies to LOG.
-ghost use Rattle.std.specs.Prelude.{◌≤◌, ◌-◌, take, length, IfOk, IfErr};
+ghost use Rattle.std.specs.Prelude.{◌≡◌, ◌<◌, ◌≤◌, take, length, IfOk, IfErr};
 ghost use Rattle.kn_follow.specs.Files.{IsLogFile, IsLogFault, AppliesFront, IsFrontFault};
 ghost use Rattle.kn_follow.specs.Files.{StartsWith, IsFrontReadFault};
 ghost use Rattle.kn_follow.specs.Forms.{HasForm};
@@ -10,6 +10,7 @@ use crate::fault::FollowFault;
 use crate::reading::read_reply;
 use crate::replica::{Replica, line_fault};
 use crate::reply::{REPLY_BYTES, ReadStop, Reply};
+use kn_base::NoMemory;
 use std::alloc::Global;
 
 /// The replica that the replies of a file make, which is these one after the other.
@@ -18,11 +19,15 @@ use std::alloc::Global;
 /// `Refused` where one does and isn't applied; `at` counts from where that reply begins, and is 300,000 where it keeps
 /// the form past this. Out of memory nothing is said of the file. No more is kept than the replica and what is read of
 /// one reply.
+#[tactic(auto, using(crate::proofs::Fronts::follow_begun, crate::proofs::Fronts::follow_more, crate::proofs::Fronts::follow_ended, crate::proofs::Fronts::follow_fails, crate::proofs::Fronts::follow_unbegun))]
 pub fn follow(alloc: Global, log: &[u8]) -> Result<Replica, FollowFault>
     ensures followed { IfOk result (λ replica. IsLogFile log.now replica) }
     ensures refused { IfErr result (λ fault. IsLogFault log.now fault) }
 {
-    let mut replica = Replica::start(alloc)?;
+    let mut replica = match Replica::start(alloc) {
+        Ok(replica) => replica,
+        Err(NoMemory) => return Err(FollowFault::NoMemory),
+    };
     let mut rest = log;
     'replies: while !rest.is_empty() {
         rest = match take_front(alloc, &mut replica, rest) {
@@ -40,6 +45,7 @@ fn take_front<'a>(
     bytes: &'a [u8],
 ) -> Result<&'a [u8], FollowFault>
     requires some { 1 ≤ length bytes.now }
+    ensures shorter { IfOk result (λ rest. length rest.now < length bytes.now) }
     ensures applied { IfOk result (λ rest. AppliesFront replica.old bytes.now rest.now replica.new) }
     ensures fault { IfErr result (λ fault. IsFrontFault replica.old bytes.now fault) }
 {
@@ -59,8 +65,7 @@ fn read_front<'a>(alloc: Global, bytes: &'a [u8]) -> Result<(Reply<'a>, &'a [u8]
     ensures form { IfOk result (λ x. StartsWith bytes.now (reply_of x.0) x.1.now) }
     ensures fault { IfErr result (λ fault. IsFrontReadFault bytes.now fault) }
 {
-    let most = bytes.len().min(REPLY_BYTES);
-    let (window, _) = bytes.split_at(most);
+    let window = first_bytes(bytes);
     match read_reply(alloc, window) {
         Ok((reply, behind)) => {
             let (_, rest) = bytes.split_at(window.len() - behind.len());
@@ -69,4 +74,14 @@ fn read_front<'a>(alloc: Global, bytes: &'a [u8]) -> Result<(Reply<'a>, &'a [u8]
         Err(ReadStop::Departs(left)) => Err(line_fault(window, left)),
         Err(ReadStop::NoMemory) => Err(FollowFault::NoMemory),
     }
+}
+
+/// As many of the first bytes as a reply may have, or all of them where they are fewer.
+fn first_bytes(bytes: &[u8]) -> &[u8]
+    ensures first { result.now ≡ take REPLY_BYTES bytes.now }
+    ensures short { length result.now ≤ REPLY_BYTES }
+    ensures within { length result.now ≤ length bytes.now }
+{
+    let (first, _) = bytes.split_at(REPLY_BYTES.min(bytes.len()));
+    first
 }
