@@ -5,3 +5,6 @@ pub mod MatchingLaws
 pub mod CallingLaws
 pub mod AdmittingLaws
 pub mod OpeningLaws
+pub mod EndingLaws
+pub mod ValueReplyLaws
+pub mod QueryingLaws

@@ -1,16 +1,20 @@
 //! Transcripts: what a client sent on a whole connection and what it got, judged from the policy alone.
 //!
 //! Here stand the definitions of an accepted transcript and of each fault of one, their laws, and judges of single
-//! replies: those to calls of a session, OPEN, PIN, ADMIN, BYE and what is no request. No query is settled.
+//! replies: those to calls of a session, OPEN, PIN, QUERY, ADMIN, BYE and what is no request. A reply to QUERY is
+//! checked by its rows, and no query is settled.
 #![tactic(auto)]
 
 mod admitting;
 mod calling;
 mod connection;
+mod ending;
 mod fault;
 pub mod laws;
 mod matching;
 mod opening;
+mod querying;
 mod refusals;
+mod value_reply;
 
 pub use fault::{AUTH_FAULTS, TranscriptFault};
