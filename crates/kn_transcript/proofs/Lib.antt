@@ -8,3 +8,6 @@ pub mod OpeningLaws
 pub mod EndingLaws
 pub mod ValueReplyLaws
 pub mod QueryingLaws
+pub mod Written
+pub mod Fronts
+pub mod FormLaws

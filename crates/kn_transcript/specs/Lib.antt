@@ -5,3 +5,6 @@ pub mod Faulty
 pub mod Judging
 pub mod ValueReplies
 pub mod Laws
+pub mod Numerals
+pub mod Fronts
+pub mod Forms
