@@ -1,5 +1,5 @@
 -- Texts of a form at the front of bytes.
-use Rattle.std.proofs.Common.{◌≡◌, ◌≢◌, ◌⊎◌, ℕ, suc, ◌+◌, ◌<◌, ◌≤◌, Bool, true, false, not, ◌&&◌, ◌||◌, ◌==◌, cond, List, [], ◌∷◌, ◌++◌, length, drop, get_or, map, decimal, Option, Some, None, refl, sym, ap, ◌∙◌, arith, subst, inl, inr, append_assoc}
+use Rattle.std.proofs.Common.{◌≡◌, ◌≢◌, ℕ, ◌+◌, ◌<◌, ◌≤◌, true, false, not, ◌||◌, ◌==◌, List, [], ◌∷◌, ◌++◌, length, drop, get_or, map, decimal, Option, Some, None, refl, sym, ap, ◌∙◌, arith, subst, inl, inr, append_assoc}
 use Rattle.std.proofs.lemmas.Bool.{and_parts, or_cases, or_parts, eq-eqb, ne_eqb, eqb-false, cond-true, cond-false, cases_eq, not-true, not_from_true, false≢true}
 use Rattle.std.proofs.lemmas.List.{drop_more, drop_all, drop-map, length-map}
 use Rattle.kn_base.specs.Decimal.{is_digit}
@@ -9,10 +9,10 @@ use Rattle.kn_transcript.specs.Forms.{filled, IsOfForm, IsOfOneForm, ends_number
 use Rattle.kn_transcript.proofs.Written.{number_once}
 
 -- the two cases of a part
-filled_number : (b : ℕ) (form ns : List ℕ) → b ≡ 35 → filled (b ∷ form) ns ≡ decimal (get_or ns 0 0) ++ filled form (drop 1 ns)
+pub filled_number : (b : ℕ) (form ns : List ℕ) → b ≡ 35 → filled (b ∷ form) ns ≡ decimal (get_or ns 0 0) ++ filled form (drop 1 ns)
 filled_number b form ns hash = cond-true (b == 35) (decimal (get_or ns 0 0) ++ filled form (drop 1 ns)) (b ∷ filled form ns) (eq-eqb b 35 hash)
 
-filled_byte : (b : ℕ) (form ns : List ℕ) → b ≢ 35 → filled (b ∷ form) ns ≡ b ∷ filled form ns
+pub filled_byte : (b : ℕ) (form ns : List ℕ) → b ≢ 35 → filled (b ∷ form) ns ≡ b ∷ filled form ns
 filled_byte b form ns other = cond-false (b == 35) (decimal (get_or ns 0 0) ++ filled form (drop 1 ns)) (b ∷ filled form ns) (ne_eqb b 35 other)
 
 -- no digit follows a number of a form
@@ -68,9 +68,11 @@ number_more b form left rest None hash is first none = λ text more has e.
     let same = number_once first.0 (get_or has.0 0 0) rest (filled form (drop 1 has.0) ++ more) first.2 (no_digit form (drop 1 has.0) more (number_ends b form hash is))
     (sym first.1 ∙ e ∙ ap (λ (l : List ℕ). l ++ more) (has.1 ∙ filled_number b form has.0 hash) ∙ append_assoc (decimal (get_or has.0 0 0)) (filled form (drop 1 has.0)) more) in
     none (filled form (drop 1 has.0)) more (drop 1 has.0, refl) same.1
-number_more b form left rest (Some more) hash is first next =
-    (decimal first.0 ++ next.0, (first.0 ∷ next.1.0, ap (λ (l : List ℕ). decimal first.0 ++ l) next.1.1 ∙ sym (filled_number b form (first.0 ∷ next.1.0) hash)),
-    first.1 ∙ ap (λ (l : List ℕ). decimal first.0 ++ l) next.2 ∙ sym (append_assoc (decimal first.0) next.0 more))
+number_more b form left rest (Some more) hash is first next = (
+  decimal first.0 ++ next.0,
+  (first.0 ∷ next.1.0, ap (λ (l : List ℕ). decimal first.0 ++ l) next.1.1 ∙ sym (filled_number b form (first.0 ∷ next.1.0) hash)),
+  first.1 ∙ ap (λ (l : List ℕ). decimal first.0 ++ l) next.2 ∙ sym (append_assoc (decimal first.0) next.0 more),
+)
 
 number_none : (b : ℕ) (form left : List ℕ) → b ≡ 35 → is_form (b ∷ form) ≡ true → IsBehindNumber left None → IsBehindOne (IsOfForm (b ∷ form)) left None
 number_none b form left hash is none = λ text more has e.
@@ -84,9 +86,11 @@ byte_more b form left rest None other first none = λ text more has e.
     let whole : b ∷ rest ≡ b ∷ (filled form has.0 ++ more) = sym here ∙ e ∙ ap (λ (l : List ℕ). l ++ more) (has.1 ∙ filled_byte b form has.0 other) in
     let tail : rest ≡ filled form has.0 ++ more = cc in
     none (filled form has.0) more (has.0, refl) tail
-byte_more b form left rest (Some more) other first next =
-    (b ∷ next.0, (next.1.0, ap (λ (l : List ℕ). b ∷ l) next.1.1 ∙ sym (filled_byte b form next.1.0 other)),
-    first.2 ∙ ap (λ (l : List ℕ). l ++ rest) first.1 ∙ ap (λ (l : List ℕ). b ∷ l) next.2)
+byte_more b form left rest (Some more) other first next = (
+  b ∷ next.0,
+  (next.1.0, ap (λ (l : List ℕ). b ∷ l) next.1.1 ∙ sym (filled_byte b form next.1.0 other)),
+  first.2 ∙ ap (λ (l : List ℕ). l ++ rest) first.1 ∙ ap (λ (l : List ℕ). b ∷ l) next.2,
+)
 
 byte_none : (b : ℕ) (form left : List ℕ) → b ≢ 35 → IsBehindOne (λ text. text ≡ b ∷ []) left None → IsBehindOne (IsOfForm (b ∷ form)) left None
 byte_none b form left other none = λ text more has e.

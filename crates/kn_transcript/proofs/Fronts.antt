@@ -1,9 +1,9 @@
 -- Texts at the front of bytes, one behind the other.
-use Rattle.std.proofs.Common.{◌≡◌, ◌≢◌, ◌⊎◌, ℕ, zero, suc, ◌+◌, ◌-◌, ◌<◌, ◌≤◌, List, [], ◌∷◌, ◌++◌, length, Option, Some, None, refl, sym, ap, ◌∙◌, arith, inl, inr, append_assoc, flat_map}
+use Rattle.std.proofs.Common.{◌≡◌, ◌≢◌, ◌⊎◌, ℕ, zero, suc, ◌+◌, ◌-◌, ◌<◌, ◌≤◌, List, [], ◌∷◌, ◌++◌, length, Option, Some, None, refl, sym, ap, ◌∙◌, arith, subst, inl, inr, append_assoc, flat_map}
 use Rattle.std.specs.List.{All}
 use Rattle.std.proofs.lemmas.List.{append_cancel_left}
 use Rattle.std.proofs.lemmas.List.Elements.{All-nil, All-cons, All-head, All-tail}
-use Rattle.kn_transcript.specs.Fronts.{IsBehindOne, AreApart}
+use Rattle.kn_transcript.specs.Fronts.{IsBehindOne, AreApart, TextOf, Items}
 
 -- the same texts, said in another way
 pub behind_same : (Is Are : List ℕ → Type 0) (left : List ℕ) (found : Option (List ℕ)) → ((text : List ℕ) → Is text → Are text)
@@ -28,9 +28,11 @@ then_some A B left rest None apart first none = λ text more is e.
     let same = apart first.0 is.0 rest (is.1 ++ more) first.1 is.2
     (sym first.2 ∙ e ∙ ap (λ (l : List ℕ). l ++ more) is.4 ∙ append_assoc is.0 is.1 more) in
     none is.1 more is.3 same.1
-then_some A B left rest (Some more) apart first second =
-    (first.0 ++ second.0, (first.0, second.0, first.1, second.1, refl),
-    first.2 ∙ ap (λ (l : List ℕ). first.0 ++ l) second.2 ∙ sym (append_assoc first.0 second.0 more))
+then_some A B left rest (Some more) apart first second = (
+  first.0 ++ second.0,
+  (first.0, second.0, first.1, second.1, refl),
+  first.2 ∙ ap (λ (l : List ℕ). first.0 ++ l) second.2 ∙ sym (append_assoc first.0 second.0 more),
+)
 
 pub then_apart : (A B : List ℕ → Type 0) → AreApart A → AreApart B → AreApart (Then A B)
 then_apart A B one two a b r s is is' e =
@@ -89,22 +91,17 @@ many_none A count i left within none =
     let some : count - i ≡ suc (count - (i + 1)) = omega (arith, within) in
     rw some (then_none A (Many A (count - (i + 1))) left none)
 
--- the texts of items of a kind
-abbrev pub TextOf : {X : Type 0} → (X → Type 0) → (X → List ℕ) → List ℕ → Type 0
-TextOf {X} P text_of text = (x : X) × P x × (text ≡ text_of x)
-
--- so many items, one behind the other
-abbrev pub Items : {X : Type 0} → (X → Type 0) → (X → List ℕ) → ℕ → List ℕ → Type 0
-Items {X} P text_of count text = (xs : List X) × (length xs ≡ count) × All P xs × (text ≡ flat_map text_of xs)
-
 module _ {X : Type 0} (P : X → Type 0) (text_of : X → List ℕ) where
   pub items_from : (count : ℕ) (text : List ℕ) → Many (TextOf P text_of) count text → Items P text_of count text
   items_from zero text is = ([], refl, All-nil P, is)
   items_from (suc n) text is =
       let rest = items_from n is.1 is.3 in
-      let size : length rest.0 ≡ n = rest.1 in
-      (is.2.0 ∷ rest.0, omega (arith, size), All-cons P is.2.0 rest.0 is.2.1 rest.2,
-      is.4 ∙ ap (λ (l : List ℕ). l ++ is.1) is.2.2 ∙ ap (λ (l : List ℕ). text_of is.2.0 ++ l) rest.3)
+      let size : length rest.0 ≡ n = rest.1 in (
+        is.2.0 ∷ rest.0,
+        omega (arith, size),
+        All-cons P is.2.0 rest.0 is.2.1 rest.2,
+        is.4 ∙ ap (λ (l : List ℕ). l ++ is.1) is.2.2 ∙ ap (λ (l : List ℕ). text_of is.2.0 ++ l) rest.3,
+      )
 
   many_from : (count : ℕ) (text : List ℕ) (xs : List X) → length xs ≡ count → All P xs → text ≡ flat_map text_of xs → Many (TextOf P text_of) count text
   many_from zero text [] size each spelled = spelled
@@ -115,3 +112,14 @@ module _ {X : Type 0} (P : X → Type 0) (text_of : X → List ℕ) where
 
   pub from_items : (count : ℕ) (text : List ℕ) → Items P text_of count text → Many (TextOf P text_of) count text
   from_items count text is = many_from count text is.0 is.1 is.2 is.3
+
+  -- the items of a loop
+  pub items_init : (count : ℕ) (left : List ℕ) (found : Option (List ℕ)) → IsBehindOne (Many (TextOf P text_of) (count - 0)) left found
+      → IsBehindOne (Items P text_of count) left found
+  items_init count left found is =
+      let all : count - 0 ≡ count = omega arith in
+      behind_same (Many (TextOf P text_of) count) (Items P text_of count) left found (items_from count) (from_items count)
+      (subst (λ (n : ℕ). IsBehindOne (Many (TextOf P text_of) n) left found) all is)
+
+  pub items_apart : (count : ℕ) → AreApart (TextOf P text_of) → AreApart (Items P text_of count)
+  items_apart count apart = apart_same (Many (TextOf P text_of) count) (Items P text_of count) (from_items count) (many_apart (TextOf P text_of) apart count)

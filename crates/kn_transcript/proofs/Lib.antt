@@ -11,3 +11,9 @@ pub mod QueryingLaws
 pub mod Written
 pub mod Fronts
 pub mod FormLaws
+pub mod OneLineLaws
+pub mod ReplyLaws
+pub mod EndLaws
+pub mod LogLaws
+pub mod AnyLaws
+pub mod ApartLaws

@@ -1,5 +1,5 @@
 -- How numbers are written, and which digits are a number.
-use Rattle.std.proofs.Common.{◌≡◌, ◌≢◌, ◌⊎◌, ℕ, zero, suc, ◌+◌, ◌-◌, ◌*◌, ◌/◌, ◌%◌, ◌^◌, ◌<◌, ◌≤◌, Bool, true, false, not, cond, ◌&&◌, ◌||◌, ◌==◌, nat_le, List, Option, Some, None, [], ◌∷◌, ◌++◌, length, get_or, refl, sym, ap, ◌∙◌, arith, subst, inl, inr, append_assoc, ltb}
+use Rattle.std.proofs.Common.{◌≡◌, ◌≢◌, ◌⊎◌, ℕ, zero, suc, ◌+◌, ◌-◌, ◌*◌, ◌/◌, ◌%◌, ◌^◌, ◌<◌, ◌≤◌, true, false, not, ◌&&◌, ◌||◌, ◌==◌, nat_le, List, Some, None, [], ◌∷◌, ◌++◌, length, get_or, refl, sym, ap, ◌∙◌, arith, subst, inl, inr, append_assoc, ltb}
 use Rattle.std.specs.List.{list_all, list_any}
 use Rattle.std.specs.Fmt.{decimal, digits, digits_onto, digit_glyph}
 use Rattle.std.proofs.lemmas.Bool.{and_parts, and_from, or_cases, or_left, or_right, leb-true, le-leb, eqb-true, eqb-false, ne_eqb, eq-eqb, lt-ltb, cond-true, cond-false, cases_eq, not-true, not_from_false, false≢true, le-ltb, ltb-false, cases_Bool}
@@ -64,13 +64,13 @@ pub are_last_digits : (k n : ℕ) (acc : List ℕ) → AreLastDigits k n acc (di
 are_last_digits zero n acc = record { ds = []; cut = refl; all = refl; few = omega arith; some = λ p. absurd (omega (arith, p)); leading = λ e. inl refl }
 are_last_digits (suc k) n acc = elim (cases_eq (n / 10) 0) [
   | inl none ↦ record {
-      ds = (48 + n % 10) ∷ [];
-      cut = last k n acc none;
-      all = rw (digit_is (48 + n % 10) (omega arith) (omega arith)) refl;
-      few = omega arith;
-      some = λ p. omega arith;
-      leading = λ e. inr (refl, omega (arith, none, e));
-    }
+    ds = (48 + n % 10) ∷ [];
+    cut = last k n acc none;
+    all = rw (digit_is (48 + n % 10) (omega arith) (omega arith)) refl;
+    few = omega arith;
+    some = λ p. omega arith;
+    leading = λ e. inr (refl, omega (arith, none, e));
+  }
   | inr more ↦
       let rest = are_last_digits k (n / 10) ((48 + n % 10) ∷ acc) in
       let size = length_more rest.ds (48 + n % 10) in
@@ -136,13 +136,13 @@ written_means (b ∷ ds) all e =
       | inl one ↦ short b ds low high parts.1 few (inl (nil_from_length ds (let l = eqb-true (length (b ∷ ds)) 1 one in omega (arith, l))))
       | inr other ↦ elim (or_cases (length (b ∷ ds) == 64) (not (b == 48)) other) [
         | inl full ↦ record {
-            number = folded 1 (b ∷ ds);
-            same =
-                let l = eqb-true (length (b ∷ ds)) 64 full in
-                let whole : length (b ∷ ds) + 0 ≡ 64 = omega (arith, l) in
-                sym (append-nil (b ∷ ds)) ∙ sym (unfolds (b ∷ ds) 1 0 [] (omega arith) all)
-                ∙ ap (λ (k : ℕ). digits_onto k 10 false (folded 1 (b ∷ ds)) []) whole;
-          }
+          number = folded 1 (b ∷ ds);
+          same =
+              let l = eqb-true (length (b ∷ ds)) 64 full in
+              let whole : length (b ∷ ds) + 0 ≡ 64 = omega (arith, l) in
+              sym (append-nil (b ∷ ds)) ∙ sym (unfolds (b ∷ ds) 1 0 [] (omega arith) all)
+              ∙ ap (λ (k : ℕ). digits_onto k 10 false (folded 1 (b ∷ ds)) []) whole;
+        }
         | inr leading ↦ short b ds low high parts.1 few (inr (eqb-false b 48 (not-true (b == 48) leading)))
       ]
     ]

@@ -8,3 +8,6 @@ pub mod Laws
 pub mod Numerals
 pub mod Fronts
 pub mod Forms
+pub mod OneLineForms
+pub mod Kinds
+pub mod Apart

@@ -6,17 +6,20 @@
 #![tactic(auto)]
 
 mod admitting;
+pub mod apart;
 mod calling;
 mod connection;
 mod ending;
 mod fault;
 mod forms;
 pub mod laws;
+mod logs;
 mod matching;
 mod numerals;
 mod opening;
 mod querying;
 mod refusals;
 mod value_reply;
+mod replies;
 
 pub use fault::{AUTH_FAULTS, TranscriptFault};
