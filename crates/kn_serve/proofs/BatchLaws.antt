@@ -27,8 +27,8 @@ use Rattle.kn_daemon.specs.Linearized.{update_by, read_items}
 use Rattle.kn_registry.specs.declared.answer.Batched.{Batched as BatchDone}
 use Rattle.kn_registry.specs.Passes.{PassSeen, Looks as PassLooks, Batches, RefusesItems}
 use Rattle.kn_serve.specs.Admission.{AdmitsAll, RefusesOneItem}
-use Rattle.kn_serve.specs.Handling.{Moment, in_state, Handles, Tells, refusal_of_batch_text, refusal_of_batch_fault}
-use Rattle.kn_serve.specs.Handling.{refused_reply}
+use Rattle.kn_refusals.specs.Refusals.{refusal_of_batch_text, refusal_of_batch_fault}
+use Rattle.kn_serve.specs.Handling.{Moment, in_state, Handles, Tells, refused_reply}
 use Rattle.kn_serve.proofs.HandlingLaws.{handled_by, lacking_handled, unserved_handled, refused_handled, unrefused}
 use Rattle.kn_serve.proofs.HandlingLaws.{told_refused, told_memory}
 

@@ -21,10 +21,11 @@ use Rattle.kn_reply.specs.Replies.{Number, Added, No, NoMemory, reply_text}
 use Rattle.kn_daemon.specs.Shapes.{Updating, Updates, AddText, DropId}
 use Rattle.kn_daemon.specs.Daemon.{Grounds, State, own_refusal, placed_refusal, refusal_of_store, refusal_of_update}
 use Rattle.kn_daemon.specs.Daemon.{refusal_of_reading, refusal_of_verdict, refusal_at_reading, refusal_at_verdict}
-use Rattle.kn_daemon.specs.Daemon.{refusal_at_store, item_refusal}
+use Rattle.kn_daemon.specs.Daemon.{item_refusal}
 use Rattle.kn_registry.specs.Passes.{PassSeen, Adds, Removes, IsRefused, Refuses, RefusesText, RefusesId}
 use Rattle.kn_serve.specs.Admission.{Admits, RefusesItem}
-use Rattle.kn_serve.specs.Handling.{in_state, Handles, Tells, request_refusal, refused_reply}
+use Rattle.kn_refusals.specs.Refusals.{request_refusal}
+use Rattle.kn_serve.specs.Handling.{in_state, Handles, Tells, refused_reply}
 use Rattle.kn_serve.proofs.HandlingLaws.{handled_by, lacking_handled, refused_handled, unrefused}
 use Rattle.kn_serve.proofs.HandlingLaws.{told_refused, told_memory}
 
@@ -130,16 +131,6 @@ refusal_of_addition g text = by (reading_of text)
         ≡ option_map request_refusal (refusal_at_reading I.Read r (λ a. refusal_at_verdict I.Auth (g.verdict text a)))
     by (Ok a) = at_verdict (g.verdict text a) (g.verdict text a == 0)
     by (Err fault) = at_fault (fault_number fault) (fault_place fault)
-
--- what the store refuses of a request it refuses of an item
-pub refusal_of_store-request : (fault : StoreFault) →
-    refusal_of_store fault ≡ option_map request_refusal (refusal_at_store I.Unknown I.Limit fault)
-refusal_of_store-request (S.Unknown id) = refl
-refusal_of_store-request (S.LiveFull count) = refl
-refusal_of_store-request (S.BytesFull bytes) = refl
-refusal_of_store-request (S.HistoryFull updates) = refl
-refusal_of_store-request (S.LogFull bytes) = refl
-refusal_of_store-request S.NoMemory = refl
 
 module _ (g : Grounds) (whole : Bool) (l l' : LinkSeen) (now : State) (text : List ℕ)
     (verdict : List ℕ → Assertion → ℕ) (grounds : g.verdict ≡ verdict) (admin : now.is_admin ≡ true) where

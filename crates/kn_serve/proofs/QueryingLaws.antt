@@ -27,7 +27,8 @@ use Rattle.kn_reply.specs.Replies.{Value, Critical, reply_text}
 use Rattle.kn_daemon.specs.Shapes.{Question, WithProof, WithCritical, Asks}
 use Rattle.kn_daemon.specs.Daemon.{Grounds, State, session_of, session_parts, asked_of, equations_of, own_refusal}
 use Rattle.kn_daemon.specs.Daemon.{refuse_if, refusal_of_nodes}
-use Rattle.kn_serve.specs.Handling.{Tells, RefusesQuestions, refusal_of_values, refusal_of_critical, refused_reply}
+use Rattle.kn_refusals.specs.Refusals.{refusal_of_values}
+use Rattle.kn_serve.specs.Handling.{Tells, RefusesQuestions, refusal_of_critical, refused_reply}
 use Rattle.kn_serve.proofs.HandlingLaws.{told_refused, told_memory, told_either, told_done}
 use Rattle.kn_serve.proofs.CallingLaws.{none_found}
 

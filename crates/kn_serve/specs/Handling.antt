@@ -1,19 +1,11 @@
 -- One request of a connection answered (keynoted's own).
 use Rattle.std.specs.Prelude.{ℕ, ◌≡◌, ◌<◌, ◌^◌, ◌⊎◌, Bool, true, false, List, Option, Some, None, option_to_list}
-use Rattle.kn_env.specs.declared.values.ValuesFault.{ValuesFault}
-use Rattle.kn_env.specs.declared.values.ValuesFault.TheVariants as V
 use Rattle.kn_critical.specs.declared.fault.CriticalFault.{CriticalFault}
 use Rattle.kn_critical.specs.declared.fault.CriticalFault.TheVariants as C
 use Rattle.kn_outside.specs.Seen.{LinkSeen}
 use Rattle.kn_outside.specs.Printing.{Prints}
 use Rattle.kn_history.specs.declared.update.Update.{Update}
-use Rattle.kn_history.specs.declared.fault.BatchFault.{BatchFault}
-use Rattle.kn_history.specs.declared.fault.BatchFault.TheVariants as B
 use Rattle.kn_wire.specs.declared.fault.WireFault.TheVariants as F
-use Rattle.kn_wire.specs.declared.items.BatchText.{BatchText}
-use Rattle.kn_wire.specs.declared.items.BatchText.TheVariants as T
-use Rattle.kn_reply.specs.declared.refusal.ItemRefusal.{ItemRefusal}
-use Rattle.kn_reply.specs.declared.refusal.ItemRefusal.TheVariants as I
 use Rattle.kn_reply.specs.declared.refusal.Refusal.{Refusal}
 use Rattle.kn_reply.specs.declared.refusal.Refusal.TheVariants as R
 use Rattle.kn_reply.specs.declared.refusal.LimitWord.TheVariants as W
@@ -21,7 +13,7 @@ use Rattle.kn_wire.specs.Requests.{Request, Bye, Faulty}
 use Rattle.kn_reply.specs.Replies.{Reply, No, NoMemory, reply_text}
 use Rattle.kn_wire.specs.Feeding.{Held, next_of}
 use Rattle.kn_daemon.specs.Shapes.{Question, Shape, Asks, shape_of}
-use Rattle.kn_daemon.specs.Daemon.{Grounds, State, Permits, own_refusal, refusal_of_item_fault}
+use Rattle.kn_daemon.specs.Daemon.{Grounds, State, Permits, own_refusal}
 use Rattle.kn_daemon.specs.Linearized.{update_by, is_placed}
 use Rattle.kn_daemon.specs.Served.{is_bye, is_block}
 use Rattle.kn_daemon.specs.Underway.{IsReplied, IsSmall}
@@ -91,34 +83,10 @@ abbrev pub RefusesQuestions : State → ℕ → List ℕ → Option Refusal → 
 RefusesQuestions state s names refusal =
     (refusal ≡ None) ⊎ ((g : Grounds) (question : Question) → own_refusal g state (Asks question s names) ≡ refusal)
 
--- the refusal of names that are no compliance values; want of memory is none
-abbrev pub refusal_of_values : ValuesFault → Option Refusal
-refusal_of_values (V.Count n) = Some R.Values
-refusal_of_values (V.BadName i) = Some R.Values
-refusal_of_values (V.Twice i) = Some R.Values
-refusal_of_values V.NoMemory = None
-
 -- the refusal of a query that is too large for a search of its critical assertions; want of memory is none
 abbrev pub refusal_of_critical : CriticalFault → Option Refusal
 refusal_of_critical (C.Large nodes) = Some (R.Limit W.Nodes nodes)
 refusal_of_critical C.NoMemory = None
-
--- the refusal of a request for that for which an item of a batch is refused so
-abbrev pub request_refusal : ItemRefusal → Refusal
-request_refusal (I.Read fault place) = R.Read fault place
-request_refusal (I.Auth fault) = R.Auth fault
-request_refusal I.Unknown = R.Unknown
-request_refusal (I.Limit word count) = R.Limit word count
-
--- the refusal of a block that isn't made of items; want of memory is none
-abbrev pub refusal_of_batch_text : BatchText → Option Refusal
-refusal_of_batch_text (T.Form item) = Some (R.Batch item)
-refusal_of_batch_text T.NoMemory = None
-
--- the refusal of a batch by the store; want of memory is none
-abbrev pub refusal_of_batch_fault : BatchFault → Option Refusal
-refusal_of_batch_fault (B.Item item fault) = refusal_of_item_fault item fault
-refusal_of_batch_fault B.NoMemory = None
 
 -- the refusal of a version that isn't retained; want of memory is none
 abbrev pub refusal_of_version : PinFault → Option Refusal

@@ -10,9 +10,10 @@ ghost use Rattle.kn_daemon.specs.Daemon.{Grounds};
 ghost use Rattle.kn_serve.specs.Handling.{state_of, HasRoom, Tells};
 
 use crate::connection::Connection;
-use crate::refusals::{print_applied, print_refusal, refusal_of_call};
+use crate::refusals::{print_applied, print_refusal};
 use kn_base::NoMemory;
 use kn_outside::{Failed, Link};
+use kn_refusals::refusal_of_call;
 use kn_reply::{Reply, print};
 use kn_session::Call;
 use kn_wire::decode_digits;

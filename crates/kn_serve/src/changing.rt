@@ -12,13 +12,12 @@ ghost use Rattle.kn_serve.specs.Handling.{in_state, moment, Handles};
 use crate::config::DaemonConfig;
 use crate::connection::Connection;
 use crate::judging::{admit_items, admit_text};
-use crate::refusals::{
-    print_refusal, refusal_as_request, refusal_of_batch, refusal_of_block, refusal_of_store,
-};
+use crate::refusals::print_refusal;
 use kn_auth::Authenticator;
 use kn_base::List;
 use kn_history::{Item, Ready};
 use kn_outside::{Failed, Gate, Link};
+use kn_refusals::{refusal_as_request, refusal_of_batch, refusal_of_block, refusal_of_store};
 use kn_registry::{Batched, Pass, Registry};
 use kn_reply::{Refusal, Reply, print};
 use kn_wire::batch_items;

@@ -6,11 +6,11 @@ ghost use Rattle.kn_wire.specs.ItemsInCode as C;
 ghost use Rattle.kn_reply.specs.Logs.{item_of};
 ghost use Rattle.kn_serve.specs.Admission.{Admits, AdmitsAll, RefusesItem, RefusesOneItem};
 
-use crate::refusals::{item_refusal_of_text, refusal_of_item};
 use kn_assert::read;
 use kn_auth::Authenticator;
 use kn_base::{List, NoMemory};
 use kn_history::{Item, Ready};
+use kn_refusals::{item_refusal_of_text, refusal_of_item};
 use kn_reply::{ItemRefusal, Refusal};
 use kn_wire::BatchItem;
 use std::alloc::Global;

@@ -10,11 +10,12 @@ ghost use Rattle.kn_serve.specs.Handling.{state_of, RefusesQuestions, Tells};
 ghost use Rattle.kn_serve.specs.Kept.{AreAllOfOne, StaysOf};
 
 use crate::connection::Connection;
-use crate::refusals::{print_refusal, refusal_of_critical, refusal_of_values};
+use crate::refusals::{print_refusal, refusal_of_critical};
 use kn_base::NoMemory;
 use kn_env::Values;
 use kn_outside::{Failed, Link};
 use kn_query::{SharedBase, answer_query, find_critical};
+use kn_refusals::refusal_of_values;
 use kn_reply::{Refusal, Reply, print};
 use kn_session::View;
 use std::alloc::Global;

@@ -10,10 +10,11 @@ ghost use Rattle.kn_serve.specs.Kept.{AreAllOfOne, IsKept, StaysOf};
 
 use crate::connection::Connection;
 use crate::querying::read_question;
-use crate::refusals::{print_refusal, refusal_of_session};
+use crate::refusals::print_refusal;
 use kn_base::NoMemory;
 use kn_outside::{Failed, Link};
 use kn_query::{SharedBase, answer_query};
+use kn_refusals::refusal_of_session;
 use kn_registry::{Pass, Registry};
 use kn_reply::{Reply, print};
 use kn_session::StandingQuery;

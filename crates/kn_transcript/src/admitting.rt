@@ -8,8 +8,8 @@ ghost use Rattle.kn_transcript.specs.Judging.{state_of, Judges};
 
 use crate::connection::Connection;
 use crate::matching::behind_reply;
-use crate::refusals::refusal_of_fault;
 use kn_base::NoMemory;
+use kn_refusals::refusal_of_fault;
 use kn_reply::{Refusal, Reply};
 use kn_wire::WireFault;
 use std::alloc::Global;

@@ -10,8 +10,8 @@ ghost use Rattle.kn_transcript.specs.Judging.{state_of, HasRoom, Judges};
 
 use crate::connection::Connection;
 use crate::matching::{behind_refusal, behind_reply};
-use crate::refusals::{refusal_of_call, reply_of_applied};
 use kn_base::NoMemory;
+use kn_refusals::{refusal_of_call, reply_of_applied};
 use kn_session::Call;
 use kn_wire::decode_digits;
 use std::alloc::Global;

@@ -18,8 +18,7 @@ mod matching;
 mod numerals;
 mod opening;
 mod querying;
-mod refusals;
-mod value_reply;
 mod replies;
+mod value_reply;
 
 pub use fault::{AUTH_FAULTS, TranscriptFault};

@@ -1,18 +1,20 @@
-//! How faults of the parts are told.
+//! Refusals of lines, texts and names, and of the calls of a session.
 ghost use Rattle.std.specs.Prelude.{◌≡◌, ◌<◌, ◌^◌};
 ghost use Rattle.kn_fields.specs.Numbers.{fault_place};
 ghost use Rattle.kn_session.specs.Calls.{place_of_fault};
 ghost use Rattle.kn_reply.specs.Replies.{reply_of};
 ghost use Rattle.kn_daemon.specs.Daemon.{refusal_of_fault, refusal_of_text, refusal_of_session, refusal_of_call};
 ghost use Rattle.kn_daemon.specs.Daemon.{reply_of_call};
+ghost use Rattle.kn_refusals.specs.Refusals.{refusal_of_values};
 
 use kn_assert::ReadFault;
+use kn_env::ValuesFault;
 use kn_reply::{LimitWord, Refusal, Reply};
 use kn_session::{Applied, CallFault, SessionFault};
 use kn_wire::WireFault;
 
 /// The refusal of a line that is no request, or of a block.
-pub(crate) fn refusal_of_fault(fault: WireFault) -> Refusal
+pub fn refusal_of_fault(fault: WireFault) -> Refusal
     ensures { result ≡ refusal_of_fault fault }
 {
     match fault {
@@ -24,7 +26,7 @@ pub(crate) fn refusal_of_fault(fault: WireFault) -> Refusal
 }
 
 /// The refusal of a text with this fault; None for want of memory.
-fn refusal_of_text(fault: &ReadFault) -> Option<Refusal>
+pub fn refusal_of_text(fault: &ReadFault) -> Option<Refusal>
     requires { fault_place fault.now < 2 ^ 32 }
     ensures { result ≡ refusal_of_text fault.now }
 {
@@ -35,8 +37,20 @@ fn refusal_of_text(fault: &ReadFault) -> Option<Refusal>
     }
 }
 
+/// The refusal of names that are no compliance values; None for want of memory.
+pub fn refusal_of_values(fault: ValuesFault) -> Option<Refusal>
+    ensures { result ≡ refusal_of_values fault }
+{
+    match fault {
+        ValuesFault::Count { .. } => Some(Refusal::Values),
+        ValuesFault::BadName { .. } => Some(Refusal::Values),
+        ValuesFault::Twice { .. } => Some(Refusal::Values),
+        ValuesFault::NoMemory => None,
+    }
+}
+
 /// The refusal of a call of a session; None for want of memory.
-pub(crate) fn refusal_of_call(fault: &CallFault) -> Option<Refusal>
+pub fn refusal_of_call(fault: &CallFault) -> Option<Refusal>
     requires { place_of_fault fault.now < 2 ^ 32 }
     ensures { result ≡ refusal_of_call fault.now }
 {
@@ -47,7 +61,7 @@ pub(crate) fn refusal_of_call(fault: &CallFault) -> Option<Refusal>
 }
 
 /// The refusal that a fault of the sessions is; None for want of memory.
-fn refusal_of_session(fault: SessionFault) -> Option<Refusal>
+pub fn refusal_of_session(fault: SessionFault) -> Option<Refusal>
     ensures { result ≡ refusal_of_session fault }
 {
     match fault {
@@ -68,7 +82,7 @@ fn refusal_of_session(fault: SessionFault) -> Option<Refusal>
 }
 
 /// What an accepted call of a session is replied.
-pub(crate) fn reply_of_applied(applied: Applied) -> Reply<'static>
+pub fn reply_of_applied(applied: Applied) -> Reply<'static>
     ensures { reply_of result ≡ reply_of_call applied }
 {
     match applied {
