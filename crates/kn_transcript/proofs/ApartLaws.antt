@@ -14,7 +14,7 @@ use Rattle.kn_transcript.proofs.Written.{written_is}
 use Rattle.kn_transcript.proofs.FormLaws.{filled_number, filled_byte}
 use Rattle.kn_transcript.proofs.OneLineLaws.{one_line_to}
 use Rattle.kn_transcript.proofs.ReplyLaws.{news_apart, critical_apart}
-use Rattle.kn_transcript.proofs.EndLaws.{value_apart}
+use Rattle.kn_transcript.proofs.ValueTextLaws.{value_apart}
 use Rattle.kn_transcript.proofs.LogLaws.{log_apart}
 
 -- Forms of one line.

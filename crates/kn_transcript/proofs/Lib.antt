@@ -13,7 +13,7 @@ pub mod Fronts
 pub mod FormLaws
 pub mod OneLineLaws
 pub mod ReplyLaws
-pub mod EndLaws
+pub mod ValueTextLaws
 pub mod LogLaws
 pub mod AnyLaws
 pub mod ApartLaws

@@ -103,10 +103,10 @@ entries =
     ∷ entry (codes "NOMEM\n") (λ ns. record { reply = NoMemory; text = tt; one = refl; same = refl })
     ∷ []
 
-told_in : (entries : List Entry) (text : List ℕ) → IsOfOneForm (map form_of entries) text → (form : List ℕ) × (ns : List ℕ) × IsTold form ns × (text ≡ filled form ns)
+told_in : (known : List Entry) (text : List ℕ) → IsOfOneForm (map form_of known) text → (form : List ℕ) × (ns : List ℕ) × IsTold form ns × (text ≡ filled form ns)
 told_in [] text is = absurd is
-told_in (e ∷ entries) text (inl is) = (e.form, is.0, e.told is.0, is.1)
-told_in (e ∷ entries) text (inr is) = told_in entries text is
+told_in (e ∷ others) text (inl is) = (e.form, is.0, e.told is.0, is.1)
+told_in (e ∷ others) text (inr is) = told_in others text is
 
 pub one_line_from : (text : List ℕ) → IsOfOneForm one_line_forms text → IsTextOf OneLine text
 one_line_from text is =

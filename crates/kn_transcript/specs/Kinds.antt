@@ -1,6 +1,5 @@
 -- The texts of replies, kind by kind (keynoted's own line protocol).
-use Rattle.std.specs.Prelude.{ℕ, ◌≡◌, ◌≢◌, false, ◌==◌, List, [], ◌∷◌, ◌++◌, codes, flat_map, ⊤, true}
-use Rattle.std.specs.List.{All, list_any}
+use Rattle.std.specs.Prelude.{ℕ, ◌≡◌, true, List, [], ◌∷◌, ◌++◌, ⊤}
 use Rattle.kn_proof.specs.declared.named.Id.{Id}
 use Rattle.kn_proof.specs.Lines.{is_name}
 use Rattle.kn_reply.specs.Replies.{Reply, Done, Started, Number, PrivateAdded, Added, Value, Batched, PinnedAt, Log}
@@ -59,18 +58,6 @@ IsNameWord text = (name : List ℕ) × (is_name name ≡ true) × (text ≡ name
 -- an id of any number
 abbrev pub IsAnyId : Id → Type 0
 IsAnyId id = ⊤
-
--- one line that isn't `END`
-pub record IsOtherLine (line : List ℕ) : Type 0 where
-  pub front : List ℕ
-  pub spelled : line ≡ front ++ 10 ∷ []
-  pub whole : list_any (λ byte. byte == 10) front ≡ false
-  pub other : line ≢ codes "END\n"
-
--- lines through the first that is `END`
-abbrev pub IsThroughEnd : List ℕ → Type 0
-IsThroughEnd text =
-    (lines : List (List ℕ)) × All IsOtherLine lines × (text ≡ flat_map (λ line. line) lines ++ codes "END\n")
 
 -- a change as a reply may hand it on
 abbrev pub IsReadNumbered : Numbered → Type 0

@@ -4,9 +4,10 @@ ghost use Rattle.std.specs.List.{list_all, list_any};
 ghost use Rattle.kn_proof.specs.Lines.{is_name};
 ghost use Rattle.kn_reply.specs.Replies.{need_text};
 ghost use Rattle.kn_transcript.specs.Fronts.{IsBehindOne, Items, TextOf};
-ghost use Rattle.kn_transcript.specs.Kinds.{BeginsWithReply, IsAnyId, IsNameWord, IsReplyText, IsTextOf, IsThroughEnd};
-ghost use Rattle.kn_transcript.specs.Kinds.{Needed, OneLine, Proved, Told};
+ghost use Rattle.kn_transcript.specs.Kinds.{BeginsWithReply, IsAnyId, IsNameWord, IsReplyText, IsTextOf, Needed};
+ghost use Rattle.kn_transcript.specs.Kinds.{OneLine, Proved, Told};
 
+use crate::ending::cut_behind_end;
 use crate::forms::{behind_form, behind_one_form};
 use crate::logs::behind_log;
 use crate::numerals::read_number;
@@ -173,25 +174,9 @@ fn behind_need(left: &[u8]) -> Option<&[u8]>
 fn behind_value(left: &[u8]) -> Option<&[u8]>
     ensures { IsBehindOne (IsTextOf Proved) left.now (option_map (λ rest. rest.now) result) }
 {
-    let rest = behind_end(left)?;
-    let size = left.len() - rest.len();
-    let (text, _rest) = left.split_at(size);
+    let (text, rest) = cut_behind_end(left)?;
     match scan_reply(text) {
         Ok(_head) => Some(rest),
         Err(_fault) => None,
-    }
-}
-
-/// What is left behind the first line that is `END`.
-fn behind_end(left: &[u8]) -> Option<&[u8]>
-    ensures { IsBehindOne IsThroughEnd left.now (option_map (λ rest. rest.now) result) }
-{
-    let mut lines = left;
-    'lines: loop {
-        if let Some(rest) = behind(lines, b"END\n") {
-            return Some(rest);
-        }
-        let (_line, others) = cut(lines, b'\n')?;
-        lines = others;
     }
 }
