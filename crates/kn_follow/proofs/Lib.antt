@@ -6,3 +6,9 @@ pub mod Takings
 pub mod Fronts
 pub mod Followers
 pub mod Endings
+pub mod LinkGains
+pub mod AnswerForms
+pub mod PullSteps
+pub mod PullRounds
+pub mod Refusals
+pub mod RequestLines

@@ -378,7 +378,7 @@ whole-read text reply is = ap reply_at (is.same ∙ sym (append-nil (form_text r
 pub read-whole : (text : List ℕ) (reply : LogReply) → reply_at text ≡ got reply [] → IsLogText text reply
 read-whole text reply e = let s = reply-reader.sound text reply [] e in record { form = s.0; same = s.1 ∙ append-nil (form_text reply) }
 
-take-one : (front : List ℕ) (b : ℕ) (more : List ℕ) → take (length front + 1) (front ++ b ∷ more) ≡ front ++ b ∷ []
+pub take-one : (front : List ℕ) (b : ℕ) (more : List ℕ) → take (length front + 1) (front ++ b ∷ more) ≡ front ++ b ∷ []
 take-one front b more =
     let size : length (front ++ b ∷ []) ≡ length front + 1 = length-append front (b ∷ []) in
     ap (take (length front + 1)) (sym (append_assoc front (b ∷ []) more)) ∙ take_at (front ++ b ∷ []) more (length front + 1) size
@@ -409,7 +409,7 @@ departs-at_end text front cut is unformed =
       stops = inl (ap length (sym same));
     }
 
-cut-size : (text front rest : List ℕ) → text ≡ front ++ rest → length front ≡ length text - length rest
+pub cut-size : (text front rest : List ℕ) → text ≡ front ++ rest → length front ≡ length text - length rest
 cut-size text front rest cut = let size = ap length cut in let parts = length-append front rest in omega (arith, size, parts)
 
 pub stops-departs : (text rest : List ℕ) → reply_at text ≡ stopped rest → DepartsAt text (length text - length rest)

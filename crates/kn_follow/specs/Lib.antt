@@ -4,3 +4,6 @@ pub mod Reading
 pub mod InCode
 pub mod Files
 pub mod Laws
+pub mod Answers
+pub mod Pulling
+pub mod Exchanges

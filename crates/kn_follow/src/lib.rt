@@ -4,18 +4,27 @@
 //! here.
 #![tactic(auto)]
 
+mod answer;
+mod asking;
 mod fault;
 mod files;
 mod items;
 pub mod laws;
 mod numbers;
+mod pull_fault;
+#[cfg(test)]
+mod pull_tests;
+mod pulling;
 mod reading;
 mod replica;
 mod reply;
+mod request;
 #[cfg(test)]
 mod tests;
 
 pub use fault::FollowFault;
 pub use files::follow;
+pub use pull_fault::PullFault;
+pub use pulling::pull;
 pub use replica::Replica;
 pub use reply::REPLY_BYTES;
