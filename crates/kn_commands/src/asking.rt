@@ -1,5 +1,6 @@
 //! Serving a link over the policy in a file, with the keys in another.
-ghost use Rattle.std.specs.Prelude.{◌≡◌, ◌∷◌, [], ℕ, List, Some, IsSomeAnd, OnOk, IfOk, IfErr, option_map, option_to_list};
+ghost use Rattle.std.specs.Prelude.{◌≡◌, ◌∷◌, [], ℕ, List, Some, IsSomeAnd, OnOk, IfOk, IfErr};
+ghost use Rattle.std.specs.Prelude.{option_map, option_to_list};
 ghost use Rattle.kn_files.specs.Pieces.{pieces_of};
 ghost use Rattle.kn_outside.specs.Seen.{FilesSeen};
 ghost use Rattle.kn_outside.specs.Asked.{HasAsked};
@@ -80,8 +81,10 @@ fn ask_loaded<R: Wait, F: Files, L: Link, G: Gate>(
     gate: &G,
 ) -> AskEnding
     requires loaded { (texts : List (List ℕ)) × IsLoaded texts registry.now root }
-    ensures { (f : FilesSeen) (bytes : List ℕ) → IsPolicy f names.now.policy bytes → IsLoaded (pieces_of bytes) registry.now root
-        → HasAsked (names.now.policy ∷ []) f (F.seen files.old) → AskCause f (F.seen files.new) (L.seen own.old) (L.seen own.new) names.now result }
+    ensures { (f : FilesSeen) (bytes : List ℕ) → IsPolicy f names.now.policy bytes
+        → IsLoaded (pieces_of bytes) registry.now root
+        → HasAsked (names.now.policy ∷ []) f (F.seen files.old)
+        → AskCause f (F.seen files.new) (L.seen own.old) (L.seen own.new) names.now result }
 {
     match keys_of(alloc, names.keys, files) {
         Ok(keys) => AskEnding::Served(serve(rt, alloc, registry, root, &keys, own, gate)),
@@ -96,8 +99,10 @@ pub(crate) fn keys_of<F: Files>(
     files: &mut F,
 ) -> Result<KeyFile, Stop>
     ensures known { IfOk result (λ keys. AreKeys (F.seen files.old) (option_map (λ n. n.now) name.entry) keys) }
-    ensures asked { OnOk result (HasAsked (option_to_list (option_map (λ n. n.now) name.entry)) (F.seen files.old) (F.seen files.new)) }
-    ensures err { IfErr result (λ stop. IsSomeAnd (option_map (λ n. n.now) name.entry) (λ n. StopsAtKeys (F.seen files.old) (F.seen files.new) [] n stop)) }
+    ensures asked { OnOk result (HasAsked (option_to_list (option_map (λ n. n.now) name.entry))
+        (F.seen files.old) (F.seen files.new)) }
+    ensures err { IfErr result (λ stop. IsSomeAnd (option_map (λ n. n.now) name.entry)
+        (λ n. StopsAtKeys (F.seen files.old) (F.seen files.new) [] n stop)) }
 {
     match name {
         Some(name) => read_key_file(alloc, name, files),

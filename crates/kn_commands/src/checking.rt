@@ -92,8 +92,9 @@ fn check_script<R: Wait, F: Files>(
     files: &mut F,
 ) -> Ending
     requires loaded { (texts : Of (Of ℕ)) × IsLoaded texts registry root }
-    ensures { (f : FilesSeen) (bytes : Of ℕ) → HasContent f names.now.policy bytes → IsLoaded (pieces_of bytes) registry root
-        → HasAsked (take 1 (in_order names.now)) f (F.seen files.old) → CheckCause f (F.seen files.new) names.now result }
+    ensures { (f : FilesSeen) (bytes : Of ℕ) → HasContent f names.now.policy bytes
+        → IsLoaded (pieces_of bytes) registry root → HasAsked (take 1 (in_order names.now)) f (F.seen files.old)
+        → CheckCause f (F.seen files.new) names.now result }
 {
     let mut root = root;
     let source = Source::Script;
@@ -120,8 +121,10 @@ fn check_reply<F: Files>(
     names: &CheckFiles<'_>,
     files: &mut F,
 ) -> Ending
-    ensures { (f : FilesSeen) (session : Session) → session_in meant.now.sessions.sessions meant.now.session ≡ Some session
-        → HasQuery f names.now session meant.now.values → HasAsked (take 2 (in_order names.now)) f (F.seen files.old)
+    ensures { (f : FilesSeen) (session : Session)
+        → session_in meant.now.sessions.sessions meant.now.session ≡ Some session
+        → HasQuery f names.now session meant.now.values
+        → HasAsked (take 2 (in_order names.now)) f (F.seen files.old)
         → CheckCause f (F.seen files.new) names.now result }
 {
     let source = Source::Reply;

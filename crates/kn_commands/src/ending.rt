@@ -20,8 +20,8 @@ pub enum Ending {
     Stopped { source: Source, stop: Stop },
     /// The script has no query that is answered.
     NoQuery,
-    /// The text of the reply has the fault of this number in this line, counted from 1; of a wrong count of rows, `line` is
-    /// the number of ROW lines.
+    /// The text of the reply has the fault of this number in this line, counted from 1; of a wrong count of rows,
+    /// `line` is the number of ROW lines.
     Faulty { fault: u8, line: usize },
     /// The rows prove no such value: the first item that fails.
     Rejected(Reject),

@@ -20,5 +20,8 @@ impl<'a> Model for Service<'a> {
 
     ghost Value = { Order };
 
-    ghost view = { λ s. record { files = s.files; binding = record { address = s.address.now; doors = s.workers; quota = s.connections } } };
+    ghost view = { λ s. record {
+      files = s.files;
+      binding = record { address = s.address.now; doors = s.workers; quota = s.connections };
+    } };
 }

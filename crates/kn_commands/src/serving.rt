@@ -24,11 +24,11 @@ use std::alloc::Global;
 use std::sync::Wait;
 use std::thread::Threads;
 
-/// Serves as many connections of an address as the service says, by workers side by side, over the policy in a file, with the
-/// secret and the keys of the key file, and tells how that ends.
+/// Serves as many connections of an address as the service says, by workers side by side, over the policy in a file,
+/// with the secret and the keys of the key file, and tells how that ends.
 ///
-/// The files are read in the order policy, keys, and what each holds is tried before the next is read. Then the address is
-/// bound. What it gave is given back, however the work ended.
+/// The files are read in the order policy, keys, and what each holds is tried before the next is read. Then the address
+/// is bound. What it gave is given back, however the work ended.
 pub fn serve<R: Threads + Wait + Sync, F: Files, N: Net, G: Gate>(
     rt: &R,
     alloc: Global,
@@ -43,7 +43,8 @@ where
     requires connections { service.now.binding.quota ≤ CONNECTIONS }
     requires unbound { (N.seen net.old).bound ≡ None }
     requires none { (N.seen net.old).rooms ≡ [] }
-    ensures { ServeCause N.Room.seen N.Room.Conn.seen (F.seen files.old) (F.seen files.new) (N.seen net.old) (N.seen net.new) service.now result }
+    ensures { ServeCause N.Room.seen N.Room.Conn.seen (F.seen files.old) (F.seen files.new)
+        (N.seen net.old) (N.seen net.new) service.now result }
 {
     let file = match read_file(files, service.files.policy) {
         Ok(file) => file,
@@ -75,9 +76,11 @@ where
     requires connections { service.now.binding.quota ≤ CONNECTIONS }
     requires unbound { (N.seen net.old).bound ≡ None }
     requires none { (N.seen net.old).rooms ≡ [] }
-    ensures { (f : FilesSeen) (bytes : List ℕ) → IsPolicy f service.now.files.policy bytes → IsLoaded (pieces_of bytes) registry.now root
+    ensures { (f : FilesSeen) (bytes : List ℕ) → IsPolicy f service.now.files.policy bytes
+        → IsLoaded (pieces_of bytes) registry.now root
         → HasAsked (service.now.files.policy ∷ []) f (F.seen files.old)
-        → ServeCause N.Room.seen N.Room.Conn.seen f (F.seen files.new) (N.seen net.old) (N.seen net.new) service.now result }
+        → ServeCause N.Room.seen N.Room.Conn.seen f (F.seen files.new)
+        (N.seen net.old) (N.seen net.new) service.now result }
 {
     match keys_of(alloc, service.files.keys, files) {
         Ok(keys) => serve_address(rt, alloc, registry, root, &keys, service, net, gate),
@@ -104,7 +107,8 @@ where
     requires unbound { (N.seen net.old).bound ≡ None }
     requires none { (N.seen net.old).rooms ≡ [] }
     ensures { (texts : List (List ℕ)) → IsLoaded texts registry.now root
-        → ServesOver N.Room.seen N.Room.Conn.seen (grounds_of keys.now) (loaded_history texts) (N.seen net.old) (N.seen net.new) service.now.binding result }
+        → ServesOver N.Room.seen N.Room.Conn.seen (grounds_of keys.now) (loaded_history texts)
+        (N.seen net.old) (N.seen net.new) service.now.binding result }
 {
     let bound = net.bind(
         rt,
