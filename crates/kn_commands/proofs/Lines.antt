@@ -4,6 +4,7 @@ use Rattle.std.specs.Prelude.{codes, decimal}
 use Rattle.kn_check.specs.declared.reject.Reject.{Reject}
 use Rattle.kn_check.specs.Rejects.{reason_number, reason_row, reason_found}
 use Rattle.kn_commands.specs.Checking.{text_line, reject_line, proved_line}
+use Rattle.kn_commands.specs.Following.{followed_line, log_line}
 use Rattle.kn_commands.specs.Serving.{served_line}
 
 pub text_parts : (a b : List ℕ) (fault line : ℕ) → a ≡ decimal fault → b ≡ decimal line →
@@ -25,3 +26,13 @@ pub served_parts : (a b : List ℕ) (finished version : ℕ) → a ≡ decimal f
     codes "served " ++ (a ++ (codes " version " ++ (b ++ (codes "\n" ++ [])))) ≡ served_line finished version
 unfolding served_line
 served_parts a b finished version first second = rw (first, second) (simp append_assoc)
+
+pub followed_parts : (a b : List ℕ) (version live : ℕ) → a ≡ decimal version → b ≡ decimal live
+    → codes "FOLLOW " ++ (a ++ (codes " " ++ (b ++ (codes "\n" ++ [])))) ≡ followed_line version live
+unfolding followed_line
+followed_parts a b version live first second = rw (first, second) (simp append_assoc)
+
+pub log_parts : (a b : List ℕ) (fault place : ℕ) → a ≡ decimal fault → b ≡ decimal place
+    → codes "error log " ++ (a ++ (codes " " ++ (b ++ (codes "\n" ++ [])))) ≡ log_line fault place
+unfolding log_line
+log_parts a b fault place first second = rw (first, second) (simp append_assoc)

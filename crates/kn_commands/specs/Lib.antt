@@ -3,5 +3,6 @@ pub mod Held
 pub mod Stopping
 pub mod Asking
 pub mod Checking
+pub mod Following
 pub mod Generating
 pub mod Serving

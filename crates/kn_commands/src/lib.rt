@@ -1,6 +1,7 @@
-//! What the commands do, over whatever files, net, link and output they are given: `ask` serves a link over a policy, `serve`
-//! serves the connections of an address, `check` tells whether a reply proves the value of the query that a script means, and
-//! `gen` settles a query over generated credentials.
+//! What the commands do, over whatever files, net, link and output they are given: `ask` serves a link over a policy,
+//! `serve` serves the connections of an address, `check` tells whether a reply proves the value of the query that a
+//! script means, `follow` tells what the replies of a log make of a replica, and `gen` settles a query over generated
+//! credentials.
 #![tactic(auto)]
 
 mod ask_ending;
@@ -10,6 +11,9 @@ mod checking;
 mod content;
 mod ending;
 mod ending_line;
+mod follow_ending;
+mod follow_line;
+mod following;
 mod gen_line;
 mod generating;
 mod line;
@@ -25,6 +29,9 @@ pub use asking::{AskFiles, ask};
 pub use checking::{CheckFiles, check};
 pub use ending::{Ending, Source};
 pub use ending_line::print_ending;
+pub use follow_ending::FollowEnding;
+pub use follow_line::print_follow;
+pub use following::follow;
 pub use gen_line::print_gen;
 pub use generating::{GenNumbers, generate};
 pub use line::print_line;
