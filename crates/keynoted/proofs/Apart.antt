@@ -4,7 +4,7 @@ use Rattle.std.specs.Prelude.{codes, slice_get, All}
 use Rattle.std.specs.Str.{IsUtf8}
 use Rattle.kn_commands.specs.Names.{AskNames, CheckNames}
 use Rattle.kn_commands.specs.declared.generating.GenNumbers.{GenNumbers}
-use Rattle.keynoted.specs.Commands.{AskFor, CheckFor, GenFor, ServeFor, IsNo, IsNoCommand}
+use Rattle.keynoted.specs.Commands.{AskFor, CheckFor, FollowFor, GenFor, ServeFor, IsNo, IsNoCommand}
 
 -- the first letter of the first word, or 0
 abbrev pub first_letter : Option (List ℕ) → ℕ
@@ -35,6 +35,24 @@ gen_is_no_check given numbers names gen check =
     let letters : 103 ≡ 99 = sym (ap letter_of gen.spelled) ∙ ap letter_of check in
     absurd (omega (arith, letters))
 
+pub follow_is_no_ask : (given : List (List ℕ)) (name : List ℕ) (names : AskNames) → FollowFor given name
+    → AskFor given names → ⊥
+follow_is_no_ask given name names follow ask =
+    let letters : 102 ≡ 97 = sym (ap letter_of follow) ∙ ap letter_of ask in
+    absurd (omega (arith, letters))
+
+pub follow_is_no_check : (given : List (List ℕ)) (name : List ℕ) (names : CheckNames) → FollowFor given name
+    → CheckFor given names → ⊥
+follow_is_no_check given name names follow check =
+    let letters : 102 ≡ 99 = sym (ap letter_of follow) ∙ ap letter_of check in
+    absurd (omega (arith, letters))
+
+pub gen_is_no_follow : (given : List (List ℕ)) (numbers : GenNumbers) (name : List ℕ) → GenFor given numbers
+    → FollowFor given name → ⊥
+gen_is_no_follow given numbers name gen follow =
+    let letters : 103 ≡ 102 = sym (ap letter_of gen.spelled) ∙ ap letter_of follow in
+    absurd (omega (arith, letters))
+
 pub ask_is_no_serve : (given : List (List ℕ)) (names : AskNames) → AskFor given names → StartsServe given → ⊥
 ask_is_no_serve given names ask serve =
     let letters : 97 ≡ 115 = sym (ap letter_of ask) ∙ ap first_letter serve in
@@ -43,6 +61,11 @@ ask_is_no_serve given names ask serve =
 pub check_is_no_serve : (given : List (List ℕ)) (names : CheckNames) → CheckFor given names → StartsServe given → ⊥
 check_is_no_serve given names check serve =
     let letters : 99 ≡ 115 = sym (ap letter_of check) ∙ ap first_letter serve in
+    absurd (omega (arith, letters))
+
+pub follow_is_no_serve : (given : List (List ℕ)) (name : List ℕ) → FollowFor given name → StartsServe given → ⊥
+follow_is_no_serve given name follow serve =
+    let letters : 102 ≡ 115 = sym (ap letter_of follow) ∙ ap first_letter serve in
     absurd (omega (arith, letters))
 
 pub gen_is_no_serve : (given : List (List ℕ)) (numbers : GenNumbers) → GenFor given numbers → StartsServe given → ⊥
@@ -64,6 +87,7 @@ pub no_command : (given : List (List ℕ)) → slice_get given 0 ≡ Some (codes
 no_command given serve none = record {
   ask = λ names words. ask_is_no_serve given names words serve;
   check = λ names words. check_is_no_serve given names words serve;
+  follow = λ name words. follow_is_no_serve given name words serve;
   gen = λ numbers words. gen_is_no_serve given numbers words serve;
   serve = none;
 }

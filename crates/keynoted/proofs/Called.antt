@@ -5,6 +5,7 @@ use Rattle.std.specs.Prelude.{IfSome}
 use Rattle.kn_outside.specs.Seen.{LinkSeen}
 use Rattle.kn_outside.specs.Faults.{Rose}
 use Rattle.kn_daemon.specs.declared.ended.Ended.TheVariants as E
+use Rattle.kn_follow.specs.Laws.{OneEnding}
 use Rattle.kn_play.specs.Meaning.{OneQueryOfScript}
 use Rattle.kn_serve.specs.Serving.{IsOrderly, IsFaultless}
 use Rattle.kn_workers.specs.Connections.{ServedSeen}
@@ -12,18 +13,21 @@ use Rattle.kn_workers.specs.Doors.{DoorSeen}
 use Rattle.kn_commands.specs.Names.{AskNames, CheckNames}
 use Rattle.kn_commands.specs.Asking.{status_of_ended, status_of_ask}
 use Rattle.kn_commands.specs.Checking.{status_of_ending}
+use Rattle.kn_commands.specs.Following.{status_of_follow}
 use Rattle.kn_commands.specs.Serving.{Order, status_of_serve}
 use Rattle.kn_commands.specs.declared.generating.GenNumbers.{GenNumbers}
-use Rattle.keynoted.specs.Commands.{AskFor, CheckFor, GenFor, ServeFor}
+use Rattle.keynoted.specs.Commands.{AskFor, CheckFor, FollowFor, GenFor, ServeFor}
 use Rattle.keynoted.specs.Outcomes.{OutsideSeen, Outcome, IsOutcome, IsPrinted, IsEnded, status_of, line_of}
-use Rattle.keynoted.specs.Outcomes.{NoCommand, Unread, AskEnded, ServeEnded, CheckEnded, GenEnded}
-use Rattle.keynoted.specs.Calling.{AskLeads, CheckLeads, IsOrderlyLink, AreCalm, CallsFor, EndsWith}
-use Rattle.keynoted.specs.Calling.{ByAsk, ByServe, ByCheck, ByGen}
+use Rattle.keynoted.specs.Outcomes.{NoCommand, Unread, AskEnded, ServeEnded, CheckEnded, FollowEnded}
+use Rattle.keynoted.specs.Outcomes.{GenEnded}
+use Rattle.keynoted.specs.Calling.{AskLeads, CheckLeads, LogLeads, IsOrderlyLink, AreCalm, CallsFor, EndsWith}
+use Rattle.keynoted.specs.Calling.{ByAsk, ByServe, ByCheck, ByFollow, ByGen}
 use Rattle.keynoted.proofs.Apart.{ask_is_no_check, gen_is_no_ask, gen_is_no_check, ask_is_no_serve}
-use Rattle.keynoted.proofs.Apart.{check_is_no_serve, gen_is_no_serve}
-use Rattle.keynoted.proofs.Known.{told_by, same_ask, same_names, same_files}
-use Rattle.keynoted.proofs.Leading.{ask_once, check_once}
-use Rattle.keynoted.proofs.Came.{IsServedSo, IsServedWhole, ask_came, serve_came, check_came}
+use Rattle.keynoted.proofs.Apart.{check_is_no_serve, follow_is_no_ask, follow_is_no_check, follow_is_no_serve}
+use Rattle.keynoted.proofs.Apart.{gen_is_no_follow, gen_is_no_serve}
+use Rattle.keynoted.proofs.Known.{told_by, same_ask, same_names, same_log, same_files}
+use Rattle.keynoted.proofs.Leading.{ask_once, check_once, log_once}
+use Rattle.keynoted.proofs.Came.{IsServedSo, IsServedWhole, ask_came, serve_came, check_came, follow_came}
 
 -- an input that is in order is served to its end
 orderly_done : (o o' : LinkSeen) (due status : ℕ) → IsOrderlyLink o o' × (due ≡ 0) → IsServedSo o o' status
@@ -38,7 +42,7 @@ orderly_done o o' due status (link, none) (ended, at, complete) =
     (full link.orderly link.faultless)
 
 module _ {C R : Type 0} (door : R → DoorSeen (ServedSeen C)) (link : C → LinkSeen) (law : OneQueryOfScript)
-    (given : List (List ℕ)) (before after : OutsideSeen R) (due : ℕ) where
+    (ends_once : (log : List ℕ) → OneEnding log) (given : List (List ℕ)) (before after : OutsideSeen R) (due : ℕ) where
   abbrev AskOn : ℕ → Type 0
   AskOn next = IsOrderlyLink before.link after.link × (next ≡ 0)
 
@@ -66,6 +70,8 @@ module _ {C R : Type 0} (door : R → DoorSeen (ServedSeen C)) (link : C → Lin
       absurd (ask_is_no_serve given names words cause.0.serve)
   called_ask names words calm leads (CheckEnded others ending) cause =
       absurd (ask_is_no_check given names others words cause.0)
+  called_ask names words calm leads (FollowEnded name ending) cause =
+      absurd (follow_is_no_ask given name names cause.0 words)
   called_ask names words calm leads (GenEnded numbers made) cause =
       absurd (gen_is_no_ask given numbers names cause.0 words)
 
@@ -91,6 +97,8 @@ module _ {C R : Type 0} (door : R → DoorSeen (ServedSeen C)) (link : C → Lin
       absurd (ask_is_no_serve given names cause.0 words.serve)
   called_serve order words calm net_calm leads (CheckEnded names ending) cause =
       absurd (check_is_no_serve given names cause.0 words.serve)
+  called_serve order words calm net_calm leads (FollowEnded name ending) cause =
+      absurd (follow_is_no_serve given name cause.0 words.serve)
   called_serve order words calm net_calm leads (GenEnded numbers made) cause =
       absurd (gen_is_no_serve given numbers cause.0 words.serve)
 
@@ -114,8 +122,35 @@ module _ {C R : Type 0} (door : R → DoorSeen (ServedSeen C)) (link : C → Lin
       absurd (ask_is_no_check given others names cause.0 words)
   called_check names words calm leads (ServeEnded order ending) cause =
       absurd (check_is_no_serve given names words cause.0.serve)
+  called_check names words calm leads (FollowEnded name ending) cause =
+      absurd (follow_is_no_check given name names cause.0 words)
   called_check names words calm leads (GenEnded numbers made) cause =
       absurd (gen_is_no_check given numbers names cause.0 words)
+
+  log_ends : (name : List ℕ) (status : ℕ) → LogLeads before.files name due
+      → LogLeads before.files name status ⊎ (status ≡ 5) → EndsWith due status
+  log_ends name status leads (inl to) = log_once before.files name due status leads to
+  log_ends name status leads (inr five) = inr five
+
+  called_follow : (name : List ℕ) → FollowFor given name → AreCalm before.files after.files
+      → LogLeads before.files name due
+      → (outcome : Outcome) → IsOutcome door link given before after outcome → EndsWith due (status_of outcome)
+  called_follow name words calm leads (FollowEnded other ending) cause =
+      log_ends name (status_of_follow ending) leads
+      (subst (λ (n : List ℕ). LogLeads before.files n (status_of_follow ending) ⊎ (status_of_follow ending ≡ 5))
+      (same_log given other name cause.0 words)
+      (follow_came before.files after.files (told_by before.files name _ _ _ due leads) calm ends_once
+      other (status_of_follow ending) ending cause.1 refl))
+  called_follow name words calm leads NoCommand cause = absurd (cause.0.follow name words)
+  called_follow name words calm leads Unread cause = absurd (follow_is_no_serve given name words cause.0.serve)
+  called_follow name words calm leads (AskEnded names ending) cause =
+      absurd (follow_is_no_ask given name names words cause.0)
+  called_follow name words calm leads (ServeEnded order ending) cause =
+      absurd (follow_is_no_serve given name words cause.0.serve)
+  called_follow name words calm leads (CheckEnded names ending) cause =
+      absurd (follow_is_no_check given name names words cause.0)
+  called_follow name words calm leads (GenEnded numbers made) cause =
+      absurd (gen_is_no_follow given numbers name cause.0 words)
 
   called_gen : (numbers : GenNumbers) → GenFor given numbers → due ≡ 0
       → (outcome : Outcome) → IsOutcome door link given before after outcome → EndsWith due (status_of outcome)
@@ -129,12 +164,15 @@ module _ {C R : Type 0} (door : R → DoorSeen (ServedSeen C)) (link : C → Lin
       absurd (gen_is_no_serve given numbers words cause.0.serve)
   called_gen numbers words none (CheckEnded names ending) cause =
       absurd (gen_is_no_check given numbers names words cause.0)
+  called_gen numbers words none (FollowEnded name ending) cause =
+      absurd (gen_is_no_follow given numbers name words cause.0)
 
   called_of : CallsFor given before after due
       → (outcome : Outcome) → IsOutcome door link given before after outcome → EndsWith due (status_of outcome)
   called_of (ByAsk names words calm leads) = called_ask names words calm leads
   called_of (ByServe order words calm net_calm leads) = called_serve order words calm net_calm leads
   called_of (ByCheck names words calm leads) = called_check names words calm leads
+  called_of (ByFollow name words calm leads) = called_follow name words calm leads
   called_of (ByGen numbers words none) = called_gen numbers words none
 
   -- the status is that of the outcome, or writing its line failed

@@ -1,17 +1,22 @@
 -- What files led to whose contents are told, where no read of one failed.
 use Rattle.std.proofs.Common.{◌≡◌, ℕ, ◌⊎◌, inl, inr, List, [], ◌∷◌, length, refl, sym, subst, Option, Some, None}
-use Rattle.std.specs.Prelude.{IfSome}
+use Rattle.std.specs.Prelude.{IfSome, ◌≢◌}
 use Rattle.kn_outside.specs.Seen.{FilesSeen, LinkSeen}
 use Rattle.kn_outside.specs.Faults.{Rose}
 use Rattle.kn_fields.specs.declared.fault.ReadFault.{ReadFault}
 use Rattle.kn_auth.specs.declared.key_file.KeyFile.{KeyFile}
 use Rattle.kn_auth.proofs.Whole.{file_or_line}
 use Rattle.kn_files.specs.Pieces.{pieces_of}
+use Rattle.kn_follow.specs.Files.{IsLogFile}
+use Rattle.kn_follow.specs.Laws.{OneEnding}
+use Rattle.kn_follow.specs.declared.fault.FollowFault.{FollowFault}
+use Rattle.kn_follow.specs.declared.fault.FollowFault.TheVariants as F
 use Rattle.kn_check.specs.declared.reject.Reject.{Reject}
 use Rattle.kn_proof.specs.declared.reply.ReadReply.{ReadReply}
 use Rattle.kn_proof.proofs.Only.{one_reply, reply_without_fault}
 use Rattle.kn_reply.specs.declared.refusal.LimitWord.{LimitWord}
 use Rattle.kn_session.specs.Sessions.{Session}
+use Rattle.kn_history.specs.declared.update.Update.{Update}
 use Rattle.kn_history.specs.Loading.{IsLoadable, IsFaultyAt}
 use Rattle.kn_history.proofs.Loading.{ends_once}
 use Rattle.kn_daemon.specs.Daemon.{equations_of}
@@ -29,6 +34,8 @@ use Rattle.kn_commands.specs.declared.ask_ending.AskEnding.{AskEnding}
 use Rattle.kn_commands.specs.declared.ask_ending.AskEnding.TheVariants as A
 use Rattle.kn_commands.specs.declared.serve_ending.ServeEnding.{ServeEnding}
 use Rattle.kn_commands.specs.declared.serve_ending.ServeEnding.TheVariants as V
+use Rattle.kn_commands.specs.declared.follow_ending.FollowEnding.{FollowEnding}
+use Rattle.kn_commands.specs.declared.follow_ending.FollowEnding.TheVariants as W
 use Rattle.kn_commands.specs.declared.ending.Source.{Source}
 use Rattle.kn_commands.specs.declared.ending.Source.TheVariants.{Policy, Script as TheScript, Reply}
 use Rattle.kn_commands.specs.declared.ending.Ending.{Ending}
@@ -40,8 +47,10 @@ use Rattle.kn_commands.specs.Asking.{AskCause, StopsAtPolicy, StopsAtKeys, AreKe
 use Rattle.kn_commands.specs.Asking.{status_of_ask}
 use Rattle.kn_commands.specs.Checking.{HasQuery, Reached, name_of, CheckCause, IsFaultyText, IsUnprovedText}
 use Rattle.kn_commands.specs.Checking.{status_of_ending}
+use Rattle.kn_commands.specs.Following.{HasLogFault, FollowCause, status_of_follow}
 use Rattle.kn_commands.specs.Serving.{Order, ServeCause, status_of_serve}
 use Rattle.keynoted.specs.Calling.{TooLarge, Failed, Passed, KeysLead, AskLeads, IsProofText, ReplyLeads, CheckLeads}
+use Rattle.keynoted.specs.Calling.{LogLeads}
 use Rattle.keynoted.proofs.Known.{Tells, held, held_too_much}
 
 -- an input that is in order is served to its end, if no call of the link fails and there is memory
@@ -195,3 +204,24 @@ module _ (f f' : FilesSeen) (told : Tells f) (calm : ¬ Rose f.faults f'.faults)
         record { read = shows.read; to_query = shows.proved.to_query; proof = shows.proved.proof } in
         inl (passed_script c.session c.values c.tried.query
         (Passed c.text (held f names.reply c.text told c.tried.content) (shows.reply, proof, at)))
+
+  -- the file of `follow`
+  module _ (ends_once : (log : List ℕ) → OneEnding log) (name : List ℕ) (due : ℕ) where
+    -- a log with a fault is no file of replies that make a replica
+    faulty_log : (fault : FollowFault) → fault ≢ F.NoMemory → HasLogFault f f' name fault → due ≡ 11
+        → LogLeads f name due
+    faulty_log fault some has at =
+        Failed has.log (held f name has.log told has.read.content)
+        (λ replica is. (ends_once has.log).not_both replica fault some is has.is) at
+
+    pub follow_came : (ending : FollowEnding) → FollowCause f f' name ending → due ≡ status_of_follow ending
+        → LogLeads f name due ⊎ (due ≡ 5)
+    follow_came W.FileFailed cause at = absurd (calm cause.rose)
+    follow_came W.FileTooLarge cause at =
+        let much = held_too_much f name told cause.1 in inl (TooLarge much.0 much.1 at)
+    follow_came W.Memory cause at = inr at
+    follow_came (W.Line at) cause is = inl (faulty_log (F.Line at) (λ same. absurd (cc)) cause is)
+    follow_came (W.Gap from have) cause is = inl (faulty_log (F.Gap from have) (λ same. absurd (cc)) cause is)
+    follow_came (W.Refused place) cause is = inl (faulty_log (F.Refused place) (λ same. absurd (cc)) cause is)
+    follow_came (W.Followed version live) cause at =
+        inl (Passed cause.log (held f name cause.log told cause.read.content) (cause.replica, cause.follows, at))

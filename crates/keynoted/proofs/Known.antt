@@ -6,7 +6,7 @@ use Rattle.kn_outside.specs.Seen.{FilesSeen}
 use Rattle.kn_commands.specs.Names.{AskNames, ask_order, CheckNames, in_order}
 use Rattle.kn_commands.specs.Held.{HasContent, IsTooLarge}
 use Rattle.kn_commands.specs.Serving.{Order}
-use Rattle.keynoted.specs.Commands.{AskFor, CheckFor, ServeFor}
+use Rattle.keynoted.specs.Commands.{AskFor, CheckFor, FollowFor, ServeFor}
 use Rattle.keynoted.specs.Calling.{Holds, HoldsWithin, HoldsTooMuch, Leads, TooLarge, Failed, Passed}
 
 -- a key file that is named or isn't
@@ -34,6 +34,11 @@ same_names given a b first second =
     ap (λ (p : List ℕ). record { policy = p; script = a.script; reply = a.reply }) policy
     ∙ ap (λ (t : List ℕ). record { policy = b.policy; script = t; reply = a.reply }) script
     ∙ ap (λ (r : List ℕ). record { policy = b.policy; script = b.script; reply = r }) reply
+
+pub same_log : (given : List (List ℕ)) (a b : List ℕ) → FollowFor given a → FollowFor given b → a ≡ b
+same_log given a b first second =
+    let both : codes "follow" ∷ a ∷ [] ≡ codes "follow" ∷ b ∷ [] = sym first ∙ second in
+    cc
 
 -- the words of `serve` name one policy file, and one key file or none
 pub same_files : (given : List (List ℕ)) (a b : Order) → ServeFor given a → ServeFor given b → a.files ≡ b.files

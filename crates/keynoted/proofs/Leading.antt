@@ -6,14 +6,17 @@ use Rattle.kn_outside.specs.Seen.{FilesSeen}
 use Rattle.kn_auth.specs.KeyFiles.{IsKeyFile}
 use Rattle.kn_auth.specs.declared.key_file.KeyFile.{KeyFile}
 use Rattle.kn_files.specs.Pieces.{pieces_of}
+use Rattle.kn_follow.specs.Files.{IsLogFile}
 use Rattle.kn_proof.specs.declared.reply.ReadReply.{ReadReply}
 use Rattle.kn_session.specs.Sessions.{Session}
+use Rattle.kn_history.specs.declared.update.Update.{Update}
 use Rattle.kn_history.specs.History.{loaded_history}
 use Rattle.kn_history.specs.Loading.{IsLoadable}
 use Rattle.kn_play.specs.Meaning.{Means, OneQueryOfScript}
 use Rattle.kn_commands.specs.Names.{AskNames, CheckNames}
 use Rattle.keynoted.specs.Calling.{Holds, HoldsWithin, HoldsTooMuch, Leads, TooLarge, Failed, Passed, KeysLead}
-use Rattle.keynoted.specs.Calling.{AskLeads, IsProofText, ReplyLeads, MeansNothing, ScriptLeads, CheckLeads, EndsWith}
+use Rattle.keynoted.specs.Calling.{AskLeads, IsProofText, ReplyLeads, MeansNothing, ScriptLeads, CheckLeads, LogLeads}
+use Rattle.keynoted.specs.Calling.{EndsWith}
 
 -- a told file has one content
 holds_once : (f : FilesSeen) (name a b : List ℕ) → Holds f name a → Holds f name b → a ≡ b
@@ -73,6 +76,15 @@ module _ (f : FilesSeen) (On Next : ℕ → Type 0) (status other : ℕ)
       (λ bytes next. IsLoadable (pieces_of bytes) × KeysLead f names.keys Next next) status other
       (λ bytes fails on. fails on.0) (λ bytes fails on. fails on.0)
       (λ bytes on on'. keys_once names.keys on.1 on'.1) a b
+
+-- the file of `follow`
+pub log_once : (f : FilesSeen) (name : List ℕ) (status other : ℕ) → LogLeads f name status → LogLeads f name other
+    → EndsWith status other
+log_once f name status other a b =
+    leads_once f name (λ log. (replica : List Update) → ¬ IsLogFile log replica) 11
+    (λ log next. (replica : List Update) × IsLogFile log replica × (next ≡ 0))
+    (λ log next. (replica : List Update) × IsLogFile log replica × (next ≡ 0)) status other
+    (λ log fails on. fails on.0 on.1) (λ log fails on. fails on.0 on.1) (λ log on on'. inl (on'.2 ∙ sym on.2)) a b
 
 module _ (law : OneQueryOfScript) (f : FilesSeen) (names : CheckNames) (status other : ℕ) where
   -- the reply to a query

@@ -36,6 +36,13 @@ two_or_three (x ∷ y ∷ []) first second third least most a b c = let is : thi
 two_or_three (x ∷ y ∷ z ∷ []) first second third least most a b c = let is : third ≡ Some z = c in rw is (cc)
 two_or_three (x ∷ y ∷ z ∷ w ∷ ws) first second third least most a b c = absurd (omega arith)
 
+two_words : (words : List (List ℕ)) (first second : List ℕ) → length words ≡ 2 → first ≡ get_or words 0 first
+    → second ≡ get_or words 1 second → words ≡ first ∷ second ∷ []
+two_words [] first second count a b = absurd (omega arith)
+two_words (x ∷ []) first second count a b = absurd (omega arith)
+two_words (x ∷ y ∷ []) first second count a b = cc
+two_words (x ∷ y ∷ z ∷ ws) first second count a b = absurd (omega arith)
+
 -- and four
 four_words : (words : List (List ℕ)) (first second third fourth : List ℕ) → length words ≡ 4 →
     first ≡ get_or words 0 first → second ≡ get_or words 1 second → third ≡ get_or words 2 third
@@ -74,3 +81,13 @@ spell_check words names first second third fourth given check differs count a b 
     ∙ ap (λ (w : List ℕ). codes "check" ∷ w ∷ third ∷ fourth ∷ []) (sym policy)
     ∙ ap (λ (w : List ℕ). codes "check" ∷ names.policy ∷ w ∷ fourth ∷ []) (sym script)
     ∙ ap (λ (w : List ℕ). codes "check" ∷ names.policy ∷ names.script ∷ w ∷ []) (sym reply)
+
+-- the words are `follow` and one more
+pub spell_follow : (words : List (List ℕ)) (name first second given follow : List ℕ) (differs : Bool)
+    → length words ≡ 2 → first ≡ get_or words 0 first → second ≡ get_or words 1 second → name ≡ second
+    → given ≡ first → follow ≡ codes "follow" → differs ≡ not (bytes_eq given follow) → differs ≡ false
+    → words ≡ codes "follow" ∷ name ∷ []
+spell_follow words name first second given follow differs count a b named same is tested none =
+    two_words words first second count a b
+    ∙ ap (λ (w : List ℕ). w ∷ second ∷ []) (same_word first given follow (codes "follow") differs same is tested none)
+    ∙ ap (λ (w : List ℕ). codes "follow" ∷ w ∷ []) (sym named)

@@ -6,9 +6,11 @@ use Rattle.kn_outside.specs.Faults.{Rose}
 use Rattle.kn_auth.specs.KeyFiles.{IsKeyFile}
 use Rattle.kn_auth.specs.declared.key_file.KeyFile.{KeyFile}
 use Rattle.kn_files.specs.Pieces.{pieces_of}
+use Rattle.kn_follow.specs.Files.{IsLogFile}
 use Rattle.kn_proof.specs.declared.reply.ReadReply.{ReadReply}
 use Rattle.kn_proof.specs.Reading.{IsReplyText}
 use Rattle.kn_session.specs.Sessions.{Session}
+use Rattle.kn_history.specs.declared.update.Update.{Update}
 use Rattle.kn_history.specs.History.{loaded_history}
 use Rattle.kn_history.specs.Loading.{IsLoadable}
 use Rattle.kn_meaning.specs.Proofs.{IsProof}
@@ -19,7 +21,7 @@ use Rattle.kn_serve.specs.Serving.{IsOrderly, IsFaultless}
 use Rattle.kn_commands.specs.Names.{AskNames, CheckNames}
 use Rattle.kn_commands.specs.Serving.{Order}
 use Rattle.kn_commands.specs.declared.generating.GenNumbers.{GenNumbers}
-use Rattle.keynoted.specs.Commands.{AskFor, CheckFor, GenFor, ServeFor}
+use Rattle.keynoted.specs.Commands.{AskFor, CheckFor, FollowFor, GenFor, ServeFor}
 use Rattle.keynoted.specs.Outcomes.{OutsideSeen, AreServeTexts}
 
 -- the contents of the files are told, and the file of this name has these bytes
@@ -85,6 +87,11 @@ ScriptLeads f names bytes status = Leads f names.script (λ script. MeansNothing
 abbrev pub CheckLeads : FilesSeen → CheckNames → ℕ → Type 0
 CheckLeads f names status = PolicyLeads f names.policy (λ bytes next. ScriptLeads f names bytes next) status
 
+-- the file of `follow` is tried: it fails where it isn't replies to LOG that make some replica
+abbrev pub LogLeads : FilesSeen → List ℕ → ℕ → Type 0
+LogLeads f name status = Leads f name (λ log. (replica : List Update) → ¬ IsLogFile log replica) 11
+    (λ log next. (replica : List Update) × IsLogFile log replica × (next ≡ 0)) status
+
 -- the link's input is told and in order, and no call of the link failed
 pub record IsOrderlyLink (o o' : LinkSeen) : Type 0 where
   pub input : List ℕ
@@ -108,6 +115,8 @@ module _ {R : Type 0} (given : List (List ℕ)) (before after : OutsideSeen R) w
         → AskLeads before.files order.files (λ next. next ≡ 0) status → CallsFor status
     ByCheck : (names : CheckNames) → CheckFor given names → AreCalm before.files after.files
         → CheckLeads before.files names status → CallsFor status
+    ByFollow : (name : List ℕ) → FollowFor given name → AreCalm before.files after.files
+        → LogLeads before.files name status → CallsFor status
     ByGen : (numbers : GenNumbers) → GenFor given numbers → status ≡ 0 → CallsFor status
 
 -- the run has this status, or memory lacked

@@ -16,6 +16,10 @@ AskFor words names = words ≡ codes "ask" ∷ ask_order names
 abbrev pub CheckFor : List (List ℕ) → CheckNames → Type 0
 CheckFor words names = words ≡ codes "check" ∷ in_order names
 
+-- the words ask what the log in a file makes of a replica
+abbrev pub FollowFor : List (List ℕ) → List ℕ → Type 0
+FollowFor words name = words ≡ codes "follow" ∷ name ∷ []
+
 -- Two words spell these numbers by one to nine digits, and there are from 1 to 2,048 credentials.
 pub record AreGenNumbers (first second : List ℕ) (numbers : GenNumbers) : Type 0 where
   pub start : decimal_of first ≡ Some numbers.start
@@ -86,5 +90,6 @@ IsNo {X} For words = (asked : X) → For words asked → ⊥
 pub record IsNoCommand (words : List (List ℕ)) : Type 0 where
   pub ask : IsNo AskFor words
   pub check : IsNo CheckFor words
+  pub follow : IsNo FollowFor words
   pub gen : IsNo GenFor words
   pub serve : IsNo ServeFor words

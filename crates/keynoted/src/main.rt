@@ -1,6 +1,7 @@
 //! keynoted: may these principals do this?
 #![tactic(auto)]
 
+mod following;
 mod generating;
 mod idle;
 #[cfg(test)]

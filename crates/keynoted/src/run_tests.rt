@@ -39,11 +39,28 @@ const REPLY: &[u8] = b"VALUE 1 log 2 2\nROW 1 a2 \"y\"\nROW 1 a1 \"POLICY\"\nEND
 const REPLIES: &[u8] =
     b"OK 1 2\nOK\nOK\nVALUE 1 log 2 2\nROW 1 a2 \"y\"\nROW 1 a1 \"POLICY\"\nEND\n";
 
+// The policy by which alice may do all, and the credential by which she licenses bob, as they are told to a follower.
+const LOG: &[u8] = b"LOG 0 2 2
+UPDATE 0 1
+ADD 40
+Authorizer: \"POLICY\"
+Licensees: \"alice\"
+
+UPDATE 0 1
+ADD 37
+Authorizer: \"alice\"
+Licensees: \"bob\"
+
+END
+";
+
 const ASK: &[&[u8]] = &[b"ask", b"p.kn"];
 
 const ASK_KEYS: &[&[u8]] = &[b"ask", b"p.kn", b"k.txt"];
 
 const CHECK: &[&[u8]] = &[b"check", b"p.kn", b"s.in", b"r.out"];
+
+const FOLLOW: &[&[u8]] = &[b"follow", b"l.log"];
 
 const GEN: &[&[u8]] = &[b"gen", b"1", b"3"];
 
@@ -117,12 +134,13 @@ pub(crate) fn octets(alloc: Global, words: &[&[u8]]) -> Result<List<Octets>, NoM
 
 fn entries(alloc: Global) -> Result<List<FileEntry>, NoMemory> {
     let mut list = List::new(alloc);
-    let files: [(&[u8], &[u8]); 7] = [
+    let files: [(&[u8], &[u8]); 8] = [
         (b"p.kn", POLICY),
         (b"f.kn", FAULTY),
         (b"k.txt", KEYS),
         (b"s.in", SCRIPT),
         (b"r.out", REPLY),
+        (b"l.log", LOG),
         (b"one.kn", ONE),
         (b"d.txt", DIGEST),
     ];
@@ -224,15 +242,17 @@ fn ends<R: Abort + Threads + Wait + Sync>(
 fn each_failed_file_and_call_is_told(rt: HostRuntime) -> Result<(), Fail> {
     let all_but_two: &[u8] =
         b"OK 1 2\nOK\nOK\nVALUE 1 log 2 2\nROW 1 a2 \"y\"\nROW 1 a1 \"POLICY\"\nEN";
-    let table: [(&[&[u8]], (u32, u32, u32), (u8, u32, &[u8], &[u8])); 17] = [
+    let table: [(&[&[u8]], (u32, u32, u32), (u8, u32, &[u8], &[u8])); 19] = [
         (ASK_KEYS, (0, 0, 0), (0, 2, REPLIES, b"")),
         (CHECK, (0, 0, 0), (0, 3, b"", b"PROVED 1 log\n")),
+        (FOLLOW, (0, 0, 0), (0, 1, b"", b"FOLLOW 2 2\n")),
         (ASK, (1, 0, 0), (2, 1, b"", b"error file p.kn read\n")),
         (ASK_KEYS, (2, 0, 0), (2, 2, b"", b"error file k.txt read\n")),
         (CHECK, (1, 0, 0), (2, 1, b"", b"error file p.kn read\n")),
         (CHECK, (2, 0, 0), (2, 2, b"", b"error file s.in read\n")),
         (CHECK, (3, 0, 0), (2, 3, b"", b"error file r.out read\n")),
         (SERVE, (2, 0, 0), (2, 2, b"", b"error file k.txt read\n")),
+        (FOLLOW, (1, 0, 0), (2, 1, b"", b"error file l.log read\n")),
         (ASK, (0, 1, 0), (4, 1, b"", NOT_READ)),
         (ASK, (0, 4, 0), (4, 1, b"OK 1 2\nOK\n", NOT_READ)),
         (ASK, (0, 14, 0), (4, 1, REPLIES, NOT_READ)),
@@ -258,14 +278,17 @@ fn each_failed_file_and_call_is_told(rt: HostRuntime) -> Result<(), Fail> {
 fn a_front_of_a_line_may_be_written(rt: HostRuntime) -> Result<(), Fail> {
     let long: &[&[u8]] = &[b"ask", &[b'n'; 600]];
     let faulty: &[&[u8]] = &[b"ask", b"f.kn"];
+    let no_log: &[&[u8]] = &[b"follow", b"p.kn"];
     let told: &[u8] = b"error policy f.kn 1 2 12\n";
-    let table: [(&[&[u8]], (u32, u32, u32), (u8, u32, &[u8], &[u8])); 10] = [
+    let table: [(&[&[u8]], (u32, u32, u32), (u8, u32, &[u8], &[u8])); 12] = [
         (&[b"ask"], (0, 0, 1), (9, 0, b"", b"")),
         (faulty, (0, 0, 1), (9, 1, b"", b"")),
         (faulty, (0, 0, 2), (3, 1, b"", told)),
         (long, (0, 0, 2), (9, 1, b"", b"error file ")),
         (ASK, (0, 5, 1), (9, 1, b"OK 1 2\nOK\n", b"")),
         (CHECK, (0, 0, 1), (9, 3, b"", b"")),
+        (FOLLOW, (0, 0, 1), (9, 1, b"", b"")),
+        (no_log, (0, 0, 0), (11, 1, b"", b"error log 1 0\n")),
         (GEN, (1, 1, 0), (0, 0, b"", b"GEN 1 v1 3 3 4 13 9 4\n")),
         (GEN, (0, 0, 1), (9, 0, b"", b"")),
         (SERVE, (0, 0, 0), (7, 2, b"", b"error listener\n")),

@@ -1,5 +1,5 @@
 use Rattle.std.proofs.Common.{refl}
-use Rattle.keynoted.specs.Outcomes.{NoCommand, AskEnded, CheckEnded}
+use Rattle.keynoted.specs.Outcomes.{NoCommand, AskEnded, CheckEnded, FollowEnded}
 use Rattle.keynoted.proofs.Apart.{no_serve_otherwise}
 use Rattle.keynoted.proofs.Gen.{gen_ended}
 use Rattle.keynoted.proofs.run.dispatch.Goals as goal
@@ -9,6 +9,13 @@ returns-in-Some g c = record {
   outcome = AskEnded c.in-Some.names c.ask-ending.result;
   cause = (c.in-Some.ensures.some, c.ask-ending.ensures, refl);
   told = c.end_ask.ensures;
+}
+
+pub returns-in-Some-log_file : goal.returns-in-Some-log_file
+returns-in-Some-log_file g c = record {
+  outcome = FollowEnded c.in-Some-log_file.name.now c.follow-ending.result;
+  cause = (c.in-Some-log_file.ensures.some, c.follow-ending.ensures, refl, refl);
+  told = c.end_follow.ensures;
 }
 
 pub run_gen-requires : goal.run_gen-requires
@@ -34,6 +41,7 @@ returns-in-None g c = record {
     record {
       ask = c.in_default.ensures.none;
       check = c.in-None.ensures.none;
+      follow = c.in_default-log_file.ensures.none;
       gen = c.in_default-gen_numbers.ensures.none;
       serve = no_serve_otherwise c.args.words.now (c.asks_to_serve.ensures.no c.if-asks_to_serve.false);
     },

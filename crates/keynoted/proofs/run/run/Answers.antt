@@ -2,4 +2,4 @@ use Rattle.keynoted.proofs.Specified.{specified}
 use Rattle.keynoted.proofs.run.run.Goals as goal
 
 pub returns : goal.returns
-returns g c = specified _ _ _ _ _ _ c.dispatch.ensures c.one_query_is_meant.ensures
+returns g c = specified _ _ _ _ _ _ c.dispatch.ensures c.one_query_is_meant.ensures c.one_ending.ensures.no_other
