@@ -39,6 +39,9 @@ LINES = {
     "proof text 1": "a line of the reply isn't of its form, is missing, or answers another query: line ",
     "proof text 2": "a number of the reply is too large: line ",
     "proof text 3": "the reply says another number of rows than it has: ",
+    "log 1": "a reply of the log isn't of its form, or breaks off, at this byte from its first, which is 0: ",
+    "log 2": "a reply of the log goes on behind another number of updates than are there: ",
+    "log 3": "the update of this number is refused behind those before it: ",
 }
 AUTHS = {
     "1": "it has no signature", "2": "its signature isn't of sig-hmac-sha256-hex", "3": "its authorizer has no key",
