@@ -17,3 +17,9 @@ pub mod ValueTextLaws
 pub mod LogLaws
 pub mod AnyLaws
 pub mod ApartLaws
+pub mod CommittedLaws
+pub mod VerdictLaws
+pub mod UpdatingLaws
+pub mod ItemLaws
+pub mod PlaceLaws
+pub mod BatchingLaws

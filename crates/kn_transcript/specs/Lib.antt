@@ -4,6 +4,7 @@ pub mod Accepted
 pub mod Faulty
 pub mod Judging
 pub mod ValueReplies
+pub mod Verdicts
 pub mod Laws
 pub mod Numerals
 pub mod Fronts

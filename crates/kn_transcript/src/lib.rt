@@ -1,17 +1,19 @@
 //! Transcripts: what a client sent on a whole connection and what it got, judged from the policy alone.
 //!
-//! Here stand the definitions of an accepted transcript and of each fault of one, their laws, and judges of single
-//! replies: those to calls of a session, OPEN, PIN, QUERY, ADMIN, BYE and what is no request. A reply to QUERY is
-//! checked by its rows, and no query is settled.
+//! Here stand the definitions of an accepted transcript and of each fault of one, their laws, a reader of the text of
+//! any reply, and judges of single replies: those to calls of a session, OPEN, PIN, QUERY, ADMIN, ADD, DROP, BATCH, BYE
+//! and what is no request. A reply to QUERY is checked by its rows, and no query is settled.
 #![tactic(auto)]
 
 mod admitting;
 pub mod apart;
+mod batching;
 mod calling;
 mod connection;
 mod ending;
 mod fault;
 mod forms;
+mod items;
 pub mod laws;
 mod logs;
 mod matching;
@@ -19,6 +21,8 @@ mod numerals;
 mod opening;
 mod querying;
 mod replies;
+mod updating;
 mod value_reply;
+mod verdicts;
 
 pub use fault::{AUTH_FAULTS, TranscriptFault};
