@@ -15,7 +15,7 @@ AreForms-more p q l zero (piece ∷ ps) h = absurd h
 AreForms-more p q l (suc n) (Who i ∷ ps) h = (omega (arith, h.0), AreForms-more p q l n ps h.1)
 AreForms-more p q l (suc n) (Gate k m ∷ ps) h = (h.0, AreForms-more p q l (n + m) ps h.1)
 
-IsFormula-more : (p q : ℕ) → p ≤ q → (ps : List Piece) → IsFormula p ps → IsFormula q ps
+pub IsFormula-more : (p q : ℕ) → p ≤ q → (ps : List Piece) → IsFormula p ps → IsFormula q ps
 IsFormula-more p q l ps h = record { one = AreForms-more p q l 1 ps h.one; shallow = h.shallow }
 
 IsSystemRow-more : (levels n m : ℕ) → n ≤ m → (row : SystemRow) → IsSystemRow levels n row → IsSystemRow levels m row

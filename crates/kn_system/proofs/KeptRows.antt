@@ -11,7 +11,7 @@ use Rattle.kn_system.specs.declared.rows.Piece.TheVariants.{Who, Gate}
 use Rattle.kn_system.specs.declared.rows.StoredRow.{StoredRow}
 use Rattle.kn_system.specs.Equations.{IsSystemRow, node_total, row_at}
 use Rattle.kn_system.specs.Forms.{AreForms}
-use Rattle.kn_system.specs.Kept.{AreKept, kept_row, kept_rows}
+use Rattle.kn_system.specs.Kept.{AreEndToEnd, AreKept, kept_row, kept_rows}
 use Rattle.kn_system.specs.Nodes.{FlatNodes, pieces_of, row_ups, ups_of, ups_of_rows}
 use Rattle.kn_system.specs.Rows.{SystemRow}
 
@@ -19,7 +19,7 @@ pub length-pieces_of : (rows : List SystemRow) → length (pieces_of rows) ≡ n
 length-pieces_of [] = refl
 length-pieces_of (row ∷ rows) = let rest = length-pieces_of rows in omega (arith, length-append row.formula (pieces_of rows))
 
-pieces_of-push : (rows : List SystemRow) (row : SystemRow) → pieces_of (rows ++ row ∷ []) ≡ pieces_of rows ++ row.formula
+pub pieces_of-push : (rows : List SystemRow) (row : SystemRow) → pieces_of (rows ++ row ∷ []) ≡ pieces_of rows ++ row.formula
 pieces_of-push [] row = append-nil row.formula
 pieces_of-push (r ∷ rows) row = ap (λ ps. r.formula ++ ps) (pieces_of-push rows row) ∙ sym (append_assoc r.formula (pieces_of rows) row.formula)
 
@@ -67,7 +67,7 @@ pub length-row_ups : (r n : ℕ) → length (row_ups r n) ≡ n
 length-row_ups r zero = refl
 length-row_ups r (suc n) = ap suc (length-row_ups (suc r) n)
 
-ups_of_rows-push : (levels p : ℕ) (rows : List SystemRow) (row : SystemRow) → All (IsSystemRow levels p) rows
+pub ups_of_rows-push : (levels p : ℕ) (rows : List SystemRow) (row : SystemRow) → All (IsSystemRow levels p) rows
     → ups_of_rows (rows ++ row ∷ []) ≡ ups_of_rows rows ++ ups_of (length (pieces_of rows)) (Row (length rows) ∷ []) row.formula
 ups_of_rows-push levels p rows row h =
     let n : ℕ = length rows in
@@ -86,7 +86,7 @@ kept-same ps qs row l =
     let size : row.size ≤ length (drop row.start ps) = omega (arith, length-drop row.start ps) in
     ap (λ (f : List Piece). record { authorizer = row.authorizer; ceiling = row.ceiling; formula = f }) (ap (take row.size) behind ∙ take-append-le row.size (drop row.start ps) qs size)
 
-kept-all : (ps qs : List Piece) (rows : List StoredRow) → All (λ (row : StoredRow). row.start + row.size ≤ length ps) rows → kept_rows (ps ++ qs) rows ≡ kept_rows ps rows
+pub kept-all : (ps qs : List Piece) (rows : List StoredRow) → All (λ (row : StoredRow). row.start + row.size ≤ length ps) rows → kept_rows (ps ++ qs) rows ≡ kept_rows ps rows
 kept-all ps qs [] h = refl
 kept-all ps qs (row ∷ rows) h =
     let first : row.start + row.size ≤ length ps = All-head (λ (r : StoredRow). r.start + r.size ≤ length ps) row rows h in
@@ -111,6 +111,11 @@ inside-more n rows row m h l here = λ i d within.
           let last : length rows ≡ i = omega (arith, length_push rows row) in
           subst (λ (r : StoredRow). r.start + r.size ≤ m) (sym (get_or_push rows row d i last)) here
     ]
+
+-- a row behind those that stand end to end
+end-more : (start : ℕ) (rows : List StoredRow) (row : StoredRow) (end after : ℕ) → AreEndToEnd start rows end → row.start ≡ end → end + row.size ≡ after → AreEndToEnd start (rows ++ row ∷ []) after
+end-more start [] row end after h begins ends = (begins ∙ sym h, omega (arith, h, ends))
+end-more start (r ∷ rows) row end after h begins ends = (h.0, end-more (start + r.size) rows row end after h.1 begins ends)
 
 -- a row that is kept, as what it says
 pub row_kept : (pieces : List Piece) (kept : List StoredRow) (rows : List SystemRow) (i : ℕ) (d : StoredRow) → kept_rows pieces kept ≡ rows → i < length rows → kept_row pieces (get_or kept i d) ≡ row_at rows i
@@ -139,6 +144,7 @@ kept_more levels p rows flat new row formula fit kept starts sized added linked 
       pushed = pushed;
       kept = record {
         inside = inside-more (length flat.pieces) rows row (length new.pieces) kept.inside (omega arith) (omega (arith, starts, sized));
+        end_to_end = end-more 0 rows row (length flat.pieces) (length new.pieces) kept.end_to_end starts (omega (arith, size, sized));
         pieces = ap pieces_of pushed ∙ pieces_of-push old last ∙ ap (λ ps. ps ++ formula) kept.pieces ∙ sym added;
         ups =
             ap ups_of_rows pushed ∙ ups_of_rows-push levels p old last fit ∙ ap (λ us. us ++ ups_of (length (pieces_of old)) (Row (length old) ∷ []) formula) kept.ups

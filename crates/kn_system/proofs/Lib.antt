@@ -15,3 +15,4 @@ pub mod Placed
 pub mod Flattened
 pub mod Linked
 pub mod KeptRows
+pub mod Shortened

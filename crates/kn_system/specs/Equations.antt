@@ -21,6 +21,11 @@ pub record IsSystemRow (levels principals : ℕ) (row : SystemRow) : Type 0 wher
   pub ceiling : row.ceiling < levels
   pub formula : IsFormula principals row.formula
 
+-- the row is one over the first of the principals
+pub record IsRowOver (principals : ℕ) (row : SystemRow) : Type 0 where
+  pub authorizer : row.authorizer < principals
+  pub formula : IsFormula principals row.formula
+
 -- how many nodes the formulas have together, principals and gates
 abbrev pub node_total : List SystemRow → ℕ
 node_total [] = 0

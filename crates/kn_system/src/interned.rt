@@ -1,6 +1,6 @@
 //! The system of a query: its equations over numbered principals.
 ghost use Rattle.std.specs.Prelude.{◌≡◌, ◌+◌, ◌-◌, ◌^◌, ◌<◌, ◌≤◌, [], ◌∷◌, ◌++◌};
-ghost use Rattle.std.specs.Prelude.{All, IfOk, OnErr, false, length, min, slice_get, slice_index_or};
+ghost use Rattle.std.specs.Prelude.{All, IfOk, OnErr, false, length, min, slice_get, slice_index_or, take};
 ghost use Rattle.kn_base.specs.declared.limits.TheConstants.{FEWEST_COMPLIANCE_VALUES, MOST_COMPLIANCE_VALUES};
 
 use crate::flat::Flat;
@@ -45,7 +45,7 @@ impl<L> Model for System<L> {
 }
 
 impl<L> System<L> {
-    ghost use Rattle.kn_system.specs.Equations.{IsSystemRow, IsSystem, row_at, node_total, leaf_total};
+    ghost use Rattle.kn_system.specs.Equations.{IsRowOver, IsSystemRow, IsSystem, row_at, node_total, leaf_total};
     ghost use Rattle.kn_system.specs.Form.{form_level};
     ghost use Rattle.kn_system.specs.Forms.{IsFormula};
     ghost use Rattle.kn_system.specs.Lawful.{AreLevels};
@@ -124,6 +124,53 @@ impl<L> System<L> {
                 self.flat.shorten(start);
                 Err(NoMemory)
             }
+        }
+    }
+
+    // Takes the last row away.
+    fn pop_row(&mut self)
+        requires { 0 < length self.old.rows }
+        ensures { self.new ≡ record self.old { rows = take (length self.old.rows - 1) self.old.rows } }
+    {
+        match self.rows.pop() {
+            Some(row) => {
+                self.leaves -= leaf_count(self.flat.pieces(row.start, row.size));
+                self.flat.shorten(row.start);
+            }
+            None => {}
+        }
+    }
+
+    /// Keeps the first of the rows alone. Takes no memory.
+    pub fn shorten_rows(&mut self, rows: u32)
+        requires { rows ≤ length self.old.rows }
+        ensures { self.new ≡ record self.old { rows = take rows self.old.rows } }
+    {
+        for _row in rows..self.rows() {
+            self.pop_row();
+        }
+    }
+
+    // Takes the last principal away, whom no row names.
+    fn pop_principal(&mut self)
+        requires some { 1 < length self.old.requesters }
+        requires over_others { All (IsRowOver (length self.old.requesters - 1)) self.old.rows }
+        ensures { self.new ≡ record self.old {
+          requesters = take (length self.old.requesters - 1) self.old.requesters;
+        } }
+    {
+        let _last = self.others.pop();
+    }
+
+    /// Keeps the first of the principals alone, of whom the rows are. Takes no memory.
+    pub fn shorten_principals(&mut self, principals: u32)
+        requires some { 0 < principals }
+        requires in_range { principals ≤ length self.old.requesters }
+        requires over_them { All (IsRowOver principals) self.old.rows }
+        ensures { self.new ≡ record self.old { requesters = take principals self.old.requesters } }
+    {
+        for _principal in principals..self.principals() {
+            self.pop_principal();
         }
     }
 
