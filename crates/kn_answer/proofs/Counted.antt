@@ -1,5 +1,5 @@
 -- How much assertions add.
-use Rattle.std.proofs.Common.{◌≡◌, ℕ, suc, ◌+◌, ◌<◌, List, [], ◌∷◌, ◌++◌, get_or, take, drop, length, map, sym, ap, ◌∙◌, arith, add-one, drop-cons}
+use Rattle.std.proofs.Common.{◌≡◌, ℕ, zero, suc, ◌+◌, ◌<◌, List, [], ◌∷◌, ◌++◌, get_or, take, drop, length, map, sym, ap, ◌∙◌, arith, add-one, drop-cons}
 use Rattle.std.proofs.lemmas.List.{map-append, take_more}
 use Rattle.kn_env.specs.Environment.{Asked}
 use Rattle.kn_meaning.specs.Equations.{Part, statement_of}
@@ -15,6 +15,11 @@ pub total_size-drop : (parts : List Part) (i : ℕ) (a : Part) → i < length pa
 total_size-drop parts i a within here =
     let rest : drop i parts ≡ a ∷ drop (suc i) parts = drop-cons parts i a within ∙ ap (λ x. x ∷ drop (suc i) parts) (sym here) in
     ap total_size rest ∙ ap (λ k. size_of a + total_size (drop k parts)) (sym (add-one i))
+
+pub total_size-split : (parts : List Part) (i : ℕ) → total_size parts ≡ total_size (take i parts) + total_size (drop i parts)
+total_size-split parts zero = omega arith
+total_size-split [] (suc i) = omega arith
+total_size-split (part ∷ parts) (suc i) = let rest = total_size-split parts i in omega (arith, rest)
 
 pub statements-more : (asked : Asked) (parts : List Part) (i : ℕ) (a : Part) → i < length parts → a ≡ get_or parts i a → map (statement_of asked) (take i parts) ++ statement_of asked a ∷ [] ≡ map (statement_of asked) (take (i + 1) parts)
 statements-more asked parts i a within here =

@@ -17,3 +17,4 @@ pub mod Bounded
 pub mod Capped
 pub mod Added
 pub mod Answered
+pub mod Overlaid

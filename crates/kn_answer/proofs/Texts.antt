@@ -39,7 +39,7 @@ texts_readable told sound (text ∷ texts) (part ∷ parts) read =
     let one = sound_read told sound text part.assertion first in
     All-cons IsReadablePart part parts (some_bytes (length text) part.assertion.licensees one.licensees) (texts_readable told sound texts parts others)
 
-texts_size : ReadingTold → SoundTold → (texts : List (List ℕ)) (parts : List Part) → map assertion_of texts ≡ map (λ part. Some part.assertion) parts → total_size parts ≤ sum_by length texts
+pub texts_size : ReadingTold → SoundTold → (texts : List (List ℕ)) (parts : List Part) → map assertion_of texts ≡ map (λ part. Some part.assertion) parts → total_size parts ≤ sum_by length texts
 texts_size told sound texts [] read = omega arith
 texts_size told sound [] (part ∷ parts) read = absurd (cc)
 texts_size told sound (text ∷ texts) (part ∷ parts) read =

@@ -1,6 +1,6 @@
 -- What a base is for assertions: built without a query, it is the system of each query with the query's requesters and
 -- ceilings (keynoted's own).
-use Rattle.std.specs.Prelude.{ℕ, ◌≡◌, ◌-◌, ◌≤◌, Bool, List, [], ◌∷◌, length, map}
+use Rattle.std.specs.Prelude.{ℕ, ◌≡◌, ◌-◌, ◌≤◌, Bool, List, [], ◌∷◌, length, map, take}
 use Rattle.kn_principal.specs.Principals.{policy}
 use Rattle.kn_trees.specs.declared.assertion.Assertion.{Assertion}
 use Rattle.kn_env.specs.Environment.{Asked}
@@ -36,6 +36,11 @@ pub record IsBaseOf (parts : List Part) (names : List (List ℕ)) (base : System
   pub first : IsNumber names policy 0
   pub distinct : AreDistinct names
   pub rows : AreBaseRows names parts base.rows
+
+-- The first principals of a base are those of another one, under their numbers, and its first rows are the other's.
+pub record GoesOn (old new : BaseView) : Type 0 where
+  pub names : take (length old.names) new.names ≡ old.names
+  pub rows : take (length old.system.rows) new.system.rows ≡ old.system.rows
 
 -- these are the numbers of the principals, in their order
 abbrev pub AreNumbersOf : List (List ℕ) → List (List ℕ) → List ℕ → Type 0

@@ -1,20 +1,21 @@
 //! A base: assertions as a system over numbered principals, which is of no query and answers each.
 ghost use Rattle.std.specs.Prelude.{◌≡◌, ℕ, ◌+◌, ◌-◌, ◌*◌, ◌^◌, ◌<◌, ◌≤◌, false, true, [], ◌∷◌, ◌++◌, List as ListOf};
-ghost use Rattle.std.specs.Prelude.{length, map, replicate, slice_set, IfOk, OnOk};
+ghost use Rattle.std.specs.Prelude.{All, length, map, replicate, slice_set, take, IfOk, OnOk};
 ghost use Rattle.kn_meaning.specs.Equations.{IsPolicyLevel, Part as AssertionById, equations_over};
 ghost use Rattle.kn_meaning.specs.Proofs.{IsProof};
-ghost use Rattle.kn_system.specs.Equations.{SystemEquations, node_total};
-ghost use Rattle.kn_answer.specs.Based.{IsBaseOf};
+ghost use Rattle.kn_system.specs.Equations.{IsRowOver, SystemEquations, node_total};
+ghost use Rattle.kn_answer.specs.Based.{GoesOn, IsBaseOf};
 ghost use Rattle.kn_answer.specs.Located.{AreLocated, AreOfSystem, IsLocated, IsOfSystem};
 ghost use Rattle.kn_answer.specs.Numbering.{with_names};
 ghost use Rattle.kn_answer.specs.Removed.{live_parts};
-ghost use Rattle.kn_answer.specs.Sizes.{HaveTexts, IsReadablePart, size_of};
+ghost use Rattle.kn_answer.specs.Sizes.{HaveTexts, IsReadablePart, size_of, total_size};
 ghost use Rattle.kn_base.specs.declared.limits.TheConstants.{REQUESTERS};
 
 use crate::assertions::Assertions;
 use crate::conditions::Conditions;
 use crate::numbered::Numbered;
 use crate::types::{Answer, Part, Tally};
+use crate::with_others::WithOthers;
 use kn_base::limits::MOST_COMPLIANCE_VALUES;
 use kn_base::{List, NoMemory, Octets, Steps};
 use kn_env::Query;
@@ -70,6 +71,8 @@ impl Base {
     pub fn of(alloc: Global, list: &List<Part<'_>>) -> Result<Base, NoMemory>
         requires { HaveTexts list.now }
         ensures base { IfOk result (λ base. IsBaseOf list.now base.names base.system) }
+        ensures few_names { IfOk result (λ base. length base.names ≤ 1 + total_size list.now) }
+        ensures few_nodes { IfOk result (λ base. node_total base.system.rows ≤ total_size list.now) }
         ensures live { IfOk result (λ base. live_parts list.now base.live ≡ list.now) }
         ensures all { IfOk result (λ base. base.live ≡ replicate (length list.now) true) }
         ensures names { IfOk result (λ base. length base.names + REQUESTERS ≤ 2 ^ 24) }
@@ -78,7 +81,26 @@ impl Base {
     {
         kn_assert::laws::readings_are_computed();
         kn_assert::laws::readings_are_sound();
-        let mut base = Base::new(alloc)?;
+        let base = Base::new(alloc)?;
+        base.extend_all(alloc, list)
+    }
+
+    /// The base with these assertions, behind the others and in their order.
+    ///
+    /// `NoMemory` comes only for want of memory, and the base is gone then.
+    pub fn extend_all(self, alloc: Global, list: &List<Part<'_>>) -> Result<Base, NoMemory>
+        requires readable { All IsReadablePart list.now }
+        requires names_fit { length self.names + total_size list.now ≤ 2 ^ 24 }
+        requires nodes_fit { node_total self.system.rows + total_size list.now ≤ 2 ^ 24 }
+        ensures base { IfOk result (λ base. (parts : ListOf AssertionById) → IsBaseOf parts self.names self.system
+            → IsBaseOf (parts ++ list.now) base.names base.system) }
+        ensures names { IfOk result (λ base. length base.names ≤ length self.names + total_size list.now) }
+        ensures nodes { IfOk result (λ base. node_total base.system.rows
+            ≤ node_total self.system.rows + total_size list.now) }
+        ensures live { IfOk result (λ base. base.live ≡ self.live ++ replicate (length list.now) true) }
+        ensures goes_on { IfOk result (GoesOn self) }
+    {
+        let mut base = self;
         for part in list.as_slice() {
             base = base.extend(alloc, part)?;
         }
@@ -99,6 +121,7 @@ impl Base {
         ensures nodes { IfOk result (λ base. node_total base.system.rows
             ≤ node_total self.system.rows + size_of part.now) }
         ensures live { IfOk result (λ base. base.live ≡ self.live ++ true ∷ []) }
+        ensures goes_on { IfOk result (GoesOn self) }
     {
         let Base {
             mut numbered,
@@ -206,6 +229,56 @@ impl Base {
         })
     }
 
+    /// The answer to a query as of `answer`, where these assertions stand behind those of the base: the compliance value
+    /// over all of them, with a proof of it. They are taken out again, and the principals with them who weren't known.
+    ///
+    /// `NoMemory` comes only for want of memory, and the base is gone then.
+    pub fn answer_with<A: Assertions>(
+        self,
+        alloc: Global,
+        query: &Query<'_>,
+        assertions: &A,
+        others: &List<Part<'_>>,
+    ) -> Result<(Answer, Base), NoMemory>
+        requires base { IsBaseOf (A.parts assertions.now) self.names self.system }
+        requires readable { All IsReadablePart others.now }
+        requires room { length self.names + total_size others.now + length query.now.requesters ≤ 2 ^ 24 }
+        requires nodes_fit { node_total self.system.rows + total_size others.now ≤ 2 ^ 24 }
+        ensures proof { IfOk result (λ r. IsProof (equations_over query.now
+            (live_parts (A.parts assertions.now) self.live ++ others.now)) r.0.rows r.0.value) }
+        ensures least { IfOk result (λ r. IsPolicyLevel (equations_over query.now
+            (live_parts (A.parts assertions.now) self.live ++ others.now)) r.0.value) }
+        ensures below { IfOk result (λ r. r.0.value < length query.now.values) }
+        ensures names { IfOk result (λ r. r.1.names ≡ self.names) }
+        ensures rows { IfOk result (λ r. r.1.system.rows ≡ self.system.rows) }
+        ensures live { IfOk result (λ r. r.1.live ≡ self.live) }
+    {
+        let principals = self.principals();
+        let rows = self.rows();
+        let _levels = self.numbered.system.levels();
+        let mut base = self.extend_all(alloc, others)?;
+        let all = WithOthers::of(assertions, rows, others);
+        let answer = base.answer(alloc, query, &all)?;
+        base.shorten(principals, rows);
+        Ok((answer, base))
+    }
+
+    // Keeps the first of the principals and of the rows alone. These rows are of these principals.
+    fn shorten(&mut self, principals: u32, rows: u32)
+        requires some { 0 < principals }
+        requires principals { principals ≤ length self.old.names }
+        requires rows { rows ≤ length self.old.live }
+        requires over_them { All (IsRowOver principals) (take rows self.old.system.rows) }
+        ensures names { self.new.names ≡ take principals self.old.names }
+        ensures rows { self.new.system.rows ≡ take rows self.old.system.rows }
+        ensures live { self.new.live ≡ take rows self.old.live }
+    {
+        self.numbered.system.shorten_rows(rows);
+        self.numbered.system.shorten_principals(principals);
+        self.numbered.names.shorten(principals);
+        shorten_flags(&mut self.live, rows);
+    }
+
     // The rows of a proof by names, in their order.
     fn named_rows<A: Assertions>(
         &self,
@@ -252,5 +325,15 @@ impl Base {
             id: assertions.id(row.by),
             principal: Octets::from_slice(alloc, self.numbered.names.get(row.principal))?,
         })
+    }
+}
+
+// Keeps the first of the flags alone.
+fn shorten_flags(flags: &mut List<bool>, len: u32)
+    requires { len ≤ length flags.old }
+    ensures { flags.new ≡ take len flags.old }
+{
+    for _place in len..flags.len() {
+        let _last = flags.pop();
     }
 }

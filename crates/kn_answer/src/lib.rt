@@ -11,6 +11,7 @@ pub mod laws;
 mod names;
 mod numbered;
 mod types;
+mod with_others;
 
 pub use answers::answer;
 pub use assertions::Assertions;
