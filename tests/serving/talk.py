@@ -169,12 +169,15 @@ class Daemon:
         raise Fault(f"the daemon doesn't come up on {spelled}")
 
     def is_ready(self):
-        """Waits for the first connection, which says BYE; false where the program ended, or nothing came."""
+        """Waits for the first connection, which says BYE; false where the program ended, nothing came, or somebody else
+        was about to leave the port."""
         end = time.monotonic() + LIMIT
         while self.run.poll() is None and time.monotonic() < end:
             try:
                 self.connect("first").bye()
                 return True
+            except Fault:
+                return False
             except OSError:
                 with self.lock:
                     self.left += 1
