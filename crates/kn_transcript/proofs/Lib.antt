@@ -23,3 +23,4 @@ pub mod UpdatingLaws
 pub mod ItemLaws
 pub mod PlaceLaws
 pub mod BatchingLaws
+pub mod JudgingLaws

@@ -1,8 +1,8 @@
 //! Transcripts: what a client sent on a whole connection and what it got, judged from the policy alone.
 //!
 //! Here stand the definitions of an accepted transcript and of each fault of one, their laws, a reader of the text of
-//! any reply, and judges of single replies: those to calls of a session, OPEN, PIN, QUERY, ADMIN, ADD, DROP, BATCH, BYE
-//! and what is no request. A reply to QUERY is checked by its rows, and no query is settled.
+//! any reply, and judges of single replies: of the one to any request that a transcript judges, and of the one to what
+//! is no request. A reply to QUERY is checked by its rows, and no query is settled.
 #![tactic(auto)]
 
 mod admitting;
@@ -14,6 +14,7 @@ mod ending;
 mod fault;
 mod forms;
 mod items;
+mod judging;
 pub mod laws;
 mod logs;
 mod matching;
