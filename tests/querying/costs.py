@@ -123,13 +123,14 @@ def chain_with_conditions():
     return [slow_credential(name, f'"{after}"') for name, after in zip(names, names[1:])]
 
 
-# the texts of each policy: chains that are filled by a comment, by conditions, by licensees of one name (as many as a
-# base may have that is kept, and as many as there is room for), and by as many licensees of different names
+# the texts of each policy: chains that are filled by a comment, by conditions, by licensees of one name (about as many
+# as a base may have that is kept, and as many as there is room for), and by licensees of different names (likewise)
 SHAPES = {
     "a comment": lambda: chain_of(1),
     "conditions": chain_with_conditions,
-    "500 licensees": lambda: chain_of(500),
+    "120 licensees": lambda: chain_of(120),
     "800 licensees": lambda: chain_of(800),
+    "60 names": lambda: chain_of(60, 0),
     "500 names": lambda: chain_of(500, 0),
 }
 

@@ -1,7 +1,9 @@
 -- The credentials of a version by their places, and what a query over them needs.
-use Rattle.std.proofs.Common.{◌≡◌, ℕ, zero, suc, ◌≤◌, List, [], ◌∷◌, ◌++◌, length, map, slice_get, Option, Some, refl, sym, ap, subst, ◌∙◌, arith}
+use Rattle.std.proofs.Common.{◌≡◌, ℕ, zero, suc, ◌≤◌, List, [], ◌∷◌, ◌++◌, All, length, map, slice_get, Option, Some, refl, sym, ap, subst, ◌∙◌, arith}
+use Rattle.std.specs.Prelude.{sum_by}
 use Rattle.std.specs.List.{IsDistinct}
 use Rattle.std.proofs.lemmas.List.{append-nil}
+use Rattle.std.proofs.lemmas.List.Sums.{sum_by-cons}
 use Rattle.kn_base.specs.declared.limits.TheConstants.{LIVE_BYTES}
 use Rattle.kn_trees.specs.declared.assertion.Assertion.{Assertion}
 use Rattle.kn_assert.specs.Reading.{assertion_of}
@@ -15,9 +17,11 @@ use Rattle.kn_session.specs.Views.{ArePrivates}
 use Rattle.kn_session.specs.Laws.{TextsAreShort}
 use Rattle.kn_daemon.specs.Daemon.{part_by, parts_of, asked_of, equations_of, session_parts}
 use Rattle.kn_answer.specs.Numbering.{IsNumber}
-use Rattle.kn_answer.specs.Sizes.{HaveTexts}
+use Rattle.kn_answer.specs.Sizes.{HaveTexts, IsReadablePart, total_size}
+use Rattle.kn_assert.proofs.Answered.{ReadingTold}
+use Rattle.kn_answer.proofs.Texts.{SoundTold, texts_readable, texts_size}
 use Rattle.kn_query.specs.SharedParts.{AreRead, shared_parts}
-use Rattle.kn_query.proofs.Texts.{found, have_texts}
+use Rattle.kn_query.proofs.Texts.{found, have_texts, read_parts, texts_in}
 
 -- there is one for each text
 pub parts-count : (name : ℕ → Id) (texts : List NumberedText) → AreRead texts → length (parts_of name texts) ≡ length texts
@@ -63,6 +67,29 @@ no-privates = record { few = omega arith; short = omega arith; from_one = tt; di
 pub shared-texts : TextsAreShort → (texts : List NumberedText) → AreRead texts → text_bytes texts ≤ LIVE_BYTES → HaveTexts (parts_of Shared texts)
 shared-texts are_short texts read few =
     subst (λ (l : List Part). HaveTexts l) (append-nil (parts_of Shared texts)) (have_texts are_short texts [] read tt few no-privates)
+
+-- their assertions are readable, and no larger than the texts
+pub parts-readable : ReadingTold → SoundTold → (name : ℕ → Id) (texts : List NumberedText) → AreRead texts → All IsReadablePart (parts_of name texts)
+parts-readable told sound name texts read = texts_readable told sound (texts_in texts) (parts_of name texts) (read_parts name texts read)
+
+bytes-in : (texts : List NumberedText) → sum_by length (texts_in texts) ≡ text_bytes texts
+bytes-in [] = refl
+bytes-in (c ∷ texts) =
+    let rest = bytes-in texts in
+    omega (arith, sum_by-cons length c.text (texts_in texts), sum_by-cons (λ (t : NumberedText). length t.text) c texts, rest)
+
+pub parts-size : ReadingTold → SoundTold → (name : ℕ → Id) (texts : List NumberedText) → AreRead texts → total_size (parts_of name texts) ≤ text_bytes texts
+parts-size told sound name texts read =
+    let size = texts_size told sound (texts_in texts) (parts_of name texts) (read_parts name texts read) in
+    omega (arith, size, bytes-in texts)
+
+-- a session asks with its private assertions behind the credentials
+pub asked-with : (session : Session) (query : Asked) (values : List (List ℕ)) → query.attributes ≡ session.attributes
+    → query.values ≡ values → query.requesters ≡ session.requesters
+    → equations_over query (shared_parts session.pinned ++ parts_of Own session.privates) ≡ equations_of session values
+asked-with session query values attributes named requesters =
+    let same : query ≡ asked_of session values = λ i. record { attributes = attributes i; values = named i; requesters = requesters i } in
+    λ i. equations_over (same i) (session_parts session)
 
 -- a session without private assertions asks with the credentials alone
 pub asked-alone : (session : Session) (query : Asked) (values : List (List ℕ)) → query.attributes ≡ session.attributes

@@ -45,7 +45,7 @@ read_more (c ∷ texts) zero text a here read before =
     (ap is_some (ap assertion_of there ∙ read), tt)
 read_more (c ∷ texts) (suc i) text a here read before = (before.0, read_more texts i text a here read before.1)
 
-own_read : (privates : List Private) → AreReadPrivates privates → AreRead (map numbered_text privates)
+pub own_read : (privates : List Private) → AreReadPrivates privates → AreRead (map numbered_text privates)
 own_read [] readings = tt
 own_read (p ∷ privates) readings = (ap is_some readings.0, own_read privates readings.1)
 
@@ -53,7 +53,7 @@ pub found : (o : Option Assertion) → IsSome o → (a : Assertion) × (o ≡ So
 found None some = absurd (cc)
 found (Some a) some = (a, refl)
 
-read_parts : (name : ℕ → Id) (texts : List NumberedText) → AreRead texts
+pub read_parts : (name : ℕ → Id) (texts : List NumberedText) → AreRead texts
     → map assertion_of (texts_in texts) ≡ map (λ (part : Part). Some part.assertion) (parts_of name texts)
 read_parts name [] read = refl
 read_parts name (c ∷ texts) read =

@@ -1,10 +1,10 @@
 -- Which version a base is of (keynoted's own).
-use Rattle.std.specs.Prelude.{ℕ, ◌≡◌, ◌≤◌, ◌^◌, true, List, length, replicate}
-use Rattle.kn_base.specs.declared.limits.TheConstants.{REQUESTERS}
+use Rattle.std.specs.Prelude.{◌≡◌, ◌+◌, ◌≤◌, true, List, length, replicate}
+use Rattle.kn_base.specs.declared.limits.TheConstants.{LIVE_BYTES}
 use Rattle.kn_history.specs.declared.update.Update.{Update}
 use Rattle.kn_history.specs.History.{credentials_of}
+use Rattle.kn_system.specs.Equations.{node_total}
 use Rattle.kn_answer.specs.Based.{IsBaseOf}
-use Rattle.kn_answer.specs.Numbering.{with_names}
 use Rattle.kn_query.specs.SharedParts.{AreRead, shared_parts}
 use Rattle.kn_query.specs.declared.shared_base.SharedBase.{SharedBase}
 
@@ -16,11 +16,11 @@ pub record HasCredentials (version : List Update) (shared : SharedBase) : Type 0
   pub of : IsBaseOf (shared_parts version) shared.base.names shared.base.system
   pub live : shared.base.live ≡ replicate (length (shared_parts version)) true
 
--- And there is room for the requesters of a query.
+-- And it is so small that there is room for the requesters of a query and for the private assertions of a session.
 pub record IsOfVersion (version : List Update) (shared : SharedBase) : Type 0 where
   pub credentials : HasCredentials version shared
-  pub room : (requesters : List (List ℕ)) → length requesters ≤ REQUESTERS
-      → length (with_names shared.base.names requesters) ≤ 2 ^ 24
+  pub few_names : length shared.base.names ≤ 1 + LIVE_BYTES
+  pub few_nodes : node_total shared.base.system.rows ≤ LIVE_BYTES
 
 -- It is of this version if it has its number.
 abbrev pub IsByNumber : List Update → SharedBase → Type 0

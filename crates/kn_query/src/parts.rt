@@ -1,12 +1,12 @@
 //! The assertions of a session by their ids.
 ghost use Rattle.std.specs.Prelude.{◌≡◌, ◌++◌, map, IfOk, OnOk};
-ghost use Rattle.kn_proof.specs.declared.named.Id.TheVariants.{Shared, Private as Own};
-ghost use Rattle.kn_session.specs.Views.{session_of_view, numbered_text, AreReadPrivates, ArePrivates};
+ghost use Rattle.kn_proof.specs.declared.named.Id.TheVariants.{Shared};
+ghost use Rattle.kn_session.specs.Views.{session_of_view, AreReadPrivates, ArePrivates};
 ghost use Rattle.kn_history.specs.History.{credentials_of};
 ghost use Rattle.kn_daemon.specs.Daemon.{session_parts, parts_of};
 ghost use Rattle.kn_answer.specs.Numbering.{AreDistinct};
 ghost use Rattle.kn_answer.specs.Sizes.{HaveTexts};
-ghost use Rattle.kn_query.specs.SharedParts.{AreRead};
+ghost use Rattle.kn_query.specs.SharedParts.{AreRead, private_parts};
 
 use kn_answer::Part;
 use kn_base::{List, NoMemory};
@@ -55,10 +55,13 @@ pub(crate) fn push_shared<'a>(
     Ok(())
 }
 
-// Adds private assertions under their ids.
-fn push_private<'a>(parts: &mut List<Part<'a>>, privates: &'a List<Private>) -> Result<(), NoMemory>
+/// Adds private assertions under their ids.
+pub(crate) fn push_private<'a>(
+    parts: &mut List<Part<'a>>,
+    privates: &'a List<Private>,
+) -> Result<(), NoMemory>
     requires readings { AreReadPrivates privates.now }
-    ensures { OnOk result (parts.new ≡ parts.old ++ parts_of Own (map numbered_text privates.now)) }
+    ensures { OnOk result (parts.new ≡ parts.old ++ private_parts privates.now) }
 {
     for private in privates.as_slice() {
         let part = Part {

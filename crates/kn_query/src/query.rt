@@ -1,21 +1,21 @@
 //! The system of what a session asks, and the answer to it.
-ghost use Rattle.std.specs.Prelude.{◌≡◌, ◌⊎◌, ◌<◌, None, length, IfOk, IfSome};
+ghost use Rattle.std.specs.Prelude.{◌≡◌, ◌⊎◌, ◌<◌, ◌++◌, None, length, map, IfOk, IfSome};
 ghost use Rattle.kn_env.specs.Environment.{AreRequesters};
 ghost use Rattle.kn_meaning.specs.Equations.{IsPolicyLevel, equations_over};
 ghost use Rattle.kn_meaning.specs.Proofs.{IsProof};
-ghost use Rattle.kn_session.specs.Views.{session_of_view, AreReadPrivates, ArePrivates};
+ghost use Rattle.kn_session.specs.Views.{session_of_view, numbered_text, AreReadPrivates, ArePrivates};
 ghost use Rattle.kn_daemon.specs.Daemon.{equations_of};
 ghost use Rattle.kn_answer.specs.Built.{IsBuilt};
 ghost use Rattle.kn_answer.specs.Numbering.{AreDistinct};
 ghost use Rattle.kn_query.specs.SharedBases.{IsByNumber, IsOfVersion};
-ghost use Rattle.kn_query.specs.SharedParts.{shared_parts};
+ghost use Rattle.kn_query.specs.SharedParts.{private_parts, shared_parts};
 
 use crate::parts::parts_of_view;
 use crate::shared_base::SharedBase;
-use kn_answer::{Answer, Built, answer, build};
-use kn_base::NoMemory;
+use kn_answer::{Answer, Built, build};
+use kn_base::{List, NoMemory};
 use kn_env::{Query, Values};
-use kn_session::View;
+use kn_session::{Private, View};
 use kn_store::Version;
 use std::alloc::Global;
 
@@ -39,8 +39,8 @@ pub fn build_query(alloc: Global, view: &View<'_>, values: &Values) -> Result<Bu
 /// rows that prove it.
 ///
 /// What is kept from one query to the next is a base of shared credentials. One that has the number of the session's
-/// version is asked, and else one is built. A session with private assertions is answered without it. `NoMemory` comes
-/// only for want of memory.
+/// version is asked, and else one is built. Private assertions are in it for their query alone. `NoMemory` comes only
+/// for want of memory.
 pub fn answer_query(
     alloc: Global,
     view: &View<'_>,
@@ -60,9 +60,32 @@ pub fn answer_query(
     if view.private.is_empty() {
         answer_shared(alloc, view.snapshot, &query, kept)
     } else {
-        let parts = parts_of_view(alloc, view)?;
-        answer(alloc, &parts, &query)
+        answer_own(alloc, view.snapshot, view.private, &query, kept)
     }
+}
+
+// The answer over the credentials of a version and private assertions.
+fn answer_own(
+    alloc: Global,
+    version: &Version,
+    privates: &List<Private>,
+    query: &Query<'_>,
+    kept: &mut Option<SharedBase>,
+) -> Result<Answer, NoMemory>
+    requires privates { ArePrivates (map numbered_text privates.now) }
+    requires readings { AreReadPrivates privates.now }
+    requires by_number { IfSome kept.old (IsByNumber version.now) }
+    ensures proof { IfOk result (λ a. IsProof
+        (equations_over query.now (shared_parts version.now ++ private_parts privates.now)) a.rows a.value) }
+    ensures least { IfOk result (λ a. IsPolicyLevel
+        (equations_over query.now (shared_parts version.now ++ private_parts privates.now)) a.value) }
+    ensures below { IfOk result (λ a. a.value < length query.now.values) }
+    ensures of_version { IfSome kept.new (IsOfVersion version.now) }
+{
+    let shared = take_or_build(alloc, version, kept)?;
+    let (answer, shared) = shared.answer_with(alloc, version, privates, query)?;
+    *kept = shared.into_kept();
+    Ok(answer)
 }
 
 // The answer over the credentials of a version alone.

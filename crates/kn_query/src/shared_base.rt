@@ -1,22 +1,28 @@
 //! The shared credentials of a version as a base, which is kept from one query to the next.
-ghost use Rattle.std.specs.Prelude.{◌≡◌, ◌<◌, ◌≤◌, true, List as ListOf, length, IfOk, IfSome};
+ghost use Rattle.std.specs.Prelude.{◌≡◌, ◌<◌, ◌≤◌, ◌++◌, true, List as ListOf, length, map, IfOk, IfSome};
 ghost use Rattle.kn_history.specs.declared.update.Update.{Update};
 ghost use Rattle.kn_meaning.specs.Equations.{IsPolicyLevel, equations_over};
 ghost use Rattle.kn_meaning.specs.Proofs.{IsProof};
+ghost use Rattle.kn_session.specs.Views.{numbered_text, AreReadPrivates, ArePrivates};
+ghost use Rattle.kn_system.specs.Equations.{node_total};
 ghost use Rattle.kn_query.specs.SharedBases.{HasCredentials, IsOfVersion};
-ghost use Rattle.kn_query.specs.SharedParts.{shared_parts};
+ghost use Rattle.kn_query.specs.SharedParts.{private_parts, shared_parts};
 
 use crate::credentials::Credentials;
-use crate::parts::push_shared;
+use crate::parts::{push_private, push_shared};
 use kn_answer::{Answer, Base};
 use kn_base::{List, NoMemory};
 use kn_env::Query;
+use kn_session::Private;
 use kn_session::laws::assertions_of_a_session;
 use kn_store::Version;
 use std::alloc::Global;
 
-/// The most nodes, and the most principals, of a base that is kept.
-const MOST_KEPT: u32 = 1_048_576;
+/// The most nodes of a base that is kept.
+const MOST_NODES: u32 = 262_144;
+
+/// The most principals of a base that is kept.
+const MOST_PRINCIPALS: u32 = 131_072;
 
 /// The most principals that a base gets from queries before it is built anew.
 const MOST_ENTERED: u32 = 4_096;
@@ -37,6 +43,8 @@ impl SharedBase {
         ensures { IfOk result (IsOfVersion version.now) }
     {
         assertions_of_a_session();
+        kn_assert::laws::readings_are_computed();
+        kn_assert::laws::readings_are_sound();
         let _live = version.len();
         let mut parts = List::new(alloc);
         push_shared(&mut parts, version)?;
@@ -76,6 +84,38 @@ impl SharedBase {
         self.base.answer(alloc, query, &lent)
     }
 
+    /// The answer to a query over the credentials of the version and behind them these private assertions, of which
+    /// nothing stays in the base.
+    ///
+    /// `NoMemory` comes only for want of memory, and the base is gone then.
+    pub(crate) fn answer_with(
+        self,
+        alloc: Global,
+        version: &Version,
+        privates: &List<Private>,
+        query: &Query<'_>,
+    ) -> Result<(Answer, SharedBase), NoMemory>
+        requires of_version { IsOfVersion version.now self }
+        requires privates { ArePrivates (map numbered_text privates.now) }
+        requires readings { AreReadPrivates privates.now }
+        ensures proof { IfOk result (λ r. IsProof
+            (equations_over query.now (shared_parts version.now ++ private_parts privates.now)) r.0.rows r.0.value) }
+        ensures least { IfOk result (λ r. IsPolicyLevel
+            (equations_over query.now (shared_parts version.now ++ private_parts privates.now)) r.0.value) }
+        ensures below { IfOk result (λ r. r.0.value < length query.now.values) }
+        ensures of_version { IfOk result (λ r. IsOfVersion version.now r.1) }
+    {
+        kn_assert::laws::readings_are_computed();
+        kn_assert::laws::readings_are_sound();
+        let _requesters = query.requesters();
+        let mut parts = List::new(alloc);
+        push_private(&mut parts, privates)?;
+        let lent = Credentials::of(version);
+        let SharedBase { base, number, most } = self;
+        let (answer, base) = base.answer_with(alloc, query, &lent, &parts)?;
+        Ok((answer, SharedBase { base, number, most }))
+    }
+
     /// The base, where it is small enough to be kept.
     pub(crate) fn into_kept(self) -> Option<SharedBase>
         ensures { (version : ListOf Update) → HasCredentials version self → IfSome result (IsOfVersion version) }
@@ -84,9 +124,10 @@ impl SharedBase {
     }
 
     fn is_small(&self) -> bool
-        ensures { result ≡ true → length self.now.base.names ≤ MOST_KEPT }
+        ensures names { result ≡ true → length self.now.base.names ≤ MOST_PRINCIPALS }
+        ensures nodes { result ≡ true → node_total self.now.base.system.rows ≤ MOST_NODES }
     {
         let principals = self.base.principals();
-        principals <= self.most && principals <= MOST_KEPT && self.base.nodes() <= MOST_KEPT
+        principals <= self.most && principals <= MOST_PRINCIPALS && self.base.nodes() <= MOST_NODES
     }
 }

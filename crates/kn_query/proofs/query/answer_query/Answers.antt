@@ -1,14 +1,14 @@
-use Rattle.std.proofs.Common.{◌≡◌, ◌<◌, ℕ, List, [], length, map, inr, sym, ap, subst, ◌∙◌}
+use Rattle.std.proofs.Common.{◌≡◌, ◌<◌, ◌++◌, ℕ, List, [], length, map, inr, sym, ap, subst, ◌∙◌}
 use Rattle.std.specs.Prelude.{IfOk, IfSome}
-use Rattle.kn_meaning.specs.Equations.{Equations, IsPolicyLevel, equations_over}
+use Rattle.kn_meaning.specs.Equations.{Equations, IsPolicyLevel, Part, equations_over}
 use Rattle.kn_meaning.specs.Proofs as proof
 use Rattle.kn_history.specs.declared.update.Update.{Update}
 use Rattle.kn_session.specs.Sessions.{Session}
 use Rattle.kn_session.specs.Views.{numbered_text, session_of_view}
 use Rattle.kn_daemon.specs.Daemon.{equations_of}
 use Rattle.kn_query.specs.SharedBases.{IsByNumber, IsOfVersion}
-use Rattle.kn_query.specs.SharedParts.{shared_parts}
-use Rattle.kn_query.proofs.SharedParts.{asked-alone}
+use Rattle.kn_query.specs.SharedParts.{private_parts, shared_parts}
+use Rattle.kn_query.proofs.SharedParts.{asked-alone, asked-with}
 use Rattle.kn_query.proofs.query.answer_query.Goals as goal
 
 pub answer_shared-requires : goal.answer_shared-requires
@@ -28,4 +28,25 @@ returns-then-is_empty c =
       least = subst (λ (e : Equations). IfOk c.answer_shared.result (λ a. IsPolicyLevel e a.value)) same c.answer_shared.ensures.least;
       below = subst (λ (vs : List (List ℕ)). IfOk c.answer_shared.result (λ a. a.value < length vs)) c.in_ok-query.ensures.values c.answer_shared.ensures.below;
       of_version = inr (subst (λ (u : List Update). IfSome c.answer_shared.new.kept (λ shared. IsOfVersion u shared)) c.deref.ensures c.answer_shared.ensures.of_version);
+    }
+
+pub answer_own-requires : goal.answer_own-requires
+answer_own-requires c = record {
+  privates = c.requires.privates;
+  readings = c.requires.readings;
+  by_number = subst (λ (u : List Update). IfSome c.args.kept.now (λ shared. IsByNumber u shared)) (sym c.deref-else-is_empty.ensures) c.requires.by_number;
+}
+
+pub returns : goal.returns
+returns c =
+    let session : Session = session_of_view c.args.view.now in
+    let own : List Part = private_parts c.args.view.now.private.now in
+    let same : equations_over c.in_ok-query.query (shared_parts c.deref-else-is_empty.result.now ++ own) ≡ equations_of session c.args.values.now =
+    ap (λ (u : List Update). equations_over c.in_ok-query.query (shared_parts u ++ own)) c.deref-else-is_empty.ensures
+    ∙ asked-with session c.in_ok-query.query c.args.values.now c.in_ok-query.ensures.attributes c.in_ok-query.ensures.values c.in_ok-query.ensures.requesters in
+    record {
+      proof = subst (λ (e : Equations). IfOk c.answer_own.result (λ a. proof.IsProof e a.rows a.value)) same c.answer_own.ensures.proof;
+      least = subst (λ (e : Equations). IfOk c.answer_own.result (λ a. IsPolicyLevel e a.value)) same c.answer_own.ensures.least;
+      below = subst (λ (vs : List (List ℕ)). IfOk c.answer_own.result (λ a. a.value < length vs)) c.in_ok-query.ensures.values c.answer_own.ensures.below;
+      of_version = inr (subst (λ (u : List Update). IfSome c.answer_own.new.kept (λ shared. IsOfVersion u shared)) c.deref-else-is_empty.ensures c.answer_own.ensures.of_version);
     }

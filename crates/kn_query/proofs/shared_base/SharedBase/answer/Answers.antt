@@ -1,4 +1,4 @@
-use Rattle.std.proofs.Common.{◌≡◌, List, length, refl, sym, ap, subst, ◌∙◌}
+use Rattle.std.proofs.Common.{◌≡◌, List, length, refl, sym, ap, subst, ◌∙◌, arith}
 use Rattle.std.specs.Prelude.{IfOk}
 use Rattle.kn_meaning.specs.Equations.{Part, IsPolicyLevel, equations_over}
 use Rattle.kn_meaning.specs.Proofs as proof
@@ -6,6 +6,7 @@ use Rattle.kn_history.specs.declared.update.Update.{Update}
 use Rattle.kn_answer.specs.Based.{IsBaseOf}
 use Rattle.kn_answer.specs.Removed.{live_parts}
 use Rattle.kn_answer.proofs.Capped.{live-all}
+use Rattle.kn_answer.proofs.Entered.{length-with_names}
 use Rattle.kn_query.specs.SharedParts.{shared_parts}
 use Rattle.kn_query.proofs.shared_base.SharedBase.answer.Goals as goal
 
@@ -19,7 +20,8 @@ answer-requires-clause-base c =
 
 pub answer-requires-clause-room : goal.answer-requires-clause-room
 answer-requires-clause-room c =
-    c.requires.of_version.room c.args.query.now.requesters c.requesters-requesters.ensures.right.few
+    let entered = length-with_names c.args.self.now.base.names c.args.query.now.requesters in
+    omega (arith, entered, c.requires.of_version.few_names, c.requesters-requesters.ensures.right.few)
 
 pub returns : goal.returns
 returns c =
