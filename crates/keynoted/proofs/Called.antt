@@ -17,10 +17,10 @@ use Rattle.kn_commands.specs.Following.{status_of_follow}
 use Rattle.kn_commands.specs.Serving.{Order, status_of_serve}
 use Rattle.kn_commands.specs.declared.generating.GenNumbers.{GenNumbers}
 use Rattle.keynoted.specs.Commands.{AskFor, CheckFor, FollowFor, GenFor, ServeFor}
-use Rattle.keynoted.specs.Outcomes.{OutsideSeen, Outcome, IsOutcome, IsPrinted, IsEnded, status_of, line_of}
-use Rattle.keynoted.specs.Outcomes.{NoCommand, Unread, AskEnded, ServeEnded, CheckEnded, FollowEnded}
+use Rattle.keynoted.specs.Outcomes.{OutsideSeen, Outcome, IsOutcome, IsPrintedOrCut, IsEnded, status_of, line_of}
+use Rattle.keynoted.specs.Outcomes.{NoCommand, WordsLackMemory, AskEnded, ServeEnded, CheckEnded, FollowEnded}
 use Rattle.keynoted.specs.Outcomes.{GenEnded}
-use Rattle.keynoted.specs.Calling.{AskLeads, CheckLeads, LogLeads, IsOrderlyLink, AreCalm, CallsFor, EndsWith}
+use Rattle.keynoted.specs.Calling.{AskLeads, CheckLeads, LogLeads, IsOrderlyLink, NoReadFailed, CallsFor, EndsWith}
 use Rattle.keynoted.specs.Calling.{ByAsk, ByServe, ByCheck, ByFollow, ByGen}
 use Rattle.keynoted.proofs.Apart.{ask_is_no_check, gen_is_no_ask, gen_is_no_check, ask_is_no_serve}
 use Rattle.keynoted.proofs.Apart.{check_is_no_serve, follow_is_no_ask, follow_is_no_check, follow_is_no_serve}
@@ -55,7 +55,7 @@ module _ {C R : Type 0} (door : R → DoorSeen (ServedSeen C)) (link : C → Lin
       ask_once before.files AskOn AskSo due status (orderly_done before.link after.link due status) names leads to
   ask_ends names status leads (inr five) = inr five
 
-  called_ask : (names : AskNames) → AskFor given names → AreCalm before.files after.files
+  called_ask : (names : AskNames) → AskFor given names → NoReadFailed before.files after.files
       → AskLeads before.files names AskOn due
       → (outcome : Outcome) → IsOutcome door link given before after outcome → EndsWith due (status_of outcome)
   called_ask names words calm leads (AskEnded others ending) cause =
@@ -65,7 +65,7 @@ module _ {C R : Type 0} (door : R → DoorSeen (ServedSeen C)) (link : C → Lin
       (ask_came before.files after.files (told_by before.files names.policy _ _ _ due leads) calm
       before.link after.link others (status_of_ask ending) ending cause.1 refl))
   called_ask names words calm leads NoCommand cause = absurd (cause.0.ask names words)
-  called_ask names words calm leads Unread cause = absurd (ask_is_no_serve given names words cause.0.serve)
+  called_ask names words calm leads WordsLackMemory cause = absurd (ask_is_no_serve given names words cause.0.serve)
   called_ask names words calm leads (ServeEnded order ending) cause =
       absurd (ask_is_no_serve given names words cause.0.serve)
   called_ask names words calm leads (CheckEnded others ending) cause =
@@ -81,7 +81,7 @@ module _ {C R : Type 0} (door : R → DoorSeen (ServedSeen C)) (link : C → Lin
       ask_once before.files (λ next. next ≡ 0) IsServedWhole due status (λ none so. inl (so ∙ sym none)) names leads to
   serve_ends names status leads (inr five) = inr five
 
-  called_serve : (order : Order) → ServeFor given order → AreCalm before.files after.files
+  called_serve : (order : Order) → ServeFor given order → NoReadFailed before.files after.files
       → ¬ Rose before.net.faults after.net.faults → AskLeads before.files order.files (λ next. next ≡ 0) due
       → (outcome : Outcome) → IsOutcome door link given before after outcome → EndsWith due (status_of outcome)
   called_serve order words calm net_calm leads (ServeEnded other ending) cause =
@@ -92,7 +92,7 @@ module _ {C R : Type 0} (door : R → DoorSeen (ServedSeen C)) (link : C → Lin
       (serve_came before.files after.files (told_by before.files order.files.policy _ _ _ due leads) calm
       door link before.net after.net net_calm other (status_of_serve ending) ending cause.1 refl))
   called_serve order words calm net_calm leads NoCommand cause = absurd (cause.0.serve order words)
-  called_serve order words calm net_calm leads Unread cause = inr refl
+  called_serve order words calm net_calm leads WordsLackMemory cause = inr refl
   called_serve order words calm net_calm leads (AskEnded names ending) cause =
       absurd (ask_is_no_serve given names cause.0 words.serve)
   called_serve order words calm net_calm leads (CheckEnded names ending) cause =
@@ -107,7 +107,7 @@ module _ {C R : Type 0} (door : R → DoorSeen (ServedSeen C)) (link : C → Lin
   check_ends names status leads (inl to) = check_once law before.files names due status leads to
   check_ends names status leads (inr five) = inr five
 
-  called_check : (names : CheckNames) → CheckFor given names → AreCalm before.files after.files
+  called_check : (names : CheckNames) → CheckFor given names → NoReadFailed before.files after.files
       → CheckLeads before.files names due
       → (outcome : Outcome) → IsOutcome door link given before after outcome → EndsWith due (status_of outcome)
   called_check names words calm leads (CheckEnded others ending) cause =
@@ -117,7 +117,7 @@ module _ {C R : Type 0} (door : R → DoorSeen (ServedSeen C)) (link : C → Lin
       (check_came before.files after.files (told_by before.files names.policy _ _ _ due leads) calm
       others (status_of_ending ending) ending cause.1 refl))
   called_check names words calm leads NoCommand cause = absurd (cause.0.check names words)
-  called_check names words calm leads Unread cause = absurd (check_is_no_serve given names words cause.0.serve)
+  called_check names words calm leads WordsLackMemory cause = absurd (check_is_no_serve given names words cause.0.serve)
   called_check names words calm leads (AskEnded others ending) cause =
       absurd (ask_is_no_check given others names cause.0 words)
   called_check names words calm leads (ServeEnded order ending) cause =
@@ -132,7 +132,7 @@ module _ {C R : Type 0} (door : R → DoorSeen (ServedSeen C)) (link : C → Lin
   log_ends name status leads (inl to) = log_once before.files name due status leads to
   log_ends name status leads (inr five) = inr five
 
-  called_follow : (name : List ℕ) → FollowFor given name → AreCalm before.files after.files
+  called_follow : (name : List ℕ) → FollowFor given name → NoReadFailed before.files after.files
       → LogLeads before.files name due
       → (outcome : Outcome) → IsOutcome door link given before after outcome → EndsWith due (status_of outcome)
   called_follow name words calm leads (FollowEnded other ending) cause =
@@ -142,7 +142,7 @@ module _ {C R : Type 0} (door : R → DoorSeen (ServedSeen C)) (link : C → Lin
       (follow_came before.files after.files (told_by before.files name _ _ _ due leads) calm ends_once
       other (status_of_follow ending) ending cause.1 refl))
   called_follow name words calm leads NoCommand cause = absurd (cause.0.follow name words)
-  called_follow name words calm leads Unread cause = absurd (follow_is_no_serve given name words cause.0.serve)
+  called_follow name words calm leads WordsLackMemory cause = absurd (follow_is_no_serve given name words cause.0.serve)
   called_follow name words calm leads (AskEnded names ending) cause =
       absurd (follow_is_no_ask given name names words cause.0)
   called_follow name words calm leads (ServeEnded order ending) cause =
@@ -157,7 +157,7 @@ module _ {C R : Type 0} (door : R → DoorSeen (ServedSeen C)) (link : C → Lin
   called_gen numbers words none (GenEnded others (Some line)) cause = inl (sym none)
   called_gen numbers words none (GenEnded others None) cause = inr refl
   called_gen numbers words none NoCommand cause = absurd (cause.0.gen numbers words)
-  called_gen numbers words none Unread cause = absurd (gen_is_no_serve given numbers words cause.0.serve)
+  called_gen numbers words none WordsLackMemory cause = absurd (gen_is_no_serve given numbers words cause.0.serve)
   called_gen numbers words none (AskEnded names ending) cause =
       absurd (gen_is_no_ask given numbers names words cause.0)
   called_gen numbers words none (ServeEnded order ending) cause =
@@ -178,7 +178,7 @@ module _ {C R : Type 0} (door : R → DoorSeen (ServedSeen C)) (link : C → Lin
   -- the status is that of the outcome, or writing its line failed
   called_as : CallsFor given before after due → (outcome : Outcome) (status : ℕ)
       → IsOutcome door link given before after outcome
-      → IsPrinted (line_of outcome) (status_of outcome) before.output after.output status
+      → IsPrintedOrCut (line_of outcome) (status_of outcome) before.output after.output status
       → EndsWith due status ⊎ ((status ≡ 9) × Rose before.output.faults after.output.faults)
   called_as calls outcome status cause (inl whole) =
       inl (subst (EndsWith due) (sym whole.0) (called_of calls outcome cause))

@@ -49,7 +49,7 @@ use Rattle.kn_commands.specs.Checking.{HasQuery, Reached, name_of, CheckCause, I
 use Rattle.kn_commands.specs.Checking.{status_of_ending}
 use Rattle.kn_commands.specs.Following.{HasLogFault, FollowCause, status_of_follow}
 use Rattle.kn_commands.specs.Serving.{Order, ServeCause, status_of_serve}
-use Rattle.keynoted.specs.Calling.{TooLarge, Failed, Passed, KeysLead, AskLeads, IsProofText, ReplyLeads, CheckLeads}
+use Rattle.keynoted.specs.Calling.{TooLarge, Failed, Passed, KeysLead, AskLeads, IsTextOfProof, ReplyLeads, CheckLeads}
 use Rattle.keynoted.specs.Calling.{LogLeads}
 use Rattle.keynoted.proofs.Known.{Tells, held, held_too_much}
 
@@ -73,7 +73,7 @@ full_policy bytes n word count limit loadable = (ends_once (pieces_of bytes)).fu
 
 -- a text with a fault, or one to another query, is no proof
 faulty_is_no_proof : (session : Session) (values : List (List ℕ)) (text : List ℕ) (fault place : ℕ)
-    → IsFaultyText session values text fault place → (reply : ReadReply) → ¬ IsProofText session values text reply
+    → IsFaultyText session values text fault place → (reply : ReadReply) → ¬ IsTextOfProof session values text reply
 faulty_is_no_proof session values text fault place (inl own) reply proof =
     reply_without_fault text reply own.0 proof.read own.1
 faulty_is_no_proof session values text fault place (inr other) reply proof =
@@ -81,7 +81,7 @@ faulty_is_no_proof session values text fault place (inr other) reply proof =
     other.2.2 (subst (λ (r : ReadReply). IsReplyTo (length session.pinned) values r) same proof.to_query)
 
 rejected_is_no_proof : (session : Session) (values : List (List ℕ)) (text : List ℕ) (reject : Reject)
-    → IsUnprovedText session values text reject → (reply : ReadReply) → ¬ IsProofText session values text reply
+    → IsUnprovedText session values text reject → (reply : ReadReply) → ¬ IsTextOfProof session values text reply
 rejected_is_no_proof session values text reject unproved reply proof =
     let same : reply ≡ unproved.reply = one_reply text reply unproved.reply proof.read unproved.read in
     unproved.unproved.unproved
@@ -200,7 +200,7 @@ module _ (f f' : FilesSeen) (told : Tells f) (calm : ¬ Rose f.faults f'.faults)
         (rejected_is_no_proof c.session c.values c.text reject c.shows) at))
     check_came (Proved value name) c at =
         let shows = c.shows in
-        let proof : IsProofText c.session c.values c.text shows.reply =
+        let proof : IsTextOfProof c.session c.values c.text shows.reply =
         record { read = shows.read; to_query = shows.proved.to_query; proof = shows.proved.proof } in
         inl (passed_script c.session c.values c.tried.query
         (Passed c.text (held f names.reply c.text told c.tried.content) (shows.reply, proof, at)))

@@ -15,7 +15,7 @@ use Rattle.kn_commands.specs.declared.generating.GenNumbers.{GenNumbers}
 use Rattle.kn_workers.specs.Connections.{ServedSeen}
 use Rattle.kn_workers.specs.Doors.{DoorSeen}
 use Rattle.keynoted.specs.Commands.{AreGenNumbers, AreNoGenNumbers, GenFor, IsNo}
-use Rattle.keynoted.specs.Outcomes.{OutsideSeen, IsUntouched, IsPrinted, IsEnded, GenEnded}
+use Rattle.keynoted.specs.Outcomes.{OutsideSeen, IsUntouched, IsPrintedOrCut, IsEnded, GenEnded}
 use Rattle.keynoted.specs.Generating.{IsGenPrinted}
 use Rattle.keynoted.proofs.Spelled.{same_word}
 
@@ -79,7 +79,7 @@ not_in_range first second count is out numbers are =
 pub gen_printed : (numbers : GenNumbers) (m : Measured) (s s' : LinkSeen) (status : ℕ)
     → IsMeasured (generated_query numbers.start numbers.count) m → m.level < length generated_values
     → ((name : List ℕ) → slice_get generated_values m.level ≡ Some name
-    → IsPrinted (gen_line numbers.count name m) 0 s s' status) → IsGenPrinted numbers s s' status
+    → IsPrintedOrCut (gen_line numbers.count name m) 0 s s' status) → IsGenPrinted numbers s s' status
 gen_printed numbers m s s' status is low told =
     let name = get_or generated_values m.level [] in
     let named : slice_get generated_values m.level ≡ Some name = slice_get-get_or generated_values m.level [] low in

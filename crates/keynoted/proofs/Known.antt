@@ -7,7 +7,7 @@ use Rattle.kn_commands.specs.Names.{AskNames, ask_order, CheckNames, in_order}
 use Rattle.kn_commands.specs.Held.{HasContent, IsTooLarge}
 use Rattle.kn_commands.specs.Serving.{Order}
 use Rattle.keynoted.specs.Commands.{AskFor, CheckFor, FollowFor, ServeFor}
-use Rattle.keynoted.specs.Calling.{Holds, HoldsWithin, HoldsTooMuch, Leads, TooLarge, Failed, Passed}
+use Rattle.keynoted.specs.Calling.{Holds, HoldsWithin, HoldsTooMuch, FileCallsFor, TooLarge, Failed, Passed}
 
 -- a key file that is named or isn't
 same_keys : (a b : Option (List ℕ)) → option_to_list a ≡ option_to_list b → a ≡ b
@@ -63,7 +63,7 @@ told_there f name bytes holds = by f.content holds
 
 -- a file that leads to a status is told
 pub told_by : (f : FilesSeen) (name : List ℕ) (Fails : List ℕ → Type 0) (failed : ℕ) (On : List ℕ → ℕ → Type 0)
-    (status : ℕ) → Leads f name Fails failed On status → Tells f
+    (status : ℕ) → FileCallsFor f name Fails failed On status → Tells f
 told_by f name Fails failed On status (TooLarge bytes h e) = told_there f name bytes h.0
 told_by f name Fails failed On status (Failed bytes h fails e) = told_there f name bytes h.0
 told_by f name Fails failed On status (Passed bytes h on) = told_there f name bytes h.0

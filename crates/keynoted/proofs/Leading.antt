@@ -14,8 +14,8 @@ use Rattle.kn_history.specs.History.{loaded_history}
 use Rattle.kn_history.specs.Loading.{IsLoadable}
 use Rattle.kn_play.specs.Meaning.{Means, OneQueryOfScript}
 use Rattle.kn_commands.specs.Names.{AskNames, CheckNames}
-use Rattle.keynoted.specs.Calling.{Holds, HoldsWithin, HoldsTooMuch, Leads, TooLarge, Failed, Passed, KeysLead}
-use Rattle.keynoted.specs.Calling.{AskLeads, IsProofText, ReplyLeads, MeansNothing, ScriptLeads, CheckLeads, LogLeads}
+use Rattle.keynoted.specs.Calling.{Holds, HoldsWithin, HoldsTooMuch, FileCallsFor, TooLarge, Failed, Passed, KeysLead}
+use Rattle.keynoted.specs.Calling.{AskLeads, IsTextOfProof, ReplyLeads, MeansNothing, ScriptLeads, CheckLeads, LogLeads}
 use Rattle.keynoted.specs.Calling.{EndsWith}
 
 -- a told file has one content
@@ -43,7 +43,7 @@ module _ (f : FilesSeen) (name : List ℕ) (Fails : List ℕ → Type 0) (failed
     (apart' : (bytes : List ℕ) → Fails bytes → Next bytes other → ⊥)
     (once : (bytes : List ℕ) → On bytes status → Next bytes other → EndsWith status other) where
   -- a file that is tried leads to one status
-  pub leads_once : Leads f name Fails failed On status → Leads f name Fails failed Next other → EndsWith status other
+  pub leads_once : FileCallsFor f name Fails failed On status → FileCallsFor f name Fails failed Next other → EndsWith status other
   leads_once (TooLarge a h e) (TooLarge b h' e') = inl (e' ∙ sym e)
   leads_once (TooLarge a h e) (Failed b h' fails e') = absurd (not_both f name a b h h')
   leads_once (TooLarge a h e) (Passed b h' on) = absurd (not_both f name a b h h')
@@ -91,9 +91,9 @@ module _ (law : OneQueryOfScript) (f : FilesSeen) (names : CheckNames) (status o
   reply_once : (session : Session) (values : List (List ℕ)) → ReplyLeads f names.reply session values status
       → ReplyLeads f names.reply session values other → EndsWith status other
   reply_once session values a b =
-      leads_once f names.reply (λ text. (reply : ReadReply) → ¬ IsProofText session values text reply) 6
-      (λ text next. (reply : ReadReply) × IsProofText session values text reply × (next ≡ 0))
-      (λ text next. (reply : ReadReply) × IsProofText session values text reply × (next ≡ 0)) status other
+      leads_once f names.reply (λ text. (reply : ReadReply) → ¬ IsTextOfProof session values text reply) 6
+      (λ text next. (reply : ReadReply) × IsTextOfProof session values text reply × (next ≡ 0))
+      (λ text next. (reply : ReadReply) × IsTextOfProof session values text reply × (next ≡ 0)) status other
       (λ text fails on. fails on.0 on.1) (λ text fails on. fails on.0 on.1) (λ text on on'. inl (on'.2 ∙ sym on.2)) a b
 
   -- the script means one query

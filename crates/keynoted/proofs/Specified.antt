@@ -7,23 +7,23 @@ use Rattle.kn_workers.specs.Doors.{DoorSeen}
 use Rattle.kn_follow.specs.Laws.{OneEnding}
 use Rattle.kn_play.specs.Meaning.{OneQueryOfScript}
 use Rattle.keynoted.specs.Commands.{IsNoCommand}
-use Rattle.keynoted.specs.Outcomes.{OutsideSeen, Outcome, IsOutcome, IsEnded, IsPrinted, status_of, line_of}
-use Rattle.keynoted.specs.Outcomes.{NoCommand, Unread, AskEnded, ServeEnded, CheckEnded, FollowEnded}
+use Rattle.keynoted.specs.Outcomes.{OutsideSeen, Outcome, IsOutcome, IsEnded, IsPrintedOrCut, status_of, line_of}
+use Rattle.keynoted.specs.Outcomes.{NoCommand, WordsLackMemory, AskEnded, ServeEnded, CheckEnded, FollowEnded}
 use Rattle.keynoted.specs.Outcomes.{GenEnded}
 use Rattle.keynoted.specs.Calling.{EndsRefused}
-use Rattle.keynoted.specs.Specified.{IsSpecified}
+use Rattle.keynoted.specs.Specified.{IsRun}
 use Rattle.keynoted.proofs.Called.{called}
 
 module _ {C R : Type 0} (door : R → DoorSeen (ServedSeen C)) (link : C → LinkSeen) (given : List (List ℕ))
     (before after : OutsideSeen R) (status : ℕ) where
   -- words of no command are refused
   refused_as : IsNoCommand given → (outcome : Outcome) → IsOutcome door link given before after outcome
-      → IsPrinted (line_of outcome) (status_of outcome) before.output after.output status
+      → IsPrintedOrCut (line_of outcome) (status_of outcome) before.output after.output status
       → EndsRefused given before.output after.output status
   refused_as none NoCommand cause (inl whole) = inl whole.0
   refused_as none NoCommand cause (inr part) = inr (inl (part.0, part.1.2))
-  refused_as none Unread cause (inl whole) = inr (inr (whole.0, cause.0))
-  refused_as none Unread cause (inr part) = inr (inl (part.0, part.1.2))
+  refused_as none WordsLackMemory cause (inl whole) = inr (inr (whole.0, cause.0))
+  refused_as none WordsLackMemory cause (inr part) = inr (inl (part.0, part.1.2))
   refused_as none (AskEnded names ending) cause told = absurd (none.ask names cause.0)
   refused_as none (ServeEnded order ending) cause told = absurd (none.serve order cause.0)
   refused_as none (CheckEnded names ending) cause told = absurd (none.check names cause.0)
@@ -31,7 +31,7 @@ module _ {C R : Type 0} (door : R → DoorSeen (ServedSeen C)) (link : C → Lin
   refused_as none (GenEnded numbers made) cause told = absurd (none.gen numbers cause.0)
 
   pub specified : IsEnded door link given before after status → OneQueryOfScript
-      → ((log : List ℕ) → OneEnding log) → IsSpecified door link given before after status
+      → ((log : List ℕ) → OneEnding log) → IsRun door link given before after status
   specified ended law ends_once = record {
     ends = ended;
     refused = λ none. refused_as none ended.outcome ended.cause ended.told;

@@ -37,22 +37,22 @@ abbrev pub HoldsTooMuch : FilesSeen → List ℕ → List ℕ → Type 0
 HoldsTooMuch f name bytes = Holds f name bytes × (FILE_BYTES < length bytes)
 
 -- A file is tried: it is too large, which has status 2; or what it holds fails, which has this status; or it leads on.
-pub data Leads (f : FilesSeen) (name : List ℕ) (Fails : List ℕ → Type 0) (failed : ℕ)
+pub data FileCallsFor (f : FilesSeen) (name : List ℕ) (Fails : List ℕ → Type 0) (failed : ℕ)
     (On : List ℕ → ℕ → Type 0) (status : ℕ) : Type 0 where
-  TooLarge : (bytes : List ℕ) → HoldsTooMuch f name bytes → status ≡ 2 → Leads f name Fails failed On status
+  TooLarge : (bytes : List ℕ) → HoldsTooMuch f name bytes → status ≡ 2 → FileCallsFor f name Fails failed On status
   Failed : (bytes : List ℕ) → HoldsWithin f name bytes → Fails bytes → status ≡ failed
-      → Leads f name Fails failed On status
-  Passed : (bytes : List ℕ) → HoldsWithin f name bytes → On bytes status → Leads f name Fails failed On status
+      → FileCallsFor f name Fails failed On status
+  Passed : (bytes : List ℕ) → HoldsWithin f name bytes → On bytes status → FileCallsFor f name Fails failed On status
 
 -- the file of this name is tried as a policy: it fails where its assertions make no history
 abbrev pub PolicyLeads : FilesSeen → List ℕ → (List ℕ → ℕ → Type 0) → ℕ → Type 0
-PolicyLeads f name On status = Leads f name (λ bytes. ¬ IsLoadable (pieces_of bytes)) 3
+PolicyLeads f name On status = FileCallsFor f name (λ bytes. ¬ IsLoadable (pieces_of bytes)) 3
     (λ bytes next. IsLoadable (pieces_of bytes) × On bytes next) status
 
 -- the file of this name is tried as a key file
 abbrev pub KeysLead : FilesSeen → Option (List ℕ) → (ℕ → Type 0) → ℕ → Type 0
 KeysLead f None On status = On status
-KeysLead f (Some name) On status = Leads f name (λ text. (keys : KeyFile) → ¬ IsKeyFile text keys) 8
+KeysLead f (Some name) On status = FileCallsFor f name (λ text. (keys : KeyFile) → ¬ IsKeyFile text keys) 8
     (λ text next. (keys : KeyFile) × IsKeyFile text keys × On next) status
 
 -- the files of `ask` are tried
@@ -60,7 +60,7 @@ abbrev pub AskLeads : FilesSeen → AskNames → (ℕ → Type 0) → ℕ → Ty
 AskLeads f names On status = PolicyLeads f names.policy (λ bytes next. KeysLead f names.keys On next) status
 
 -- the text is that of a reply to the query, and its rows are a proof of its value
-pub record IsProofText (session : Session) (values : List (List ℕ)) (text : List ℕ) (reply : ReadReply) : Type 0 where
+pub record IsTextOfProof (session : Session) (values : List (List ℕ)) (text : List ℕ) (reply : ReadReply) : Type 0 where
   pub read : IsReplyText text reply
   pub to_query : IsReplyTo (length session.pinned) values reply
   pub proof : IsProof (equations_of session values) reply.rows reply.value
@@ -68,8 +68,8 @@ pub record IsProofText (session : Session) (values : List (List ℕ)) (text : Li
 -- the file of this name is tried as the reply to a query: a proof has status 0
 abbrev pub ReplyLeads : FilesSeen → List ℕ → Session → List (List ℕ) → ℕ → Type 0
 ReplyLeads f name session values status =
-    Leads f name (λ text. (reply : ReadReply) → ¬ IsProofText session values text reply) 6
-    (λ text next. (reply : ReadReply) × IsProofText session values text reply × (next ≡ 0)) status
+    FileCallsFor f name (λ text. (reply : ReadReply) → ¬ IsTextOfProof session values text reply) 6
+    (λ text next. (reply : ReadReply) × IsTextOfProof session values text reply × (next ≡ 0)) status
 
 -- over a policy of these bytes the script means no query
 abbrev pub MeansNothing : List ℕ → List ℕ → Type 0
@@ -78,7 +78,7 @@ MeansNothing bytes script =
 
 -- the script is tried over a policy of these bytes: it fails where it means no query
 abbrev pub ScriptLeads : FilesSeen → CheckNames → List ℕ → ℕ → Type 0
-ScriptLeads f names bytes status = Leads f names.script (λ script. MeansNothing bytes script) 10
+ScriptLeads f names bytes status = FileCallsFor f names.script (λ script. MeansNothing bytes script) 10
     (λ script next. (session : Session) × (values : List (List ℕ))
     × Means (loaded_history (pieces_of bytes)) script session values
     × ReplyLeads f names.reply session values next) status
@@ -89,7 +89,7 @@ CheckLeads f names status = PolicyLeads f names.policy (λ bytes next. ScriptLea
 
 -- the file of `follow` is tried: it fails where it isn't replies to LOG that make some replica
 abbrev pub LogLeads : FilesSeen → List ℕ → ℕ → Type 0
-LogLeads f name status = Leads f name (λ log. (replica : List Update) → ¬ IsLogFile log replica) 11
+LogLeads f name status = FileCallsFor f name (λ log. (replica : List Update) → ¬ IsLogFile log replica) 11
     (λ log next. (replica : List Update) × IsLogFile log replica × (next ≡ 0)) status
 
 -- the link's input is told and in order, and no call of the link failed
@@ -100,22 +100,22 @@ pub record IsOrderlyLink (o o' : LinkSeen) : Type 0 where
   pub faultless : IsFaultless o o'
 
 -- no read of a file failed
-abbrev pub AreCalm : FilesSeen → FilesSeen → Type 0
-AreCalm f f' = ¬ Rose f.faults f'.faults
+abbrev pub NoReadFailed : FilesSeen → FilesSeen → Type 0
+NoReadFailed f f' = ¬ Rose f.faults f'.faults
 
 module _ {R : Type 0} (given : List (List ℕ)) (before after : OutsideSeen R) where
   -- The words call for this status: by the files that they name, which are tried in their order, and behind these by
   -- the link's input for `ask`, and where no call of the net failed for `serve`; `gen` needs nothing.
   pub data CallsFor (status : ℕ) : Type 0 where
-    ByAsk : (names : AskNames) → AskFor given names → AreCalm before.files after.files
+    ByAsk : (names : AskNames) → AskFor given names → NoReadFailed before.files after.files
         → AskLeads before.files names (λ next. IsOrderlyLink before.link after.link × (next ≡ 0)) status
         → CallsFor status
-    ByServe : (order : Order) → ServeFor given order → AreCalm before.files after.files
+    ByServe : (order : Order) → ServeFor given order → NoReadFailed before.files after.files
         → ¬ Rose before.net.faults after.net.faults
         → AskLeads before.files order.files (λ next. next ≡ 0) status → CallsFor status
-    ByCheck : (names : CheckNames) → CheckFor given names → AreCalm before.files after.files
+    ByCheck : (names : CheckNames) → CheckFor given names → NoReadFailed before.files after.files
         → CheckLeads before.files names status → CallsFor status
-    ByFollow : (name : List ℕ) → FollowFor given name → AreCalm before.files after.files
+    ByFollow : (name : List ℕ) → FollowFor given name → NoReadFailed before.files after.files
         → LogLeads before.files name status → CallsFor status
     ByGen : (numbers : GenNumbers) → GenFor given numbers → status ≡ 0 → CallsFor status
 

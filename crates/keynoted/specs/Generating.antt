@@ -3,10 +3,10 @@ use Rattle.std.specs.Prelude.{ℕ, List, codes, ◌⊎◌}
 use Rattle.kn_outside.specs.Seen.{LinkSeen}
 use Rattle.kn_commands.specs.Generating.{IsGenLine}
 use Rattle.kn_commands.specs.declared.generating.GenNumbers.{GenNumbers}
-use Rattle.keynoted.specs.Outcomes.{IsPrinted}
+use Rattle.keynoted.specs.Outcomes.{IsPrintedOrCut}
 
 -- the line of these numbers was due with status 0, or memory lacked
 abbrev pub IsGenPrinted : GenNumbers → LinkSeen → LinkSeen → ℕ → Type 0
 IsGenPrinted numbers s s' status =
-    ((line : List ℕ) × IsGenLine numbers line × IsPrinted line 0 s s' status)
-    ⊎ IsPrinted (codes "error memory\n") 5 s s' status
+    ((line : List ℕ) × IsGenLine numbers line × IsPrintedOrCut line 0 s s' status)
+    ⊎ IsPrintedOrCut (codes "error memory\n") 5 s s' status

@@ -30,7 +30,7 @@ pub record OutsideSeen (R : Type 0) : Type 0 where
 -- these files or numbers ended so. `gen` made its line, or memory lacked.
 pub data Outcome : Type 0 where
   NoCommand : Outcome
-  Unread : Outcome
+  WordsLackMemory : Outcome
   AskEnded : AskNames → AskEnding → Outcome
   ServeEnded : Order → ServeEnding → Outcome
   CheckEnded : CheckNames → Ending → Outcome
@@ -40,7 +40,7 @@ pub data Outcome : Type 0 where
 -- the exit status
 abbrev pub status_of : Outcome → ℕ
 status_of NoCommand = 1
-status_of Unread = 5
+status_of WordsLackMemory = 5
 status_of (AskEnded names ending) = status_of_ask ending
 status_of (ServeEnded order ending) = status_of_serve ending
 status_of (CheckEnded names ending) = status_of_ending ending
@@ -51,7 +51,7 @@ status_of (GenEnded numbers None) = 5
 -- the line that tells it
 abbrev pub line_of : Outcome → List ℕ
 line_of NoCommand = codes "error words\n"
-line_of Unread = codes "error memory\n"
+line_of WordsLackMemory = codes "error memory\n"
 line_of (AskEnded names ending) = line_of_ask names ending
 line_of (ServeEnded order ending) = line_of_serve order ending
 line_of (CheckEnded names ending) = line_of_ending names ending
@@ -71,15 +71,15 @@ pub record AreServeTexts (given : List (List ℕ)) : Type 0 where
   pub texts : All IsUtf8 given
 
 -- the line was written whole, and the status is its own; or writing it failed, the status is 9 and a front of it stands
-abbrev pub IsPrinted : List ℕ → ℕ → LinkSeen → LinkSeen → ℕ → Type 0
-IsPrinted line due s s' status = ((status ≡ due) × Writes true line s s') ⊎ ((status ≡ 9) × Writes false line s s')
+abbrev pub IsPrintedOrCut : List ℕ → ℕ → LinkSeen → LinkSeen → ℕ → Type 0
+IsPrintedOrCut line due s s' status = ((status ≡ due) × Writes true line s s') ⊎ ((status ≡ 9) × Writes false line s s')
 
 module _ {C R : Type 0} (door : R → DoorSeen (ServedSeen C)) (connection : C → LinkSeen)
     (given : List (List ℕ)) (before after : OutsideSeen R) where
   -- Why a run of these words has this outcome, and what it leaves of its files, its net and its link.
   abbrev pub IsOutcome : Outcome → Type 0
   IsOutcome NoCommand = IsNoCommand given × IsUntouched before after
-  IsOutcome Unread = AreServeTexts given × IsUntouched before after
+  IsOutcome WordsLackMemory = AreServeTexts given × IsUntouched before after
   IsOutcome (AskEnded names ending) = AskFor given names
       × AskCause before.files after.files before.link after.link names ending × (after.net ≡ before.net)
   IsOutcome (ServeEnded order ending) = ServeFor given order
@@ -96,4 +96,4 @@ module _ {C R : Type 0} (door : R → DoorSeen (ServedSeen C)) (connection : C �
   pub record IsEnded (status : ℕ) : Type 0 where
     pub outcome : Outcome
     pub cause : IsOutcome outcome
-    pub told : IsPrinted (line_of outcome) (status_of outcome) before.output after.output status
+    pub told : IsPrintedOrCut (line_of outcome) (status_of outcome) before.output after.output status

@@ -10,7 +10,7 @@ use Rattle.keynoted.specs.Calling.{CallsFor, EndsWith, EndsRefused}
 
 module _ {C R : Type 0} (door : R → DoorSeen (ServedSeen C)) (connection : C → LinkSeen) where
   -- a run of the words `given` ended with this status
-  pub record IsSpecified (given : List (List ℕ)) (before after : OutsideSeen R) (status : ℕ) : Type 0 where
+  pub record IsRun (given : List (List ℕ)) (before after : OutsideSeen R) (status : ℕ) : Type 0 where
     -- It had one outcome, whose line was printed byte for byte; or a front of the line stands and the status is 9.
     pub ends : IsEnded door connection given before after status
     -- Words of no command are refused.

@@ -2,7 +2,7 @@
 ghost use Rattle.std.specs.Prelude.{IfSome, IfNone};
 ghost use Rattle.kn_commands.specs.Following.{line_of_follow, status_of_follow};
 ghost use Rattle.keynoted.specs.Commands.{FollowFor, IsNo};
-ghost use Rattle.keynoted.specs.Outcomes.{IsPrinted};
+ghost use Rattle.keynoted.specs.Outcomes.{IsPrintedOrCut};
 
 use kn_base::Octets;
 use kn_commands::{FollowEnding, print_follow};
@@ -21,7 +21,7 @@ pub(crate) fn log_file(words: &[Octets]) -> Option<&[u8]>
 
 /// Ends with the status and the line of following a log, or with 9 where the line can't be written.
 pub(crate) fn end_follow<O: Sink>(out: &mut O, ending: FollowEnding, name: &[u8]) -> u8
-    ensures { IsPrinted (line_of_follow name.now ending) (status_of_follow ending)
+    ensures { IsPrintedOrCut (line_of_follow name.now ending) (status_of_follow ending)
         (O.seen out.old) (O.seen out.new) result }
 {
     match print_follow(out, ending, name) {

@@ -4,8 +4,8 @@ ghost use Rattle.kn_commands.specs.Stopping.{stop_line, status_of};
 ghost use Rattle.kn_commands.specs.Asking.{line_of_ask, status_of_ask};
 ghost use Rattle.kn_commands.specs.Checking.{line_of_ending, status_of_ending};
 ghost use Rattle.keynoted.specs.Commands.{AskFor, CheckFor, IsNo};
-ghost use Rattle.keynoted.specs.Outcomes.{IsPrinted, IsEnded};
-ghost use Rattle.keynoted.specs.Specified.{IsSpecified};
+ghost use Rattle.keynoted.specs.Outcomes.{IsPrintedOrCut, IsEnded};
+ghost use Rattle.keynoted.specs.Specified.{IsRun};
 
 use crate::following::{end_follow, log_file};
 use crate::generating::{gen_numbers, run_gen};
@@ -64,7 +64,7 @@ fn check_files(words: &[Octets]) -> Option<CheckFiles<'_>>
 
 /// Ends with the status and the line of what stopped the program, or with 9 where the line can't be written.
 pub(crate) fn end<O: Sink>(out: &mut O, stop: Stop) -> u8
-    ensures { IsPrinted (stop_line [] stop) (status_of stop) (O.seen out.old) (O.seen out.new) result }
+    ensures { IsPrintedOrCut (stop_line [] stop) (status_of stop) (O.seen out.old) (O.seen out.new) result }
 {
     match print_line(out, stop, b"") {
         Ok(()) => stop.status(),
@@ -74,7 +74,7 @@ pub(crate) fn end<O: Sink>(out: &mut O, stop: Stop) -> u8
 
 /// Ends with the status and the line of serving a link, or with 9 where the line can't be written.
 fn end_ask<O: Sink>(out: &mut O, ending: AskEnding, names: &AskFiles<'_>) -> u8
-    ensures { IsPrinted (line_of_ask names.now ending) (status_of_ask ending)
+    ensures { IsPrintedOrCut (line_of_ask names.now ending) (status_of_ask ending)
         (O.seen out.old) (O.seen out.new) result }
 {
     match print_ask(out, ending, names) {
@@ -85,7 +85,7 @@ fn end_ask<O: Sink>(out: &mut O, ending: AskEnding, names: &AskFiles<'_>) -> u8
 
 /// Ends with the status and the line of a check, or with 9 where the line can't be written.
 fn end_check<O: Sink>(out: &mut O, ending: Ending, names: &CheckFiles<'_>) -> u8
-    ensures { IsPrinted (line_of_ending names.now ending) (status_of_ending ending)
+    ensures { IsPrintedOrCut (line_of_ending names.now ending) (status_of_ending ending)
         (O.seen out.old) (O.seen out.new) result }
 {
     match print_ending(out, &ending, names) {
@@ -143,11 +143,11 @@ where
 /// connection of a daemon. `check POLICY SCRIPT REPLY` tells whether the reply proves the value of the query that the
 /// requests of the script mean over the policy. `serve ADDR --policy FILE --connections N` with `--keys FILE` and
 /// `--workers N`, 4 where it isn't said, loads its files, binds the address and serves so many connections by so many
-/// workers side by side. The files are read in the order of the words, each once those before it hold what they have
-/// to. `follow LOG` applies the replies to LOG in a file, one after the other, to a new replica. `gen START N` makes N
-/// credentials by the draws from START, adds them to a new registry, and settles one query over them; both are decimal
-/// numbers, START of at most nine digits and N from 1 to 2,048. What a run has to tell is a line on `out`. The words,
-/// the statuses and the lines are keynoted's own.
+/// workers side by side. The files are read in the order of the words, for `serve` the policy before the keys, each
+/// once those before it hold what they have to. `follow LOG` applies the replies to LOG in a file, one after the other,
+/// to a new replica. `gen START N` makes N credentials by the draws from START, adds them to a new registry, and
+/// settles one query over them; both are decimal numbers, START of at most nine digits and N from 1 to 2,048. What a
+/// run has to tell is a line on `out`. The words, the statuses and the lines are keynoted's own.
 ///
 /// | status | line | outcome |
 /// |---|---|---|
@@ -193,7 +193,7 @@ where
     <N::Room as Door>::Conn: Send,
     requires unbound { (N.seen net.old).bound ≡ None }
     requires none { (N.seen net.old).rooms ≡ [] }
-    ensures { IsSpecified N.Room.seen N.Room.Conn.seen words.now
+    ensures { IsRun N.Room.seen N.Room.Conn.seen words.now
         (record { files = F.seen files.old; net = N.seen net.old; link = L.seen own.old; output = O.seen out.old })
         (record { files = F.seen files.new; net = N.seen net.new; link = L.seen own.new; output = O.seen out.new })
         result }

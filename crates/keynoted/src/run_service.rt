@@ -2,7 +2,7 @@
 ghost use Rattle.std.specs.Prelude.{◌≡◌, ◌≢◌, [], None, Some, true, false, codes, slice_get};
 ghost use Rattle.kn_outside.specs.Seen.{LinkSeen};
 ghost use Rattle.kn_commands.specs.Serving.{status_of_serve, line_of_serve};
-ghost use Rattle.keynoted.specs.Outcomes.{IsPrinted, IsEnded};
+ghost use Rattle.keynoted.specs.Outcomes.{IsPrintedOrCut, IsEnded};
 
 use crate::run::end;
 use crate::service_words::{service_of, texts_of};
@@ -59,7 +59,7 @@ where
 
 /// Ends with the status and the line of a service, or with 9 where the line can't be written.
 fn end_serve<O: Sink>(out: &mut O, ending: ServeEnding, service: &Service<'_>) -> u8
-    ensures { IsPrinted (line_of_serve service.now ending) (status_of_serve ending)
+    ensures { IsPrintedOrCut (line_of_serve service.now ending) (status_of_serve ending)
         (O.seen out.old) (O.seen out.new) result }
 {
     match print_serve(out, ending, service) {

@@ -73,15 +73,15 @@ pub record IsTextTo (session : Session) (values : List (List ℕ)) (text : List 
   pub to_query : IsReplyTo (length session.pinned) values reply
 
 -- what is known of a file behind which memory lacks: that of the reply holds the text of one to the query
-abbrev pub NeedsMemory : FilesSeen → CheckNames → Source → Type 0
-NeedsMemory f names Policy = Unit {0}
-NeedsMemory f names TheScript = Unit {0}
-NeedsMemory f names Reply = (session : Session) × (values : List (List ℕ)) × (text : List ℕ) × HasQuery f names session values × HasContent f names.reply text × IsTextTo session values text
+abbrev pub HoldsWhereMemoryLacks : FilesSeen → CheckNames → Source → Type 0
+HoldsWhereMemoryLacks f names Policy = Unit {0}
+HoldsWhereMemoryLacks f names TheScript = Unit {0}
+HoldsWhereMemoryLacks f names Reply = (session : Session) × (values : List (List ℕ)) × (text : List ℕ) × HasQuery f names session values × HasContent f names.reply text × IsTextTo session values text
 
 -- memory lacks where a file was about to be asked for, or was, and nothing else changed
 abbrev pub LacksAt : FilesSeen → FilesSeen → CheckNames → Source → Type 0
 LacksAt f f' names source =
-    HasAsked (take (count_before source) (in_order names)) f f' ⊎ (HasAsked (take (count_to source) (in_order names)) f f' × NeedsMemory f names source)
+    HasAsked (take (count_before source) (in_order names)) f f' ⊎ (HasAsked (take (count_to source) (in_order names)) f f' × HoldsWhereMemoryLacks f names source)
 
 -- why reading a file, or loading the policy, stops a run
 abbrev pub StopsCheckAt : FilesSeen → FilesSeen → CheckNames → Source → Stop → Type 0

@@ -8,9 +8,7 @@ use Rattle.kn_history.specs.Retained.{is_retained, retained_version}
 use Rattle.kn_env.specs.Values.{values_of}
 use Rattle.kn_principal.specs.Principals.{normal_form}
 use Rattle.kn_session.specs.Sessions.{Session, with_changed, started_session, pin_at, watch_with, move_standing}
-use Rattle.kn_session.specs.Calls.{Call, Close, Clear, Assert, Retract, Set, Unset, Auth, Unauth, Unwatch, after_call}
-use Rattle.kn_session.specs.Calls.{call_change}
-use Rattle.kn_session.specs.Calls.{is_named, add_requester}
+use Rattle.kn_session.specs.Calls.{Call, Close, Auth, after_call, call_change, is_named, add_requester}
 use Rattle.kn_reply.specs.Replies.{Reply, Done, Started, Number, PrivateAdded, Added, Value, Batched, PinnedAt, Log}
 use Rattle.kn_reply.specs.Replies.{News, Critical, No, NoMemory}
 use Rattle.kn_wire.specs.Feeding.{Held}
@@ -66,14 +64,8 @@ requester-pinned h text x is = by (is_named x.requesters text)
 pinned-call : (h : List Update) (xs : List Session) (s : ℕ) (call : Call) → AllPinned h xs
     → AllPinned h (after_call xs s call)
 pinned-call h xs s Close are = pinned-filter (λ x. not (x.number == s)) h xs are
-pinned-call h xs s Clear are = pinned-change h xs s (call_change Clear) (λ x is. is) are
-pinned-call h xs s (Assert text) are = pinned-change h xs s (call_change (Assert text)) (λ x is. is) are
-pinned-call h xs s (Retract k) are = pinned-change h xs s (call_change (Retract k)) (λ x is. is) are
-pinned-call h xs s (Set name value) are = pinned-change h xs s (call_change (Set name value)) (λ x is. is) are
-pinned-call h xs s (Unset name) are = pinned-change h xs s (call_change (Unset name)) (λ x is. is) are
 pinned-call h xs s (Auth text) are = pinned-change h xs s (call_change (Auth text)) (requester-pinned h text) are
-pinned-call h xs s (Unauth text) are = pinned-change h xs s (call_change (Unauth text)) (λ x is. is) are
-pinned-call h xs s Unwatch are = pinned-change h xs s (call_change Unwatch) (λ x is. is) are
+pinned-call h xs s call are = pinned-change h xs s (call_change call) (λ x is. is) are
 
 -- a first part of a first part is one
 taken-twice : (m n : ℕ) (h : List Update) → (k : ℕ) × (take m (take n h) ≡ take k h)

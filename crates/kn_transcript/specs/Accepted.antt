@@ -3,42 +3,46 @@ use Rattle.std.specs.Prelude.{ℕ, ◌≡◌, Bool, true, false, List, [], ◌++
 use Rattle.std.specs.List.{list_any}
 use Rattle.kn_base.specs.declared.limits.TheConstants.{REQUESTS}
 use Rattle.kn_history.specs.declared.update.Update.{Update}
-use Rattle.kn_wire.specs.Requests.{Request, Open, Close, Pin, Assert, Retract, Set, SetHex, Unset, Auth, Unauth, Clear}
-use Rattle.kn_wire.specs.Requests.{Query, Watch, News, Unwatch, Critical, Admin, Add, Drop, Batch, PinAt, Log, Bye}
-use Rattle.kn_wire.specs.Requests.{Faulty, AreRequests}
+use Rattle.kn_wire.specs.Requests.{Request, AreRequests}
+use Rattle.kn_session.specs.Calls.{Call, Unwatch}
 use Rattle.kn_reply.specs.Replies.{Reply, Done, Started, Number, PrivateAdded, Added, Value, Batched, PinnedAt}
 use Rattle.kn_reply.specs.Replies.{Log as Logged, News as Told, Critical as Needs, No, NoMemory, reply_text}
 use Rattle.kn_daemon.specs.Daemon.{State, first_state}
+use Rattle.kn_daemon.specs.Shapes.{Shape, Calls, Updates, Looks, Asks, Controls, AtFault, ForNew, ForOpen, ForRetained}
+use Rattle.kn_daemon.specs.Shapes.{ForStanding, ForLog, Look, Question, WithProof, WithCritical, ToKeep, shape_of}
 use Rattle.kn_daemon.specs.Played.{up_to_end}
 use Rattle.kn_transcript.specs.Followed.{Answered, Follows}
 use Rattle.kn_transcript.specs.Texts.{HasText}
 
--- a request that a transcript doesn't judge: standing queries, critical assertions, and updates that are handed on
+-- What a transcript doesn't judge: standing queries, critical assertions, and updates that are handed on.
+
+abbrev pub is_unwatch : Call → Bool
+is_unwatch Unwatch = true
+is_unwatch call = false
+
+abbrev pub is_foreign_look : Look → Bool
+is_foreign_look ForNew = false
+is_foreign_look (ForOpen s) = false
+is_foreign_look (ForRetained s version) = false
+is_foreign_look (ForStanding s) = true
+is_foreign_look (ForLog n) = true
+
+abbrev pub is_foreign_question : Question → Bool
+is_foreign_question WithProof = false
+is_foreign_question WithCritical = true
+is_foreign_question ToKeep = true
+
+abbrev pub is_foreign_shape : Shape → Bool
+is_foreign_shape (Calls s call) = is_unwatch call
+is_foreign_shape (Updates update) = false
+is_foreign_shape (Looks look) = is_foreign_look look
+is_foreign_shape (Asks question s names) = is_foreign_question question
+is_foreign_shape (Controls control) = false
+is_foreign_shape (AtFault fault) = false
+
+-- a request that a transcript doesn't judge
 abbrev pub is_foreign : Request → Bool
-is_foreign Open = false
-is_foreign (Close s) = false
-is_foreign (Pin s) = false
-is_foreign (Assert s text) = false
-is_foreign (Retract s k) = false
-is_foreign (Set s name value) = false
-is_foreign (SetHex s name digits) = false
-is_foreign (Unset s name) = false
-is_foreign (Auth s text) = false
-is_foreign (Unauth s text) = false
-is_foreign (Clear s) = false
-is_foreign (Query s names) = false
-is_foreign (Watch s names) = true
-is_foreign (News s) = true
-is_foreign (Unwatch s) = true
-is_foreign (Critical s names) = true
-is_foreign (Admin digits) = false
-is_foreign (Add text) = false
-is_foreign (Drop k) = false
-is_foreign (Batch block) = false
-is_foreign (PinAt s version) = false
-is_foreign (Log n) = true
-is_foreign Bye = false
-is_foreign (Faulty fault) = false
+is_foreign request = is_foreign_shape (shape_of request)
 
 -- the requests that are meant: up to the one that ends a connection, and as many as a connection has
 abbrev pub meant_of : List Request → List Request

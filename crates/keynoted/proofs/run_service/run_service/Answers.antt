@@ -2,7 +2,7 @@ use Rattle.std.proofs.Common.{◌≡◌, List, ℕ, map, refl, sym, ap, ◌∙�
 use Rattle.std.specs.Prelude.{All}
 use Rattle.std.specs.Str.{IsUtf8}
 use Rattle.keynoted.specs.Commands.{ServeFor, IsNo}
-use Rattle.keynoted.specs.Outcomes.{NoCommand, Unread, ServeEnded}
+use Rattle.keynoted.specs.Outcomes.{NoCommand, WordsLackMemory, ServeEnded}
 use Rattle.keynoted.proofs.Apart.{no_command, no_serve_text}
 use Rattle.keynoted.proofs.ClapLaws.{some_value, no_value}
 use Rattle.keynoted.proofs.run_service.run_service.Goals as goal
@@ -37,7 +37,7 @@ returns-in-Ok-None-service_of g c = λ link.
 
 pub returns-in-Err : goal.returns-in-Err
 returns-in-Err g c = λ link. record {
-  outcome = Unread;
+  outcome = WordsLackMemory;
   cause = (
     record { serve = c.requires.serve; texts = c.in-Err.ensures.lacks },
     record { files = refl; net = refl; link = refl },
@@ -51,7 +51,7 @@ returns g c = λ link.
     (λ t. (map (λ s. s.now) t.items ≡ c.args.words.now) × All IsUtf8 c.args.words.now)
     c.in-Ok-Some.field-0-is c.in-Ok-Some.ensures.texts in
     record {
-      outcome = Unread;
+      outcome = WordsLackMemory;
       cause = (
         record { serve = c.requires.serve; texts = texts.1 },
         record { files = refl; net = refl; link = refl },
