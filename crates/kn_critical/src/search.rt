@@ -28,9 +28,9 @@ pub struct Critical {
     pub ids: List<Id>,
 }
 
-/// The compliance value of a query (RFC 2704, section 5), and the critical ones of its assertions (keynoted's own): each
-/// of them by itself, taken away, lowers the value. The assertions are those of texts that have at most 16,777,000
-/// bytes together.
+/// The compliance value of a query (RFC 2704, section 5), and the critical ones of its assertions (keynoted's own):
+/// each of them by itself, taken away, lowers the value. The assertions are those of texts that have at most
+/// 16,777,000 bytes together.
 ///
 /// More nodes than 16,384 are refused. `NoMemory` comes only for want of memory.
 pub fn find_critical(

@@ -1,8 +1,8 @@
-//! How long the parts of `gen` take: generating texts, reading them, adding them at one turn, building the system and settling
-//! it.
+//! How long the parts of `gen` take: generating texts, reading them, adding them at one turn, building the system and
+//! settling it.
 //!
-//! Without words what is told of the query over 128 to 2,048 credentials is printed. With `time` it is the nanoseconds of each
-//! part over so many, each the least of several rounds.
+//! Without words what is told of the query over 128 to 2,048 credentials is printed. With `time` it is the nanoseconds
+//! of each part over so many, each the least of several rounds.
 #![tactic(auto)]
 
 ghost use Rattle.std.specs.Prelude.{◌≤◌};

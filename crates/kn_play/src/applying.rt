@@ -6,7 +6,8 @@ ghost use Rattle.kn_session.specs.Calls.{Set, call_of};
 ghost use Rattle.kn_session.specs.declared.fault.SessionFault.TheVariants as F;
 ghost use Rattle.kn_wire.specs.Digits.{bytes_of_digits};
 ghost use Rattle.kn_wire.specs.Requests.{are_digits};
-ghost use Rattle.kn_daemon.specs.Shapes.{Calls, Asks, Looks, ForNew, ForOpen, ForRetained, ForStanding, ToKeep, shape_in_code, IsFormed};
+ghost use Rattle.kn_daemon.specs.Shapes.{Calls, Asks, Looks, ForNew, ForOpen, ForRetained, ForStanding, ToKeep};
+ghost use Rattle.kn_daemon.specs.Shapes.{shape_in_code, IsFormed};
 ghost use Rattle.kn_play.specs.Playing.{state_of_sessions, applied, NumbersGoOn};
 
 use crate::asking::read_query;
@@ -82,7 +83,8 @@ fn repin(book: &Book, sessions: &mut Sessions, s: u32) -> Result<(), NoMemory>
 
 /// Pins a session to a version that is retained. Another one is refused.
 fn repin_at(book: &Book, sessions: &mut Sessions, s: u32, version: u32) -> Result<(), NoMemory>
-    ensures { OnOk result (state_of_sessions sessions.new ≡ applied book.now sessions.old (Looks (ForRetained s version))) }
+    ensures { OnOk result (state_of_sessions sessions.new
+        ≡ applied book.now sessions.old (Looks (ForRetained s version))) }
 {
     match book.retained(version) {
         Some(retained) => pin_to(retained, sessions, s),
@@ -92,7 +94,8 @@ fn repin_at(book: &Book, sessions: &mut Sessions, s: u32, version: u32) -> Resul
 
 /// Pins a session to a version, as if that were the newest one.
 fn pin_to(snapshot: &Snapshot, sessions: &mut Sessions, s: u32) -> Result<(), NoMemory>
-    ensures { OnOk result (state_of_sessions sessions.new ≡ applied (arc_value snapshot.now) sessions.old (Looks (ForOpen s))) }
+    ensures { OnOk result (state_of_sessions sessions.new
+        ≡ applied (arc_value snapshot.now) sessions.old (Looks (ForOpen s))) }
 {
     let Ok(pinned) = snapshot.clone() else {
         return Err(NoMemory);
@@ -114,7 +117,8 @@ fn move_standing(book: &Book, sessions: &mut Sessions, s: u32) -> Result<(), NoM
 
 /// Keeps what a session asks, where that is answered, as its standing query.
 fn watch(alloc: Global, sessions: &mut Sessions, s: u32, names: &[u8]) -> Result<(), NoMemory>
-    ensures { (history : List Update) → OnOk result (state_of_sessions sessions.new ≡ applied history sessions.old (Asks ToKeep s names.now)) }
+    ensures { (history : List Update)
+        → OnOk result (state_of_sessions sessions.new ≡ applied history sessions.old (Asks ToKeep s names.now)) }
 {
     match read_query(alloc, sessions, s, names)? {
         Some(asked) => match sessions.watch(s, asked.values) {
@@ -133,7 +137,8 @@ fn apply_call(
     call: Call<'_>,
 ) -> Result<(), NoMemory>
     requires room { NumbersGoOn sessions.old }
-    ensures { (history : List Update) → OnOk result (state_of_sessions sessions.new ≡ applied history sessions.old (Calls s (call_of call.entry))) }
+    ensures { (history : List Update)
+        → OnOk result (state_of_sessions sessions.new ≡ applied history sessions.old (Calls s (call_of call.entry))) }
 {
     match sessions.apply(alloc, s, call) {
         Ok(_) => Ok(()),
@@ -157,7 +162,9 @@ fn set_digits(
 ) -> Result<(), NoMemory>
     requires room { NumbersGoOn sessions.old }
     requires digits { are_digits digits.now ≡ true }
-    ensures { (history : List Update) → OnOk result (state_of_sessions sessions.new ≡ applied history sessions.old (Calls s (Set name.now (bytes_of_digits digits.now)))) }
+    ensures { (history : List Update)
+        → OnOk result (state_of_sessions sessions.new
+            ≡ applied history sessions.old (Calls s (Set name.now (bytes_of_digits digits.now)))) }
 {
     let bytes = decode_digits(alloc, digits)?;
     let value = bytes.as_slice();

@@ -11,7 +11,8 @@ use kn_base::NoMemory;
 use kn_store::Book;
 use std::alloc::Global;
 
-/// The query that a script means where each of its requests stands behind all updates of a book; None where it means none.
+/// The query that a script means where each of its requests stands behind all updates of a book; None where it means
+/// none.
 ///
 /// It is the last QUERY, up to BYE, a refused block or the last whole request, on an open session and for well-formed
 /// compliance values (keynoted's own). A refused request changes nothing, as on the daemon. A session starts with the

@@ -1,13 +1,16 @@
 //! The registry, and its calls.
-ghost use Rattle.std.specs.Prelude.{◌≡◌, ◌≢◌, ◌<◌, ◌≤◌, ◌++◌, ◌∷◌, [], ◌⊎◌, List, length, Some, None, true, false, All, IfOk, IfErr, OnOk, OnErr};
+ghost use Rattle.std.specs.Prelude.{◌≡◌, ◌≢◌, ◌<◌, ◌≤◌, ◌++◌, ◌∷◌, [], ◌⊎◌, List, length, Some, None, true, false};
+ghost use Rattle.std.specs.Prelude.{All, IfOk, IfErr, OnOk, OnErr};
 ghost use mathlib.Core.List.{IsPrefix};
 ghost use Rattle.std.specs.Arc.{arc_value};
 ghost use Rattle.kn_base.specs.declared.limits.TheConstants.{CHANGES};
 ghost use Rattle.kn_history.specs.declared.update.Update.{Update};
 ghost use Rattle.kn_history.specs.History.{is_valid_history};
 ghost use Rattle.kn_history.specs.Retained.{retained_version};
-ghost use Rattle.kn_turn.specs.Passes.{root_of, split_of, after_give, after_look, after_append, after_append_all, after_split, after_join, after_meet};
-ghost use Rattle.kn_registry.specs.Passes.{IsReady, IsSoundPass, Looks, Stays, Adds, AddsAll, Removes, Batches, RefusesText, RefusesOne, RefusesId, RefusesItems, RefusesVersion};
+ghost use Rattle.kn_turn.specs.Passes.{root_of, split_of, after_give, after_look, after_append, after_append_all};
+ghost use Rattle.kn_turn.specs.Passes.{after_split, after_join, after_meet};
+ghost use Rattle.kn_registry.specs.Passes.{IsReady, IsSoundPass, Looks, Stays, Adds, AddsAll, Removes, Batches};
+ghost use Rattle.kn_registry.specs.Passes.{RefusesText, RefusesOne, RefusesId, RefusesItems, RefusesVersion};
 ghost use Rattle.kn_registry.specs.declared.answer.PinFault.TheVariants as P;
 
 use crate::answer::{Batched, PinFault};
@@ -143,11 +146,11 @@ impl Registry {
         }
     }
 
-    /// Adds texts, each by an update of its own, at one turn; or none of them where one is refused: then its place is told,
-    /// counted from 0.
+    /// Adds texts, each by an update of its own, at one turn; or none of them where one is refused: then its place is
+    /// told, counted from 0.
     ///
-    /// A refusal is that behind the texts in front of the refused one, so a limit's number counts them too. Beside want of
-    /// memory the place tells nothing.
+    /// A refusal is that behind the texts in front of the refused one, so a limit's number counts them too. Beside
+    /// want of memory the place tells nothing.
     pub fn add_all<R: Wait>(
         &self,
         rt: &R,
@@ -250,8 +253,10 @@ impl Registry {
     fn append(&self, pass: &mut Pass, shared: SharedBook)
         requires turn { pass.old.turn ≡ self.now }
         requires taken { pass.old.is_idle ≡ false }
-        requires more { (update : Update) × (update.caller ≡ pass.old.number) × (shared ≡ pass.old.taken ++ update ∷ []) }
-        ensures appended { (update : Update) → shared ≡ pass.old.taken ++ update ∷ [] → pass.new ≡ after_give (after_append pass.old update) }
+        requires more { (update : Update) × (update.caller ≡ pass.old.number)
+            × (shared ≡ pass.old.taken ++ update ∷ []) }
+        ensures appended { (update : Update) → shared ≡ pass.old.taken ++ update ∷ []
+            → pass.new ≡ after_give (after_append pass.old update) }
         ensures valid { is_valid_history pass.new.seen ≡ true }
         ensures sound { IsSoundPass pass.new }
     {
@@ -265,8 +270,10 @@ impl Registry {
     fn append_all(&self, pass: &mut Pass, shared: SharedBook)
         requires turn { pass.old.turn ≡ self.now }
         requires taken { pass.old.is_idle ≡ false }
-        requires more { (updates : List Update) × All (λ update. update.caller ≡ pass.old.number) updates × (shared ≡ pass.old.taken ++ updates) }
-        ensures appended { (updates : List Update) → shared ≡ pass.old.taken ++ updates → pass.new ≡ after_give (after_append_all pass.old updates) }
+        requires more { (updates : List Update) × All (λ update. update.caller ≡ pass.old.number) updates
+            × (shared ≡ pass.old.taken ++ updates) }
+        ensures appended { (updates : List Update) → shared ≡ pass.old.taken ++ updates
+            → pass.new ≡ after_give (after_append_all pass.old updates) }
         ensures valid { is_valid_history pass.new.seen ≡ true }
         ensures sound { IsSoundPass pass.new }
     {
@@ -332,7 +339,8 @@ impl Registry {
 /// The version of this number, if the book retains it.
 fn find_retained(book: &Book, version: u32) -> Result<Snapshot, PinFault>
     ensures version { IfOk result (λ snapshot. retained_version book.now version ≡ Some (arc_value snapshot)) }
-    ensures missing { IfErr result (λ fault. (fault ≡ P.NoMemory) ⊎ ((fault ≡ P.Missing (length book.now)) × (retained_version book.now version ≡ None))) }
+    ensures missing { IfErr result (λ fault. (fault ≡ P.NoMemory)
+        ⊎ ((fault ≡ P.Missing (length book.now)) × (retained_version book.now version ≡ None))) }
 {
     let Some(retained) = book.retained(version) else {
         return Err(PinFault::Missing {

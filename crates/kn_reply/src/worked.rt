@@ -22,8 +22,8 @@ pub fn reply_texts()
     ensures read { reply_text (No (R.Read 12 0)) ≡ codes "NO 5 read 12 0\n" }
     ensures batched { reply_text (Batched 2 1 2) ≡ codes "OK a2 1 2\n" }
     ensures pinned_at { reply_text (PinnedAt 1 2) ≡ codes "OK 1 2\n" }
-    ensures log { reply_text (Log 1 (addition_by 0 (codes "x\n") 1 ∷ addition_by 3 (codes "y\n") 2 ∷ removal_by 0 1 ∷ []))
-        ≡ codes "LOG 1 2 3\nUPDATE 3 1\nADD 2\ny\n\nUPDATE 0 1\nDROP a1\nEND\n" }
+    ensures log { reply_text (Log 1 (addition_by 0 (codes "x\n") 1 ∷ addition_by 3 (codes "y\n") 2
+        ∷ removal_by 0 1 ∷ [])) ≡ codes "LOG 1 2 3\nUPDATE 3 1\nADD 2\ny\n\nUPDATE 0 1\nDROP a1\nEND\n" }
     ensures log_end { reply_text (Log 2 (addition_by 0 (codes "x") 1 ∷ removal_by 0 1 ∷ []))
         ≡ codes "LOG 2 0 2\nEND\n" }
     ensures news { reply_text (News 0 (codes "no") 3) ≡ codes "NEWS 0 no 3\n" }

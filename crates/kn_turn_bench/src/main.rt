@@ -1,10 +1,10 @@
 //! Passes of one registry side by side: whether all that they saw is one history, and how many pins and updates a
 //! second they make.
 //!
-//! Without words it tries two passes in turn, and then a short history. `history PASSES CALLS ROUNDS` tries a longer one, with new passes in each
-//! round. `pins WORKERS CALLS READS` prints the nanoseconds of so many pins by each of so many workers, with so many
-//! readings of the snapshot behind each pin; `reads` takes the same numbers and pins once only. `updates READERS CALLS`
-//! prints those of so many updates beside so many workers that pin.
+//! Without words it tries two passes in turn, and then a short history. `history PASSES CALLS ROUNDS` tries a longer
+//! one, with new passes in each round. `pins WORKERS CALLS READS` prints the nanoseconds of so many pins by each of so
+//! many workers, with so many readings of the snapshot behind each pin; `reads` takes the same numbers and pins once
+//! only. `updates READERS CALLS` prints those of so many updates beside so many workers that pin.
 #![tactic(auto)]
 
 mod event;
