@@ -19,8 +19,6 @@ mod reading;
 mod replica;
 mod reply;
 mod request;
-#[cfg(test)]
-mod tests;
 
 pub use fault::FollowFault;
 pub use files::follow;
