@@ -6,8 +6,7 @@ use Rattle.std.specs.List.{All}
 use Rattle.std.proofs.lemmas.List.{drop_more, drop_all, take_at, get_or-append_right, get_or-map, take-append-drop, length-map, map-append, map-set, set-set, set_split, take-map, drop-map, length-take, length-drop}
 use Rattle.std.proofs.lemmas.List.Edits.{length-remove}
 use Rattle.std.proofs.lemmas.List.Elements.{All-head, All-tail, All-cons, All-nil}
-use Rattle.std.proofs.lemmas.Option.{get_or_from_slice_get, slice_get-map, slice_get_read, slice_get_within}
-use Rattle.std.specs.Option.{option_map}
+use Rattle.std.proofs.lemmas.Option.{get_or_from_slice_get, slice_get_read, slice_get_within}
 use Rattle.std.proofs.lemmas.List.Concat.{flat_map-append}
 use Rattle.std.specs.Arc.{arc_value}
 use Rattle.std.specs.declared.sync.Arc.{Arc}
@@ -40,18 +39,11 @@ module _ {T : Type 0} where
 
   -- Pages that are shared.
 
-  pub pages_of-append : (xs ys : List (Arc (List (Arc T Global)) Global)) → pages_of (xs ++ ys) ≡ pages_of xs ++ pages_of ys
+  pub pages_of-append : (xs ys : List (Arc (List T) Global)) → pages_of (xs ++ ys) ≡ pages_of xs ++ pages_of ys
   pages_of-append [] ys = refl
-  pages_of-append (x ∷ xs) ys = ap (λ rest. map arc_value (arc_value x) ∷ rest) (pages_of-append xs ys)
+  pages_of-append (x ∷ xs) ys = ap (λ rest. arc_value x ∷ rest) (pages_of-append xs ys)
 
-  pages_of-shares : (xs : List (Arc (List (Arc T Global)) Global)) → pages_of xs ≡ map (λ page. map arc_value page) (map arc_value xs)
-  pages_of-shares [] = refl
-  pages_of-shares (x ∷ xs) = ap (λ rest. map arc_value (arc_value x) ∷ rest) (pages_of-shares xs)
-
-  pub pages_of-same : (after before : List (Arc (List (Arc T Global)) Global)) → map arc_value after ≡ map arc_value before → pages_of after ≡ pages_of before
-  pages_of-same after before same = pages_of-shares after ∙ ap (λ pages. map (λ page. map arc_value page) pages) same ∙ sym (pages_of-shares before)
-
-  pub pages_of-push : (xs : List (Arc (List (Arc T Global)) Global)) (page : Arc (List (Arc T Global)) Global) → pages_of (xs ++ page ∷ []) ≡ pages_of xs ++ map arc_value (arc_value page) ∷ []
+  pub pages_of-push : (xs : List (Arc (List T) Global)) (page : Arc (List T) Global) → pages_of (xs ++ page ∷ []) ≡ pages_of xs ++ arc_value page ∷ []
   pages_of-push xs page = pages_of-append xs (page ∷ [])
 
   -- The item at a place of all.
@@ -66,64 +58,56 @@ module _ {T : Type 0} where
   slice_get-right (x ∷ xs) ys zero behind = absurd (omega arith)
   slice_get-right (x ∷ xs) ys (suc i) behind = slice_get-right xs ys i (omega arith) ∙ ap (slice_get ys) (omega arith)
 
-  pub rest_at : (closed : List (Arc (List (Arc T Global)) Global)) (k : ℕ) (page : Arc (List (Arc T Global)) Global) → k < length closed → page ≡ get_or closed k page
-      → pages_of (drop k closed) ≡ map arc_value (arc_value page) ∷ pages_of (drop (k + 1) closed)
+  pub rest_at : (closed : List (Arc (List T) Global)) (k : ℕ) (page : Arc (List T) Global) → k < length closed → page ≡ get_or closed k page
+      → pages_of (drop k closed) ≡ arc_value page ∷ pages_of (drop (k + 1) closed)
   rest_at closed k page within is =
-      ap pages_of (drop_more closed k page within) ∙ ap (λ p. map arc_value (arc_value p) ∷ pages_of (drop (k + 1) closed)) (sym is)
+      ap pages_of (drop_more closed k page within) ∙ ap (λ p. arc_value p ∷ pages_of (drop (k + 1) closed)) (sym is)
 
-  module _ (closed : List (Arc (List (Arc T Global)) Global)) (k : ℕ) (page : Arc (List (Arc T Global)) Global) (last : List T) (within : k < length closed) (is : page ≡ get_or closed k page) where
-    rest_is : joined (pages_of (drop k closed)) ++ last ≡ map arc_value (arc_value page) ++ (joined (pages_of (drop (k + 1) closed)) ++ last)
+  module _ (closed : List (Arc (List T) Global)) (k : ℕ) (page : Arc (List T) Global) (last : List T) (within : k < length closed) (is : page ≡ get_or closed k page) where
+    rest_is : joined (pages_of (drop k closed)) ++ last ≡ arc_value page ++ (joined (pages_of (drop (k + 1) closed)) ++ last)
     rest_is =
         ap (λ pages. joined pages ++ last) (rest_at closed k page within is)
-        ∙ append_assoc (map arc_value (arc_value page)) (joined (pages_of (drop (k + 1) closed))) last
+        ∙ append_assoc (arc_value page) (joined (pages_of (drop (k + 1) closed))) last
 
     pub item_here : (left : ℕ) → left < length (arc_value page)
-        → slice_get (joined (pages_of (drop k closed)) ++ last) left ≡ slice_get (map arc_value (arc_value page)) left
+        → slice_get (joined (pages_of (drop k closed)) ++ last) left ≡ slice_get (arc_value page) left
     item_here left here =
-        let same = length-map (arc_value page) (arc_value {X = T} {Z = Global}) in
         ap (λ items. slice_get items left) rest_is
-        ∙ slice_get-left (map arc_value (arc_value page)) (joined (pages_of (drop (k + 1) closed)) ++ last) left (omega arith)
+        ∙ slice_get-left (arc_value page) (joined (pages_of (drop (k + 1) closed)) ++ last) left (omega arith)
 
     pub item_behind : (left : ℕ) → length (arc_value page) ≤ left → left < length (joined (pages_of (drop k closed)) ++ last)
         → (left - length (arc_value page) < length (joined (pages_of (drop (k + 1) closed)) ++ last))
         × (slice_get (joined (pages_of (drop k closed)) ++ last) left ≡ slice_get (joined (pages_of (drop (k + 1) closed)) ++ last) (left - length (arc_value page)))
     item_behind left behind inside =
-        let same = length-map (arc_value page) (arc_value {X = T} {Z = Global}) in
         let rest = joined (pages_of (drop (k + 1) closed)) ++ last in
         let whole = ap length rest_is in
-        let both = length-append (map arc_value (arc_value page)) rest in (
+        let both = length-append (arc_value page) rest in (
           omega arith,
           ap (λ items. slice_get items left) rest_is
-              ∙ slice_get-right (map arc_value (arc_value page)) rest left (omega arith)
-              ∙ ap (λ n. slice_get rest (left - n)) same,
+              ∙ slice_get-right (arc_value page) rest left (omega arith),
         )
 
-  pub item_last : (closed : List (Arc (List (Arc T Global)) Global)) (k : ℕ) (last : List (Arc T Global)) (left : ℕ) (here : Arc T Global) → length closed ≤ k
-      → left < length (joined (pages_of (drop k closed)) ++ map arc_value last) → here ≡ get_or last left here
-      → slice_get (joined (pages_of (drop k closed)) ++ map arc_value last) left ≡ Some (arc_value here)
+  pub item_last : (closed : List (Arc (List T) Global)) (k : ℕ) (last : List T) (left : ℕ) (here : T) → length closed ≤ k
+      → left < length (joined (pages_of (drop k closed)) ++ last) → here ≡ get_or last left here
+      → slice_get (joined (pages_of (drop k closed)) ++ last) left ≡ Some here
   item_last closed k last left here passed within is =
-      let none : joined (pages_of (drop k closed)) ++ map arc_value last ≡ map (arc_value {X = T} {Z = Global}) last = ap (λ rest. joined (pages_of rest) ++ map arc_value last) (drop_all k closed passed) in
-      let sizes = length-map last (arc_value {X = T} {Z = Global}) in
+      let none : joined (pages_of (drop k closed)) ++ last ≡ last = ap (λ rest. joined (pages_of rest) ++ last) (drop_all k closed passed) in
       let inside = ap length none in
-      ap (λ items. slice_get items left) none
-      ∙ slice_get-map (arc_value {X = T} {Z = Global}) last left
-      ∙ ap (option_map (arc_value {X = T} {Z = Global})) (slice_get_read last (length last) left here refl (omega arith) is)
+      ap (λ items. slice_get items left) none ∙ slice_get_read last (length last) left here refl (omega arith) is
 
   -- the item at a place of a page
-  pub within_page : (pages : List (List T)) (page place : ℕ) (items : List (Arc T Global)) → slice_get pages page ≡ Some (map arc_value items)
+  pub within_page : (pages : List (List T)) (page place : ℕ) (items : List T) → slice_get pages page ≡ Some items
       → place < length (slice_index_or pages page []) → place < length items
   within_page pages page place items there within =
-      let same : slice_index_or pages page [] ≡ map arc_value items = get_or_from_slice_get pages page (map arc_value items) [] there in
-      let sizes = length-map items (arc_value {X = T} {Z = Global}) in
+      let same : slice_index_or pages page [] ≡ items = get_or_from_slice_get pages page items [] there in
       let longer = ap length same in
       omega arith
 
-  pub item_of_page : (pages : List (List T)) (page place : ℕ) (items : List (Arc T Global)) (here : Arc T Global) → slice_get pages page ≡ Some (map arc_value items)
-      → place < length items → here ≡ get_or items place here → slice_get (slice_index_or pages page []) place ≡ Some (arc_value here)
+  pub item_of_page : (pages : List (List T)) (page place : ℕ) (items : List T) (here : T) → slice_get pages page ≡ Some items
+      → place < length items → here ≡ get_or items place here → slice_get (slice_index_or pages page []) place ≡ Some here
   item_of_page pages page place items here there within is =
-      let same : slice_index_or pages page [] ≡ map arc_value items = get_or_from_slice_get pages page (map arc_value items) [] there in
-      let read : slice_get items place ≡ Some here = slice_get_read items (length items) place here refl within is in
-      ap (λ l. slice_get l place) same ∙ slice_get-map (arc_value {X = T} {Z = Global}) items place ∙ ap (option_map (arc_value {X = T} {Z = Global})) read
+      let same : slice_index_or pages page [] ≡ items = get_or_from_slice_get pages page items [] there in
+      ap (λ l. slice_get l place) same ∙ slice_get_read items (length items) place here refl within is
 
   -- One more item.
 
@@ -179,35 +163,30 @@ module _ {T : Type 0} where
       ∙ longer-full most (map f front) last item some full
 
   -- the same of pages that are shared
-  pub shared-room : (most : ℕ) (closed : List (Arc (List (Arc T Global)) Global)) (last longer : List (Arc T Global)) (one : Arc T Global) (item : T)
-      → (closed ≡ []) ⊎ (1 ≤ length last) → length last < most → longer ≡ last ++ one ∷ [] → arc_value one ≡ item
-      → pages_of closed ++ unless_empty (map arc_value longer) ≡ with_item most (pages_of closed ++ unless_empty (map arc_value last)) item
-  shared-room most closed last longer one item kept room is value =
-      let sizes = length-map last (arc_value {X = T} {Z = Global}) in
-      let seen = none_seen (λ page. map arc_value (arc_value page)) closed (length last) (length (map (arc_value {X = T} {Z = Global}) last)) (omega arith) kept in
-      ap (λ l. pages_of closed ++ unless_empty l) (ap (map arc_value) is ∙ map-append arc_value last (one ∷ []) ∙ ap (λ x. map arc_value last ++ x ∷ []) value)
-      ∙ longer-room most (pages_of closed) (map arc_value last) item seen (omega arith)
+  pub shared-room : (most : ℕ) (closed : List (Arc (List T) Global)) (last longer : List T) (item : T)
+      → (closed ≡ []) ⊎ (1 ≤ length last) → length last < most → longer ≡ last ++ item ∷ []
+      → pages_of closed ++ unless_empty longer ≡ with_item most (pages_of closed ++ unless_empty last) item
+  shared-room most closed last longer item kept room is =
+      ap (λ l. pages_of closed ++ unless_empty l) is
+      ∙ longer-room most (pages_of closed) last item (none_seen arc_value closed (length last) (length last) (omega arith) kept) room
 
-  pub shared-full : (most : ℕ) (closed after : List (Arc (List (Arc T Global)) Global)) (last : List (Arc T Global)) (full : Arc (List (Arc T Global)) Global)
-      (opened : List (Arc T Global)) (one : Arc T Global) (item : T) → 1 ≤ most → most ≤ length last → after ≡ closed ++ full ∷ [] → arc_value full ≡ last
-      → opened ≡ one ∷ [] → arc_value one ≡ item
-      → pages_of after ++ unless_empty (map arc_value opened) ≡ with_item most (pages_of closed ++ unless_empty (map arc_value last)) item
-  shared-full most closed after last full opened one item some all is value begun first =
-      let sizes = length-map last (arc_value {X = T} {Z = Global}) in
-      seen-full (λ page. map arc_value (arc_value page)) most closed after (map arc_value last) full (map arc_value opened) item some (omega arith) is (ap (map arc_value) value)
-      (ap (map arc_value) begun ∙ ap (λ x. x ∷ []) first)
+  pub shared-full : (most : ℕ) (closed after : List (Arc (List T) Global)) (last : List T) (full : Arc (List T) Global) (opened : List T) (item : T)
+      → 1 ≤ most → most ≤ length last → after ≡ closed ++ full ∷ [] → arc_value full ≡ last → opened ≡ item ∷ []
+      → pages_of after ++ unless_empty opened ≡ with_item most (pages_of closed ++ unless_empty last) item
+  shared-full most closed after last full opened item some all is value begun =
+      seen-full arc_value most closed after last full opened item some all is value begun
 
-  pub shared-same : (closed other : List (Arc (List (Arc T Global)) Global)) (last copy : List (Arc T Global)) → map arc_value other ≡ map arc_value closed
-      → map arc_value copy ≡ map arc_value last → pages_of other ++ unless_empty (map arc_value copy) ≡ pages_of closed ++ unless_empty (map arc_value last)
+  pub shared-same : (closed other : List (Arc (List T) Global)) (last copy : List T) → map arc_value other ≡ map arc_value closed
+      → copy ≡ last → pages_of other ++ unless_empty copy ≡ pages_of closed ++ unless_empty last
   shared-same closed other last copy pages items =
-      ap (λ l. l ++ unless_empty (map arc_value copy)) (pages_of-same other closed pages) ∙ ap (λ l. pages_of closed ++ unless_empty l) items
+      ap (λ l. l ++ unless_empty copy) pages ∙ ap (λ l. pages_of closed ++ unless_empty l) items
 
-  pub shared-count : (closed : List (Arc (List (Arc T Global)) Global)) (last : List (Arc T Global)) → (last ≡ [] → ⊥)
-      → length (pages_of closed ++ unless_empty (map arc_value last)) ≡ length closed + 1
+  pub shared-count : (closed : List (Arc (List T) Global)) (last : List T) → (last ≡ [] → ⊥)
+      → length (pages_of closed ++ unless_empty last) ≡ length closed + 1
   shared-count closed [] some = absurd (some refl)
   shared-count closed (x ∷ last) some =
-      let sizes = length-map closed (λ (page : Arc (List (Arc T Global)) Global). map (arc_value {X = T} {Z = Global}) (arc_value page)) in
-      let both = length-append (pages_of closed) (map arc_value (x ∷ last) ∷ []) in
+      let sizes = length-map closed (arc_value {X = List T} {Z = Global}) in
+      let both = length-append (pages_of closed) ((x ∷ last) ∷ []) in
       omega arith
 
   -- One item out of a page.
@@ -229,26 +208,24 @@ module _ {T : Type 0} where
       rw (at, before, after) (append-nil (front ++ unless_empty (remove (x ∷ last) place)))
 
   -- the same taken out of the last page, where pages are shared
-  pub shared-out_of_last : (closed : List (Arc (List (Arc T Global)) Global)) (last : List (Arc T Global)) (page place : ℕ) → length closed ≤ page
-      → page < length (pages_of closed ++ unless_empty (map arc_value last))
-      → pages_of closed ++ unless_empty (remove (map arc_value last) place) ≡ without_item (pages_of closed ++ unless_empty (map arc_value last)) page place
+  pub shared-out_of_last : (closed : List (Arc (List T) Global)) (last : List T) (page place : ℕ) → length closed ≤ page
+      → page < length (pages_of closed ++ unless_empty last)
+      → pages_of closed ++ unless_empty (remove last place) ≡ without_item (pages_of closed ++ unless_empty last) page place
   shared-out_of_last closed last page place behind within =
-      let sizes = length-map closed (λ (p : Arc (List (Arc T Global)) Global). map (arc_value {X = T} {Z = Global}) (arc_value p)) in
-      sym (out_of_last (pages_of closed) (map arc_value last) page place (omega arith) within)
+      let sizes = length-map closed (arc_value {X = List T} {Z = Global}) in
+      sym (out_of_last (pages_of closed) last page place (omega arith) within)
 
-  pub last_shorter : (closed : List (Arc (List (Arc T Global)) Global)) (last rest : List (Arc T Global)) (place : ℕ) → rest ≡ remove last place
-      → pages_of closed ++ unless_empty (map arc_value rest) ≡ pages_of closed ++ unless_empty (remove (map arc_value last) place)
-  last_shorter closed last rest place out = ap (λ l. pages_of closed ++ unless_empty l) (ap (map arc_value) out ∙ map-remove arc_value last place)
+  pub last_shorter : (closed : List (Arc (List T) Global)) (last rest : List T) (place : ℕ) → rest ≡ remove last place
+      → pages_of closed ++ unless_empty rest ≡ pages_of closed ++ unless_empty (remove last place)
+  last_shorter closed last rest place out = ap (λ l. pages_of closed ++ unless_empty l) out
 
-  none_left : (last : List (Arc T Global)) (place : ℕ) → length last ≤ 1 → place < length last → remove (map (arc_value {X = T} {Z = Global}) last) place ≡ []
-  none_left last place few within =
-      let sizes = length-map last (arc_value {X = T} {Z = Global}) in
-      one_left (map arc_value last) place (omega arith) (omega arith)
+  none_left : (last : List T) (place : ℕ) → length last ≤ 1 → place < length last → remove last place ≡ []
+  none_left last place few within = one_left last place few within
 
-  pub last_out : (closed : List (Arc (List (Arc T Global)) Global)) (last : List (Arc T Global)) (place : ℕ) → closed ≡ [] → length last ≤ 1 → place < length last
-      → [] ≡ pages_of closed ++ unless_empty (remove (map arc_value last) place)
+  pub last_out : (closed : List (Arc (List T) Global)) (last : List T) (place : ℕ) → closed ≡ [] → length last ≤ 1 → place < length last
+      → [] ≡ pages_of closed ++ unless_empty (remove last place)
   last_out closed last place none few within =
-      sym (ap (λ l. pages_of l ++ unless_empty (remove (map arc_value last) place)) none ∙ ap unless_empty (none_left last place few within))
+      sym (ap (λ l. pages_of l ++ unless_empty (remove last place)) none ∙ ap unless_empty (none_left last place few within))
 
   -- the last of these pages opened again
   all-last : (P : List T → Type 0) (front : List (List T)) (last : List T) → All P (front ++ last ∷ []) → P last
@@ -259,46 +236,42 @@ module _ {T : Type 0} where
   unless_empty-some [] some = absurd (omega arith)
   unless_empty-some (x ∷ items) some = refl
 
-  opened_again : (pages front : List (Arc (List (Arc T Global)) Global)) (page : Arc (List (Arc T Global)) Global) (copy : List (Arc T Global)) → pages ≡ front ++ page ∷ []
-      → map arc_value copy ≡ map arc_value (arc_value page) → All (λ items. 1 ≤ length items) (pages_of pages)
-      → (1 ≤ length copy) × (pages_of front ++ unless_empty (map arc_value copy) ≡ pages_of pages)
+  opened_again : (pages front : List (Arc (List T) Global)) (page : Arc (List T) Global) (copy : List T) → pages ≡ front ++ page ∷ []
+      → copy ≡ arc_value page → All (λ items. 1 ≤ length items) (pages_of pages)
+      → (1 ≤ length copy) × (pages_of front ++ unless_empty copy ≡ pages_of pages)
   opened_again pages front page copy cut items all =
       let whole = ap pages_of cut ∙ pages_of-push front page in
-      let some : 1 ≤ length (map (arc_value {X = T} {Z = Global}) (arc_value page)) = all-last (λ l. 1 ≤ length l) (pages_of front) (map arc_value (arc_value page)) (subst (All (λ (l : List T). 1 ≤ length l)) whole all) in
-      let sizes = length-map copy (arc_value {X = T} {Z = Global}) in
+      let some : 1 ≤ length (arc_value page) = all-last (λ l. 1 ≤ length l) (pages_of front) (arc_value page) (subst (All (λ (l : List T). 1 ≤ length l)) whole all) in
       let sizes_seen = ap length items in (
         omega arith,
-        ap (λ l. pages_of front ++ unless_empty l) items ∙ ap (λ l. pages_of front ++ l) (unless_empty-some (map arc_value (arc_value page)) some) ∙ sym whole,
+        ap (λ l. pages_of front ++ unless_empty l) items ∙ ap (λ l. pages_of front ++ l) (unless_empty-some (arc_value page) some) ∙ sym whole,
       )
 
-  pub last_opened : (pages front : List (Arc (List (Arc T Global)) Global)) (page : Arc (List (Arc T Global)) Global) (copy last : List (Arc T Global)) (place : ℕ)
-      → pages ≡ front ++ page ∷ [] → map arc_value copy ≡ map arc_value (arc_value page) → All (λ items. 1 ≤ length items) (pages_of pages) → length last ≤ 1 → place < length last
-      → (1 ≤ length copy) × (pages_of front ++ unless_empty (map arc_value copy) ≡ pages_of pages ++ unless_empty (remove (map arc_value last) place))
+  pub last_opened : (pages front : List (Arc (List T) Global)) (page : Arc (List T) Global) (copy last : List T) (place : ℕ)
+      → pages ≡ front ++ page ∷ [] → copy ≡ arc_value page → All (λ items. 1 ≤ length items) (pages_of pages) → length last ≤ 1 → place < length last
+      → (1 ≤ length copy) × (pages_of front ++ unless_empty copy ≡ pages_of pages ++ unless_empty (remove last place))
   last_opened pages front page copy last place cut items all few within =
       let again = opened_again pages front page copy cut items all in (
         again.0,
         again.1 ∙ sym (append-nil (pages_of pages)) ∙ ap (λ l. pages_of pages ++ unless_empty l) (sym (none_left last place few within)),
       )
 
-  pub place_in_copy : (page : Arc (List (Arc T Global)) Global) (copy : List (Arc T Global)) (place : ℕ) → map arc_value copy ≡ map arc_value (arc_value page)
+  pub place_in_copy : (page : Arc (List T) Global) (copy : List T) (place : ℕ) → copy ≡ arc_value page
       → place < length (arc_value page) → place < length copy
   place_in_copy page copy place same within =
-      let sizes = length-map copy (arc_value {X = T} {Z = Global}) in
-      let before = length-map (arc_value page) (arc_value {X = T} {Z = Global}) in
       let seen = ap length same in
       omega arith
 
   -- the same taken out of a closed page, which stands at a place of these
-  module _ (pages : List (Arc (List (Arc T Global)) Global)) (page place : ℕ) (here : Arc (List (Arc T Global)) Global) (there : slice_get pages page ≡ Some here) where
-    page_is : slice_index_or (pages_of pages) page [] ≡ map arc_value (arc_value here)
+  module _ (pages : List (Arc (List T) Global)) (page place : ℕ) (here : Arc (List T) Global) (there : slice_get pages page ≡ Some here) where
+    page_is : slice_index_or (pages_of pages) page [] ≡ arc_value here
     page_is =
-        get_or-map (λ (p : Arc (List (Arc T Global)) Global). map (arc_value {X = T} {Z = Global}) (arc_value p)) pages page here [] (slice_get_within pages page here there)
-        ∙ ap (λ p. map arc_value (arc_value p)) (get_or_from_slice_get pages page here here there)
+        get_or-map (arc_value {X = List T} {Z = Global}) pages page here [] (slice_get_within pages page here there)
+        ∙ ap arc_value (get_or_from_slice_get pages page here here there)
 
     pub place_on_page : place < length (slice_index_or (pages_of pages) page []) → place < length (arc_value here)
     place_on_page inside =
         let same = ap length page_is in
-        let sizes = length-map (arc_value here) (arc_value {X = T} {Z = Global}) in
         omega arith
 
     pub page_out : length (arc_value here) ≤ 1 → place < length (arc_value here) → pages_of (remove pages page) ≡ without_item (pages_of pages) page place
@@ -306,26 +279,25 @@ module _ {T : Type 0} where
         let ps = pages_of pages in
         let none : remove (slice_index_or ps page []) place ≡ [] = ap (λ l. remove l place) page_is ∙ none_left (arc_value here) place few within in
         let next : page + 1 ≡ suc page = omega arith in
-        map-remove (λ (p : Arc (List (Arc T Global)) Global). map (arc_value {X = T} {Z = Global}) (arc_value p)) pages page
+        map-remove (arc_value {X = List T} {Z = Global}) pages page
         ∙ sym (ap (λ l. (take page ps ++ unless_empty l) ++ drop (page + 1) ps) none
         ∙ ap (λ l. l ++ drop (page + 1) ps) (append-nil (take page ps)) ∙ ap (λ n. take page ps ++ drop n ps) next)
 
-    pub page_shorter : (emptied after : List (Arc (List (Arc T Global)) Global)) (other shorter : Arc (List (Arc T Global)) Global) (items rest : List (Arc T Global))
-        → emptied ≡ slice_set pages page other → after ≡ slice_set emptied page shorter → map arc_value items ≡ map arc_value (arc_value here)
+    pub page_shorter : (emptied after : List (Arc (List T) Global)) (other shorter : Arc (List T) Global) (items rest : List T)
+        → emptied ≡ slice_set pages page other → after ≡ slice_set emptied page shorter → items ≡ arc_value here
         → rest ≡ remove items place → arc_value shorter ≡ rest → 1 < length (arc_value here) → place < length (arc_value here)
         → pages_of after ≡ without_item (pages_of pages) page place
     page_shorter emptied after other shorter items rest first second same out value many within =
         let ps = pages_of pages in
-        let left = remove (map (arc_value {X = T} {Z = Global}) (arc_value here)) place in
-        let seen : map (arc_value {X = T} {Z = Global}) (arc_value shorter) ≡ left =
-        ap (map arc_value) (value ∙ out) ∙ map-remove arc_value items place ∙ ap (λ l. remove l place) same in
-        let sizes = length-map (arc_value here) (arc_value {X = T} {Z = Global}) in
-        let some : 1 ≤ length left = some_left (map arc_value (arc_value here)) left place refl (omega arith) (omega arith) in
+        let left = remove (arc_value here) place in
+        let seen : arc_value shorter ≡ left =
+        value ∙ out ∙ ap (λ l. remove l place) same in
+        let some : 1 ≤ length left = some_left (arc_value here) left place refl many within in
         let next : page + 1 ≡ suc page = omega arith in
-        let count = length-map pages (λ (p : Arc (List (Arc T Global)) Global). map (arc_value {X = T} {Z = Global}) (arc_value p)) in
+        let count = length-map pages (arc_value {X = List T} {Z = Global}) in
         let there_in = slice_get_within pages page here there in
         ap pages_of (second ∙ ap (λ l. slice_set l page shorter) first ∙ set-set pages page other shorter)
-        ∙ map-set (λ (p : Arc (List (Arc T Global)) Global). map (arc_value {X = T} {Z = Global}) (arc_value p)) pages page shorter
+        ∙ map-set (arc_value {X = List T} {Z = Global}) pages page shorter
         ∙ ap (slice_set ps page) seen
         ∙ set_split ps page left (omega arith)
         ∙ sym (append_assoc (take page ps) (left ∷ []) (drop (suc page) ps))

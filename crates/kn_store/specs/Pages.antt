@@ -7,8 +7,8 @@ use Rattle.std.specs.declared.alloc.Global.{Global}
 
 module _ {T : Type 0} where
   -- pages that are shared, each of them as the list of its items
-  abbrev pub pages_of : List (Arc (List (Arc T Global)) Global) → List (List T)
-  pages_of pages = map (λ page. map arc_value (arc_value page)) pages
+  abbrev pub pages_of : List (Arc (List T) Global) → List (List T)
+  pages_of pages = map arc_value pages
 
   -- all items in their order
   abbrev pub joined : List (List T) → List T
@@ -37,10 +37,6 @@ module _ {T : Type 0} where
   abbrev pub unless_empty : List T → List (List T)
   unless_empty [] = []
   unless_empty (item ∷ items) = (item ∷ items) ∷ []
-
-  -- the page of these items, which are shared, or none where there are none of them
-  abbrev pub page_of : List (Arc T Global) → List (List T)
-  page_of items = unless_empty (map arc_value items)
 
   -- these pages without the item at a place of one of them, and without that page where it was the only one
   abbrev pub without_item : List (List T) → ℕ → ℕ → List (List T)

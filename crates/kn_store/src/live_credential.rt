@@ -3,7 +3,8 @@
 ghost use Rattle.std.specs.Prelude.{◌≡◌, Some};
 ghost use Rattle.kn_assert.specs.Reading.{assertion_of};
 
-use kn_base::Octets;
+use crate::pages::Shareable;
+use kn_base::{NoMemory, Octets};
 use kn_history::{Credential, Ready};
 use std::marker::Model;
 use std::sync::Arc;
@@ -51,5 +52,18 @@ impl LiveCredential {
         ensures reading { assertion_of self.now.text ≡ Some result.now.assertion }
     {
         &self.credential
+    }
+}
+
+impl Shareable for LiveCredential {
+    #[inline(always)]
+    fn share(&self) -> Result<LiveCredential, NoMemory> {
+        match Arc::try_clone(&self.credential) {
+            Ok(credential) => Ok(LiveCredential {
+                id: self.id,
+                credential,
+            }),
+            Err(_) => Err(NoMemory),
+        }
     }
 }

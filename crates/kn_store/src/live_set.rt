@@ -1,8 +1,7 @@
 //! The live credentials with what is counted beside them.
 
-ghost use Rattle.std.specs.Prelude.{◌≡◌, ◌<◌, ◌≤◌, ◌+◌, true, false, [], map, length, None, Some, slice_get};
+ghost use Rattle.std.specs.Prelude.{◌≡◌, ◌<◌, ◌≤◌, ◌+◌, true, false, [], length, None, Some, slice_get};
 ghost use Rattle.std.specs.Prelude.{IfOk, IfErr, OnOk, MatchOption};
-ghost use Rattle.std.specs.Arc.{arc_value};
 ghost use Rattle.kn_base.specs.declared.limits.TheConstants.{LIVE_CREDENTIALS as MOST_CREDENTIALS};
 ghost use Rattle.kn_base.specs.declared.limits.TheConstants.{LIVE_BYTES as MOST_BYTES, UPDATES as MOST_UPDATES};
 ghost use Rattle.kn_history.specs.Batches.{item_reads};
@@ -20,7 +19,6 @@ use kn_base::limits::{LIVE_BYTES, LIVE_CREDENTIALS, LOGGED_BYTES, UPDATES};
 use kn_history::{Change, Item, Numbered, StoreFault};
 use std::alloc::Global;
 use std::marker::Model;
-use std::sync::Arc;
 
 /// The most credentials of a page.
 pub(crate) const CREDENTIALS_PAGE: u32 = 64;
@@ -164,6 +162,7 @@ impl LiveSet {
     }
 
     /// What an item makes of these, and the change that it is.
+    #[inline(always)]
     pub(crate) fn with_item(
         self,
         alloc: Global,
@@ -248,8 +247,8 @@ fn place_of(pages: &Pages<LiveCredential>, id: u32) -> Option<(usize, usize)>
 }
 
 /// Whether the last id of a page is below this.
-fn ends_before(page: &[Arc<LiveCredential>], id: u32) -> bool
-    ensures { result ≡ ends_before id (map arc_value page.now) }
+fn ends_before(page: &[LiveCredential], id: u32) -> bool
+    ensures { result ≡ ends_before id page.now }
 {
     match page.last() {
         Some(last) => last.id() < id,
@@ -258,8 +257,8 @@ fn ends_before(page: &[Arc<LiveCredential>], id: u32) -> bool
 }
 
 /// The place of this id in a page, counted from 0, or None where it isn't there.
-fn place_in(page: &[Arc<LiveCredential>], id: u32) -> Option<usize>
-    ensures { MatchOption result (has_id id (map arc_value page.now) ≡ false) (IsIdAt id (map arc_value page.now)) }
+fn place_in(page: &[LiveCredential], id: u32) -> Option<usize>
+    ensures { MatchOption result (has_id id page.now ≡ false) (IsIdAt id page.now) }
 {
     for place in 0..page.len() {
         if page[place].id() == id {

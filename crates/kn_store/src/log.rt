@@ -3,7 +3,7 @@
 ghost use Rattle.std.specs.Prelude.{◌≡◌, ◌<◌, [], ◌∷◌, ◌++◌, length, Some, IfOk, slice_get};
 ghost use Rattle.kn_store.specs.Pages.{joined, with_item, AreFilled};
 
-use crate::pages::{Pages, share_items};
+use crate::pages::{Pages, Shareable, share_items};
 use kn_base::{List, NoMemory};
 use kn_history::Update;
 use std::alloc::Global;
@@ -16,10 +16,53 @@ pub(crate) const UPDATES_PAGE: u32 = 256;
 /// The updates of a block of a page, of which the last block may have fewer.
 const UPDATES_BLOCK: u32 = 16;
 
+/// An update of the log, which versions share. It is seen as the update.
+#[derive(Drop)]
+struct LoggedUpdate {
+    update: Arc<Update>,
+}
+
+impl Model for LoggedUpdate {
+    ghost use Rattle.std.specs.Arc.{arc_value};
+    ghost use Rattle.kn_history.specs.declared.update.Update.{Update};
+
+    ghost Value = { Update };
+
+    ghost view = { λ l. arc_value l.update };
+}
+
+impl LoggedUpdate {
+    #[inline(always)]
+    fn of(alloc: Global, update: Update) -> Result<LoggedUpdate, NoMemory>
+        ensures { IfOk result (λ logged. logged ≡ update) }
+    {
+        match Arc::new(alloc, update) {
+            Ok(update) => Ok(LoggedUpdate { update }),
+            Err(_) => Err(NoMemory),
+        }
+    }
+
+    fn update(&self) -> &Update
+        ensures { result.now ≡ self.now }
+    {
+        &self.update
+    }
+}
+
+impl Shareable for LoggedUpdate {
+    #[inline(always)]
+    fn share(&self) -> Result<LoggedUpdate, NoMemory> {
+        match Arc::try_clone(&self.update) {
+            Ok(update) => Ok(LoggedUpdate { update }),
+            Err(_) => Err(NoMemory),
+        }
+    }
+}
+
 /// A page of the log, in blocks that the pages which are made of it share. It is seen as the list of its updates.
 #[derive(Drop)]
 struct LogPage {
-    blocks: Pages<Update>,
+    blocks: Pages<LoggedUpdate>,
     count: u32,
 }
 
@@ -57,7 +100,7 @@ impl LogPage {
         requires { i < length self.now }
         ensures { slice_get self.now i ≡ Some result.now }
     {
-        self.blocks.get(i)
+        self.blocks.get(i).update()
     }
 
     /// The same page, which shares the blocks that are full and all updates.
@@ -76,6 +119,7 @@ impl LogPage {
         requires { length self < UPDATES_PAGE }
         ensures { IfOk result (λ page. page ≡ self ++ update ∷ []) }
     {
+        let update = LoggedUpdate::of(alloc, update)?;
         let LogPage { blocks, count } = self;
         Ok(LogPage {
             blocks: blocks.with_item(alloc, UPDATES_BLOCK, update)?,

@@ -12,8 +12,15 @@ use std::alloc::Global;
 use std::marker::Model;
 use std::sync::Arc;
 
-/// The items of a page, each of them shared: to copy a page is to copy its pointers.
-pub(crate) type Page<T> = List<Arc<T>>;
+/// An item of a page: what is large of it is shared, so that to copy a page is to copy pointers.
+pub(crate) trait Shareable: Drop {
+    /// The same item.
+    fn share(&self) -> Result<Self, NoMemory>
+        ensures { IfOk result (λ item. item ≡ self.now) };
+}
+
+/// The items of a page.
+pub(crate) type Page<T> = List<T>;
 
 /// A list in pages. It is seen as the list of its pages, each of them the list of its items.
 ///
@@ -31,18 +38,18 @@ pub(crate) struct Pages<T> {
 impl<T> Model for Pages<T> {
     ghost use Rattle.std.specs.Prelude.{List, ◌++◌, ◌≡◌, ◌≤◌, ◌⊎◌, [], length};
     ghost use Rattle.std.specs.Coded.{coded_list};
-    ghost use Rattle.kn_store.specs.Pages.{pages_of, page_of};
+    ghost use Rattle.kn_store.specs.Pages.{pages_of, unless_empty};
 
     ghost Value = { List (List T) };
 
     ghost coded = { coded_list (coded_list T.code) };
 
-    ghost view = { λ p. pages_of p.closed ++ page_of p.last };
+    ghost view = { λ p. pages_of p.closed ++ unless_empty p.last };
 
     ghost invariant = { λ p. (p.closed ≡ []) ⊎ (1 ≤ length p.last) };
 }
 
-impl<T: Drop> Pages<T> {
+impl<T: Shareable> Pages<T> {
     pub(crate) fn empty(alloc: Global) -> Pages<T>
         ensures { result ≡ [] }
     {
@@ -65,9 +72,9 @@ impl<T: Drop> Pages<T> {
     }
 
     /// The items of the page at this place.
-    pub(crate) fn page(&self, page: usize) -> &[Arc<T>]
+    pub(crate) fn page(&self, page: usize) -> &[T]
         requires { page < length self.now }
-        ensures { slice_get self.now page ≡ Some (map arc_value result.now) }
+        ensures { slice_get self.now page ≡ Some result.now }
     {
         match self.closed.as_slice().get(page) {
             Some(closed) => closed.as_slice(),
@@ -99,7 +106,7 @@ impl<T: Drop> Pages<T> {
     {
         Ok(Pages {
             closed: share_items(alloc, self.closed.as_slice())?,
-            last: share_items(alloc, self.last.as_slice())?,
+            last: copy_page(alloc, &self.last)?,
         })
     }
 
@@ -109,9 +116,6 @@ impl<T: Drop> Pages<T> {
         requires { 1 ≤ most }
         ensures { IfOk result (λ pages. pages ≡ with_item most self item) }
     {
-        let Ok(item) = Arc::new(alloc, item) else {
-            return Err(NoMemory);
-        };
         let Pages {
             mut closed,
             mut last,
@@ -154,9 +158,9 @@ impl<T: Drop> Pages<T> {
 }
 
 /// The item at place `i` of all in these closed pages and the last one, counted from 0.
-fn item_at<'a, T>(closed: &'a [Arc<Page<T>>], last: &'a [Arc<T>], i: usize) -> &'a T
-    requires { i < length (joined (pages_of closed.now) ++ map arc_value last.now) }
-    ensures { slice_get (joined (pages_of closed.now) ++ map arc_value last.now) i ≡ Some result.now }
+fn item_at<'a, T>(closed: &'a [Arc<Page<T>>], last: &'a [T], i: usize) -> &'a T
+    requires { i < length (joined (pages_of closed.now) ++ last.now) }
+    ensures { slice_get (joined (pages_of closed.now) ++ last.now) i ≡ Some result.now }
 {
     let mut left = i;
     for page in closed {
@@ -169,7 +173,7 @@ fn item_at<'a, T>(closed: &'a [Arc<Page<T>>], last: &'a [Arc<T>], i: usize) -> &
 }
 
 /// A page with this item alone, and room for `most`.
-fn begin_page<T: Drop>(alloc: Global, most: u32, item: Arc<T>) -> Result<Page<T>, NoMemory>
+fn begin_page<T: Drop>(alloc: Global, most: u32, item: T) -> Result<Page<T>, NoMemory>
     requires { 1 ≤ most }
     ensures { IfOk result (λ page. page ≡ item ∷ []) }
 {
@@ -181,7 +185,7 @@ fn begin_page<T: Drop>(alloc: Global, most: u32, item: Arc<T>) -> Result<Page<T>
 
 /// These closed pages and the last one without the item at a place of it. Where it was the only one, the page in front
 /// of it is the last one again.
-fn without_last<T: Drop>(
+fn without_last<T: Shareable>(
     alloc: Global,
     closed: List<Arc<Page<T>>>,
     last: Page<T>,
@@ -189,7 +193,7 @@ fn without_last<T: Drop>(
 ) -> Result<Pages<T>, NoMemory>
     requires place { place < length last }
     requires none_empty { All (λ items. 1 ≤ length items) (pages_of closed) }
-    ensures { IfOk result (λ pages. pages ≡ pages_of closed ++ unless_empty (remove (map arc_value last) place)) }
+    ensures { IfOk result (λ pages. pages ≡ pages_of closed ++ unless_empty (remove last place)) }
 {
     let (mut closed, mut last) = (closed, last);
     if last.len() > 1 {
@@ -206,7 +210,7 @@ fn without_last<T: Drop>(
 }
 
 /// These closed pages without the item at a place of one of them, and without that page where it was the only one.
-fn without_closed<T: Drop>(
+fn without_closed<T: Shareable>(
     alloc: Global,
     closed: List<Arc<Page<T>>>,
     page: u32,
@@ -236,20 +240,32 @@ fn without_closed<T: Drop>(
 }
 
 /// The items of a page: the page itself where no other list has it, and else a copy.
-fn own_page<T: Drop>(alloc: Global, page: Arc<Page<T>>) -> Result<Page<T>, NoMemory>
-    ensures { IfOk result (λ items. map arc_value items ≡ map arc_value (arc_value page)) }
+fn own_page<T: Shareable>(alloc: Global, page: Arc<Page<T>>) -> Result<Page<T>, NoMemory>
+    ensures { IfOk result (λ items. items ≡ arc_value page) }
 {
     match Arc::try_unwrap(page) {
         Ok(items) => Ok(items),
-        Err(shared) => share_items(alloc, shared.as_slice()),
+        Err(shared) => copy_page(alloc, &shared),
     }
 }
 
 /// A page with the same items, and room for one more.
+fn copy_page<T: Shareable>(alloc: Global, page: &Page<T>) -> Result<Page<T>, NoMemory>
+    ensures { IfOk result (λ copy. copy ≡ page.now) }
+{
+    let mut room = Reserved::new(alloc);
+    room.reserve(page.len().saturating_add(1))?;
+    for item in page.as_slice() {
+        room.put(item.share()?);
+    }
+    Ok(room.finish())
+}
+
+/// A list with the same items, and room for one more.
 pub(crate) fn share_items<'a, T: Drop>(
     alloc: Global,
     items: &'a [Arc<T>],
-) -> Result<Page<T>, NoMemory>
+) -> Result<List<Arc<T>>, NoMemory>
     ensures { IfOk result (λ page. map arc_value page ≡ map arc_value items.now) }
 {
     let Ok(most) = u32::try_from(items.len() + 1) else {

@@ -18,7 +18,7 @@ use crate::live_credential::LiveCredential;
 use crate::live_set::LiveSet;
 use crate::log::Log;
 use kn_base::limits::RETAINED_VERSIONS;
-use kn_base::{List, NoMemory, Octets, Reserved};
+use kn_base::{List, NoMemory, Octets};
 use kn_history::{BatchFault, Change, Credential, Item, Numbered, Ready, StoreFault, Update};
 use std::alloc::Global;
 use std::marker::Model;
@@ -237,19 +237,17 @@ impl Version {
     {
         let mut items = items;
         let mut live = self.live.share(alloc)?;
-        let mut changes = Reserved::new(alloc);
-        changes.reserve(items.len())?;
+        let mut changes = begin_changes(alloc, items.len())?;
         for place in 0..items.len() {
             let item = items.replace(place, Item::Remove(0));
             match live.with_item(alloc, item) {
                 Ok((next, change)) => {
                     live = next;
-                    changes.put(change);
+                    changes.add(change)?;
                 }
                 Err(fault) => return Err(refusal_of_item(place + 1, fault)),
             }
         }
-        let changes = changes.finish();
         let update = Update { caller, changes };
         let updates = self.updates.share(alloc)?.with_update(alloc, update)?;
         Ok(Version {
@@ -257,6 +255,21 @@ impl Version {
             updates,
             number: self.number() + 1,
         })
+    }
+}
+
+/// No changes yet, where so many follow.
+fn begin_changes(alloc: Global, count: u32) -> Result<List<Numbered>, NoMemory>
+    ensures { IfOk result (λ changes. changes ≡ []) }
+{
+    let changes = List::new(alloc);
+    if count <= 1 {
+        // it gets room for itself alone when it comes; `reserve` would make room for four
+        return Ok(changes);
+    }
+    match changes.reserve(count) {
+        Ok(room) => Ok(room.finish()),
+        Err((_, none)) => Err(none),
     }
 }
 

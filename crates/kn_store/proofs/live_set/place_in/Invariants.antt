@@ -1,8 +1,6 @@
 use Rattle.std.proofs.Common.{◌≡◌, ◌==◌, false, take}
-use Rattle.std.specs.Prelude.{map}
 use Rattle.std.specs.List.{list_any}
-use Rattle.std.specs.Arc.{arc_value}
 use Rattle.kn_store.proofs.live_set.place_in.Given as goal
 
 abbrev pub invariant-loop-place : goal.invariant-loop-place
-invariant-loop-place l = list_any (λ c. c.id == l.id) (take l.place (map arc_value l.page)) ≡ false
+invariant-loop-place l = list_any (λ c. c.id == l.id) (take l.place l.page) ≡ false

@@ -1,4 +1,4 @@
-use Rattle.std.proofs.Common.{rules, ◌≡◌, ◌≤◌, ◌+◌, true, [], ◌∷◌, ◌++◌, drop, length, sym, ap, subst, ◌∙◌, inl, inr, ⊎_elim, arith}
+use Rattle.std.proofs.Common.{rules, ◌≡◌, ◌≤◌, ◌+◌, true, [], ◌∷◌, ◌++◌, drop, length, sym, ap, subst, ◌∙◌, inl, inr, ⊎_elim}
 use Rattle.std.proofs.lemmas.List.{drop_all, length-set}
 use Rattle.kn_store.specs.declared.log.TheConstants.{UPDATES_PAGE}
 use Rattle.kn_history.specs.Batches.{batch_by, refusal_of_items}
@@ -16,7 +16,7 @@ returns-in-Err-clause-refused c =
     let taken = taken_at items place c.replace-item.result c.replace-item.ensures.former in
     c.refusal_of_item.ensures (refusal_of_items past c.args.items)
     (⊎_elim (λ lacking. inl lacking)
-    (λ refused. inr (refused_item past c.args.items place c.loop-place.live c.loop-place.changes.items (drop place items) c.replace-item.result (drop (place + 1) items)
+    (λ refused. inr (refused_item past c.args.items place c.loop-place.live c.loop-place.changes (drop place items) c.replace-item.result (drop (place + 1) items)
     c.loop-place.invariant.made taken c.in-Err.fault refused))
     c.in-Err.ensures.refused)
 
@@ -25,43 +25,38 @@ loop-place-preserved c =
     let past = all_changes c.args.self.now in
     let items = c.loop-place.items in
     let place = c.loop-place.place in
-    let changes = c.loop-place.changes.items in
+    let changes = c.loop-place.changes in
     let taken = taken_at items place c.replace-item.result c.replace-item.ensures.former in
     let made = one_more_made past c.args.items place c.loop-place.live changes (drop place items) c.replace-item.result (drop (place + 1) items)
     c.loop-place.invariant.made taken c.in-Ok.next c.in-Ok.change c.in-Ok.ensures.set c.in-Ok.ensures.change c.in-Ok.ensures.accepted c.in-Ok.ensures.reads in
     let behind = left_behind items c.replace-item.new.self place _ c.replace-item.ensures.after in
     let sizes = ap length c.replace-item.ensures.after ∙ length-set items place _ in
     let same = c.loop-place.invariant.same in
-    let room = c.loop-place.invariant.room in
-    let spare = c.put.ensures.spare in
     record {
-      made = subst (λ l. AreMadeUpTo past c.args.items (place + 1) c.in-Ok.next l (drop (place + 1) c.replace-item.new.self)) (sym c.put.ensures.items)
+      made = subst (λ l. AreMadeUpTo past c.args.items (place + 1) c.in-Ok.next l (drop (place + 1) c.replace-item.new.self)) (sym c.in_ok-add-in-Ok.ensures.ok)
           (subst (λ l. AreMadeUpTo past c.args.items (place + 1) c.in-Ok.next (changes ++ c.in-Ok.change ∷ []) l) behind made);
       same = sizes ∙ same;
-      room = omega (arith, room, spare);
     }
 
 pub invariant_of-result : goal.invariant_of-result
 invariant_of-result c =
     let all : length c.loop-place.items ≤ c.loop-place.place = search rules in
-    (version_after_items c.self.inside c.in_ok-updates.updates c.args.caller c.finish-changes.result c.loop-place.live c.args.self.now c.number.result
+    (version_after_items c.self.inside c.in_ok-updates.updates c.args.caller c.loop-place.changes c.loop-place.live c.args.self.now c.number.result
     c.args.items c.loop-place.place (drop c.loop-place.place c.loop-place.items)
-    (c.in_ok-updates.ensures ∙ ap (λ log. with_item UPDATES_PAGE log (record { caller = c.args.caller; changes = c.finish-changes.result })) c.in_ok-share.ensures)
+    (c.in_ok-updates.ensures ∙ ap (λ log. with_item UPDATES_PAGE log (record { caller = c.args.caller; changes = c.loop-place.changes })) c.in_ok-share.ensures)
     c.self.view_is c.number.ensures.number c.self.invariant
-    (subst (λ l. AreMadeUpTo (all_changes c.args.self.now) c.args.items c.loop-place.place c.loop-place.live l (drop c.loop-place.place c.loop-place.items))
-    (sym c.finish-changes.ensures) c.loop-place.invariant.made)
+    c.loop-place.invariant.made
     (drop_all c.loop-place.place c.loop-place.items all) c.requires.some c.requires.few).0
 
 after : (c : goal.After-drop-items-inside-2) → (joined c.in_ok-updates.updates ≡ c.args.self.now ++ batch_by c.args.caller (additions (all_changes c.args.self.now) + 1) c.args.items ∷ [])
     × (update_may_follow (all_changes c.args.self.now) (batch_by c.args.caller (additions (all_changes c.args.self.now) + 1) c.args.items) ≡ true)
 after c =
     let all : length c.loop-place.items ≤ c.loop-place.place = search rules in
-    let made = version_after_items c.self.inside c.in_ok-updates.updates c.args.caller c.finish-changes.result c.loop-place.live c.args.self.now c.number.result
+    let made = version_after_items c.self.inside c.in_ok-updates.updates c.args.caller c.loop-place.changes c.loop-place.live c.args.self.now c.number.result
     c.args.items c.loop-place.place (drop c.loop-place.place c.loop-place.items)
-    (c.in_ok-updates.ensures ∙ ap (λ log. with_item UPDATES_PAGE log (record { caller = c.args.caller; changes = c.finish-changes.result })) c.in_ok-share.ensures)
+    (c.in_ok-updates.ensures ∙ ap (λ log. with_item UPDATES_PAGE log (record { caller = c.args.caller; changes = c.loop-place.changes })) c.in_ok-share.ensures)
     c.self.view_is c.number.ensures.number c.self.invariant
-    (subst (λ l. AreMadeUpTo (all_changes c.args.self.now) c.args.items c.loop-place.place c.loop-place.live l (drop c.loop-place.place c.loop-place.items))
-    (sym c.finish-changes.ensures) c.loop-place.invariant.made)
+    c.loop-place.invariant.made
     (drop_all c.loop-place.place c.loop-place.items all) c.requires.some c.requires.few in
     (made.1, made.2)
 
