@@ -87,7 +87,7 @@ def run_lint(args: argparse.Namespace) -> int:
 def main(words: Optional[Sequence[str]] = None) -> int:
     """Runs the command with these words, or those of the process, and answers its status."""
     parser = argparse.ArgumentParser(prog="keynoted.py", description="Asks keynoted, explains its errors, and warns of what is surely not meant.")
-    commands = parser.add_subparsers(required=True, metavar="query|why|critical|who|explain|lint|list|rotate|drop|log|restore|agent|submit")
+    commands = parser.add_subparsers(required=True, metavar="query|why|critical|who|explain|lint|record|list|rotate|drop|log|restore|agent|submit")
     query = commands.add_parser("query", help="asks once: 0 at least the value named, 1 less, 2 an error")
     query.add_argument("policy", nargs="?", help="the policy file, unless --connect is given")
     query.add_argument("--connect", metavar="HOST:PORT", help="a daemon that serves, as localhost or [::1]:2704")

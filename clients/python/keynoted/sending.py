@@ -8,6 +8,7 @@ from typing import Callable, Iterator
 
 from .connection import Connection
 from .parts import BLOCK, requests_of
+from .texts import read_file
 from .wire import ANY, BLOCK_BYTES, Request
 
 
@@ -34,15 +35,17 @@ def requests_in(script: bytes) -> Iterator[Request]:
 def add_record(commands: argparse._SubParsersAction[argparse.ArgumentParser],
                connected: Callable[[argparse.Namespace], Connection]) -> None:
     def run(args: argparse.Namespace) -> int:
+        script = read_file(args.script) if args.script else sys.stdin.buffer.read()
         with connected(args) as daemon:
-            for request in requests_in(sys.stdin.buffer.read()):
+            for request in requests_in(script):
                 sys.stdout.buffer.write(daemon.exchange([request])[0].text())
                 sys.stdout.buffer.flush()
         return 0
 
-    record = commands.add_parser("record", help="sends the requests of standard input, and keeps both sides")
+    record = commands.add_parser("record", help="sends requests as they stand, and keeps both sides")
     record.add_argument("record", metavar="PREFIX", help="of two new files, PREFIX.requests and PREFIX.replies")
     record.add_argument("policy", nargs="?", help="the policy file, unless --connect is given")
     record.add_argument("--connect", metavar="HOST:PORT", help="a daemon that serves")
+    record.add_argument("--script", metavar="FILE", help="the requests (else those of standard input)")
     record.add_argument("--keys", help="the key file")
     record.set_defaults(run=run)
