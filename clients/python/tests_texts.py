@@ -53,7 +53,7 @@ class Explanations(Room):
         lines = ["error words", "error memory", "error query", "error listener", "error keys 3", "error file a b read", "error file a b large"]
         lines += [f"error link {it}" for it in ("read", "write", "cut 17", "block 16385", "budget")]
         lines += [f"error proof text {it} 2" for it in (1, 2, 3)] + [f"error proof reject {it} 0 1" for it in range(1, 9)]
-        lines += [f"error log {it} 2" for it in (1, 2, 3)]
+        lines += [f"error log {it} 2" for it in (1, 2, 3)] + [f"error transcript {it} 2" for it in range(1, 6)]
         lines += [f"NO {it}" for it in ("1 syntax", "2 command", "3 session", "4 admin", "5 read 16 3", "6 policy", "7 auth 4", "8 name", "9 value",
                                         "10 values", "11 principal", "12 unknown", "13 limit live-bytes 7", "14 long", "15 block")]
         told = [keynoted.explain(it) for it in lines + ["NOMEM"]]

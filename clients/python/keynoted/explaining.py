@@ -29,7 +29,7 @@ BYTES = {
     b":": "a label begins its line; a name with ':' stands in quotes",
 }
 LINES = {
-    "words": "the words are none of: ask POLICY [KEYS], check POLICY SCRIPT REPLY (keynoted help)",
+    "words": "no command has these words (keynoted help)",
     "memory": "out of memory; nothing was answered",
     "query": "the script has no QUERY on an open session with 2 to 64 different values",
     "link read": "standard input couldn't be read", "link write": "a reply couldn't be written",
@@ -42,6 +42,11 @@ LINES = {
     "log 1": "a reply of the log isn't of its form, or breaks off, at this byte from its first, which is 0: ",
     "log 2": "a reply of the log goes on behind another number of updates than are there: ",
     "log 3": "the update of this number is refused behind those before it: ",
+    "transcript 1": "the replies end before the one to this request, counted from 1: ",
+    "transcript 2": "what should be the reply to this request, counted from 1, isn't the text of one: ",
+    "transcript 3": "the reply to this request, counted from 1, isn't one that it may have: ",
+    "transcript 4": "all requests are answered by so many bytes of the replies, and others follow: ",
+    "transcript 5": "this request, counted from 1, is WATCH, NEWS, UNWATCH, LOG or CRITICAL, which isn't judged: ",
 }
 AUTHS = {
     "1": "it has no signature", "2": "its signature isn't of sig-hmac-sha256-hex", "3": "its authorizer has no key",
