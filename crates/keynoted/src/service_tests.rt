@@ -145,7 +145,7 @@ fn written(net: &MemNet, door: u32, i: usize) -> &[u8] {
 }
 
 /// What a run that serves three connections has to leave.
-#[derive(Debug, Drop)]
+#[derive(Drop)]
 struct Due<'a> {
     status: u8,
     /// Its line.

@@ -28,7 +28,7 @@ impl<'a> Model for Part<'a> {
 }
 
 /// A compliance value, and the rows that prove it.
-#[derive(Debug, Drop)]
+#[derive(Drop)]
 pub struct Answer {
     /// The policy's level in the least fixed point of the query's equations, the lowest being 0.
     pub value: u8,
@@ -37,5 +37,5 @@ pub struct Answer {
 }
 
 /// The mark of the systems of queries, and of the steps that reading them takes.
-#[derive(Debug, Drop)]
+#[derive(Drop)]
 pub struct Tally;

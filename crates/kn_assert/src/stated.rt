@@ -11,7 +11,7 @@ use kn_trees::{Formula, Program};
 use std::alloc::Global;
 
 /// What the fields that were read state.
-#[derive(Debug, Drop)]
+#[derive(Drop)]
 pub struct Stated {
     pub authorizer: Option<Octets>,
     pub licensees: Option<Formula>,

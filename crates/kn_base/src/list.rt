@@ -14,7 +14,7 @@ use std::mem;
 ///
 /// Its spare room is no part of what is seen, so that trees which hold lists are equal where their
 /// items are. Room that a later push may count on is seen at a `Reserved`.
-#[derive(Debug, Drop)]
+#[derive(Drop)]
 pub struct List<T> {
     items: Vec<T>,
 }

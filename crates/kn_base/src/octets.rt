@@ -7,7 +7,7 @@ use std::alloc::Global;
 use std::marker::Model;
 
 /// Bytes that are kept, seen as the list of them. Up to sixteen take no memory beyond the value itself.
-#[derive(Debug, Drop)]
+#[derive(Drop)]
 pub struct Octets {
     bytes: SmallVec<u8, 16>,
 }

@@ -15,7 +15,7 @@ use std::mem;
 /// A contract sees of a `List` its items alone, and so can't speak of its room: were the room seen
 /// there, two trees with the same items would differ by it. So a list that reserves is a type of its
 /// own, and `finish` makes a plain list of it without memory.
-#[derive(Debug, Drop)]
+#[derive(Drop)]
 pub struct Reserved<T> {
     items: Vec<T>,
 }

@@ -7,7 +7,7 @@ use std::marker::Model;
 ///
 /// Whoever makes one hands in a mark, which never comes out again: code that is generic in `L` has no
 /// mark of that type, and so can neither make a counter of its own nor begin again.
-#[derive(Debug, Drop)]
+#[derive(Drop)]
 pub struct Steps<L> {
     mark: L,
     taken: u64,

@@ -33,7 +33,7 @@ impl Shape {
 }
 
 /// A row before it is pushed.
-#[derive(Debug, Drop)]
+#[derive(Drop)]
 pub struct Stated {
     pub authorizer: u32,
     pub ceiling: u8,

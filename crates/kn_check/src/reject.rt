@@ -4,7 +4,7 @@ ghost use Rattle.std.specs.Prelude.{◌≡◌};
 /// Why rows are no proof of a level: the first item that fails. The rows of the proof are tried first, in order and
 /// each for the reasons in this order, then the rows of the system in order, and the claim last. Rows are counted
 /// from 0.
-#[derive(Debug, Clone, Copy, PartialEq, Eq)]
+#[derive(Clone, Copy, PartialEq, Eq)]
 pub enum Reject {
     /// Row `row` names a principal, a row of the system or a level that the system doesn't have.
     Range { row: u32 },

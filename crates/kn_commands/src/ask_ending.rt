@@ -6,7 +6,7 @@ use crate::stop::Stop;
 use kn_serve::Ended;
 
 /// Why `ask` ends.
-#[derive(Debug, Clone, Copy, PartialEq, Eq)]
+#[derive(Clone, Copy, PartialEq, Eq)]
 pub enum AskEnding {
     /// The policy file could not be read or loaded.
     PolicyStopped(Stop),

@@ -6,7 +6,7 @@ use kn_base::Octets;
 use kn_check::Reject;
 
 /// Which file of the command.
-#[derive(Debug, Clone, Copy, PartialEq, Eq)]
+#[derive(Clone, Copy, PartialEq, Eq)]
 pub enum Source {
     Policy,
     Script,
@@ -14,7 +14,7 @@ pub enum Source {
 }
 
 /// Why checking a reply ends.
-#[derive(Debug, Drop)]
+#[derive(Drop)]
 pub enum Ending {
     /// This file could not be read, or the policy in it could not be loaded.
     Stopped { source: Source, stop: Stop },

@@ -13,7 +13,7 @@ use std::alloc::Global;
 use std::sync::Wait;
 
 /// What credentials are made by.
-#[derive(Debug, Clone, Copy, PartialEq, Eq)]
+#[derive(Clone, Copy, PartialEq, Eq)]
 pub struct GenNumbers {
     /// Where the draws start.
     pub start: u32,

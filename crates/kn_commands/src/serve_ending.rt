@@ -4,7 +4,7 @@ ghost use Rattle.std.specs.Prelude.{◌≡◌};
 use crate::stop::Stop;
 
 /// Why `serve` ends.
-#[derive(Debug, Clone, Copy, PartialEq, Eq)]
+#[derive(Clone, Copy, PartialEq, Eq)]
 pub enum ServeEnding {
     /// The policy file could not be read or loaded.
     PolicyStopped(Stop),

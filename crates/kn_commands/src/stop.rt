@@ -7,7 +7,7 @@ use kn_load::LoadFault;
 use kn_reply::LimitWord;
 
 /// What stops a command before its work is done.
-#[derive(Debug, Clone, Copy, PartialEq, Eq)]
+#[derive(Clone, Copy, PartialEq, Eq)]
 pub enum Stop {
     /// The words are those of no command.
     Words,

@@ -3,7 +3,7 @@
 use kn_base::NoMemory;
 
 /// Why the critical assertions of a query aren't told (keynoted's own).
-#[derive(Debug, Clone, Copy, PartialEq, Eq, Drop)]
+#[derive(Clone, Copy, PartialEq, Eq, Drop)]
 pub enum CriticalFault {
     /// Fault 1: the assertions' formulas have `nodes` nodes together, more than 16,384.
     Large { nodes: u32 },

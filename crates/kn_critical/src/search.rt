@@ -20,7 +20,7 @@ use kn_proof::Id;
 use std::alloc::Global;
 
 /// The compliance value of a query, and what it stands on.
-#[derive(Debug, Drop)]
+#[derive(Drop)]
 pub struct Critical {
     /// The policy's level in the least fixed point of the query's equations, the lowest being 0.
     pub value: u8,
@@ -63,7 +63,7 @@ pub fn find_critical(
 }
 
 // How far a search has come.
-#[derive(Debug, Clone, Copy, Drop)]
+#[derive(Clone, Copy, Drop)]
 struct Gallop {
     // No row before this one is critical, of those that are still to be told.
     cleared: u32,

@@ -9,7 +9,7 @@ use kn_session::Call;
 use kn_wire::Request;
 
 /// What sort of thing a request asks. Its texts lie in the feed's buffer.
-#[derive(Debug, Clone, Copy)]
+#[derive(Clone, Copy)]
 pub enum Shape<'a> {
     /// A call of session `s`.
     Call {

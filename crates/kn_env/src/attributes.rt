@@ -15,7 +15,7 @@ use std::alloc::Global;
 use std::marker::Model;
 
 /// Why an attribute isn't set, in the order in which it is tried. The limits are keynoted's own.
-#[derive(Debug, Clone, Copy, PartialEq, Eq)]
+#[derive(Clone, Copy, PartialEq, Eq)]
 pub enum EnvFault {
     /// Fault 1: the name is no attribute name, has more than 128 bytes or begins with `_`.
     BadName,
@@ -28,7 +28,7 @@ pub enum EnvFault {
 }
 
 /// There is no attribute of this name.
-#[derive(Debug, Clone, Copy, PartialEq, Eq)]
+#[derive(Clone, Copy, PartialEq, Eq)]
 pub struct Absent;
 
 /// The attributes of an action, seen as the list of them in the order of their entry (keynote(3)).

@@ -2,7 +2,7 @@
 use kn_base::Octets;
 
 /// A local constant of an assertion (RFC 2704, section 4, the Local-Constants field).
-#[derive(Debug, Drop)]
+#[derive(Drop)]
 pub struct Constant {
     /// Its attribute name.
     pub name: Octets,

@@ -13,7 +13,7 @@ use std::alloc::Global;
 use std::marker::Model;
 
 /// Why names are no compliance values, in the order in which it is tried. The limits are keynoted's own.
-#[derive(Debug, Clone, Copy, PartialEq, Eq)]
+#[derive(Clone, Copy, PartialEq, Eq)]
 pub enum ValuesFault {
     /// Fault 1: there are `n` names, and not 2 to 64.
     Count { n: usize },

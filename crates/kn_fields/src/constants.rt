@@ -19,7 +19,7 @@ use kn_lex::{Sort, Token, Tokens, literal};
 use std::alloc::Global;
 
 /// What is due next in a list of constants.
-#[derive(Debug, Clone, Copy)]
+#[derive(Clone, Copy)]
 pub enum Turn {
     /// The name of a further constant.
     Setting,

@@ -4,11 +4,12 @@ ghost use Rattle.kn_fields.specs.Faults.{of_lexical};
 ghost use Rattle.kn_fields.specs.Numbers.{fault_code, fault_number, fault_place};
 
 use kn_lex::LexFault;
+use std::fmt;
 
 /// Why a text is no assertion, in the order in which faults are answered. `at` is a place in bytes from the
 /// beginning of the text, and `field` the number of a field: 1 is Authorizer, 3 Conditions, 5 Licensees and
 /// 7 Signature. The faults, their numbers and their order are keynoted's own.
-#[derive(Debug, Clone, Copy, PartialEq, Eq)]
+#[derive(Clone, Copy, PartialEq, Eq)]
 pub enum ReadFault {
     /// Fault 1: a byte 0, or a byte from 128 on outside literals, comments and bodies.
     NotText { at: u32 },
@@ -98,6 +99,16 @@ impl ReadFault {
             Some((_, place)) => place,
             None => 0,
         }
+    }
+}
+
+/// The fault by its number and its place, as `ReadFault(Some(9), 120)`.
+impl fmt::Debug for ReadFault {
+    fn fmt<W: fmt::Write>(&self, f: &mut fmt::Formatter<W>) -> fmt::Result {
+        f.debug_tuple("ReadFault")
+            .field(&self.number())
+            .field(&self.place())
+            .finish()
     }
 }
 

@@ -14,7 +14,7 @@ use std::alloc::Global;
 use std::marker::Model;
 
 /// What a label tells of its field.
-#[derive(Debug, Clone, Copy, Default)]
+#[derive(Clone, Copy, Default)]
 pub struct Heading {
     /// Where the field stands.
     pub part: Part,
@@ -38,7 +38,7 @@ impl Heading {
 type Headings = SmallVec<Heading, 8>;
 
 /// The tokens of a text, with what each label tells of its field. It is seen as the list of the tokens.
-#[derive(Debug, Drop)]
+#[derive(Drop)]
 pub struct LabelledTokens<'a> {
     tokens: Tokens<'a>,
     /// A place that isn't used holds the default.
@@ -147,7 +147,7 @@ fn number_at(tokens: &Tokens<'_>, at: u32) -> Option<u8>
 }
 
 /// Tokens in a row that are no labels, up to the next label.
-#[derive(Debug, Clone, Copy)]
+#[derive(Clone, Copy)]
 struct Stretch {
     /// The place of the next label, or the number of tokens.
     end: u32,

@@ -13,7 +13,7 @@ use crate::part::label_start;
 use kn_lex::{Token, Tokens};
 
 /// How a label can be wrong by those before it.
-#[derive(Debug, Clone, Copy)]
+#[derive(Clone, Copy)]
 pub enum Wrong {
     /// The label of a field that stood before.
     Second,

@@ -5,7 +5,7 @@ use kn_base::List;
 use kn_env::Constant;
 
 /// An assertion's text, cut into its fields.
-#[derive(Debug, Drop)]
+#[derive(Drop)]
 pub struct Fields<'a> {
     /// The tokens of the whole text, with the fields of its labels.
     pub tokens: LabelledTokens<'a>,

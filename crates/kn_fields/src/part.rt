@@ -4,7 +4,7 @@ ghost use Rattle.std.specs.Prelude.{◌≡◌, slice_get, option_map};
 use kn_lex::Tokens;
 
 /// Where a field stands among the tokens of a text, counted from 0.
-#[derive(Debug, Clone, Copy, PartialEq, Eq, Default)]
+#[derive(Clone, Copy, PartialEq, Eq, Default)]
 pub struct Part {
     /// Its label; its tokens begin behind it.
     pub label: u32,

@@ -3,7 +3,7 @@
 use kn_base::NoMemory;
 
 /// Why no tree is read of the tokens of a field.
-#[derive(Debug, Clone, Copy, PartialEq, Eq)]
+#[derive(Clone, Copy, PartialEq, Eq)]
 pub enum Unread {
     /// The tokens spell nothing.
     Syntax,

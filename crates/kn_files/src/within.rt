@@ -7,7 +7,7 @@ ghost use Rattle.kn_files.specs.Splitting.{ends_bare, settled};
 use kn_lex::{Quote, Step, is_comment_label, is_continuation, quote_step};
 
 /// What a byte of a file stands in.
-#[derive(Debug, Clone, Copy)]
+#[derive(Clone, Copy)]
 pub enum Within {
     /// In no comment and no literal.
     Plain,

@@ -11,7 +11,7 @@ use kn_wire::BatchItem;
 use std::alloc::Global;
 
 /// Why items aren't made ready.
-#[derive(Debug, Clone, Copy, Drop)]
+#[derive(Clone, Copy, Drop)]
 pub(crate) enum ItemFault {
     /// A text that is to be added has no reading.
     Unreadable,

@@ -25,7 +25,7 @@ pub(crate) struct Reply<'a> {
 }
 
 /// Why nothing is read of a text.
-#[derive(Debug, Clone, Copy, Drop)]
+#[derive(Clone, Copy, Drop)]
 pub(crate) enum ReadStop<'a> {
     /// These are the bytes from the first one on that can't stand there, or none where the text breaks off.
     Departs(&'a [u8]),

@@ -7,7 +7,7 @@ use kn_base::{NoMemory, Octets};
 use std::alloc::Global;
 
 /// What a pull asks.
-#[derive(Debug, Clone, Copy, PartialEq, Eq)]
+#[derive(Clone, Copy, PartialEq, Eq)]
 pub(crate) enum Request {
     Admin,
     Log,

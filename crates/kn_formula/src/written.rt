@@ -2,7 +2,7 @@
 use kn_base::{List, Octets};
 
 /// A principal as it is written (RFC 2704, section 4, the Licensees field).
-#[derive(Debug, Drop)]
+#[derive(Drop)]
 pub enum Principal {
     /// The value of a literal.
     Literal(Octets),
@@ -11,7 +11,7 @@ pub enum Principal {
 }
 
 /// How many of several parts must support a request.
-#[derive(Debug, Clone, Copy, PartialEq, Eq)]
+#[derive(Clone, Copy, PartialEq, Eq)]
 pub enum Rule {
     /// All of them.
     All,
@@ -22,7 +22,7 @@ pub enum Rule {
 }
 
 /// A formula as it is written: its principals are no texts yet, and nothing is known of its thresholds.
-#[derive(Debug, Drop)]
+#[derive(Drop)]
 pub enum Written {
     /// A principal.
     Who(Principal),

@@ -22,7 +22,7 @@ use kn_system::{System, laws};
 use std::alloc::Global;
 
 /// What is told of a query that was settled.
-#[derive(Debug, Clone, Copy, PartialEq, Eq)]
+#[derive(Clone, Copy, PartialEq, Eq)]
 pub struct Measured {
     /// The policy's level in the least fixed point, the lowest being 0.
     pub level: u8,

@@ -11,7 +11,7 @@ use std::marker::Model;
 use std::sync::Arc;
 
 /// A text with its reading.
-#[derive(Debug, Drop)]
+#[derive(Drop)]
 pub struct Credential {
     pub text: Octets,
     pub assertion: Assertion,

@@ -74,7 +74,7 @@ pub(crate) fn is_long_sign(byte: u8, next: u8) -> bool
 }
 
 /// The classes whose runs are counted.
-#[derive(Debug, Clone, Copy)]
+#[derive(Clone, Copy)]
 pub(crate) enum Class {
     /// White space that ends no line.
     Gap,
@@ -127,7 +127,7 @@ pub(crate) fn has_at(bytes: &[u8], at: usize, byte: u8) -> bool
 }
 
 /// What begins with a byte.
-#[derive(Debug, Clone, Copy)]
+#[derive(Clone, Copy)]
 pub(crate) enum Kind {
     Space,
     Hash,

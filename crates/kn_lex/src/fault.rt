@@ -5,7 +5,7 @@ ghost use Rattle.kn_lex.specs.Faults.{fault_number};
 
 /// Why a text has no tokens. `at` is the place of the fault, in bytes from the beginning of the text.
 /// The faults and their order are keynoted's own.
-#[derive(Debug, Clone, Copy, PartialEq, Eq)]
+#[derive(Clone, Copy, PartialEq, Eq)]
 pub enum LexFault {
     /// Fault 1: byte 0, or a byte above 127 outside literals, comments and bodies.
     NotText { at: u32 },

@@ -148,7 +148,7 @@ fn check_blank(place: Place, at: u32, rest: &[u8], settled: bool) -> Result<bool
 }
 
 /// What stands at the beginning of a line alone.
-#[derive(Debug, Clone, Copy)]
+#[derive(Clone, Copy)]
 struct Beginning {
     /// The label or body that begins here, with its length.
     found: Option<(Piece, usize)>,
@@ -212,7 +212,7 @@ fn clean_piece(
 }
 
 /// What was read at a place.
-#[derive(Debug, Clone, Copy)]
+#[derive(Clone, Copy)]
 pub(crate) struct Read {
     pub(crate) piece: Piece,
     pub(crate) len: usize,

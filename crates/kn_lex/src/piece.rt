@@ -8,7 +8,7 @@ ghost use Rattle.kn_lex.specs.Scanning.{is_number};
 use crate::token::Sort;
 
 /// A part of a text: a token, or what stands between tokens.
-#[derive(Debug, Clone, Copy)]
+#[derive(Clone, Copy)]
 pub enum Piece {
     /// White space up to the end of its line.
     White,
@@ -18,7 +18,7 @@ pub enum Piece {
 }
 
 /// Where in its line a piece stands.
-#[derive(Debug, Clone, Copy)]
+#[derive(Clone, Copy)]
 pub enum Context {
     LineStart,
     WithinLine,
@@ -27,7 +27,7 @@ pub enum Context {
 }
 
 /// A place in a text, by what stands before it: its context, and whether a token does.
-#[derive(Debug, Clone, Copy)]
+#[derive(Clone, Copy)]
 pub struct Place {
     pub context: Context,
     pub told: bool,

@@ -6,7 +6,7 @@ ghost use Rattle.kn_lex.specs.Scanning.{quote_step, quote_len, more_len};
 use crate::bytes::{Class, run_len};
 
 /// Where in a literal a byte stands.
-#[derive(Debug, Clone, Copy)]
+#[derive(Clone, Copy)]
 pub enum Quote {
     /// Before the opening quote.
     Opening,
@@ -21,7 +21,7 @@ pub enum Quote {
 }
 
 /// What a byte does to a literal.
-#[derive(Debug, Clone, Copy)]
+#[derive(Clone, Copy)]
 pub enum Step {
     /// No literal goes on with the byte.
     Fail,

@@ -7,7 +7,7 @@ use kn_base::{List, Span};
 use std::marker::Model;
 
 /// What a token is.
-#[derive(Debug, Clone, Copy, PartialEq, Eq)]
+#[derive(Clone, Copy, PartialEq, Eq)]
 pub enum Sort {
     /// A field's name with its colon, at the beginning of a line.
     Label,
@@ -24,7 +24,7 @@ pub enum Sort {
 }
 
 /// A token of a text, whose bytes it borrows.
-#[derive(Debug, Clone, Copy)]
+#[derive(Clone, Copy)]
 pub struct Token<'a> {
     pub sort: Sort,
     /// Whether it stands at the beginning of a line.
@@ -36,7 +36,7 @@ pub struct Token<'a> {
 }
 
 /// The tokens of a text in their order, seen as that list.
-#[derive(Debug, Drop)]
+#[derive(Drop)]
 pub struct Tokens<'a> {
     list: List<Token<'a>>,
 }

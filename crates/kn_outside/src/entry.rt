@@ -2,7 +2,7 @@
 use kn_base::Octets;
 
 /// A file in memory.
-#[derive(Debug, Drop)]
+#[derive(Drop)]
 pub struct FileEntry {
     pub name: Octets,
     pub content: Octets,

@@ -1,4 +1,4 @@
 //! A call that failed.
 /// A call to the outside failed.
-#[derive(Debug, Clone, Copy, PartialEq, Eq)]
+#[derive(Clone, Copy, PartialEq, Eq)]
 pub struct Failed;

@@ -6,7 +6,7 @@ use kn_base::limits::FILE_BYTES;
 use kn_base::{NoMemory, Octets};
 
 /// Why a file wasn't read.
-#[derive(Debug, Clone, Copy, PartialEq, Eq)]
+#[derive(Clone, Copy, PartialEq, Eq)]
 pub enum FileFault {
     /// There is no such file, or it could not be read.
     Failed,

@@ -8,7 +8,7 @@ pub trait Gate: Sync {
 }
 
 /// The gate that is always open.
-#[derive(Debug, Clone, Copy)]
+#[derive(Clone, Copy)]
 pub struct Passing;
 
 impl Gate for Passing {

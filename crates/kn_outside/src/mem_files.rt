@@ -13,7 +13,7 @@ use std::alloc::Global;
 use std::marker::Model;
 
 /// Files in memory. Chosen reads of them fail.
-#[derive(Debug, Drop)]
+#[derive(Drop)]
 pub struct MemFiles {
     entries: List<FileEntry>,
     asked: List<Octets>,

@@ -16,7 +16,7 @@ use std::marker::Model;
 
 /// A link in memory, with an input that was there from the start. Its reads are cut as chosen, and
 /// chosen calls of it fail.
-#[derive(Debug, Drop)]
+#[derive(Drop)]
 pub struct MemLink {
     input: Octets,
     at: usize,

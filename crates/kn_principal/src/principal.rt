@@ -11,7 +11,7 @@ use kn_base::{NoMemory, Octets};
 use std::alloc::Global;
 
 /// Why a text isn't taken as a principal. The limit and the numbers are keynoted's own.
-#[derive(Debug, Clone, Copy, PartialEq, Eq)]
+#[derive(Clone, Copy, PartialEq, Eq)]
 pub enum PrincipalFault {
     /// Fault 1: the text is empty.
     Empty,

@@ -2,7 +2,7 @@
 use kn_fields::Unread;
 
 /// Why the tokens of a Conditions field are no program. The faults, their order and their numbers are keynoted's own.
-#[derive(Debug, Clone, Copy, PartialEq, Eq)]
+#[derive(Clone, Copy, PartialEq, Eq)]
 pub enum ProgramFault {
     /// Fault 16: the tokens spell nothing.
     Syntax,

@@ -10,7 +10,7 @@ use kn_base::limits::WHOLE_NUMBER;
 use kn_trees::{Comparison, Operation};
 
 /// What stands between tests.
-#[derive(Debug, Clone, Copy, PartialEq, Eq)]
+#[derive(Clone, Copy, PartialEq, Eq)]
 pub enum Joint {
     /// `||`
     Or,
@@ -19,7 +19,7 @@ pub enum Joint {
 }
 
 /// A level of the grammar whose operations group to the left, the loosest first.
-#[derive(Debug, Clone, Copy, PartialEq, Eq)]
+#[derive(Clone, Copy, PartialEq, Eq)]
 pub enum Level {
     /// `+`, `-` and `.`
     Sum,
@@ -30,7 +30,7 @@ pub enum Level {
 }
 
 /// A sign before an operand.
-#[derive(Debug, Clone, Copy, PartialEq, Eq)]
+#[derive(Clone, Copy, PartialEq, Eq)]
 pub enum Prefix {
     /// `-`
     Minus,

@@ -4,7 +4,7 @@ ghost use Rattle.kn_proof.specs.Reading.{fault_number, fault_line};
 
 /// Why a text is no `VALUE` reply: what is wrong with the first line that is wrong. Lines are counted from 1. The
 /// faults, their numbers and their order are keynoted's own.
-#[derive(Debug, Clone, Copy, PartialEq, Eq)]
+#[derive(Clone, Copy, PartialEq, Eq)]
 pub enum ProofFault {
     /// Fault 1: line `n` isn't of its form, is missing, or stands behind `END`.
     Line { n: usize },

@@ -2,7 +2,7 @@
 use kn_base::Octets;
 
 /// Which assertion: a shared credential or a private one, by its number, counted from 1.
-#[derive(Debug, Clone, Copy, PartialEq, Eq, Drop)]
+#[derive(Clone, Copy, PartialEq, Eq, Drop)]
 pub enum Id {
     Shared(u32),
     Private(u32),
@@ -10,7 +10,7 @@ pub enum Id {
 
 /// A row of a proof by names: the assertion `id` gives the principal at least this compliance value, counted from the
 /// lowest, 0.
-#[derive(Debug, Drop)]
+#[derive(Drop)]
 pub struct NamedRow {
     pub value: u8,
     pub id: Id,

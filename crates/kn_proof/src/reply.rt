@@ -6,7 +6,7 @@ use kn_base::{List, Octets};
 pub const FILE_ROWS: u32 = 1_398_099;
 
 /// What line 1 of a reply tells of it, beside the number of its rows.
-#[derive(Debug, Clone, Copy)]
+#[derive(Clone, Copy)]
 pub struct ReplyHead<'a> {
     /// The place of the compliance value among those of the query, counted from the lowest, 0.
     pub value: u8,
@@ -17,7 +17,7 @@ pub struct ReplyHead<'a> {
 }
 
 /// A `VALUE` reply by its parts: a compliance value, and the rows that prove it.
-#[derive(Debug, Drop)]
+#[derive(Drop)]
 pub struct ReadReply {
     /// The place of the compliance value among those of the query, counted from the lowest, 0.
     pub value: u8,

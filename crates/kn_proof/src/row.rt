@@ -2,7 +2,7 @@
 use kn_base::List;
 
 /// A row of a proof: by the row `by` of the system the principal has this level at least.
-#[derive(Debug, Clone, Copy, PartialEq, Eq)]
+#[derive(Clone, Copy, PartialEq, Eq)]
 pub struct Row {
     /// The number of the principal, counted from 0.
     pub principal: u32,
@@ -13,7 +13,7 @@ pub struct Row {
 }
 
 /// The rows of a proof in their order: each stands on those before it.
-#[derive(Debug, Drop)]
+#[derive(Drop)]
 pub struct Proof {
     pub rows: List<Row>,
 }

@@ -1,7 +1,7 @@
 //! What calls of the registry answer.
 
 /// What a batch answers.
-#[derive(Debug, Clone, Copy, PartialEq, Eq, Drop)]
+#[derive(Clone, Copy, PartialEq, Eq, Drop)]
 pub struct Batched {
     /// The number of additions before the batch, plus 1: the id of its first addition, where it has one.
     pub first: u32,
@@ -12,7 +12,7 @@ pub struct Batched {
 }
 
 /// Why an older version isn't given.
-#[derive(Debug, Clone, Copy, PartialEq, Eq, Drop)]
+#[derive(Clone, Copy, PartialEq, Eq, Drop)]
 pub enum PinFault {
     /// The version isn't retained: it is above the newest, whose number is told, or too far below it.
     Missing { newest: u32 },

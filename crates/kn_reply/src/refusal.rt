@@ -1,7 +1,7 @@
 //! Refusals of requests.
 
 /// What is counted against a limit.
-#[derive(Debug, Clone, Copy, PartialEq, Eq, Drop)]
+#[derive(Clone, Copy, PartialEq, Eq, Drop)]
 pub enum LimitWord {
     Sessions,
     Private,
@@ -39,7 +39,7 @@ impl LimitWord {
 }
 
 /// Why an item of a batch is refused: it is told by the code that it would have as a request.
-#[derive(Debug, Clone, Copy, PartialEq, Eq, Drop)]
+#[derive(Clone, Copy, PartialEq, Eq, Drop)]
 pub enum ItemRefusal {
     /// The text has this fault at this place.
     Read { fault: u8, place: u32 },
@@ -51,7 +51,7 @@ pub enum ItemRefusal {
 }
 
 /// Why a request is refused, in the order of the protocol's codes 1 to 19 (keynoted's own protocol).
-#[derive(Debug, Clone, Copy, PartialEq, Eq, Drop)]
+#[derive(Clone, Copy, PartialEq, Eq, Drop)]
 pub enum Refusal {
     Syntax,
     Command,

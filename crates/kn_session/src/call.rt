@@ -1,7 +1,7 @@
 //! The calls of one session, as values.
 
 /// A call of one session. Its texts are borrowed.
-#[derive(Debug, Clone, Copy)]
+#[derive(Clone, Copy)]
 pub enum Call<'a> {
     /// The session is closed.
     Close,
@@ -24,7 +24,7 @@ pub enum Call<'a> {
 }
 
 /// What an accepted call gives.
-#[derive(Debug, Clone, Copy, PartialEq, Eq, Drop)]
+#[derive(Clone, Copy, PartialEq, Eq, Drop)]
 pub enum Applied {
     Done,
     /// The private assertion was added under this id.

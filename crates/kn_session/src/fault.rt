@@ -5,7 +5,7 @@ ghost use Rattle.kn_session.specs.Calls.{lacks_memory};
 use kn_assert::ReadFault;
 
 /// Why a call of the sessions is refused (keynoted's own). The limits are those of `kn_base::limits`.
-#[derive(Debug, Clone, Copy, PartialEq, Eq, Drop)]
+#[derive(Clone, Copy, PartialEq, Eq, Drop)]
 pub enum SessionFault {
     /// Fault 1: no session of this number is open.
     Unknown { session: u32 },
@@ -36,7 +36,7 @@ pub enum SessionFault {
 }
 
 /// Why a call of one session is refused.
-#[derive(Debug, Clone, Copy, PartialEq, Eq, Drop)]
+#[derive(Clone, Copy, PartialEq, Eq, Drop)]
 pub enum CallFault {
     /// The text of a private assertion has this fault.
     Text { fault: ReadFault },

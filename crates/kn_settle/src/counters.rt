@@ -18,7 +18,7 @@ use kn_system::{NodeSort, Up};
 
 /// For each gate, by its node, how many of its parts are marked, up to its need; which gates have counted any; and for
 /// each level the rows that give it to their authorizers, in the order in which they came.
-#[derive(Debug, Drop)]
+#[derive(Drop)]
 pub(crate) struct Counters {
     pub(crate) counts: Vec<u32>,
     pub(crate) trail: List<u32>,

@@ -5,7 +5,7 @@ ghost use Rattle.kn_settle.specs.Blank.{AreTrailed};
 use kn_base::{List, NoMemory};
 
 /// The level of each principal, and who has got one, in the order in which they got it.
-#[derive(Debug, Drop)]
+#[derive(Drop)]
 pub(crate) struct Levels {
     pub(crate) values: Vec<u8>,
     pub(crate) trail: List<u32>,

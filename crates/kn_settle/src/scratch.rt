@@ -9,7 +9,7 @@ use std::marker::Model;
 
 /// What a settling writes on, seen as how many principals, nodes and levels it is for. Nothing is kept there before and
 /// after, so that a settling costs what it touches.
-#[derive(Debug, Drop)]
+#[derive(Drop)]
 pub struct Scratch {
     pub(crate) levels: Levels,
     pub(crate) counters: Counters,

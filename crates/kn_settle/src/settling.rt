@@ -26,7 +26,7 @@ use kn_system::{System, laws};
 use std::alloc::Global;
 
 /// What settling a system gives.
-#[derive(Debug, Drop)]
+#[derive(Drop)]
 pub struct Settled {
     /// The level of each principal in the least fixed point, by its number.
     pub values: Octets,
@@ -35,7 +35,7 @@ pub struct Settled {
 }
 
 /// What settling a query over a base gives.
-#[derive(Debug, Drop)]
+#[derive(Drop)]
 pub struct SettledPolicy {
     /// The policy's level in the least fixed point.
     pub value: u8,

@@ -62,7 +62,7 @@ impl Model for Prepared {
 }
 
 /// What an update answers.
-#[derive(Debug, Clone, Copy, PartialEq, Eq, Drop)]
+#[derive(Clone, Copy, PartialEq, Eq, Drop)]
 pub struct Done {
     /// The id that an addition has or that a removal removes, and of a batch the id that its first addition has, or
     /// would have.

@@ -22,7 +22,7 @@ use std::mem;
 /// Formulas in one list: a piece and a link for each node, and for each principal the nodes that it is.
 ///
 /// The lists of uses end with the last principal that has one.
-#[derive(Debug, Drop)]
+#[derive(Drop)]
 pub(crate) struct Flat {
     alloc: Global,
     pieces: Reserved<Piece>,

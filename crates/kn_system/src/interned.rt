@@ -15,7 +15,7 @@ use std::marker::Model;
 ///
 /// Principal 0 is `POLICY`, which is no requester. The mark is that of the steps that reading a formula
 /// takes, and never comes out again.
-#[derive(Debug, Drop)]
+#[derive(Drop)]
 pub struct System<L> {
     mark: L,
     levels: u8,

@@ -1,7 +1,7 @@
 //! The nodes of a system's formulas, as its readers give them.
 
 /// What a node is.
-#[derive(Debug, Clone, Copy, PartialEq, Eq, Drop)]
+#[derive(Clone, Copy, PartialEq, Eq, Drop)]
 pub enum NodeSort {
     /// A principal, by its number.
     Leaf(u32),
@@ -10,7 +10,7 @@ pub enum NodeSort {
 }
 
 /// What a node is a part of.
-#[derive(Debug, Clone, Copy, PartialEq, Eq, Drop)]
+#[derive(Clone, Copy, PartialEq, Eq, Drop)]
 pub enum Up {
     /// A gate, by the number of its node.
     Node(u32),
@@ -19,7 +19,7 @@ pub enum Up {
 }
 
 /// A node of a system's formulas, which are numbered row by row in the order of their pieces.
-#[derive(Debug, Clone, Copy, PartialEq, Eq, Drop)]
+#[derive(Clone, Copy, PartialEq, Eq, Drop)]
 pub struct Node {
     pub sort: NodeSort,
     pub up: Up,

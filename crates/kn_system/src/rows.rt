@@ -1,6 +1,6 @@
 //! Rows of a system, and the pieces of their formulas.
 /// A piece of a formula. A formula is a list of pieces, in which each gate stands before its parts.
-#[derive(Debug, Clone, Copy, PartialEq, Eq, Drop)]
+#[derive(Clone, Copy, PartialEq, Eq, Drop)]
 pub enum Piece {
     /// A principal, by its number.
     Who(u32),
@@ -9,7 +9,7 @@ pub enum Piece {
 }
 
 /// A row as a system keeps it: its formula is so many nodes from a place on.
-#[derive(Debug, Clone, Copy, PartialEq, Eq, Drop)]
+#[derive(Clone, Copy, PartialEq, Eq, Drop)]
 pub(crate) struct StoredRow {
     pub authorizer: u32,
     pub ceiling: u8,

@@ -8,7 +8,7 @@ use kn_base::NoMemory;
 use std::alloc::Global;
 
 /// Where a list stands: from which place on, how many numbers it has, and for how many there is room.
-#[derive(Debug, Clone, Copy, Drop)]
+#[derive(Clone, Copy, Drop)]
 pub(crate) struct Block {
     pub start: usize,
     pub len: usize,
@@ -16,7 +16,7 @@ pub(crate) struct Block {
 }
 
 /// For each principal a list of nodes. A principal behind the last block has the empty list.
-#[derive(Debug, Drop)]
+#[derive(Drop)]
 pub(crate) struct Uses {
     pub blocks: Vec<Block>,
     pub nodes: Vec<u32>,

@@ -4,7 +4,7 @@
 pub const AUTH_FAULTS: u8 = 5;
 
 /// Why a transcript isn't accepted (keynoted's own). Requests are counted from 1.
-#[derive(Debug, Clone, Copy, PartialEq, Eq, Drop)]
+#[derive(Clone, Copy, PartialEq, Eq, Drop)]
 pub enum TranscriptFault {
     /// Fault 1: the replies end where that to this request should begin.
     Missing { request: u32 },

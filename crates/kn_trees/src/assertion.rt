@@ -5,7 +5,7 @@ use kn_base::{List, Octets};
 use kn_env::Constant;
 
 /// An assertion.
-#[derive(Debug, Drop)]
+#[derive(Drop)]
 pub struct Assertion {
     /// The principal who states it, in normal form.
     pub authorizer: Octets,

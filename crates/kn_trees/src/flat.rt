@@ -11,7 +11,7 @@ use crate::root::Root;
 use std::marker::Model;
 
 /// An expression as a list of nodes, seen as its tree.
-#[derive(Debug, Drop)]
+#[derive(Drop)]
 pub struct FlatExpr {
     forest: Forest,
     root: Root,

@@ -20,7 +20,7 @@ const FEW_ITEMS: usize = 64;
 const BYTES_A_TOKEN: usize = 2;
 
 /// An operation, and the place of its right side.
-#[derive(Debug, Clone, Copy)]
+#[derive(Clone, Copy)]
 pub(crate) struct LinkNode {
     pub sign: Operation,
     pub right: u32,
@@ -28,7 +28,7 @@ pub(crate) struct LinkNode {
 
 /// A node of a tree, which names its parts by their places among the nodes, all before its own. Lists of parts,
 /// lists of operations and texts are runs of lists that the nodes share.
-#[derive(Debug, Clone, Copy)]
+#[derive(Clone, Copy)]
 pub(crate) enum Node {
     Truth(bool),
     Whole(i32),
@@ -52,7 +52,7 @@ pub(crate) enum Node {
 }
 
 /// Nodes, and the lists of which they name runs, seen as the list of the trees of all nodes.
-#[derive(Debug, Drop)]
+#[derive(Drop)]
 pub(crate) struct Forest {
     pub(crate) nodes: Vec<Node>,
     pub(crate) parts: Vec<u32>,

@@ -3,7 +3,7 @@ use kn_base::{List, Octets};
 
 /// Which principals must support a request for an assertion to do so (RFC 2704, section 4, the
 /// Licensees field). A part that is repeated counts as often as it is written.
-#[derive(Debug, Drop)]
+#[derive(Drop)]
 pub enum Formula {
     /// This principal, in normal form.
     Who(Octets),

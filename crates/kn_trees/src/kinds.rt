@@ -1,6 +1,6 @@
 //! The kinds of expressions.
 /// What an expression gives, by its form alone.
-#[derive(Debug, Clone, Copy, PartialEq, Eq)]
+#[derive(Clone, Copy, PartialEq, Eq)]
 pub enum Kind {
     /// True or false.
     Truth,

@@ -3,14 +3,14 @@ use crate::flat::FlatExpr;
 use kn_base::{Boxed, List, Octets};
 
 /// A conditions program (RFC 2704, section 4, the Conditions field): its clauses but for the empty ones.
-#[derive(Debug, Drop)]
+#[derive(Drop)]
 #[cycle(program)]
 pub struct Program {
     pub clauses: List<Clause>,
 }
 
 /// A clause of a program.
-#[derive(Debug, Drop)]
+#[derive(Drop)]
 #[cycle(program)]
 pub struct Clause {
     pub test: FlatExpr,
@@ -18,7 +18,7 @@ pub struct Clause {
 }
 
 /// What a clause is worth where its test is true.
-#[derive(Debug, Drop)]
+#[derive(Drop)]
 #[cycle(program)]
 pub enum Then {
     /// The highest compliance value: nothing stands behind the test.
@@ -30,7 +30,7 @@ pub enum Then {
 }
 
 /// The tree that contracts see of an expression (`FlatExpr`); no value of it is made.
-#[derive(Debug, Drop)]
+#[derive(Drop)]
 #[cycle(expr)]
 pub enum Expr {
     /// `true` or `false`.
@@ -67,7 +67,7 @@ pub enum Expr {
 }
 
 /// An operation and its right side, as contracts see them (`Links`); no value of it is made.
-#[derive(Debug, Drop)]
+#[derive(Drop)]
 #[cycle(expr)]
 pub struct Link2 {
     pub sign: Operation,
@@ -75,7 +75,7 @@ pub struct Link2 {
 }
 
 /// A sign between the sides of a comparison.
-#[derive(Debug, Clone, Copy, PartialEq, Eq)]
+#[derive(Clone, Copy, PartialEq, Eq)]
 pub enum Comparison {
     /// `==`
     Eq,
@@ -92,7 +92,7 @@ pub enum Comparison {
 }
 
 /// A sign of an operation.
-#[derive(Debug, Clone, Copy, PartialEq, Eq)]
+#[derive(Clone, Copy, PartialEq, Eq)]
 pub enum Operation {
     /// `+`
     Plus,

@@ -2,7 +2,7 @@
 use crate::kinds::Kind;
 
 /// A tree of a forest by its place, with its kind.
-#[derive(Debug, Default, Clone, Copy)]
+#[derive(Default, Clone, Copy)]
 pub(crate) struct Root {
     pub place: u32,
     pub kind: Option<Kind>,

@@ -27,7 +27,7 @@ type Roots = SmallVec<Root, 8>;
 /// Expressions that are being read, the last on top, seen as the list of their trees.
 ///
 /// They share one list of nodes. After want of memory the stack is as it was.
-#[derive(Debug, Drop)]
+#[derive(Drop)]
 pub struct ExprStack {
     forest: Forest,
     roots: Roots,

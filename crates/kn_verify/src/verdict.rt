@@ -22,7 +22,7 @@ use kn_system::laws::least_levels_are_least;
 use std::alloc::Global;
 
 /// Why a reply isn't accepted.
-#[derive(Debug, Clone, Copy, PartialEq, Eq)]
+#[derive(Clone, Copy, PartialEq, Eq)]
 pub enum Refused {
     /// It is the reply to another query: its version isn't the one that the session is pinned to, or its name isn't
     /// that of its value among the query's.

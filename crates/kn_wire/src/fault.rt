@@ -1,7 +1,7 @@
 //! Faults of request lines and blocks.
 
 /// Why bytes spell no request (keynoted's own protocol).
-#[derive(Debug, Clone, Copy, PartialEq, Eq, Drop)]
+#[derive(Clone, Copy, PartialEq, Eq, Drop)]
 pub enum WireFault {
     /// The line isn't of the form of its command.
     Syntax,

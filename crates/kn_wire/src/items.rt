@@ -9,7 +9,7 @@ use kn_base::{List, decimal};
 use std::alloc::Global;
 
 /// An item of a batch.
-#[derive(Debug, Clone, Copy)]
+#[derive(Clone, Copy)]
 pub enum BatchItem<'a> {
     /// Adds a credential of this text: `ADD` with the length of the text, and the text.
     Add { text: &'a [u8] },
@@ -18,7 +18,7 @@ pub enum BatchItem<'a> {
 }
 
 /// Why a block gives no items.
-#[derive(Debug, Clone, Copy, PartialEq, Eq, Drop)]
+#[derive(Clone, Copy, PartialEq, Eq, Drop)]
 pub enum BatchText {
     /// The block departs from the form at this item, counted from 1: none begins there, or 256 items stand before it
     /// and a byte follows.

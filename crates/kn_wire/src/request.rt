@@ -3,7 +3,7 @@
 /// A request of the line protocol (keynoted's own). Its texts lie in the feed's buffer.
 ///
 /// `s` is the number of a session, `k` the number of an assertion behind its letter.
-#[derive(Debug, Clone, Copy)]
+#[derive(Clone, Copy)]
 pub enum Request<'a> {
     /// Opens a session: `OPEN`.
     Start,

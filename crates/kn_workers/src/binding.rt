@@ -2,7 +2,7 @@
 use kn_base::Octets;
 
 /// An address, and the doors that share it.
-#[derive(Debug, Drop)]
+#[derive(Drop)]
 pub struct Binding {
     pub address: Octets,
     pub doors: u32,
@@ -11,7 +11,7 @@ pub struct Binding {
 }
 
 /// Why an address wasn't bound.
-#[derive(Debug, Clone, Copy, PartialEq, Eq)]
+#[derive(Clone, Copy, PartialEq, Eq)]
 pub enum BindFault {
     /// There is no such address, or it can't be listened at.
     Failed,
