@@ -8,6 +8,12 @@ from modelling import replies as texts
 NUMBERS = [b"0", b"1", b"2", b"3", b"4", b"5", b"6", b"16", b"64", b"255", b"256", b"4096", b"65536", b"999999999",
            b"1000000000", b"01", b"00", b"9" * 63, b"9" * 64, b"0" * 63 + b"1", b"1" * 65]
 DIGITS = re.compile(rb"[0-9]+")
+# replies that only another secret or another authenticator would give, or another state
+LIKELY = {
+    "admin": [b"OK", b"NO 4 admin"], "add": [b"NO 7 auth %d" % fault for fault in range(8)],
+    "batch": [b"NO 17 item %d 7 auth %d" % (item, fault) for item in range(4) for fault in range(1, 7)],
+    "open": [b"OK", b"NO 3 session", b"NO 12 unknown", b"NO 1 syntax"],
+}
 # longer replies are changed in their first bytes alone
 SHOWN_BYTES = 2000
 
@@ -39,11 +45,11 @@ def make(change, replies):
 
 
 def places_of(requests):
-    """Where the requests of each kind stand."""
+    """Where the requests of each kind stand, by their kinds."""
     places = collections.defaultdict(list)
     for place, request in enumerate(requests):
         places[request.kind].append(place)
-    return list(places.values())
+    return places
 
 
 def draw(rng, replies, places):
@@ -52,23 +58,25 @@ def draw(rng, replies, places):
     All kinds of requests are as likely to be the one whose reply is changed.
     """
     for _ in range(20):
-        how, place = rng.choice(["changed", "changed", "dropped", "doubled", "moved"]), rng.choice(rng.choice(places))
+        how, kind = rng.choice(["changed", "changed", "dropped", "doubled", "moved"]), rng.choice(list(places))
+        place = rng.choice(places[kind])
         other, text = place, replies[place]
         if how == "moved":
             other = rng.choice([rng.randrange(len(replies)), min(place + 1, len(replies) - 1), max(place - 1, 0)])
         if how == "changed":
-            text = draw_text(rng, replies, place)
+            text = draw_text(rng, replies, place, kind)
         stays = {"changed": text == replies[place], "moved": replies[place] == replies[other]}
         if not stays.get(how):
             return Change(how, place, other, text)
     return None
 
 
-def draw_text(rng, replies, place):
-    """Another text in place of a reply."""
-    text = replies[place]
+def draw_text(rng, replies, place, kind):
+    """Another text in place of the reply to a request of this kind."""
+    text, likely = replies[place], LIKELY.get(kind, LIKELY["open"])
     ways = [
         lambda: rng.choice(replies), lambda: filled(rng, rng.choice(texts.LINES)), lambda: b"NOMEM\n",
+        lambda: filled(rng, rng.choice(likely)), lambda: filled(rng, rng.choice(likely)),
         lambda: near(rng, text, DIGITS, another_number), lambda: near(rng, text, DIGITS, another_number),
         lambda: other_byte(rng, text), lambda: other_byte(rng, text), lambda: other_lines(rng, text),
         lambda: rng.choice([b"NEWS 1 yes 1\n", b"CRITICAL 1 1\nNEED a1\nEND\n", b"CRITICAL 0 0\nEND\n",
