@@ -27,11 +27,21 @@ use std::sync::Arc;
 /// What the first updates of a book made: the credentials that are live after them. It is seen as these updates.
 ///
 /// Versions share what they have in common, in pages.
-#[derive(Drop)]
 pub struct Version {
     live: LiveSet,
     updates: Log,
     number: u32,
+}
+
+// Written out, so that a crate that drops a version rests on this proof, and proves none for all that it holds.
+impl Drop for Version {
+    fn drop(self) {
+        let Version {
+            live,
+            updates,
+            number: _,
+        } = self;
+    }
 }
 
 impl Model for Version {
@@ -149,7 +159,11 @@ impl Version {
         let number = self.number() + 1;
         let (credential, text) = LiveCredential::of(ready, id);
         let update = addition(alloc, caller, text, id)?;
-        let Version { live, updates, .. } = self;
+        let Version {
+            live,
+            updates,
+            number: _,
+        } = self;
         let live = live.with_addition(alloc, credential, size as u32)?;
         let updates = updates.with_update(alloc, update)?;
         Ok((
