@@ -25,5 +25,7 @@ mod replies;
 mod updating;
 mod value_reply;
 mod verdicts;
+mod verifying;
 
 pub use fault::{AUTH_FAULTS, TranscriptFault};
+pub use verifying::{Verified, verify};
