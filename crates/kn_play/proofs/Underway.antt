@@ -4,7 +4,7 @@ use Rattle.std.specs.List.{list_any, slice_range}
 use Rattle.std.proofs.Math.Seq.{take-add}
 use Rattle.std.proofs.lemmas.List.{length_push}
 use Rattle.kn_history.specs.declared.update.Update.{Update}
-use Rattle.kn_wire.specs.Requests.{Request, Takes}
+use Rattle.kn_wire.specs.Requests.{Request, Takes, AreRequests}
 use Rattle.kn_wire.specs.Feeding.{Held, Bytes, held_bytes, pushed, next_of}
 use Rattle.kn_wire.proofs.Growing.{next-grows, pushed-pushed, pushed-nothing, pushed-not_shut, none-left}
 use Rattle.kn_wire.proofs.Readings.{takes-push}
@@ -18,8 +18,8 @@ use Rattle.kn_daemon.proofs.Counts.{played-small}
 use Rattle.kn_play.specs.declared.asking.Asked.{Asked}
 use Rattle.kn_play.specs.declared.answering.Step.{Step}
 use Rattle.kn_play.specs.declared.playing.LastQuery.{LastQuery}
-use Rattle.kn_play.specs.Playing.{state_of_sessions, NumbersGoOn, IsNoAnsweredQuery, Asks, IsRequestPlayed, PlaysNext, IsFed, TakesOne, IsScriptRead, Next, AskNothing, HasLast, IsPlayed, IsBeingPlayed, later_of}
-use Rattle.kn_play.proofs.Requests.{goes-on, ends-at, go-on}
+use Rattle.kn_play.specs.Playing.{state_of_sessions, NumbersGoOn, IsNoAnsweredQuery, Asks, IsRequestPlayed, PlaysNext, IsFed, TakesRequest, IsSpent, TakesOne, IsScriptRead, Next, AskNothing, HasLast, IsPlayed, IsBeingPlayed, later_of}
+use Rattle.kn_play.proofs.Requests.{GoOn, goes-on, ends-at, go-on}
 
 -- Pieces.
 
@@ -44,17 +44,42 @@ or-right : (a b : Bool) → (a || b) ≡ false → b ≡ false
 or-right true b e = cc
 or-right false b e = e
 
-pub takes-one : (history : List Update) (script : List ℕ) (requests : List Request) (old : OpenSessions) (from : ℕ) (held after : Held) (new : OpenSessions) (step : Step) (request : Request)
+module _ (script : List ℕ) (requests : List Request) (from : ℕ) where
+  pub takes-request : (held after : Held) (request : Request) → IsFed script from held requests → next_of held ≡ Some (request, after)
+      → TakesRequest script requests from after request
+  takes-request held after request fed next =
+      record {
+        within = fed.within;
+        begins = λ more.
+            takes-push (take from script ++ more) requests (held_bytes (pushed held more)) request (held_bytes (pushed after more)) (fed.begins more) (next-grows held after request more fed.not_shut next);
+        not_shut = λ goes_on. next-not_shut held after request fed.not_shut (or-right (is_bye request) (is_block request) goes_on) next;
+      }
+
+  -- more can be taken behind a request that doesn't end the script
+  pub fed-on : (held : Held) (request : Request) → TakesRequest script requests from held request → is_last request ≡ false
+      → IsFed script from held (requests ++ request ∷ [])
+  fed-on held request t goes_on = record { within = t.within; begins = t.begins; not_shut = t.not_shut goes_on }
+
+  -- the requests that were taken are the first ones of the script
+  pub taken-first : (held : Held) → ((more : List ℕ) → Takes (take from script ++ more) requests (held_bytes (pushed held more))) → GoOn script requests
+  taken-first held begins =
+      go-on script requests (held_bytes (pushed held (drop from script)))
+      (subst (λ text. Takes text requests (held_bytes (pushed held (drop from script)))) (take-append-drop from script) (begins (drop from script)))
+
+  -- and all of them, where no more is left
+  pub spent-all : (held : Held) → IsSpent script requests from held → AreRequests script requests (held_bytes held)
+  spent-all held spent =
+      let all = spent.all in
+      let text : take from script ++ [] ≡ script = append-nil (take from script) ∙ take_all from script (omega (arith, all)) in
+      record {
+        taken = subst (λ t. Takes t requests (held_bytes held)) text (subst (Takes (take from script ++ []) requests) (pushed-nothing held) (spent.fed.begins []));
+        no_more = none-left held spent.none;
+      }
+
+takes-one : (history : List Update) (script : List ℕ) (requests : List Request) (old : OpenSessions) (from : ℕ) (held after : Held) (new : OpenSessions) (step : Step) (request : Request)
     → IsFed script from held requests → next_of held ≡ Some (request, after) → IsRequestPlayed history old request new step → TakesOne history script requests old from after new step
 takes-one history script requests old from held after new step request fed next played =
-    record {
-      request = request;
-      within = fed.within;
-      begins = λ more.
-          takes-push (take from script ++ more) requests (held_bytes (pushed held more)) request (held_bytes (pushed after more)) (fed.begins more) (next-grows held after request more fed.not_shut next);
-      not_shut = λ goes_on. next-not_shut held after request fed.not_shut (or-right (is_bye request) (is_block request) goes_on) next;
-      played = played;
-    }
+    record { request = request; taken = takes-request script requests from held after request fed next; played = played }
 
 -- what the next request came to, where these bytes were fed before it and the sessions are as they were
 pub next-taken : (history : List Update) (script : List ℕ) (requests : List Request) (was old : OpenSessions) (from : ℕ) (held after : Held) (new : OpenSessions) (o : Option Step) (step : Step) → old ≡ was
@@ -68,9 +93,11 @@ pub next-dry : (history : List Update) (script : List ℕ) (requests : List Requ
 next-dry history script requests was old from held after new o same fed all answers is =
     let a : PlaysNext history old held new after None = subst (PlaysNext history old held new after) is answers in
     record {
-      all = all;
-      fed = subst (λ h. IsFed script from h requests) (sym a.1) fed;
-      none = subst (λ h. next_of h ≡ None) (sym a.1) a.0;
+      spent = record {
+        all = all;
+        fed = subst (λ h. IsFed script from h requests) (sym a.1) fed;
+        none = subst (λ h. next_of h ≡ None) (sym a.1) a.0;
+      };
       same = a.2 ∙ same;
     }
 
@@ -152,7 +179,7 @@ has-room history script from held requests sessions last count u few =
       made = λ s session found. let made = small.made s session found in omega (arith, made, size, few);
     }
 
-any-push : (requests : List Request) (request : Request) → list_any is_last requests ≡ false → is_last request ≡ false → list_any is_last (requests ++ request ∷ []) ≡ false
+pub any-push : (requests : List Request) (request : Request) → list_any is_last requests ≡ false → is_last request ≡ false → list_any is_last (requests ++ request ∷ []) ≡ false
 any-push [] request none last = ap (λ t. t || false) last
 any-push (first ∷ requests) request none last = by (is_last first) none (λ rest. any-push requests request rest last)
   where
@@ -183,7 +210,7 @@ module _ (history : List Update) (script : List ℕ) (from : ℕ) (held : Held) 
     goes-further more =
         let goes_on : is_last t.request ≡ false = sym t.played.last ∙ more in
         record {
-          fed = record { within = t.within; begins = t.begins; not_shut = t.not_shut goes_on };
+          fed = fed-on script requests fed after t.request t.taken goes_on;
           goes_on = any-push requests t.request u.goes_on goes_on;
           state = state-all;
           last = last-all;
@@ -195,7 +222,7 @@ module _ (history : List Update) (script : List ℕ) (from : ℕ) (held : Held) 
     unfolding all
     finished-last most ends more =
         let last_one : is_last t.request ≡ true = sym t.played.last ∙ ends in
-        let g = go-on script all (held_bytes (pushed after (drop fed script))) (subst (λ text. Takes text all (held_bytes (pushed after (drop fed script)))) (take-append-drop fed script) (t.begins (drop fed script))) in
+        let g = taken-first script all fed after t.taken.begins in
         let size = size-all in
         let whole : take most all ≡ all = take_all most all (omega (arith, size, more)) in
         record {
@@ -215,17 +242,12 @@ module _ (history : List Update) (script : List ℕ) (from : ℕ) (held : Held) 
   finished-dry fed after new most dry more =
       let size = u.size in
       let whole : take most requests ≡ requests = take_all most requests (omega (arith, size, more)) in
-      let all = dry.all in
-      let text : take fed script ++ [] ≡ script = append-nil (take fed script) ∙ take_all fed script (omega (arith, all)) in
       record {
         requests = requests;
         these = record {
           all = requests;
           rest = held_bytes after;
-          whole = record {
-            taken = subst (λ t. Takes t requests (held_bytes after)) text (subst (Takes (take fed script ++ []) requests) (pushed-nothing after) (dry.fed.begins []));
-            no_more = none-left after dry.none;
-          };
+          whole = spent-all script requests fed after dry.spent;
           end = ap up_to_end (sym (append-nil requests)) ∙ goes-on requests [] u.goes_on ∙ append-nil requests;
         };
         state = ap state_of_sessions dry.same ∙ u.state ∙ ap (played no_grounds history first_state) (sym whole);
@@ -235,7 +257,7 @@ module _ (history : List Update) (script : List ℕ) (from : ℕ) (held : Held) 
   -- as many requests were played as there are to be
   pub finished-most : IsPlayed history script count (record { sessions = old; last = last })
   finished-most =
-      let g = go-on script requests (held_bytes (pushed held (drop from script))) (subst (λ text. Takes text requests (held_bytes (pushed held (drop from script)))) (take-append-drop from script) (u.fed.begins (drop from script))) in
+      let g = taken-first script requests from held u.fed.begins in
       let front : take count (requests ++ up_to_end g.others) ≡ requests = take_at requests (up_to_end g.others) count u.size in
       record {
         requests = requests ++ up_to_end g.others;

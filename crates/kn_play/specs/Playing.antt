@@ -61,19 +61,27 @@ pub record IsFed (script : List ℕ) (from : ℕ) (held : Held) (requests : List
   pub begins : BeginsWith script from held requests
   pub not_shut : is_shut held ≡ false
 
--- one more request was taken and played
-pub record TakesOne (history : List Update) (script : List ℕ) (requests : List Request) (old : OpenSessions) (from : ℕ) (held : Held) (new : OpenSessions) (step : Step) : Type 0 where
-  pub request : Request
+-- one more request was taken
+pub record TakesRequest (script : List ℕ) (requests : List Request) (from : ℕ) (held : Held) (request : Request) : Type 0 where
   pub within : from ≤ length script
   pub begins : BeginsWith script from held (requests ++ request ∷ [])
   pub not_shut : is_last request ≡ false → is_shut held ≡ false
-  pub played : IsRequestPlayed history old request new step
 
 -- the whole script was fed, and no whole request is left
-pub record IsScriptRead (script : List ℕ) (requests : List Request) (old : OpenSessions) (from : ℕ) (held : Held) (new : OpenSessions) : Type 0 where
+pub record IsSpent (script : List ℕ) (requests : List Request) (from : ℕ) (held : Held) : Type 0 where
   pub all : from ≡ length script
   pub fed : IsFed script from held requests
   pub none : next_of held ≡ None
+
+-- one more request was taken and played
+pub record TakesOne (history : List Update) (script : List ℕ) (requests : List Request) (old : OpenSessions) (from : ℕ) (held : Held) (new : OpenSessions) (step : Step) : Type 0 where
+  pub request : Request
+  pub taken : TakesRequest script requests from held request
+  pub played : IsRequestPlayed history old request new step
+
+-- no whole request is left to be played
+pub record IsScriptRead (script : List ℕ) (requests : List Request) (old : OpenSessions) (from : ℕ) (held : Held) (new : OpenSessions) : Type 0 where
+  pub spent : IsSpent script requests from held
   pub same : new ≡ old
 
 abbrev pub Next : List Update → List ℕ → List Request → OpenSessions → ℕ → Held → OpenSessions → Option Step → Type 0

@@ -66,13 +66,15 @@ fn answer(
     Ok(Step { asked, is_last })
 }
 
-fn is_bye(request: &Request<'_>) -> bool
+/// Whether a request ends a script: BYE does.
+pub fn is_bye(request: &Request<'_>) -> bool
     ensures { result ≡ is_last (request_of request.now) }
 {
     matches!(request, Request::Bye)
 }
 
-fn is_block(fault: WireFault) -> bool
+/// Whether a request that is refused for this ends a script: a block does.
+pub fn is_block(fault: WireFault) -> bool
     ensures { result ≡ is_last (Faulty fault) }
 {
     matches!(fault, WireFault::Block { .. })

@@ -15,5 +15,7 @@ mod script;
 #[cfg(test)]
 mod tests;
 
+pub use answering::{is_block, is_bye};
 pub use meant::Meant;
 pub use query::find_query;
+pub use script::push_piece;

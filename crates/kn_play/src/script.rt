@@ -39,8 +39,8 @@ pub(crate) fn play_next(
     }
 }
 
-/// Feeds the next piece of a script, and gives how many bytes were fed then.
-fn push_piece(script: &[u8], feed: &mut Feed, from: usize) -> usize
+/// Feeds the next piece of a script, of which `from` bytes were fed, and gives how many bytes were fed then.
+pub fn push_piece(script: &[u8], feed: &mut Feed, from: usize) -> usize
     requires within { from < length script.now }
     requires none { next_of (held feed.old) ≡ None }
     ensures more { from < result }
