@@ -24,3 +24,12 @@ pub mod ItemLaws
 pub mod PlaceLaws
 pub mod BatchingLaws
 pub mod JudgingLaws
+pub mod AnsweredLaws
+pub mod MeantLaws
+pub mod RequestLaws
+pub mod ScriptLaws
+pub mod SmallLaws
+pub mod VersionLaws
+pub mod DeterminedLaws
+pub mod OneVerdictLaws
+pub mod VerifyingLaws

@@ -42,3 +42,9 @@ abbrev pub Judges : List Update → State → Shape → List ℕ → List Update
 Judges past old shape left history new None =
     (reply : Reply) (rest : List ℕ) (other : State) → reply ≢ NoMemory → ¬ IsTaken past old shape left reply rest other
 Judges past old shape left history new (Some rest) = Takes past old shape left rest history new
+
+-- the same where also want of memory is judged
+abbrev pub JudgesReply : List Update → State → Shape → List ℕ → List Update → State → Option (List ℕ) → Type 0
+JudgesReply past old shape left history new None =
+    (reply : Reply) (rest : List ℕ) (other : State) → ¬ IsTaken past old shape left reply rest other
+JudgesReply past old shape left history new (Some rest) = Takes past old shape left rest history new

@@ -6,6 +6,7 @@ pub mod Judging
 pub mod ValueReplies
 pub mod Verdicts
 pub mod Laws
+pub mod Progress
 pub mod Numerals
 pub mod Fronts
 pub mod Forms

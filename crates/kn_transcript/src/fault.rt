@@ -1,5 +1,7 @@
 //! Why a transcript isn't accepted.
 
+use kn_base::NoMemory;
+
 /// The most faults that an authenticator has.
 pub const AUTH_FAULTS: u8 = 5;
 
@@ -18,4 +20,15 @@ pub enum TranscriptFault {
     Foreign { request: u32 },
     /// There was no memory.
     NoMemory,
+}
+
+impl From<NoMemory> for TranscriptFault {
+    ghost use Rattle.std.specs.Prelude.{◌≡◌};
+    ghost use Rattle.kn_transcript.specs.declared.fault.TranscriptFault.TheVariants as F;
+
+    ghost from_gives = { λ _ fault. fault ≡ F.NoMemory };
+
+    fn from(_none: NoMemory) -> TranscriptFault {
+        TranscriptFault::NoMemory
+    }
 }

@@ -1,10 +1,18 @@
 //! Laws of transcripts: each is the contract of a function that does nothing.
-ghost use Rattle.kn_transcript.specs.Laws.{RunsAreFollowed, ValuesAreLeast};
+ghost use Rattle.kn_transcript.specs.Laws.{OneVerdict, RunsAreFollowed, ValuesAreLeast};
+ghost use Rattle.kn_transcript.specs.Laws.{VersionsAreTold};
 
 /// What a daemon of one thread replies to a connection that is alone is what a transcript may have. And each reply of
 /// a transcript that gives a value gives `POLICY`'s level in the least fixed point of what the session asks then, over
-/// the history that the replies before it tell.
+/// the version that the session is pinned to, which is one of the history that the replies before it tell.
 pub fn transcripts()
     ensures runs { RunsAreFollowed }
     ensures values { ValuesAreLeast }
+    ensures versions { VersionsAreTold }
+{}
+
+/// A transcript is accepted or has a fault, and that is one: the numbers that are told and the fault are its own. So
+/// `verify` refuses none that is accepted, but for want of memory.
+pub fn one_verdict()
+    ensures { OneVerdict }
 {}

@@ -1,11 +1,12 @@
 //! Transcripts: what a client sent on a whole connection and what it got, judged from the policy alone.
 //!
-//! Here stand the definitions of an accepted transcript and of each fault of one, their laws, a reader of the text of
-//! any reply, and judges of single replies: of the one to any request that a transcript judges, and of the one to what
-//! is no request. A reply to QUERY is checked by its rows, and no query is settled.
+//! `verify` takes a script and its replies, request by request. The definitions of an accepted transcript and of each
+//! fault of one stand in `specs/`, with their laws. Beside them are a reader of the text of any reply, and judges of
+//! single replies. A reply to QUERY is checked by its rows, and no query is settled.
 #![tactic(auto)]
 
 mod admitting;
+mod answering;
 pub mod apart;
 mod batching;
 mod calling;
@@ -20,8 +21,10 @@ mod logs;
 mod matching;
 mod numerals;
 mod opening;
+mod progress;
 mod querying;
 mod replies;
+mod script;
 mod updating;
 mod value_reply;
 mod verdicts;

@@ -4,9 +4,15 @@ ghost use Rattle.kn_base.specs.declared.limits.TheConstants.{FILE_BYTES};
 ghost use Rattle.kn_transcript.specs.declared.fault.TranscriptFault.TheVariants as F;
 ghost use Rattle.kn_transcript.specs.Accepted.{IsAcceptedTranscript};
 ghost use Rattle.kn_transcript.specs.Faulty.{IsFaultyTranscript};
+ghost use Rattle.kn_transcript.specs.Progress.{IsConcluded};
 
+use crate::connection::Connection;
 use crate::fault::TranscriptFault;
+use crate::progress::Progress;
+use crate::script::judge_next;
+use kn_base::limits::REQUESTS;
 use kn_store::Book;
+use kn_wire::Feed;
 use std::alloc::Global;
 
 /// What an accepted transcript comes to.
@@ -37,5 +43,47 @@ pub fn verify(
     ensures faulty { IfErr result (λ fault.
         (fault ≡ F.NoMemory) ⊎ IsFaultyTranscript book script.now replies.now fault) }
 {
-    Err(TranscriptFault::NoMemory)
+    let mut feed = Feed::new(alloc)?;
+    let mut progress = Progress {
+        book,
+        connection: Connection::new(alloc),
+        left: replies,
+        answers: 0,
+    };
+    let mut from = 0;
+    for before in 0..REQUESTS {
+        match judge_next(
+            alloc,
+            &mut progress,
+            script,
+            &mut feed,
+            &mut from,
+            before + 1,
+        )? {
+            None => return conclude(progress, replies),
+            Some(is_last) => {
+                if is_last {
+                    return conclude(progress, replies);
+                }
+            }
+        }
+    }
+    conclude(progress, replies)
+}
+
+/// What a transcript comes to where all its requests are answered.
+fn conclude(progress: Progress<'_>, replies: &[u8]) -> Result<Verified, TranscriptFault>
+    requires within { length progress.left.now ≤ length replies.now }
+    requires short { length replies.now ≤ FILE_BYTES }
+    ensures { IsConcluded replies.now progress.entry result }
+{
+    if progress.left.is_empty() {
+        Ok(Verified {
+            answers: progress.answers,
+            version: progress.book.length(),
+        })
+    } else {
+        let at = (replies.len() - progress.left.len()) as u32;
+        Err(TranscriptFault::Rest { at })
+    }
 }
