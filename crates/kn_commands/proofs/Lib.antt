@@ -6,4 +6,5 @@ pub mod GenLines
 pub mod GenLoads
 pub mod Reached
 pub mod Asked
+pub mod Transcripts
 pub mod ServingLaws

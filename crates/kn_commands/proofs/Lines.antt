@@ -6,6 +6,7 @@ use Rattle.kn_check.specs.Rejects.{reason_number, reason_row, reason_found}
 use Rattle.kn_commands.specs.Checking.{text_line, reject_line, proved_line}
 use Rattle.kn_commands.specs.Following.{followed_line, log_line}
 use Rattle.kn_commands.specs.Serving.{served_line}
+use Rattle.kn_commands.specs.Verifying.{verified_line, transcript_line}
 
 pub text_parts : (a b : List ℕ) (fault line : ℕ) → a ≡ decimal fault → b ≡ decimal line →
     codes "error proof text " ++ (a ++ (codes " " ++ (b ++ (codes "\n" ++ [])))) ≡ text_line fault line
@@ -36,3 +37,13 @@ pub log_parts : (a b : List ℕ) (fault place : ℕ) → a ≡ decimal fault →
     → codes "error log " ++ (a ++ (codes " " ++ (b ++ (codes "\n" ++ [])))) ≡ log_line fault place
 unfolding log_line
 log_parts a b fault place first second = rw (first, second) (simp append_assoc)
+
+pub verified_parts : (a b : List ℕ) (answers version : ℕ) → a ≡ decimal answers → b ≡ decimal version
+    → codes "VERIFIED " ++ (a ++ (codes " " ++ (b ++ (codes "\n" ++ [])))) ≡ verified_line answers version
+unfolding verified_line
+verified_parts a b answers version first second = rw (first, second) (simp append_assoc)
+
+pub transcript_parts : (a b : List ℕ) (fault place : ℕ) → a ≡ decimal fault → b ≡ decimal place
+    → codes "error transcript " ++ (a ++ (codes " " ++ (b ++ (codes "\n" ++ [])))) ≡ transcript_line fault place
+unfolding transcript_line
+transcript_parts a b fault place first second = rw (first, second) (simp append_assoc)

@@ -4,5 +4,6 @@ pub mod Stopping
 pub mod Asking
 pub mod Checking
 pub mod Following
+pub mod Verifying
 pub mod Generating
 pub mod Serving

@@ -19,3 +19,13 @@ pub record CheckNames : Type 0 where
 -- in the order in which they are read
 abbrev pub in_order : CheckNames → List (List ℕ)
 in_order names = names.policy ∷ names.script ∷ names.reply ∷ []
+
+-- the files of `verify`: the policy, what a client sent on a whole connection, and what it got
+pub record VerifyNames : Type 0 where
+  pub policy : List ℕ
+  pub script : List ℕ
+  pub replies : List ℕ
+
+-- in the order in which they are read
+abbrev pub verify_order : VerifyNames → List (List ℕ)
+verify_order names = names.policy ∷ names.script ∷ names.replies ∷ []

@@ -1,7 +1,7 @@
 //! What the commands do, over whatever files, net, link and output they are given: `ask` serves a link over a policy,
 //! `serve` serves the connections of an address, `check` tells whether a reply proves the value of the query that a
-//! script means, `follow` tells what the replies of a log make of a replica, and `gen` settles a query over generated
-//! credentials.
+//! script means, `verify` tells whether a transcript is one that the daemon permits, `follow` tells what the replies of
+//! a log make of a replica, and `gen` settles a query over generated credentials.
 #![tactic(auto)]
 
 mod ask_ending;
@@ -22,6 +22,9 @@ mod serve_line;
 mod service;
 mod serving;
 mod stop;
+mod verify_ending;
+mod verify_line;
+mod verifying;
 
 pub use ask_ending::AskEnding;
 pub use ask_line::print_ask;
@@ -40,3 +43,6 @@ pub use serve_line::print_serve;
 pub use service::Service;
 pub use serving::serve;
 pub use stop::Stop;
+pub use verify_ending::VerifyEnding;
+pub use verify_line::print_verify;
+pub use verifying::{VerifyFiles, verify};
