@@ -2,9 +2,9 @@
 use Rattle.std.proofs.Common.{◌≡◌, ℕ, List, [], ◌∷◌, sym, ap, ◌∙◌, arith, get_or, Option, Some, None}
 use Rattle.std.specs.Prelude.{codes, slice_get, All}
 use Rattle.std.specs.Str.{IsUtf8}
-use Rattle.kn_commands.specs.Names.{AskNames, CheckNames}
+use Rattle.kn_commands.specs.Names.{AskNames, CheckNames, VerifyNames}
 use Rattle.kn_commands.specs.declared.generating.GenNumbers.{GenNumbers}
-use Rattle.keynoted.specs.Commands.{AskFor, CheckFor, FollowFor, GenFor, ServeFor, IsNo, IsNoCommand}
+use Rattle.keynoted.specs.Commands.{AskFor, CheckFor, FollowFor, GenFor, ServeFor, VerifyFor, IsNo, IsNoCommand}
 
 -- the first letter of the first word, or 0
 abbrev pub first_letter : Option (List ℕ) → ℕ
@@ -53,6 +53,35 @@ gen_is_no_follow given numbers name gen follow =
     let letters : 103 ≡ 102 = sym (ap letter_of gen.spelled) ∙ ap letter_of follow in
     absurd (omega (arith, letters))
 
+pub verify_is_no_ask : (given : List (List ℕ)) (names : VerifyNames) (others : AskNames) → VerifyFor given names
+    → AskFor given others → ⊥
+verify_is_no_ask given names others verify ask =
+    let letters : 118 ≡ 97 = sym (ap letter_of verify) ∙ ap letter_of ask in
+    absurd (omega (arith, letters))
+
+pub verify_is_no_check : (given : List (List ℕ)) (names : VerifyNames) (others : CheckNames) → VerifyFor given names
+    → CheckFor given others → ⊥
+verify_is_no_check given names others verify check =
+    let letters : 118 ≡ 99 = sym (ap letter_of verify) ∙ ap letter_of check in
+    absurd (omega (arith, letters))
+
+pub verify_is_no_follow : (given : List (List ℕ)) (names : VerifyNames) (name : List ℕ) → VerifyFor given names
+    → FollowFor given name → ⊥
+verify_is_no_follow given names name verify follow =
+    let letters : 118 ≡ 102 = sym (ap letter_of verify) ∙ ap letter_of follow in
+    absurd (omega (arith, letters))
+
+pub gen_is_no_verify : (given : List (List ℕ)) (numbers : GenNumbers) (names : VerifyNames) → GenFor given numbers
+    → VerifyFor given names → ⊥
+gen_is_no_verify given numbers names gen verify =
+    let letters : 103 ≡ 118 = sym (ap letter_of gen.spelled) ∙ ap letter_of verify in
+    absurd (omega (arith, letters))
+
+pub verify_is_no_serve : (given : List (List ℕ)) (names : VerifyNames) → VerifyFor given names → StartsServe given → ⊥
+verify_is_no_serve given names verify serve =
+    let letters : 118 ≡ 115 = sym (ap letter_of verify) ∙ ap first_letter serve in
+    absurd (omega (arith, letters))
+
 pub ask_is_no_serve : (given : List (List ℕ)) (names : AskNames) → AskFor given names → StartsServe given → ⊥
 ask_is_no_serve given names ask serve =
     let letters : 97 ≡ 115 = sym (ap letter_of ask) ∙ ap first_letter serve in
@@ -90,4 +119,5 @@ no_command given serve none = record {
   follow = λ name words. follow_is_no_serve given name words serve;
   gen = λ numbers words. gen_is_no_serve given numbers words serve;
   serve = none;
+  verify = λ names words. verify_is_no_serve given names words serve;
 }

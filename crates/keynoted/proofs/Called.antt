@@ -7,27 +7,31 @@ use Rattle.kn_outside.specs.Faults.{Rose}
 use Rattle.kn_daemon.specs.declared.ended.Ended.TheVariants as E
 use Rattle.kn_follow.specs.Laws.{OneEnding}
 use Rattle.kn_play.specs.Meaning.{OneQueryOfScript}
+use Rattle.kn_transcript.specs.Laws.{OneVerdict}
 use Rattle.kn_serve.specs.Serving.{IsOrderly, IsFaultless}
 use Rattle.kn_workers.specs.Connections.{ServedSeen}
 use Rattle.kn_workers.specs.Doors.{DoorSeen}
-use Rattle.kn_commands.specs.Names.{AskNames, CheckNames}
+use Rattle.kn_commands.specs.Names.{AskNames, CheckNames, VerifyNames}
 use Rattle.kn_commands.specs.Asking.{status_of_ended, status_of_ask}
 use Rattle.kn_commands.specs.Checking.{status_of_ending}
 use Rattle.kn_commands.specs.Following.{status_of_follow}
 use Rattle.kn_commands.specs.Serving.{Order, status_of_serve}
+use Rattle.kn_commands.specs.Verifying.{status_of_verify}
 use Rattle.kn_commands.specs.declared.generating.GenNumbers.{GenNumbers}
-use Rattle.keynoted.specs.Commands.{AskFor, CheckFor, FollowFor, GenFor, ServeFor}
+use Rattle.keynoted.specs.Commands.{AskFor, CheckFor, FollowFor, GenFor, ServeFor, VerifyFor}
 use Rattle.keynoted.specs.Outcomes.{OutsideSeen, Outcome, IsOutcome, IsPrintedOrCut, IsEnded, status_of, line_of}
 use Rattle.keynoted.specs.Outcomes.{NoCommand, WordsLackMemory, AskEnded, ServeEnded, CheckEnded, FollowEnded}
-use Rattle.keynoted.specs.Outcomes.{GenEnded}
-use Rattle.keynoted.specs.Calling.{AskLeads, CheckLeads, LogLeads, IsOrderlyLink, NoReadFailed, CallsFor, EndsWith}
-use Rattle.keynoted.specs.Calling.{ByAsk, ByServe, ByCheck, ByFollow, ByGen}
+use Rattle.keynoted.specs.Outcomes.{VerifyEnded, GenEnded}
+use Rattle.keynoted.specs.Calling.{AskLeads, CheckLeads, LogLeads, TranscriptLeads, IsOrderlyLink, NoReadFailed}
+use Rattle.keynoted.specs.Calling.{CallsFor, EndsWith, ByAsk, ByServe, ByCheck, ByFollow, ByVerify, ByGen}
 use Rattle.keynoted.proofs.Apart.{ask_is_no_check, gen_is_no_ask, gen_is_no_check, ask_is_no_serve}
 use Rattle.keynoted.proofs.Apart.{check_is_no_serve, follow_is_no_ask, follow_is_no_check, follow_is_no_serve}
-use Rattle.keynoted.proofs.Apart.{gen_is_no_follow, gen_is_no_serve}
+use Rattle.keynoted.proofs.Apart.{gen_is_no_follow, gen_is_no_serve, gen_is_no_verify, verify_is_no_ask}
+use Rattle.keynoted.proofs.Apart.{verify_is_no_check, verify_is_no_follow, verify_is_no_serve}
 use Rattle.keynoted.proofs.Known.{told_by, same_ask, same_names, same_log, same_files}
-use Rattle.keynoted.proofs.Leading.{ask_once, check_once, log_once}
-use Rattle.keynoted.proofs.Came.{IsServedSo, IsServedWhole, ask_came, serve_came, check_came, follow_came}
+use Rattle.keynoted.proofs.Known.{same_transcript}
+use Rattle.keynoted.proofs.Leading.{ask_once, check_once, log_once, transcript_once}
+use Rattle.keynoted.proofs.Came.{IsServedSo, IsServedWhole, ask_came, serve_came, check_came, follow_came, verify_came}
 
 -- an input that is in order is served to its end
 orderly_done : (o o' : LinkSeen) (due status : ℕ) → IsOrderlyLink o o' × (due ≡ 0) → IsServedSo o o' status
@@ -42,7 +46,8 @@ orderly_done o o' due status (link, none) (ended, at, complete) =
     (full link.orderly link.faultless)
 
 module _ {C R : Type 0} (door : R → DoorSeen (ServedSeen C)) (link : C → LinkSeen) (law : OneQueryOfScript)
-    (ends_once : (log : List ℕ) → OneEnding log) (given : List (List ℕ)) (before after : OutsideSeen R) (due : ℕ) where
+    (ends_once : (log : List ℕ) → OneEnding log) (one_verdict : OneVerdict) (given : List (List ℕ))
+    (before after : OutsideSeen R) (due : ℕ) where
   abbrev AskOn : ℕ → Type 0
   AskOn next = IsOrderlyLink before.link after.link × (next ≡ 0)
 
@@ -72,6 +77,8 @@ module _ {C R : Type 0} (door : R → DoorSeen (ServedSeen C)) (link : C → Lin
       absurd (ask_is_no_check given names others words cause.0)
   called_ask names words calm leads (FollowEnded name ending) cause =
       absurd (follow_is_no_ask given name names cause.0 words)
+  called_ask names words calm leads (VerifyEnded others ending) cause =
+      absurd (verify_is_no_ask given others names cause.0 words)
   called_ask names words calm leads (GenEnded numbers made) cause =
       absurd (gen_is_no_ask given numbers names cause.0 words)
 
@@ -99,6 +106,8 @@ module _ {C R : Type 0} (door : R → DoorSeen (ServedSeen C)) (link : C → Lin
       absurd (check_is_no_serve given names cause.0 words.serve)
   called_serve order words calm net_calm leads (FollowEnded name ending) cause =
       absurd (follow_is_no_serve given name cause.0 words.serve)
+  called_serve order words calm net_calm leads (VerifyEnded names ending) cause =
+      absurd (verify_is_no_serve given names cause.0 words.serve)
   called_serve order words calm net_calm leads (GenEnded numbers made) cause =
       absurd (gen_is_no_serve given numbers cause.0 words.serve)
 
@@ -124,6 +133,8 @@ module _ {C R : Type 0} (door : R → DoorSeen (ServedSeen C)) (link : C → Lin
       absurd (check_is_no_serve given names words cause.0.serve)
   called_check names words calm leads (FollowEnded name ending) cause =
       absurd (follow_is_no_check given name names cause.0 words)
+  called_check names words calm leads (VerifyEnded others ending) cause =
+      absurd (verify_is_no_check given others names cause.0 words)
   called_check names words calm leads (GenEnded numbers made) cause =
       absurd (gen_is_no_check given numbers names cause.0 words)
 
@@ -149,8 +160,39 @@ module _ {C R : Type 0} (door : R → DoorSeen (ServedSeen C)) (link : C → Lin
       absurd (follow_is_no_serve given name words cause.0.serve)
   called_follow name words calm leads (CheckEnded names ending) cause =
       absurd (follow_is_no_check given name names words cause.0)
+  called_follow name words calm leads (VerifyEnded names ending) cause =
+      absurd (verify_is_no_follow given names name cause.0 words)
   called_follow name words calm leads (GenEnded numbers made) cause =
       absurd (gen_is_no_follow given numbers name cause.0 words)
+
+  transcript_ends : (names : VerifyNames) (status : ℕ) → TranscriptLeads before.files names due
+      → TranscriptLeads before.files names status ⊎ (status ≡ 5) → EndsWith due status
+  transcript_ends names status leads (inl to) = transcript_once before.files names due status leads to
+  transcript_ends names status leads (inr five) = inr five
+
+  called_verify : (names : VerifyNames) → VerifyFor given names → NoReadFailed before.files after.files
+      → TranscriptLeads before.files names due
+      → (outcome : Outcome) → IsOutcome door link given before after outcome → EndsWith due (status_of outcome)
+  called_verify names words calm leads (VerifyEnded others ending) cause =
+      transcript_ends names (status_of_verify ending) leads
+      (subst
+      (λ (n : VerifyNames). TranscriptLeads before.files n (status_of_verify ending) ⊎ (status_of_verify ending ≡ 5))
+      (same_transcript given others names cause.0 words)
+      (verify_came before.files after.files (told_by before.files names.policy _ _ _ due leads) calm one_verdict
+      others (status_of_verify ending) ending cause.1 refl))
+  called_verify names words calm leads NoCommand cause = absurd (cause.0.verify names words)
+  called_verify names words calm leads WordsLackMemory cause =
+      absurd (verify_is_no_serve given names words cause.0.serve)
+  called_verify names words calm leads (AskEnded others ending) cause =
+      absurd (verify_is_no_ask given names others words cause.0)
+  called_verify names words calm leads (ServeEnded order ending) cause =
+      absurd (verify_is_no_serve given names words cause.0.serve)
+  called_verify names words calm leads (CheckEnded others ending) cause =
+      absurd (verify_is_no_check given names others words cause.0)
+  called_verify names words calm leads (FollowEnded name ending) cause =
+      absurd (verify_is_no_follow given names name words cause.0)
+  called_verify names words calm leads (GenEnded numbers made) cause =
+      absurd (gen_is_no_verify given numbers names cause.0 words)
 
   called_gen : (numbers : GenNumbers) → GenFor given numbers → due ≡ 0
       → (outcome : Outcome) → IsOutcome door link given before after outcome → EndsWith due (status_of outcome)
@@ -166,6 +208,8 @@ module _ {C R : Type 0} (door : R → DoorSeen (ServedSeen C)) (link : C → Lin
       absurd (gen_is_no_check given numbers names words cause.0)
   called_gen numbers words none (FollowEnded name ending) cause =
       absurd (gen_is_no_follow given numbers name words cause.0)
+  called_gen numbers words none (VerifyEnded names ending) cause =
+      absurd (gen_is_no_verify given numbers names words cause.0)
 
   called_of : CallsFor given before after due
       → (outcome : Outcome) → IsOutcome door link given before after outcome → EndsWith due (status_of outcome)
@@ -173,6 +217,7 @@ module _ {C R : Type 0} (door : R → DoorSeen (ServedSeen C)) (link : C → Lin
   called_of (ByServe order words calm net_calm leads) = called_serve order words calm net_calm leads
   called_of (ByCheck names words calm leads) = called_check names words calm leads
   called_of (ByFollow name words calm leads) = called_follow name words calm leads
+  called_of (ByVerify names words calm leads) = called_verify names words calm leads
   called_of (ByGen numbers words none) = called_gen numbers words none
 
   -- the status is that of the outcome, or writing its line failed

@@ -1,6 +1,8 @@
 -- What files led to whose contents are told, where no read of one failed.
-use Rattle.std.proofs.Common.{◌≡◌, ℕ, ◌⊎◌, inl, inr, List, [], ◌∷◌, length, refl, sym, subst, Option, Some, None}
+use Rattle.std.proofs.Common.{◌≡◌, ℕ, ◌≤◌, ◌⊎◌, inl, inr, List, [], ◌∷◌, length, refl, sym, subst, Option, Some, None}
+use Rattle.std.proofs.Common.{arith, Result, Ok, Err}
 use Rattle.std.specs.Prelude.{IfSome, ◌≢◌}
+use Rattle.kn_base.specs.declared.limits.TheConstants.{FILE_BYTES}
 use Rattle.kn_outside.specs.Seen.{FilesSeen, LinkSeen}
 use Rattle.kn_outside.specs.Faults.{Rose}
 use Rattle.kn_fields.specs.declared.fault.ReadFault.{ReadFault}
@@ -17,6 +19,7 @@ use Rattle.kn_proof.proofs.Only.{one_reply, reply_without_fault}
 use Rattle.kn_reply.specs.declared.refusal.LimitWord.{LimitWord}
 use Rattle.kn_session.specs.Sessions.{Session}
 use Rattle.kn_history.specs.declared.update.Update.{Update}
+use Rattle.kn_history.specs.History.{loaded_history}
 use Rattle.kn_history.specs.Loading.{IsLoadable, IsFaultyAt}
 use Rattle.kn_history.proofs.Loading.{ends_once}
 use Rattle.kn_daemon.specs.Daemon.{equations_of}
@@ -24,6 +27,10 @@ use Rattle.kn_daemon.specs.declared.ended.Ended.{Ended}
 use Rattle.kn_daemon.specs.declared.ended.Ended.TheVariants as E
 use Rattle.kn_meaning.specs.Proofs.{IsProof}
 use Rattle.kn_verify.specs.Verdicts.{IsReplyTo}
+use Rattle.kn_transcript.specs.declared.fault.TranscriptFault.{TranscriptFault}
+use Rattle.kn_transcript.specs.declared.fault.TranscriptFault.TheVariants as T
+use Rattle.kn_transcript.specs.Faulty.{IsFaultyTranscript}
+use Rattle.kn_transcript.specs.Laws.{OneVerdict}
 use Rattle.kn_serve.specs.Serving.{IsOrderly, IsFaultless}
 use Rattle.kn_workers.specs.Connections.{ServedSeen}
 use Rattle.kn_workers.specs.Doors.{DoorSeen}
@@ -36,12 +43,14 @@ use Rattle.kn_commands.specs.declared.serve_ending.ServeEnding.{ServeEnding}
 use Rattle.kn_commands.specs.declared.serve_ending.ServeEnding.TheVariants as V
 use Rattle.kn_commands.specs.declared.follow_ending.FollowEnding.{FollowEnding}
 use Rattle.kn_commands.specs.declared.follow_ending.FollowEnding.TheVariants as W
+use Rattle.kn_commands.specs.declared.verify_ending.VerifyEnding.{VerifyEnding}
+use Rattle.kn_commands.specs.declared.verify_ending.VerifyEnding.TheVariants as Y
 use Rattle.kn_commands.specs.declared.ending.Source.{Source}
 use Rattle.kn_commands.specs.declared.ending.Source.TheVariants.{Policy, Script as TheScript, Reply}
 use Rattle.kn_commands.specs.declared.ending.Ending.{Ending}
 use Rattle.kn_commands.specs.declared.ending.Ending.TheVariants.{Stopped, NoQuery, Faulty, Rejected, Proved}
-use Rattle.kn_commands.specs.Names.{AskNames, CheckNames}
-use Rattle.kn_commands.specs.Held.{IsTooLarge, IsPolicy, AreKeys}
+use Rattle.kn_commands.specs.Names.{AskNames, CheckNames, VerifyNames}
+use Rattle.kn_commands.specs.Held.{HasContent, IsTooLarge, IsPolicy, AreKeys}
 use Rattle.kn_commands.specs.Stopping.{IsLimitAt, status_of}
 use Rattle.kn_commands.specs.Asking.{AskCause, StopsAtPolicy, StopsAtKeys, AreKeysStopped, status_of_ended}
 use Rattle.kn_commands.specs.Asking.{status_of_ask}
@@ -49,8 +58,10 @@ use Rattle.kn_commands.specs.Checking.{HasQuery, Reached, name_of, CheckCause, I
 use Rattle.kn_commands.specs.Checking.{status_of_ending}
 use Rattle.kn_commands.specs.Following.{HasLogFault, FollowCause, status_of_follow}
 use Rattle.kn_commands.specs.Serving.{Order, ServeCause, status_of_serve}
+use Rattle.kn_commands.specs.Verifying.{IsScriptStopped, AreRepliesStopped, IsTranscriptRead, IsRefused, VerifyCause}
+use Rattle.kn_commands.specs.Verifying.{status_of_verify}
 use Rattle.keynoted.specs.Calling.{TooLarge, Failed, Passed, KeysLead, AskLeads, IsTextOfProof, ReplyLeads, CheckLeads}
-use Rattle.keynoted.specs.Calling.{LogLeads}
+use Rattle.keynoted.specs.Calling.{PolicyLeads, LogLeads, IsAccepted, RepliesLead, AnyScriptLeads, TranscriptLeads}
 use Rattle.keynoted.proofs.Known.{Tells, held, held_too_much}
 
 -- an input that is in order is served to its end, if no call of the link fails and there is memory
@@ -88,22 +99,29 @@ rejected_is_no_proof session values text reject unproved reply proof =
     (subst (λ (r : ReadReply). IsProof (equations_of session values) r.rows r.value) same proof.proof)
 
 module _ (f f' : FilesSeen) (told : Tells f) (calm : ¬ Rose f.faults f'.faults) where
+  -- a policy file stopped the run
+  module _ (name : List ℕ) (On : List ℕ → ℕ → Type 0) (due : ℕ) where
+    stopped_policy : (stop : Stop) → StopsAtPolicy f f' name stop → due ≡ status_of stop
+        → PolicyLeads f name On due ⊎ (due ≡ 5)
+    stopped_policy S.FileFailed stops at = absurd (calm stops.rose)
+    stopped_policy S.FileTooLarge stops at =
+        let much = held_too_much f name told stops.1 in inl (TooLarge much.0 much.1 at)
+    stopped_policy (S.Policy n fault) (bytes, read, faulty) at =
+        inl (Failed bytes (held f name bytes told read.content) (faulty_policy bytes n fault faulty) at)
+    stopped_policy (S.Limit n word count) (bytes, read, limit) at =
+        inl (Failed bytes (held f name bytes told read.content) (full_policy bytes n word count limit) at)
+    stopped_policy S.Memory stops at = inr at
+    stopped_policy S.Words stops at = absurd stops
+    stopped_policy (S.KeyLine n) stops at = absurd stops
+
   -- the files of `ask` and `serve`
   module _ (names : AskNames) (On : ℕ → Type 0) (due : ℕ) where
     abbrev Comes : Type 0
     Comes = AskLeads f names On due ⊎ (due ≡ 5)
 
-    stopped_policy : (stop : Stop) → StopsAtPolicy f f' names.policy stop → due ≡ status_of stop → Comes
-    stopped_policy S.FileFailed stops at = absurd (calm stops.rose)
-    stopped_policy S.FileTooLarge stops at =
-        let much = held_too_much f names.policy told stops.1 in inl (TooLarge much.0 much.1 at)
-    stopped_policy (S.Policy n fault) (bytes, read, faulty) at =
-        inl (Failed bytes (held f names.policy bytes told read.content) (faulty_policy bytes n fault faulty) at)
-    stopped_policy (S.Limit n word count) (bytes, read, limit) at =
-        inl (Failed bytes (held f names.policy bytes told read.content) (full_policy bytes n word count limit) at)
-    stopped_policy S.Memory stops at = inr at
-    stopped_policy S.Words stops at = absurd stops
-    stopped_policy (S.KeyLine n) stops at = absurd stops
+    ask_stopped : (stop : Stop) → StopsAtPolicy f f' names.policy stop → due ≡ status_of stop → Comes
+    ask_stopped stop stops at =
+        stopped_policy names.policy (λ bytes next. KeysLead f names.keys On next) due stop stops at
 
     passed_policy : (bytes : List ℕ) → IsPolicy f names.policy bytes → KeysLead f names.keys On due → Comes
     passed_policy bytes policy on =
@@ -134,7 +152,7 @@ module _ (f f' : FilesSeen) (told : Tells f) (calm : ¬ Rose f.faults f'.faults)
 
   pub ask_came : (o o' : LinkSeen) (names : AskNames) (due : ℕ) (ending : AskEnding) → AskCause f f' o o' names ending
       → due ≡ status_of_ask ending → AskLeads f names (IsServedSo o o') due ⊎ (due ≡ 5)
-  ask_came o o' names due (A.PolicyStopped stop) cause at = stopped_policy names (IsServedSo o o') due stop cause.0 at
+  ask_came o o' names due (A.PolicyStopped stop) cause at = ask_stopped names (IsServedSo o o') due stop cause.0 at
   ask_came o o' names due (A.KeysStopped stop) cause at = keys_stopped names (IsServedSo o o') due stop cause.0 at
   ask_came o o' names due (A.Served ended) cause at =
       passed_policy names (IsServedSo o o') due cause.bytes cause.policy
@@ -144,7 +162,7 @@ module _ (f f' : FilesSeen) (told : Tells f) (calm : ¬ Rose f.faults f'.faults)
       (net_calm : ¬ Rose n.faults n'.faults) where
     pub serve_came : (order : Order) (due : ℕ) (ending : ServeEnding) → ServeCause door link f f' n n' order ending
         → due ≡ status_of_serve ending → AskLeads f order.files IsServedWhole due ⊎ (due ≡ 5)
-    serve_came order due (V.PolicyStopped stop) cause at = stopped_policy order.files IsServedWhole due stop cause.0 at
+    serve_came order due (V.PolicyStopped stop) cause at = ask_stopped order.files IsServedWhole due stop cause.0 at
     serve_came order due (V.KeysStopped stop) cause at = keys_stopped order.files IsServedWhole due stop cause.0 at
     serve_came order due V.BindMemory cause at = inr at
     serve_came order due V.Unbound cause at = absurd (net_calm cause.runs.0)
@@ -225,3 +243,74 @@ module _ (f f' : FilesSeen) (told : Tells f) (calm : ¬ Rose f.faults f'.faults)
     follow_came (W.Refused place) cause is = inl (faulty_log (F.Refused place) (λ same. absurd (cc)) cause is)
     follow_came (W.Followed version live) cause at =
         inl (Passed cause.log (held f name cause.log told cause.read.content) (cause.replica, cause.follows, at))
+
+  -- the files of `verify`
+  module _ (one_verdict : OneVerdict) (names : VerifyNames) (due : ℕ) where
+    passed_texts : (bytes script : List ℕ) → IsPolicy f names.policy bytes → HasContent f names.script script
+        → RepliesLead f names.replies bytes script due → TranscriptLeads f names due
+    passed_texts bytes script policy content leads =
+        Passed bytes (held f names.policy bytes told policy.content)
+        (policy.loadable, Passed script (held f names.script script told content) leads)
+
+    stopped_script : (stop : Stop) → IsScriptStopped f f' names stop → due ≡ status_of stop
+        → TranscriptLeads f names due ⊎ (due ≡ 5)
+    stopped_script S.FileFailed c at = absurd (calm c.stops.rose)
+    stopped_script S.FileTooLarge c at =
+        let much = held_too_much f names.script told c.stops.1 in
+        inl (Passed c.bytes (held f names.policy c.bytes told c.policy.content)
+        (c.policy.loadable, TooLarge much.0 much.1 at))
+    stopped_script S.Memory c at = inr at
+    stopped_script S.Words c at = absurd c.stops
+    stopped_script (S.Policy n fault) c at = absurd c.stops
+    stopped_script (S.Limit n word count) c at = absurd c.stops
+    stopped_script (S.KeyLine n) c at = absurd c.stops
+
+    stopped_replies : (stop : Stop) → AreRepliesStopped f f' names stop → due ≡ status_of stop
+        → TranscriptLeads f names due ⊎ (due ≡ 5)
+    stopped_replies S.FileFailed c at = absurd (calm c.stops.rose)
+    stopped_replies S.FileTooLarge c at =
+        let much = held_too_much f names.replies told c.stops.1 in
+        inl (passed_texts c.bytes c.script c.policy c.script_is (TooLarge much.0 much.1 at))
+    stopped_replies S.Memory c at = inr at
+    stopped_replies S.Words c at = absurd c.stops
+    stopped_replies (S.Policy n fault) c at = absurd c.stops
+    stopped_replies (S.Limit n word count) c at = absurd c.stops
+    stopped_replies (S.KeyLine n) c at = absurd c.stops
+
+    -- a transcript with a fault isn't accepted
+    both_verdicts : (bytes script replies : List ℕ) → length replies ≤ FILE_BYTES → (fault : TranscriptFault)
+        → IsFaultyTranscript (loaded_history (pieces_of bytes)) script replies fault
+        → ¬ IsAccepted bytes script replies
+    both_verdicts bytes script replies small fault faulty is =
+        let within : length replies ≤ 16777216 = small in
+        let same : Ok (is.0, is.1) ≡ Err fault =
+        one_verdict (loaded_history (pieces_of bytes)) script replies (Ok (is.0, is.1)) (Err fault)
+            (omega (arith, within)) is.2 faulty in
+        absurd (cc same)
+
+    refused_transcript : (fault : TranscriptFault) → fault ≢ T.NoMemory
+        → IsTranscriptRead f f' names (IsRefused fault) → due ≡ 12 → TranscriptLeads f names due
+    refused_transcript fault some c at =
+        passed_texts c.bytes c.script c.policy c.script_is
+        (Failed c.replies (held f names.replies c.replies told c.replies_are)
+        (λ is. elim c.holds [
+          | inl none ↦ some none
+          | inr faulty ↦
+              both_verdicts c.bytes c.script c.replies c.replies_are.within fault faulty is
+        ]) at)
+
+    pub verify_came : (ending : VerifyEnding) → VerifyCause f f' names ending → due ≡ status_of_verify ending
+        → TranscriptLeads f names due ⊎ (due ≡ 5)
+    verify_came (Y.PolicyStopped stop) c at =
+        stopped_policy names.policy (λ bytes next. AnyScriptLeads f names bytes next) due stop c at
+    verify_came (Y.ScriptStopped stop) c at = stopped_script stop c at
+    verify_came (Y.RepliesStopped stop) c at = stopped_replies stop c at
+    verify_came (Y.Faulty (T.Missing n)) c at = inl (refused_transcript (T.Missing n) (λ same. absurd (cc)) c at)
+    verify_came (Y.Faulty (T.Text n)) c at = inl (refused_transcript (T.Text n) (λ same. absurd (cc)) c at)
+    verify_came (Y.Faulty (T.Wrong n)) c at = inl (refused_transcript (T.Wrong n) (λ same. absurd (cc)) c at)
+    verify_came (Y.Faulty (T.Rest n)) c at = inl (refused_transcript (T.Rest n) (λ same. absurd (cc)) c at)
+    verify_came (Y.Faulty (T.Foreign n)) c at = inl (refused_transcript (T.Foreign n) (λ same. absurd (cc)) c at)
+    verify_came (Y.Faulty T.NoMemory) c at = inr at
+    verify_came (Y.Verified answers version) c at =
+        inl (passed_texts c.bytes c.script c.policy c.script_is
+        (Passed c.replies (held f names.replies c.replies told c.replies_are) ((answers, version, c.holds), at)))

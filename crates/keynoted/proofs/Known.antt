@@ -3,10 +3,10 @@ use Rattle.std.proofs.Common.{◌≡◌, ℕ, ◌<◌, ◌≤◌, List, [], ◌�
 use Rattle.std.specs.Prelude.{codes, IfSome, IsSomeAnd, option_to_list}
 use Rattle.kn_base.specs.declared.limits.TheConstants.{FILE_BYTES}
 use Rattle.kn_outside.specs.Seen.{FilesSeen}
-use Rattle.kn_commands.specs.Names.{AskNames, ask_order, CheckNames, in_order}
+use Rattle.kn_commands.specs.Names.{AskNames, ask_order, CheckNames, in_order, VerifyNames, verify_order}
 use Rattle.kn_commands.specs.Held.{HasContent, IsTooLarge}
 use Rattle.kn_commands.specs.Serving.{Order}
-use Rattle.keynoted.specs.Commands.{AskFor, CheckFor, FollowFor, ServeFor}
+use Rattle.keynoted.specs.Commands.{AskFor, CheckFor, FollowFor, ServeFor, VerifyFor}
 use Rattle.keynoted.specs.Calling.{Holds, HoldsWithin, HoldsTooMuch, FileCallsFor, TooLarge, Failed, Passed}
 
 -- a key file that is named or isn't
@@ -34,6 +34,16 @@ same_names given a b first second =
     ap (λ (p : List ℕ). record { policy = p; script = a.script; reply = a.reply }) policy
     ∙ ap (λ (t : List ℕ). record { policy = b.policy; script = t; reply = a.reply }) script
     ∙ ap (λ (r : List ℕ). record { policy = b.policy; script = b.script; reply = r }) reply
+
+pub same_transcript : (given : List (List ℕ)) (a b : VerifyNames) → VerifyFor given a → VerifyFor given b → a ≡ b
+same_transcript given a b first second =
+    let both : codes "verify" ∷ verify_order a ≡ codes "verify" ∷ verify_order b = sym first ∙ second in
+    let policy : a.policy ≡ b.policy = cc in
+    let script : a.script ≡ b.script = cc in
+    let replies : a.replies ≡ b.replies = cc in
+    ap (λ (p : List ℕ). record { policy = p; script = a.script; replies = a.replies }) policy
+    ∙ ap (λ (t : List ℕ). record { policy = b.policy; script = t; replies = a.replies }) script
+    ∙ ap (λ (r : List ℕ). record { policy = b.policy; script = b.script; replies = r }) replies
 
 pub same_log : (given : List (List ℕ)) (a b : List ℕ) → FollowFor given a → FollowFor given b → a ≡ b
 same_log given a b first second =

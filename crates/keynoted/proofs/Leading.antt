@@ -13,10 +13,10 @@ use Rattle.kn_history.specs.declared.update.Update.{Update}
 use Rattle.kn_history.specs.History.{loaded_history}
 use Rattle.kn_history.specs.Loading.{IsLoadable}
 use Rattle.kn_play.specs.Meaning.{Means, OneQueryOfScript}
-use Rattle.kn_commands.specs.Names.{AskNames, CheckNames}
+use Rattle.kn_commands.specs.Names.{AskNames, CheckNames, VerifyNames}
 use Rattle.keynoted.specs.Calling.{Holds, HoldsWithin, HoldsTooMuch, FileCallsFor, TooLarge, Failed, Passed, KeysLead}
 use Rattle.keynoted.specs.Calling.{AskLeads, IsTextOfProof, ReplyLeads, MeansNothing, ScriptLeads, CheckLeads, LogLeads}
-use Rattle.keynoted.specs.Calling.{EndsWith}
+use Rattle.keynoted.specs.Calling.{IsAccepted, RepliesLead, AnyScriptLeads, TranscriptLeads, EndsWith}
 
 -- a told file has one content
 holds_once : (f : FilesSeen) (name a b : List ℕ) → Holds f name a → Holds f name b → a ≡ b
@@ -85,6 +85,30 @@ log_once f name status other a b =
     (λ log next. (replica : List Update) × IsLogFile log replica × (next ≡ 0))
     (λ log next. (replica : List Update) × IsLogFile log replica × (next ≡ 0)) status other
     (λ log fails on. fails on.0 on.1) (λ log fails on. fails on.0 on.1) (λ log on on'. inl (on'.2 ∙ sym on.2)) a b
+
+-- the files of `verify`
+module _ (f : FilesSeen) (names : VerifyNames) (status other : ℕ) where
+  replies_once : (bytes script : List ℕ) → RepliesLead f names.replies bytes script status
+      → RepliesLead f names.replies bytes script other → EndsWith status other
+  replies_once bytes script a b =
+      leads_once f names.replies (λ replies. ¬ IsAccepted bytes script replies) 12
+      (λ replies next. IsAccepted bytes script replies × (next ≡ 0))
+      (λ replies next. IsAccepted bytes script replies × (next ≡ 0)) status other
+      (λ replies fails on. fails on.0) (λ replies fails on. fails on.0) (λ replies on on'. inl (on'.1 ∙ sym on.1)) a b
+
+  any_once : (bytes : List ℕ) → AnyScriptLeads f names bytes status → AnyScriptLeads f names bytes other
+      → EndsWith status other
+  any_once bytes a b =
+      leads_once f names.script (λ script. ⊥) 12 (λ script on. RepliesLead f names.replies bytes script on)
+      (λ script on. RepliesLead f names.replies bytes script on) status other
+      (λ script fails on. fails) (λ script fails on. fails) (λ script on on'. replies_once bytes script on on') a b
+
+  pub transcript_once : TranscriptLeads f names status → TranscriptLeads f names other → EndsWith status other
+  transcript_once a b =
+      leads_once f names.policy (λ bytes. ¬ IsLoadable (pieces_of bytes)) 3
+      (λ bytes next. IsLoadable (pieces_of bytes) × AnyScriptLeads f names bytes next)
+      (λ bytes next. IsLoadable (pieces_of bytes) × AnyScriptLeads f names bytes next) status other
+      (λ bytes fails on. fails on.0) (λ bytes fails on. fails on.0) (λ bytes on on'. any_once bytes on.1 on'.1) a b
 
 module _ (law : OneQueryOfScript) (f : FilesSeen) (names : CheckNames) (status other : ℕ) where
   -- the reply to a query

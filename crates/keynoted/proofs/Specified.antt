@@ -6,10 +6,11 @@ use Rattle.kn_workers.specs.Connections.{ServedSeen}
 use Rattle.kn_workers.specs.Doors.{DoorSeen}
 use Rattle.kn_follow.specs.Laws.{OneEnding}
 use Rattle.kn_play.specs.Meaning.{OneQueryOfScript}
+use Rattle.kn_transcript.specs.Laws.{OneVerdict}
 use Rattle.keynoted.specs.Commands.{IsNoCommand}
 use Rattle.keynoted.specs.Outcomes.{OutsideSeen, Outcome, IsOutcome, IsEnded, IsPrintedOrCut, status_of, line_of}
 use Rattle.keynoted.specs.Outcomes.{NoCommand, WordsLackMemory, AskEnded, ServeEnded, CheckEnded, FollowEnded}
-use Rattle.keynoted.specs.Outcomes.{GenEnded}
+use Rattle.keynoted.specs.Outcomes.{VerifyEnded, GenEnded}
 use Rattle.keynoted.specs.Calling.{EndsRefused}
 use Rattle.keynoted.specs.Specified.{IsRun}
 use Rattle.keynoted.proofs.Called.{called}
@@ -28,12 +29,13 @@ module _ {C R : Type 0} (door : R → DoorSeen (ServedSeen C)) (link : C → Lin
   refused_as none (ServeEnded order ending) cause told = absurd (none.serve order cause.0)
   refused_as none (CheckEnded names ending) cause told = absurd (none.check names cause.0)
   refused_as none (FollowEnded name ending) cause told = absurd (none.follow name cause.0)
+  refused_as none (VerifyEnded names ending) cause told = absurd (none.verify names cause.0)
   refused_as none (GenEnded numbers made) cause told = absurd (none.gen numbers cause.0)
 
   pub specified : IsEnded door link given before after status → OneQueryOfScript
-      → ((log : List ℕ) → OneEnding log) → IsRun door link given before after status
-  specified ended law ends_once = record {
+      → ((log : List ℕ) → OneEnding log) → OneVerdict → IsRun door link given before after status
+  specified ended law ends_once one_verdict = record {
     ends = ended;
     refused = λ none. refused_as none ended.outcome ended.cause ended.told;
-    called = λ due calls. called door link law ends_once given before after due status ended calls;
+    called = λ due calls. called door link law ends_once one_verdict given before after due status ended calls;
   }

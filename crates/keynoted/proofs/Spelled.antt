@@ -5,7 +5,7 @@ use Rattle.std.specs.Prelude.{◌==◌, not, codes, slice_get, option_to_list}
 use Rattle.std.specs.Str.{bytes_eq}
 use Rattle.std.proofs.lemmas.Bool.{cases_Bool}
 use Rattle.std.proofs.lemmas.Slice.Eq.{bytes_eq-Decides}
-use Rattle.kn_commands.specs.Names.{AskNames, ask_order, CheckNames, in_order}
+use Rattle.kn_commands.specs.Names.{AskNames, ask_order, CheckNames, in_order, VerifyNames, verify_order}
 
 -- a word that doesn't differ from a text is that text
 pub same_word : (first given text literal : List ℕ) (differs : Bool) → given ≡ first → text ≡ literal
@@ -81,6 +81,21 @@ spell_check words names first second third fourth given check differs count a b 
     ∙ ap (λ (w : List ℕ). codes "check" ∷ w ∷ third ∷ fourth ∷ []) (sym policy)
     ∙ ap (λ (w : List ℕ). codes "check" ∷ names.policy ∷ w ∷ fourth ∷ []) (sym script)
     ∙ ap (λ (w : List ℕ). codes "check" ∷ names.policy ∷ names.script ∷ w ∷ []) (sym reply)
+
+-- the words are `verify` and three more
+pub spell_verify : (words : List (List ℕ)) (names : VerifyNames) (first second third fourth given verify : List ℕ)
+    (differs : Bool) → length words ≡ 4 → first ≡ get_or words 0 first → second ≡ get_or words 1 second
+    → third ≡ get_or words 2 third → fourth ≡ get_or words 3 fourth → names.policy ≡ second → names.script ≡ third
+    → names.replies ≡ fourth → given ≡ first → verify ≡ codes "verify" → differs ≡ not (bytes_eq given verify)
+    → differs ≡ false → words ≡ codes "verify" ∷ verify_order names
+spell_verify words names first second third fourth given verify differs count a b c d policy script replies same is
+    tested none =
+    four_words words first second third fourth count a b c d
+    ∙ ap (λ (w : List ℕ). w ∷ second ∷ third ∷ fourth ∷ [])
+    (same_word first given verify (codes "verify") differs same is tested none)
+    ∙ ap (λ (w : List ℕ). codes "verify" ∷ w ∷ third ∷ fourth ∷ []) (sym policy)
+    ∙ ap (λ (w : List ℕ). codes "verify" ∷ names.policy ∷ w ∷ fourth ∷ []) (sym script)
+    ∙ ap (λ (w : List ℕ). codes "verify" ∷ names.policy ∷ names.script ∷ w ∷ []) (sym replies)
 
 -- the words are `follow` and one more
 pub spell_follow : (words : List (List ℕ)) (name first second given follow : List ℕ) (differs : Bool)

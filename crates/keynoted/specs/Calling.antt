@@ -18,10 +18,11 @@ use Rattle.kn_daemon.specs.Daemon.{equations_of}
 use Rattle.kn_play.specs.Meaning.{Means}
 use Rattle.kn_verify.specs.Verdicts.{IsReplyTo}
 use Rattle.kn_serve.specs.Serving.{IsOrderly, IsFaultless}
-use Rattle.kn_commands.specs.Names.{AskNames, CheckNames}
+use Rattle.kn_transcript.specs.Accepted.{IsAcceptedTranscript}
+use Rattle.kn_commands.specs.Names.{AskNames, CheckNames, VerifyNames}
 use Rattle.kn_commands.specs.Serving.{Order}
 use Rattle.kn_commands.specs.declared.generating.GenNumbers.{GenNumbers}
-use Rattle.keynoted.specs.Commands.{AskFor, CheckFor, FollowFor, GenFor, ServeFor}
+use Rattle.keynoted.specs.Commands.{AskFor, CheckFor, FollowFor, GenFor, ServeFor, VerifyFor}
 use Rattle.keynoted.specs.Outcomes.{OutsideSeen, AreServeTexts}
 
 -- the contents of the files are told, and the file of this name has these bytes
@@ -92,6 +93,26 @@ abbrev pub LogLeads : FilesSeen → List ℕ → ℕ → Type 0
 LogLeads f name status = FileCallsFor f name (λ log. (replica : List Update) → ¬ IsLogFile log replica) 11
     (λ log next. (replica : List Update) × IsLogFile log replica × (next ≡ 0)) status
 
+-- over a policy of these bytes the replies are those of an accepted transcript of the script
+abbrev pub IsAccepted : List ℕ → List ℕ → List ℕ → Type 0
+IsAccepted bytes script replies = (answers : ℕ) × (version : ℕ)
+    × IsAcceptedTranscript (loaded_history (pieces_of bytes)) script replies answers version
+
+-- the file of this name is tried as the replies to a script over a policy of these bytes: it fails where the transcript
+-- isn't accepted
+abbrev pub RepliesLead : FilesSeen → List ℕ → List ℕ → List ℕ → ℕ → Type 0
+RepliesLead f name bytes script status = FileCallsFor f name (λ replies. ¬ IsAccepted bytes script replies) 12
+    (λ replies next. IsAccepted bytes script replies × (next ≡ 0)) status
+
+-- the script is tried over a policy of these bytes: each text is one, and none fails
+abbrev pub AnyScriptLeads : FilesSeen → VerifyNames → List ℕ → ℕ → Type 0
+AnyScriptLeads f names bytes status =
+    FileCallsFor f names.script (λ script. ⊥) 12 (λ script next. RepliesLead f names.replies bytes script next) status
+
+-- the files of `verify` are tried
+abbrev pub TranscriptLeads : FilesSeen → VerifyNames → ℕ → Type 0
+TranscriptLeads f names status = PolicyLeads f names.policy (λ bytes next. AnyScriptLeads f names bytes next) status
+
 -- the link's input is told and in order, and no call of the link failed
 pub record IsOrderlyLink (o o' : LinkSeen) : Type 0 where
   pub input : List ℕ
@@ -117,6 +138,8 @@ module _ {R : Type 0} (given : List (List ℕ)) (before after : OutsideSeen R) w
         → CheckLeads before.files names status → CallsFor status
     ByFollow : (name : List ℕ) → FollowFor given name → NoReadFailed before.files after.files
         → LogLeads before.files name status → CallsFor status
+    ByVerify : (names : VerifyNames) → VerifyFor given names → NoReadFailed before.files after.files
+        → TranscriptLeads before.files names status → CallsFor status
     ByGen : (numbers : GenNumbers) → GenFor given numbers → status ≡ 0 → CallsFor status
 
 -- the run has this status, or memory lacked

@@ -4,7 +4,7 @@ use Rattle.std.specs.Str.{IsUtf8}
 use Rattle.clap.specs.Words.{App, Rule, Text, new_app, new_rule, with_rule, matches_of, first_of, fault_of}
 use Rattle.kn_base.specs.Decimal.{decimal_of}
 use Rattle.kn_base.specs.declared.limits.TheConstants.{GENERATED_CREDENTIALS, WORKERS, CONNECTIONS}
-use Rattle.kn_commands.specs.Names.{AskNames, ask_order, CheckNames, in_order}
+use Rattle.kn_commands.specs.Names.{AskNames, ask_order, CheckNames, in_order, VerifyNames, verify_order}
 use Rattle.kn_commands.specs.declared.generating.GenNumbers.{GenNumbers}
 use Rattle.kn_commands.specs.Serving.{Order}
 
@@ -19,6 +19,10 @@ CheckFor words names = words ≡ codes "check" ∷ in_order names
 -- the words ask what the log in a file makes of a replica
 abbrev pub FollowFor : List (List ℕ) → List ℕ → Type 0
 FollowFor words name = words ≡ codes "follow" ∷ name ∷ []
+
+-- the words ask whether a transcript is accepted
+abbrev pub VerifyFor : List (List ℕ) → VerifyNames → Type 0
+VerifyFor words names = words ≡ codes "verify" ∷ verify_order names
 
 -- Two words spell these numbers by one to nine digits, and there are from 1 to 2,048 credentials.
 pub record AreGenNumbers (first second : List ℕ) (numbers : GenNumbers) : Type 0 where
@@ -93,3 +97,4 @@ pub record IsNoCommand (words : List (List ℕ)) : Type 0 where
   pub follow : IsNo FollowFor words
   pub gen : IsNo GenFor words
   pub serve : IsNo ServeFor words
+  pub verify : IsNo VerifyFor words

@@ -6,18 +6,20 @@ use Rattle.kn_outside.specs.Printing.{Writes}
 use Rattle.kn_workers.specs.Connections.{ServedSeen}
 use Rattle.kn_workers.specs.Doors.{DoorSeen}
 use Rattle.kn_workers.specs.Nets.{NetSeen}
-use Rattle.kn_commands.specs.Names.{AskNames, CheckNames}
+use Rattle.kn_commands.specs.Names.{AskNames, CheckNames, VerifyNames}
 use Rattle.kn_commands.specs.Asking.{AskCause, status_of_ask, line_of_ask}
 use Rattle.kn_commands.specs.Checking.{CheckCause, status_of_ending, line_of_ending}
 use Rattle.kn_commands.specs.Following.{FollowCause, status_of_follow, line_of_follow}
 use Rattle.kn_commands.specs.Generating.{IsGenLine}
 use Rattle.kn_commands.specs.Serving.{Order, ServeCause, status_of_serve, line_of_serve}
+use Rattle.kn_commands.specs.Verifying.{VerifyCause, status_of_verify, line_of_verify}
 use Rattle.kn_commands.specs.declared.ask_ending.AskEnding.{AskEnding}
 use Rattle.kn_commands.specs.declared.ending.Ending.{Ending}
 use Rattle.kn_commands.specs.declared.follow_ending.FollowEnding.{FollowEnding}
 use Rattle.kn_commands.specs.declared.serve_ending.ServeEnding.{ServeEnding}
+use Rattle.kn_commands.specs.declared.verify_ending.VerifyEnding.{VerifyEnding}
 use Rattle.kn_commands.specs.declared.generating.GenNumbers.{GenNumbers}
-use Rattle.keynoted.specs.Commands.{AskFor, CheckFor, FollowFor, GenFor, ServeFor, IsNoCommand}
+use Rattle.keynoted.specs.Commands.{AskFor, CheckFor, FollowFor, GenFor, ServeFor, VerifyFor, IsNoCommand}
 
 -- all that is seen of what a run is given: its files, its net, the link that `ask` serves, and the output for its line
 pub record OutsideSeen (R : Type 0) : Type 0 where
@@ -35,6 +37,7 @@ pub data Outcome : Type 0 where
   ServeEnded : Order → ServeEnding → Outcome
   CheckEnded : CheckNames → Ending → Outcome
   FollowEnded : List ℕ → FollowEnding → Outcome
+  VerifyEnded : VerifyNames → VerifyEnding → Outcome
   GenEnded : GenNumbers → Option (List ℕ) → Outcome
 
 -- the exit status
@@ -45,6 +48,7 @@ status_of (AskEnded names ending) = status_of_ask ending
 status_of (ServeEnded order ending) = status_of_serve ending
 status_of (CheckEnded names ending) = status_of_ending ending
 status_of (FollowEnded name ending) = status_of_follow ending
+status_of (VerifyEnded names ending) = status_of_verify ending
 status_of (GenEnded numbers (Some line)) = 0
 status_of (GenEnded numbers None) = 5
 
@@ -56,6 +60,7 @@ line_of (AskEnded names ending) = line_of_ask names ending
 line_of (ServeEnded order ending) = line_of_serve order ending
 line_of (CheckEnded names ending) = line_of_ending names ending
 line_of (FollowEnded name ending) = line_of_follow name ending
+line_of (VerifyEnded names ending) = line_of_verify names ending
 line_of (GenEnded numbers (Some line)) = line
 line_of (GenEnded numbers None) = codes "error memory\n"
 
@@ -89,6 +94,8 @@ module _ {C R : Type 0} (door : R → DoorSeen (ServedSeen C)) (connection : C �
       × CheckCause before.files after.files names ending × (after.net ≡ before.net) × (after.link ≡ before.link)
   IsOutcome (FollowEnded name ending) = FollowFor given name
       × FollowCause before.files after.files name ending × (after.net ≡ before.net) × (after.link ≡ before.link)
+  IsOutcome (VerifyEnded names ending) = VerifyFor given names
+      × VerifyCause before.files after.files names ending × (after.net ≡ before.net) × (after.link ≡ before.link)
   IsOutcome (GenEnded numbers made) = GenFor given numbers
       × IfSome made (λ line. IsGenLine numbers line) × IsUntouched before after
 

@@ -15,6 +15,7 @@ mod run_tests;
 #[cfg(test)]
 mod service_tests;
 mod service_words;
+mod verifying;
 mod words;
 
 use crate::idle::{IdleFault, idle_timeout};

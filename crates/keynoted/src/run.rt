@@ -10,14 +10,16 @@ ghost use Rattle.keynoted.specs.Specified.{IsRun};
 use crate::following::{end_follow, log_file};
 use crate::generating::{gen_numbers, run_gen};
 use crate::run_service::{asks_to_serve, run_service};
+use crate::verifying::{end_verify, verify_files};
 use kn_base::Octets;
 use kn_commands::{
     AskEnding, AskFiles, CheckFiles, Ending, Stop, ask, check, follow, print_ask, print_ending,
-    print_line,
+    print_line, verify,
 };
 use kn_follow::laws::one_ending;
 use kn_outside::{Failed, Files, Gate, Link, Sink};
 use kn_play::laws::one_query_is_meant;
+use kn_transcript::laws::one_verdict;
 use kn_workers::{Door, Net};
 use std::alloc::Global;
 use std::sync::Wait;
@@ -125,6 +127,10 @@ where
         let ending = follow(alloc, name, files);
         return end_follow(out, ending, name);
     }
+    if let Some(names) = verify_files(words) {
+        let ending = verify(rt, alloc, &names, files);
+        return end_verify(out, ending, &names);
+    }
     if let Some(numbers) = gen_numbers(words) {
         return run_gen(rt, alloc, numbers, out);
     }
@@ -144,15 +150,18 @@ where
 /// requests of the script mean over the policy. `serve ADDR --policy FILE --connections N` with `--keys FILE` and
 /// `--workers N`, 4 where it isn't said, loads its files, binds the address and serves so many connections by so many
 /// workers side by side. The files are read in the order of the words, for `serve` the policy before the keys, each
-/// once those before it hold what they have to. `follow LOG` applies the replies to LOG in a file, one after the other,
-/// to a new replica. `gen START N` makes N credentials by the draws from START, adds them to a new registry, and
-/// settles one query over them; both are decimal numbers, START of at most nine digits and N from 1 to 2,048. What a
-/// run has to tell is a line on `out`. The words, the statuses and the lines are keynoted's own.
+/// once those before it hold what they have to. `verify POLICY SCRIPT REPLIES` tells whether the replies are those that
+/// a daemon of one thread may give over the policy to the requests of the script, all of them in their order.
+/// `follow LOG` applies the replies to LOG in a file, one after the other, to a new replica. `gen START N` makes N
+/// credentials by the draws from START, adds them to a new registry, and settles one query over them; both are decimal
+/// numbers, START of at most nine digits and N from 1 to 2,048. What a run has to tell is a line on `out`. The words,
+/// the statuses and the lines are keynoted's own.
 ///
 /// | status | line | outcome |
 /// |---|---|---|
 /// | 0 | none | `ask`: BYE was answered, or the input ended behind a whole request |
 /// | 0 | `PROVED INDEX NAME` | `check`: the rows prove that the query has this value, of this name |
+/// | 0 | `VERIFIED ANSWERS V` | `verify`: the transcript is accepted, of which ANSWERS replies give a value |
 /// | 0 | `FOLLOW V LIVE` | `follow`: the replies make V updates, of which LIVE credentials are live |
 /// | 0 | `GEN INDEX NAME N ROWS PRINCIPALS NODES USES LEVELS` | `gen`: the value, its name, and what was counted |
 /// | 0 | `served F version V` | `serve`: all F connections were served, and V is the last version |
@@ -173,12 +182,16 @@ where
 /// | 9 | a proper front of the line | the line couldn't be written |
 /// | 10 | `error query` | `check`: the script means no query |
 /// | 11 | `error log FAULT PLACE` | `follow`: the first reply that isn't applied has this fault, at this place |
+/// | 12 | `error transcript FAULT PLACE` | `verify`: the transcript isn't accepted; it has this fault, at this place |
 ///
 /// In the line of `gen`, N is the version; ROWS principals are granted more than the lowest value and are no
 /// requesters; the system has so many principals, nodes and uses of principals in its formulas, and levels. ASSERTION
 /// is counted from 1. In the line of a log, PLACE is for fault 1 the first byte of the reply that can't stand there, or
 /// its length where it breaks off; for fault 2 the number of updates that its client holds; for fault 3 the place of an
-/// update in the history, counted from 1.
+/// update in the history, counted from 1. In the lines of `verify`, V is the number of updates behind the transcript.
+/// PLACE is the first request, counted from 1, whose reply is missing (fault 1), is no text of a reply (2) or isn't
+/// permitted (3), or that no transcript may have (5). For fault 4 all are answered, and bytes follow the first PLACE
+/// ones.
 pub fn run<R: Threads + Wait + Sync, F: Files, N: Net, L: Link, O: Sink, G: Gate>(
     rt: &R,
     alloc: Global,
@@ -200,5 +213,6 @@ where
 {
     one_query_is_meant();
     one_ending();
+    one_verdict();
     dispatch(rt, alloc, words, files, net, own, out, gate)
 }

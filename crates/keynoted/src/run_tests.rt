@@ -60,6 +60,8 @@ const ASK_KEYS: &[&[u8]] = &[b"ask", b"p.kn", b"k.txt"];
 
 const CHECK: &[&[u8]] = &[b"check", b"p.kn", b"s.in", b"r.out"];
 
+const VERIFY: &[&[u8]] = &[b"verify", b"p.kn", b"s.in", b"t.out"];
+
 const FOLLOW: &[&[u8]] = &[b"follow", b"l.log"];
 
 const GEN: &[&[u8]] = &[b"gen", b"1", b"3"];
@@ -134,12 +136,13 @@ pub(crate) fn octets(alloc: Global, words: &[&[u8]]) -> Result<List<Octets>, NoM
 
 fn entries(alloc: Global) -> Result<List<FileEntry>, NoMemory> {
     let mut list = List::new(alloc);
-    let files: [(&[u8], &[u8]); 8] = [
+    let files: [(&[u8], &[u8]); 9] = [
         (b"p.kn", POLICY),
         (b"f.kn", FAULTY),
         (b"k.txt", KEYS),
         (b"s.in", SCRIPT),
         (b"r.out", REPLY),
+        (b"t.out", REPLIES),
         (b"l.log", LOG),
         (b"one.kn", ONE),
         (b"d.txt", DIGEST),
@@ -242,9 +245,10 @@ fn ends<R: Abort + Threads + Wait + Sync>(
 fn each_failed_file_and_call_is_told(rt: HostRuntime) -> Result<(), Fail> {
     let all_but_two: &[u8] =
         b"OK 1 2\nOK\nOK\nVALUE 1 log 2 2\nROW 1 a2 \"y\"\nROW 1 a1 \"POLICY\"\nEN";
-    let table: [(&[&[u8]], (u32, u32, u32), (u8, u32, &[u8], &[u8])); 19] = [
+    let table: [(&[&[u8]], (u32, u32, u32), (u8, u32, &[u8], &[u8])); 20] = [
         (ASK_KEYS, (0, 0, 0), (0, 2, REPLIES, b"")),
         (CHECK, (0, 0, 0), (0, 3, b"", b"PROVED 1 log\n")),
+        (VERIFY, (0, 0, 0), (0, 3, b"", b"VERIFIED 1 2\n")),
         (FOLLOW, (0, 0, 0), (0, 1, b"", b"FOLLOW 2 2\n")),
         (ASK, (1, 0, 0), (2, 1, b"", b"error file p.kn read\n")),
         (ASK_KEYS, (2, 0, 0), (2, 2, b"", b"error file k.txt read\n")),

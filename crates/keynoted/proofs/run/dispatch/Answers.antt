@@ -1,5 +1,5 @@
 use Rattle.std.proofs.Common.{refl}
-use Rattle.keynoted.specs.Outcomes.{NoCommand, AskEnded, CheckEnded, FollowEnded}
+use Rattle.keynoted.specs.Outcomes.{NoCommand, AskEnded, CheckEnded, FollowEnded, VerifyEnded}
 use Rattle.keynoted.proofs.Apart.{no_serve_otherwise}
 use Rattle.keynoted.proofs.Gen.{gen_ended}
 use Rattle.keynoted.proofs.run.dispatch.Goals as goal
@@ -16,6 +16,13 @@ returns-in-Some-log_file g c = record {
   outcome = FollowEnded c.in-Some-log_file.name.now c.follow-ending.result;
   cause = (c.in-Some-log_file.ensures.some, c.follow-ending.ensures, refl, refl);
   told = c.end_follow.ensures;
+}
+
+pub returns-in-Some-verify_files : goal.returns-in-Some-verify_files
+returns-in-Some-verify_files g c = record {
+  outcome = VerifyEnded c.in-Some-verify_files.names c.verify-ending.result;
+  cause = (c.in-Some-verify_files.ensures.some, c.verify-ending.ensures, refl, refl);
+  told = c.end_verify.ensures;
 }
 
 pub run_gen-requires : goal.run_gen-requires
@@ -44,6 +51,7 @@ returns-in-None g c = record {
       follow = c.in_default-log_file.ensures.none;
       gen = c.in_default-gen_numbers.ensures.none;
       serve = no_serve_otherwise c.args.words.now (c.asks_to_serve.ensures.no c.if-asks_to_serve.false);
+      verify = c.in_default-verify_files.ensures.none;
     },
     record { files = refl; net = refl; link = refl },
   );

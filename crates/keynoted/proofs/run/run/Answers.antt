@@ -2,4 +2,6 @@ use Rattle.keynoted.proofs.Specified.{specified}
 use Rattle.keynoted.proofs.run.run.Goals as goal
 
 pub returns : goal.returns
-returns g c = specified _ _ _ _ _ _ c.dispatch.ensures c.one_query_is_meant.ensures c.one_ending.ensures.no_other
+returns g c =
+    specified _ _ _ _ _ _ c.dispatch.ensures c.one_query_is_meant.ensures c.one_ending.ensures.no_other
+    c.one_verdict.ensures
