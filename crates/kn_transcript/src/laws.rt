@@ -11,8 +11,8 @@ pub fn transcripts()
     ensures versions { VersionsAreTold }
 {}
 
-/// A transcript is accepted or has a fault, and that is one: the numbers that are told and the fault are its own. So
-/// `verify` refuses none that is accepted, but for want of memory.
+/// A transcript has at most one verdict: it is accepted with one pair of numbers, or it has one fault. So `verify`
+/// refuses none that is accepted, but for want of memory.
 pub fn one_verdict()
     ensures { OneVerdict }
 {}
