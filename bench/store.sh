@@ -9,10 +9,12 @@
 # At 2,048 live credentials an update should take at most 50,000 ns and 8,192 bytes beyond its text, and at most three
 # times what it takes at 64.
 #
-# Then, at 2,048, what a batch of 256 additions costs, and one of 256 removals, and the bytes that a version keeps behind
-# one: between two runs that keep 40 and 240 versions, every second of them made by 256 additions of 37 bytes, without these
-# texts, each of which is held twice. Last the bytes of the 15 versions that a book retains before its newest, each made by
-# one update: the growth of peak memory from 64 newest versions to 64 books.
+# Then, at 2,048, what a batch of 256 additions costs, and one of 256 removals, and the bytes that the version behind a
+# batch of additions keeps: between two runs that keep 16 books behind 7 such batches and behind 15, at 1,793 to 3,841
+# live. Of these are told apart those of its 256 credentials, each a text of 37 bytes and what was read of it, as two runs
+# keep them outside any book, without the pointer of 8 bytes to each; and the texts in the log. What is left is the
+# version's own. Last the bytes of the 15 versions that a book retains before its newest, each made by one update: the
+# growth of peak memory from 64 newest versions to 64 books.
 set -eu
 
 TIME=/usr/bin/time
@@ -34,9 +36,15 @@ if [[ -x $TIME ]]; then
         many=$(peak_kib keep "$live" 10000)
         echo "$live live: $(((many - few) * 1024 / 8000)) bytes a version"
     done
-    few=$(peak_kib keep-batches 2048 40)
-    many=$(peak_kib keep-batches 2048 240)
-    echo "2048 live: $(((many - few) * 1024 / 200 - 256 * 37)) bytes a version of a batch beyond its texts"
+    few=$(peak_kib credentials 10000)
+    many=$(peak_kib credentials 50000)
+    credentials=$((256 * ((many - few) * 1024 / 40000 - 8)))
+    few=$(peak_kib keep-batches 1 7)
+    many=$(peak_kib keep-batches 1 15)
+    whole=$(((many - few) * 1024 / 128))
+    texts=$((256 * 37))
+    echo "$whole bytes a version of a batch: $credentials of its credentials, $texts of the log's texts," \
+        "$((whole - credentials - texts)) of its own"
     few=$(peak_kib newest 2048 16)
     many=$(peak_kib books 2048 16)
     echo "2048 live: $(((many - few) * 1024 / 64)) bytes of 15 retained versions"

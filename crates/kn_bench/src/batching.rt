@@ -9,7 +9,7 @@ use crate::updating::{TEXT, fill_book, keep, make_ready};
 use kn_base::limits::CHANGES;
 use kn_base::{List, NoMemory};
 use kn_history::{BatchFault, Item};
-use kn_store::{Book, Done, Snapshot};
+use kn_store::{Book, Done};
 use std::alloc::Global;
 use std::io;
 use std::rt::Clock;
@@ -24,6 +24,9 @@ const ROUNDS: u32 = 100;
 
 /// Books that are kept at once.
 const BOOKS: u32 = 64;
+
+/// Books that are kept at once behind batches.
+const BATCHED_BOOKS: u32 = 16;
 
 /// Items that add the text so many times.
 fn additions(alloc: Global, count: u32) -> Result<List<Item>, NoMemory>
@@ -65,12 +68,6 @@ fn add_batch(alloc: Global, book: &mut Book, count: u32) -> Result<Done, BatchFa
     requires few { count ≤ CHANGES }
 {
     let items = additions(alloc, count)?;
-    make(book, items)
-}
-
-/// Removes so many ids, from this one on, by one update.
-fn remove_batch(alloc: Global, book: &mut Book, first: u32) -> Result<Done, BatchFault> {
-    let items = removals(alloc, first, CHANGES)?;
     make(book, items)
 }
 
@@ -177,39 +174,41 @@ pub(crate) fn measure_batches(rt: &HostRuntime, is_timed: bool) -> io::Result<()
     show_retained(rt)
 }
 
-/// Makes so many batches, of which every second one removes what the one before it added, and keeps each version.
-fn keep_each(
-    alloc: Global,
-    book: &mut Book,
-    count: u32,
-    kept: &mut Vec<Snapshot>,
-) -> Result<(), BatchFault> {
-    let mut added = 0;
-    for turn in 0..count {
-        if turn % 2 == 0 {
-            added = add_batch(alloc, book, CHANGES)?.id;
-        } else {
-            remove_batch(alloc, book, added)?;
-        }
-        let Ok(snapshot) = Arc::try_clone(book.snapshot()) else {
-            return Err(BatchFault::NoMemory);
-        };
-        if kept.push(snapshot).is_err() {
-            return Err(BatchFault::NoMemory);
-        }
+/// A book of so many live credentials behind so many batches of additions.
+fn batched_book(alloc: Global, live: u32, count: u32) -> Option<Book> {
+    let mut book = fill_book(alloc, live).ok()?;
+    for _ in 0..count {
+        add_batch(alloc, &mut book, CHANGES).ok()?;
     }
-    Ok(())
+    Some(book)
 }
 
-/// Makes so many batches at so many live credentials and keeps each version, for whoever measures the memory of that.
+/// Keeps 16 books of so many live credentials, each behind so many batches of additions, for whoever measures what a
+/// version behind one takes.
 pub(crate) fn keep_batches(rt: &HostRuntime, live: u32, count: u32) -> io::Result<()> {
-    let mut kept = Vec::new(rt.alloc());
-    if let Ok(mut book) = fill_book(rt.alloc(), live)
-        && let Ok(()) = keep_each(rt.alloc(), &mut book, count, &mut kept)
-    {
-        println!(rt; "{} versions kept", kept.len())?;
+    let mut books = Vec::new(rt.alloc());
+    for _ in 0..BATCHED_BOOKS {
+        let Some(book) = batched_book(rt.alloc(), live, count) else {
+            return Ok(());
+        };
+        let _ = books.push(book);
     }
-    Ok(())
+    println!(rt; "{} books behind {count} batches", books.len())
+}
+
+/// Keeps so many credentials outside any book, each a text and what was read of it, for whoever measures their memory.
+pub(crate) fn keep_credentials(rt: &HostRuntime, count: u32) -> io::Result<()> {
+    let Ok(mut credentials) = Vec::with_capacity(rt.alloc(), count as usize) else {
+        return Ok(());
+    };
+    for _ in 0..count {
+        let Ok(ready) = make_ready(rt.alloc(), TEXT) else {
+            return Ok(());
+        };
+        let (credential, _logged) = ready.into_parts();
+        let _ = credentials.push(credential);
+    }
+    println!(rt; "{} credentials kept", credentials.len())
 }
 
 /// A book after so many updates at so many live credentials.

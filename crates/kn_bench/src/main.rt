@@ -3,9 +3,10 @@
 //!
 //! Without words each part is run once, and what it gives is printed, which is the same on each machine. `PART` does
 //! that for one of `lexer`, `feed`, `updates`, `batches` and `settling`, and `PART time` prints what it takes.
-//! `keep LIVE COUNT` makes so many updates at so many live credentials and keeps each version, and
-//! `keep-batches LIVE COUNT` so many batches. `books LIVE COUNT` makes 64 books of so many updates and keeps them, and
-//! `newest LIVE COUNT` the newest version of each alone.
+//! `keep LIVE COUNT` makes so many updates at so many live credentials and keeps each version. `books LIVE COUNT` makes
+//! 64 books of so many updates and keeps them, and `newest LIVE COUNT` the newest version of each alone.
+//! `keep-batches LIVE COUNT` keeps 16 books behind so many batches of additions, and `credentials COUNT` so many
+//! credentials outside any book.
 #![tactic(auto)]
 
 mod batching;
@@ -16,7 +17,7 @@ mod settling;
 mod stated;
 mod updating;
 
-use batching::{keep_batches, keep_books, measure_batches};
+use batching::{keep_batches, keep_books, keep_credentials, measure_batches};
 use feeding::measure_feeding;
 use kn_base::decimal;
 use lexing::measure_lexing;
@@ -56,6 +57,7 @@ fn main(rt: HostRuntime) -> io::Result<()> {
         "settling" => measure_settling(&rt, is_timed),
         "keep" => keep_versions(&rt, live, count),
         "keep-batches" => keep_batches(&rt, live, count),
+        "credentials" => keep_credentials(&rt, live),
         "books" => keep_books(&rt, live, count, false),
         "newest" => keep_books(&rt, live, count, true),
         _ => Err(io::Error::from(io::ErrorKind::InvalidInput)),
