@@ -1,5 +1,5 @@
 -- Texts as the parts of a query.
-use Rattle.std.proofs.Common.{◌≡◌, ◌≢◌, ℕ, zero, suc, ◌+◌, ◌≤◌, List, [], ◌∷◌, ◌++◌, length, map, take, Option, Some, None, is_some, refl, sym, ap, subst, ◌∙◌, arith, append_assoc}
+use Rattle.std.proofs.Common.{◌≡◌, ◌≢◌, ℕ, zero, suc, ◌+◌, ◌≤◌, List, [], ◌∷◌, ◌++◌, drop, length, map, take, Option, Some, None, is_some, refl, sym, ap, subst, ◌∙◌, arith, append_assoc}
 use Rattle.std.specs.Prelude.{slice_get, sum_by, IsSome}
 use Rattle.std.specs.List.{AllByRecursion}
 use Rattle.std.proofs.lemmas.List.{map-append}
@@ -44,6 +44,31 @@ read_more (c ∷ texts) zero text a here read before =
     let there : c.text ≡ text = cc in
     (ap is_some (ap assertion_of there ∙ read), tt)
 read_more (c ∷ texts) (suc i) text a here read before = (before.0, read_more texts i text a here read before.1)
+
+-- the same from a place on
+pub parts_more_from : (name : ℕ → Id) (texts : List NumberedText) (first i k : ℕ) (text : List ℕ) (a : Assertion) → first ≤ i
+    → slice_get (map (λ (c : NumberedText). c.id) texts) i ≡ Some k → slice_get (texts_in texts) i ≡ Some text → assertion_of text ≡ Some a
+    → parts_of name (drop first (take (suc i) texts)) ≡ parts_of name (drop first (take i texts)) ++ record { id = name k; assertion = a } ∷ []
+parts_more_from name [] first i k text a within id here read = absurd (cc)
+parts_more_from name (c ∷ texts) zero i k text a within id here read = parts_more name (c ∷ texts) i k text a id here read
+parts_more_from name (c ∷ texts) (suc first) zero k text a within id here read = absurd (omega (arith, within))
+parts_more_from name (c ∷ texts) (suc first) (suc i) k text a within id here read =
+    parts_more_from name texts first i k text a (omega (arith, within)) id here read
+
+pub read_more_from : (texts : List NumberedText) (first i : ℕ) (text : List ℕ) (a : Assertion) → first ≤ i
+    → slice_get (texts_in texts) i ≡ Some text → assertion_of text ≡ Some a
+    → AreRead (drop first (take i texts)) → AreRead (drop first (take (suc i) texts))
+read_more_from [] first i text a within here read before = absurd (cc)
+read_more_from (c ∷ texts) zero i text a within here read before = read_more (c ∷ texts) i text a here read before
+read_more_from (c ∷ texts) (suc first) zero text a within here read before = absurd (omega (arith, within))
+read_more_from (c ∷ texts) (suc first) (suc i) text a within here read before =
+    read_more_from texts first i text a (omega (arith, within)) here read before
+
+-- from a place on there are none before it
+pub none_before : (texts : List NumberedText) (first : ℕ) → drop first (take first texts) ≡ []
+none_before texts zero = refl
+none_before [] (suc first) = refl
+none_before (c ∷ texts) (suc first) = none_before texts first
 
 pub own_read : (privates : List Private) → AreReadPrivates privates → AreRead (map numbered_text privates)
 own_read [] readings = tt

@@ -1,2 +1,3 @@
 pub mod SharedParts
 pub mod SharedBases
+pub mod Following

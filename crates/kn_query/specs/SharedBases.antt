@@ -1,5 +1,5 @@
 -- Which version a base is of (keynoted's own).
-use Rattle.std.specs.Prelude.{◌≡◌, ◌+◌, ◌≤◌, true, List, length, replicate}
+use Rattle.std.specs.Prelude.{◌≡◌, ◌+◌, ◌≤◌, true, List, length, replicate, take}
 use Rattle.kn_base.specs.declared.limits.TheConstants.{LIVE_BYTES}
 use Rattle.kn_history.specs.declared.update.Update.{Update}
 use Rattle.kn_history.specs.History.{credentials_of}
@@ -22,6 +22,6 @@ pub record IsOfVersion (version : List Update) (shared : SharedBase) : Type 0 wh
   pub few_names : length shared.base.names ≤ 1 + LIVE_BYTES
   pub few_nodes : node_total shared.base.system.rows ≤ LIVE_BYTES
 
--- It is of this version if it has its number.
-abbrev pub IsByNumber : List Update → SharedBase → Type 0
-IsByNumber version shared = shared.number ≡ length version → IsOfVersion version shared
+-- If it is of no later version, it is of what the first updates of this one made.
+abbrev pub IsOfHistory : List Update → SharedBase → Type 0
+IsOfHistory version shared = shared.number ≤ length version → IsOfVersion (take shared.number version) shared

@@ -5,6 +5,7 @@
 
 mod credentials;
 mod critical;
+mod following;
 mod parts;
 mod query;
 mod shared_base;

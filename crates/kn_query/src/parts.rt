@@ -1,5 +1,5 @@
 //! The assertions of a session by their ids.
-ghost use Rattle.std.specs.Prelude.{◌≡◌, ◌++◌, map, IfOk, OnOk};
+ghost use Rattle.std.specs.Prelude.{◌≡◌, ◌≤◌, ◌++◌, drop, length, map, IfOk, OnOk};
 ghost use Rattle.kn_proof.specs.declared.named.Id.TheVariants.{Shared};
 ghost use Rattle.kn_session.specs.Views.{session_of_view, AreReadPrivates, ArePrivates};
 ghost use Rattle.kn_history.specs.History.{credentials_of};
@@ -29,20 +29,22 @@ pub(crate) fn parts_of_view<'a>(alloc: Global, view: &View<'a>) -> Result<List<P
     let version: &'a Version = view.snapshot;
     let _live = version.len();
     let mut parts = List::new(alloc);
-    push_shared(&mut parts, version)?;
+    push_shared(&mut parts, version, 0)?;
     push_private(&mut parts, view.private)?;
     Ok(parts)
 }
 
-/// Adds the credentials of a version under their ids.
+/// Adds the credentials of a version from this place on, under their ids.
 pub(crate) fn push_shared<'a>(
     parts: &mut List<Part<'a>>,
     version: &'a Version,
+    first: u32,
 ) -> Result<(), NoMemory>
-    ensures parts { OnOk result (parts.new ≡ parts.old ++ parts_of Shared (credentials_of version.now)) }
-    ensures read { OnOk result (AreRead (credentials_of version.now)) }
+    requires { first ≤ length (credentials_of version.now) }
+    ensures parts { OnOk result (parts.new ≡ parts.old ++ parts_of Shared (drop first (credentials_of version.now))) }
+    ensures read { OnOk result (AreRead (drop first (credentials_of version.now))) }
 {
-    for place in 0..version.len() {
+    for place in first..version.len() {
         let part = Part {
             id: Id::Shared(version.id(place)),
             assertion: &version.credential(place).assertion,

@@ -7,7 +7,7 @@ ghost use Rattle.kn_session.specs.Views.{session_of_view, numbered_text, AreRead
 ghost use Rattle.kn_daemon.specs.Daemon.{equations_of};
 ghost use Rattle.kn_answer.specs.Built.{IsBuilt};
 ghost use Rattle.kn_answer.specs.Numbering.{AreDistinct};
-ghost use Rattle.kn_query.specs.SharedBases.{IsByNumber, IsOfVersion};
+ghost use Rattle.kn_query.specs.SharedBases.{IsOfHistory, IsOfVersion};
 ghost use Rattle.kn_query.specs.SharedParts.{private_parts, shared_parts};
 
 use crate::parts::parts_of_view;
@@ -38,9 +38,9 @@ pub fn build_query(alloc: Global, view: &View<'_>, values: &Values) -> Result<Bu
 /// The answer to what a session asks where these are the compliance values: its value (RFC 2704, section 5), and the
 /// rows that prove it.
 ///
-/// What is kept from one query to the next is a base of shared credentials. One that has the number of the session's
-/// version is asked, and else one is built. Private assertions are in it for their query alone. `NoMemory` comes only
-/// for want of memory.
+/// What is kept from one query to the next is a base of shared credentials. One of the session's version is asked, one
+/// of an earlier version of the same history follows it, and else one is built. Private assertions are in it for their
+/// query alone. `NoMemory` comes only for want of memory.
 pub fn answer_query(
     alloc: Global,
     view: &View<'_>,
@@ -50,7 +50,7 @@ pub fn answer_query(
     requires privates { ArePrivates (session_of_view view.now).privates }
     requires readings { AreReadPrivates view.now.private.now }
     requires requesters { AreRequesters view.now.requesters.now }
-    requires by_number { IfSome kept.old (IsByNumber (session_of_view view.now).pinned) }
+    requires of_history { IfSome kept.old (IsOfHistory (session_of_view view.now).pinned) }
     ensures proof { IfOk result (λ a. IsProof (equations_of (session_of_view view.now) values.now) a.rows a.value) }
     ensures least { IfOk result (λ a. IsPolicyLevel (equations_of (session_of_view view.now) values.now) a.value) }
     ensures below { IfOk result (λ a. a.value < length values.now) }
@@ -74,7 +74,7 @@ fn answer_own(
 ) -> Result<Answer, NoMemory>
     requires privates { ArePrivates (map numbered_text privates.now) }
     requires readings { AreReadPrivates privates.now }
-    requires by_number { IfSome kept.old (IsByNumber version.now) }
+    requires of_history { IfSome kept.old (IsOfHistory version.now) }
     ensures proof { IfOk result (λ a. IsProof
         (equations_over query.now (shared_parts version.now ++ private_parts privates.now)) a.rows a.value) }
     ensures least { IfOk result (λ a. IsPolicyLevel
@@ -95,7 +95,7 @@ fn answer_shared(
     query: &Query<'_>,
     kept: &mut Option<SharedBase>,
 ) -> Result<Answer, NoMemory>
-    requires by_number { IfSome kept.old (IsByNumber version.now) }
+    requires of_history { IfSome kept.old (IsOfHistory version.now) }
     ensures proof { IfOk result (λ a. IsProof (equations_over query.now (shared_parts version.now)) a.rows a.value) }
     ensures least { IfOk result (λ a. IsPolicyLevel (equations_over query.now (shared_parts version.now)) a.value) }
     ensures below { IfOk result (λ a. a.value < length query.now.values) }
@@ -107,19 +107,21 @@ fn answer_shared(
     answer
 }
 
-// The base that is kept where it is of the version, or a new one. Another one goes first, and none is kept meanwhile.
+// The base that is kept where it is of the version or has followed it, or a new one. None is kept meanwhile.
 fn take_or_build(
     alloc: Global,
     version: &Version,
     kept: &mut Option<SharedBase>,
 ) -> Result<SharedBase, NoMemory>
-    requires by_number { IfSome kept.old (IsByNumber version.now) }
+    requires of_history { IfSome kept.old (IsOfHistory version.now) }
     ensures of_version { IfOk result (IsOfVersion version.now) }
     ensures taken { kept.new ≡ None }
 {
     if let Some(shared) = kept.take() {
-        if shared.number() == version.number() {
-            return Ok(shared);
+        if shared.number() <= version.number() {
+            if let Some(followed) = shared.follow(alloc, version)? {
+                return Ok(followed);
+            }
         }
     }
     SharedBase::of(alloc, version)

@@ -1,14 +1,17 @@
 //! The shared credentials of a version as a base, which is kept from one query to the next.
-ghost use Rattle.std.specs.Prelude.{◌≡◌, ◌<◌, ◌≤◌, ◌++◌, true, List as ListOf, length, map, IfOk, IfSome};
+ghost use Rattle.std.specs.Prelude.{◌≡◌, ◌<◌, ◌≤◌, ◌++◌, true, List as ListOf, length, map, take, IfOk, IfSome};
 ghost use Rattle.kn_history.specs.declared.update.Update.{Update};
+ghost use Rattle.kn_history.specs.History.{credentials_of};
 ghost use Rattle.kn_meaning.specs.Equations.{IsPolicyLevel, equations_over};
 ghost use Rattle.kn_meaning.specs.Proofs.{IsProof};
 ghost use Rattle.kn_session.specs.Views.{numbered_text, AreReadPrivates, ArePrivates};
 ghost use Rattle.kn_system.specs.Equations.{node_total};
+ghost use Rattle.kn_query.specs.Following.{GoOn};
 ghost use Rattle.kn_query.specs.SharedBases.{HasCredentials, IsOfVersion};
 ghost use Rattle.kn_query.specs.SharedParts.{private_parts, shared_parts};
 
 use crate::credentials::Credentials;
+use crate::following::only_adds;
 use crate::parts::{push_private, push_shared};
 use kn_answer::{Answer, Base};
 use kn_base::{List, NoMemory};
@@ -47,7 +50,7 @@ impl SharedBase {
         kn_assert::laws::readings_are_sound();
         let _live = version.len();
         let mut parts = List::new(alloc);
-        push_shared(&mut parts, version)?;
+        push_shared(&mut parts, version, 0)?;
         let base = Base::of(alloc, &parts)?;
         let most = base.principals() + MOST_ENTERED;
         Ok(SharedBase {
@@ -62,6 +65,53 @@ impl SharedBase {
         ensures { result ≡ self.now.number }
     {
         self.number
+    }
+
+    /// The base where it has followed the updates of a version that goes on from its own: the credentials that they
+    /// added stand behind the others. It is gone where they removed one, or where it became too large to be kept.
+    ///
+    /// `NoMemory` comes only for want of memory, and the base is gone then.
+    pub(crate) fn follow(
+        self,
+        alloc: Global,
+        version: &Version,
+    ) -> Result<Option<SharedBase>, NoMemory>
+        requires later { self.number ≤ length version.now }
+        requires of_earlier { IsOfVersion (take self.number version.now) self }
+        ensures of_version { IfOk result (λ followed. IfSome followed (IsOfVersion version.now)) }
+    {
+        if self.number == version.number() {
+            return Ok(Some(self));
+        }
+        if !self.is_small() || !only_adds(version, self.number) {
+            return Ok(None);
+        }
+        let followed = self.extend(alloc, version)?;
+        Ok(followed.into_kept())
+    }
+
+    // The base with the credentials behind its own.
+    fn extend(self, alloc: Global, version: &Version) -> Result<SharedBase, NoMemory>
+        requires credentials { HasCredentials (take self.number version.now) self }
+        requires names { length self.base.names ≤ MOST_PRINCIPALS }
+        requires nodes { node_total self.base.system.rows ≤ MOST_NODES }
+        requires go_on { GoOn (credentials_of (take self.number version.now)) (credentials_of version.now) }
+        ensures { IfOk result (HasCredentials version.now) }
+    {
+        kn_assert::laws::readings_are_computed();
+        kn_assert::laws::readings_are_sound();
+        let _live = version.len();
+        let mut parts = List::new(alloc);
+        push_shared(&mut parts, version, self.base.rows())?;
+        let SharedBase { base, most, .. } = self;
+        let before = base.principals();
+        let base = base.extend_all(alloc, &parts)?;
+        let most = most.saturating_add(base.principals() - before);
+        Ok(SharedBase {
+            base,
+            number: version.number(),
+            most,
+        })
     }
 
     /// The answer to a query over the credentials of the version. `NoMemory` comes only for want of memory, and the

@@ -4,7 +4,7 @@ use Rattle.std.proofs.Common.{sym, ap}
 use Rattle.std.proofs.Common.{◌∙◌, subst, arith}
 use Rattle.std.proofs.Common.{inl, inr}
 use Rattle.std.specs.Prelude.{◌⊎◌, IfSome}
-use Rattle.std.proofs.lemmas.List.{take_all}
+use Rattle.std.proofs.lemmas.List.{take_all, take-take}
 use Rattle.kn_outside.specs.Seen.{LinkSeen}
 use Rattle.kn_history.specs.declared.update.Update.{Update}
 use Rattle.kn_session.specs.Sessions.{Session, StandingQuery, asker, query_at}
@@ -13,7 +13,7 @@ use Rattle.kn_daemon.specs.Shapes.{Shape}
 use Rattle.kn_daemon.specs.Daemon.{Grounds}
 use Rattle.kn_registry.specs.Passes.{PassSeen, Moves}
 use Rattle.kn_query.specs.declared.shared_base.SharedBase.{SharedBase}
-use Rattle.kn_query.specs.SharedBases.{IsByNumber, IsOfVersion}
+use Rattle.kn_query.specs.SharedBases.{IsOfHistory, IsOfVersion}
 use Rattle.kn_serve.specs.Handling.{Moment, Handles}
 use Rattle.kn_serve.specs.Serving.{Serving}
 use Rattle.kn_serve.specs.Kept.{IsFirstOf, ArePinned, IsKept}
@@ -44,13 +44,14 @@ pub kept-handled : (g : Grounds) (shape : Shape) (whole : Bool) (m m' : Moment) 
 kept-handled g shape whole m m' kept handled is =
     kept-moved m.pass m'.pass handled.more _ handled.entries kept handled.moves is
 
--- the base that has the number of a version of the history is of it
-pub kept-by_number : (version history : List Update) (kept : Option SharedBase) → IsFirstOf version history
+-- the base is of what the first updates of a later version of the history made
+pub kept-of_earlier : (version history : List Update) (kept : Option SharedBase) → IsFirstOf version history
     → IsKept history kept
-    → IfSome kept (λ shared. IsByNumber version shared)
-kept-by_number version history None first is = tt
-kept-by_number version history (Some shared) first is = λ at.
-    subst (λ (u : List Update). IsOfVersion u shared) (ap (λ (n : ℕ). take n history) at ∙ sym first) is
+    → IfSome kept (λ shared. IsOfHistory version shared)
+kept-of_earlier version history None first is = tt
+kept-of_earlier version history (Some shared) first is = λ within.
+    subst (λ (u : List Update). IsOfVersion u shared)
+    (sym (take-take shared.number (length version) history within) ∙ ap (take shared.number) (sym first)) is
 
 -- and one that is of a version of the history is of the history
 kept-of : (version history : List Update) (new : Option SharedBase) → IsFirstOf version history

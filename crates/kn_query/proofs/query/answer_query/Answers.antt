@@ -6,14 +6,14 @@ use Rattle.kn_history.specs.declared.update.Update.{Update}
 use Rattle.kn_session.specs.Sessions.{Session}
 use Rattle.kn_session.specs.Views.{numbered_text, session_of_view}
 use Rattle.kn_daemon.specs.Daemon.{equations_of}
-use Rattle.kn_query.specs.SharedBases.{IsByNumber, IsOfVersion}
+use Rattle.kn_query.specs.SharedBases.{IsOfHistory, IsOfVersion}
 use Rattle.kn_query.specs.SharedParts.{private_parts, shared_parts}
 use Rattle.kn_query.proofs.SharedParts.{asked-alone, asked-with}
 use Rattle.kn_query.proofs.query.answer_query.Goals as goal
 
 pub answer_shared-requires : goal.answer_shared-requires
 answer_shared-requires c = record {
-  by_number = subst (λ (u : List Update). IfSome c.args.kept.now (λ shared. IsByNumber u shared)) (sym c.deref.ensures) c.requires.by_number;
+  of_history = subst (λ (u : List Update). IfSome c.args.kept.now (λ shared. IsOfHistory u shared)) (sym c.deref.ensures) c.requires.of_history;
 }
 
 pub returns-then-is_empty : goal.returns-then-is_empty
@@ -34,7 +34,7 @@ pub answer_own-requires : goal.answer_own-requires
 answer_own-requires c = record {
   privates = c.requires.privates;
   readings = c.requires.readings;
-  by_number = subst (λ (u : List Update). IfSome c.args.kept.now (λ shared. IsByNumber u shared)) (sym c.deref-else-is_empty.ensures) c.requires.by_number;
+  of_history = subst (λ (u : List Update). IfSome c.args.kept.now (λ shared. IsOfHistory u shared)) (sym c.deref-else-is_empty.ensures) c.requires.of_history;
 }
 
 pub returns : goal.returns

@@ -4,7 +4,7 @@ use Rattle.kn_history.specs.declared.update.Update.{Update}
 use Rattle.kn_session.specs.Views.{session_of_view}
 use Rattle.kn_serve.specs.Handling.{state_of}
 use Rattle.kn_serve.proofs.HandlingLaws.{told_handled}
-use Rattle.kn_serve.proofs.KeptLaws.{kept-after, kept-by_number, kept-moved, newest-first}
+use Rattle.kn_serve.proofs.KeptLaws.{kept-after, kept-of_earlier, kept-moved, newest-first}
 use Rattle.kn_serve.proofs.WatchingLaws.{news_refused, news_unpinned, news_unanswered, news_answered}
 use Rattle.kn_serve.proofs.watching.news.Goals as goal
 
@@ -33,11 +33,11 @@ returns-clause-handled g c = λ g'.
     (c.number.ensures.number ∙ ap (λ (x : List Update). length x) c.deref.ensures)
     c.in-Ok-move_standing.ensures.ok c.tell_news-told.ensures.prints
 
-pub answer_query-requires-clause-by_number : goal.answer_query-requires-clause-by_number
-answer_query-requires-clause-by_number g c =
+pub answer_query-requires-clause-of_history : goal.answer_query-requires-clause-of_history
+answer_query-requires-clause-of_history g c =
     let seen = c.pin.new.pass.seen in
     let asking = session_of_view c.view_over-view.result in
-    kept-by_number asking.pinned seen c.args.kept.now
+    kept-of_earlier asking.pinned seen c.args.kept.now
     (newest-first asking c.in-Ok.query.now _ seen c.view_over-view.ensures.session c.in-Ok-pin.ensures.version)
     (kept-moved _ _ _ _ _ _ c.in-Ok-pin.ensures.looked.moves c.requires.of_history)
 

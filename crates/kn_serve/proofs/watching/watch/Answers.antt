@@ -5,7 +5,7 @@ use Rattle.kn_session.specs.Views.{session_of_view}
 use Rattle.kn_daemon.specs.Shapes.{Asks, ToKeep}
 use Rattle.kn_serve.specs.Handling.{state_of}
 use Rattle.kn_serve.proofs.HandlingLaws.{told_memory}
-use Rattle.kn_serve.proofs.KeptLaws.{kept-after, kept-by_number}
+use Rattle.kn_serve.proofs.KeptLaws.{kept-after, kept-of_earlier}
 use Rattle.kn_serve.proofs.QueryingLaws.{question_refused}
 use Rattle.kn_serve.proofs.WatchingLaws.{kept_is, kept_stands, watch_unkept, watch_answered}
 use Rattle.kn_serve.proofs.watching.watch.Goals as goal
@@ -71,9 +71,9 @@ returns g c =
           c.tell_news.ensures.prints;
     }
 
-pub answer_query-requires-clause-by_number : goal.answer_query-requires-clause-by_number
-answer_query-requires-clause-by_number g c =
+pub answer_query-requires-clause-of_history : goal.answer_query-requires-clause-of_history
+answer_query-requires-clause-of_history g c =
     let all = c.requires.one_history in
     let session = session_of_view c.in-Ok.asked.0 in
-    kept-by_number session.pinned all.history c.args.kept.now (all.pinned c.args.s session c.in-Ok.ensures.session)
+    kept-of_earlier session.pinned all.history c.args.kept.now (all.pinned c.args.s session c.in-Ok.ensures.session)
     all.is
