@@ -2,7 +2,7 @@
 
 use kn_base::NoMemory;
 
-/// The most faults that an authenticator has.
+/// The greatest number of a fault that an authenticator finds.
 pub const AUTH_FAULTS: u8 = 5;
 
 /// Why a transcript isn't accepted (keynoted's own). Requests are counted from 1.

@@ -27,9 +27,11 @@ pub struct Verified {
 /// Verifies the transcript of a whole connection over a book of the shared credentials: what a client sent and what it
 /// got (keynoted's own). No query is settled: each value is checked by its rows.
 ///
-/// It is accepted where each reply is one that a daemon of one thread may give to a connection that is alone, and none
-/// is left out. Else the fault is that of the first request that has one, or tells the bytes that are left in the end.
-/// `NoMemory` comes only for want of memory.
+/// The requests end at the first BYE or refused block, or at the 1,000,000th; an unfinished one and what is behind it
+/// don't count. The transcript is accepted where the replies are one to each of them, and each is one that a daemon of
+/// one thread may give to a connection that is alone. Whether a secret was right, and what the authenticator said of a
+/// text, is read off each reply. Else the fault is that of the first request that has one, or tells where the bytes
+/// begin that are left in the end. `NoMemory` comes only for want of memory.
 pub fn verify(
     alloc: Global,
     book: Book,
