@@ -285,7 +285,7 @@ module _ (f f' : FilesSeen) (told : Tells f) (calm : ¬ Rose f.faults f'.faults)
         let within : length replies ≤ 16777216 = small in
         let same : Ok (is.0, is.1) ≡ Err fault =
         one_verdict (loaded_history (pieces_of bytes)) script replies (Ok (is.0, is.1)) (Err fault)
-            (omega (arith, within)) is.2 faulty in
+        (omega (arith, within)) is.2 faulty in
         absurd (cc same)
 
     refused_transcript : (fault : TranscriptFault) → fault ≢ T.NoMemory

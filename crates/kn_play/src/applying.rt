@@ -164,7 +164,7 @@ fn set_digits(
     requires digits { are_digits digits.now ≡ true }
     ensures { (history : List Update)
         → OnOk result (state_of_sessions sessions.new
-            ≡ applied history sessions.old (Calls s (Set name.now (bytes_of_digits digits.now)))) }
+        ≡ applied history sessions.old (Calls s (Set name.now (bytes_of_digits digits.now)))) }
 {
     let bytes = decode_digits(alloc, digits)?;
     let value = bytes.as_slice();

@@ -15,6 +15,7 @@ use Rattle.kn_store.specs.contracts.live_credential.LiveCredential as live
 use Rattle.kn_history.specs.contracts.update.Update as update
 use Rattle.kn_store.proofs.pages.Pages.TheSendSync as pages
 use Rattle.kn_store.specs.contracts.live_set.LiveSet as set
+use Rattle.kn_store.specs.contracts.log.LoggedUpdate as logged
 use Rattle.kn_store.specs.contracts.log.LogPage as page
 use Rattle.kn_store.specs.contracts.log.Log as log
 use Rattle.kn_store.specs.contracts.version.Version as version
@@ -63,11 +64,17 @@ set_send = search (sendable, live_send, live_sync, pages.the_send) depth 20
 set_sync : IsSync (set.the_field).row
 set_sync = search (sendable, live_send, live_sync, pages.the_sync) depth 20
 
+logged_send : IsSend (logged.the_field).row
+logged_send = search (sendable, crosses, update_send, update_sync) depth 20
+
+logged_sync : IsSync (logged.the_field).row
+logged_sync = search (sendable, crosses, update_send, update_sync) depth 20
+
 page_send : IsSend (page.the_field).row
-page_send = search (sendable, update_send, update_sync, pages.the_send) depth 20
+page_send = search (sendable, logged_send, logged_sync, pages.the_send) depth 20
 
 page_sync : IsSync (page.the_field).row
-page_sync = search (sendable, update_send, update_sync, pages.the_sync) depth 20
+page_sync = search (sendable, logged_send, logged_sync, pages.the_sync) depth 20
 
 log_send : IsSend (log.the_field).row
 log_send = search (sendable, crosses, page_send, page_sync, list.the_send) depth 20

@@ -23,6 +23,22 @@ returns-in-Ok-clause-added g c =
     adds_of v c.append.new.pass log c.number.result (additions (all_changes book) + 1) c.commit-done.result.id c.commit-done.result.version c.args.ready is number_is (c.commit-done.ensures.id ∙ c.in-Ok.ensures.id)
     taken.seen (subst IsSoundPass taken.taken taken.sound) c.append.ensures.sound follows (c.commit-done.ensures.version ∙ ap length longer)
 
+pub returns-in-Ok-clause-ready : goal.returns-in-Ok-clause-ready
+returns-in-Ok-clause-ready g c =
+    let taken = c.take-shared.ensures in
+    let log : List Update = c.take-shared.result in
+    let book : List Update = c.shared.inside.book in
+    let update : Update = addition_by c.number.result c.args.ready (additions (all_changes book) + 1) in
+    let prepared : c.in-Ok.prepared.log ≡ book ++ update ∷ [] = c.in-Ok.ensures.log in
+    let longer : c.commit-done.new.self ≡ log ++ update ∷ [] = c.commit-done.ensures.log ∙ (prepared ∙ ap (λ (b : List Update). b ++ update ∷ []) c.shared.view_is) in
+    let out : log ≡ c.take-shared.new.pass.taken = sym (ap (λ (p : PassSeen). p.taken) taken.taken) in
+    let is = c.append.ensures.appended update (longer ∙ ap (λ (l : List Update). l ++ update ∷ []) out) ∙ ap (λ (p : PassSeen). after_give (after_append p update)) taken.taken in
+    record {
+      own = ap (λ (p : PassSeen). p.turn) is ∙ c.requires.ready.own;
+      idle = ap (λ (p : PassSeen). p.is_idle) is;
+      valid = c.append.ensures.valid;
+    }
+
 pub returns-in-Err-clause-refused : goal.returns-in-Err-clause-refused
 returns-in-Err-clause-refused g c =
     let taken = c.take-shared.ensures in
