@@ -1,6 +1,7 @@
 //! Live credentials, each with its id.
 
-ghost use Rattle.std.specs.Prelude.{◌≡◌, Some};
+ghost use Rattle.std.specs.Prelude.{◌≡◌, Some, IfOk};
+ghost use Rattle.std.specs.Arc.{arc_value};
 ghost use Rattle.kn_assert.specs.Reading.{assertion_of};
 
 use crate::pages::Shareable;
@@ -52,6 +53,17 @@ impl LiveCredential {
         ensures reading { assertion_of self.now.text ≡ Some result.now.assertion }
     {
         &self.credential
+    }
+
+    /// The credential, to be kept beyond the set. `NoMemory` comes only for want of memory.
+    pub(crate) fn share_credential(&self) -> Result<Arc<Credential>, NoMemory>
+        ensures text { IfOk result (λ c. (arc_value c).text ≡ self.now.text) }
+        ensures reading { IfOk result (λ c. assertion_of self.now.text ≡ Some (arc_value c).assertion) }
+    {
+        match Arc::try_clone(&self.credential) {
+            Ok(credential) => Ok(credential),
+            Err(_) => Err(NoMemory),
+        }
     }
 }
 

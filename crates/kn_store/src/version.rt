@@ -2,6 +2,7 @@
 
 ghost use Rattle.std.specs.Prelude.{◌≡◌, ◌⊎◌, ◌<◌, ◌≤◌, true, [], ◌∷◌, ◌++◌, map, length, slice_get, ℕ, List as Of};
 ghost use Rattle.std.specs.Prelude.{Option, None, Some, IfOk, IfErr, OnOk};
+ghost use Rattle.std.specs.Arc.{arc_value};
 ghost use Rattle.kn_base.specs.declared.limits.TheConstants.{LIVE_CREDENTIALS, LIVE_BYTES, UPDATES, CHANGES};
 ghost use Rattle.kn_assert.specs.Reading.{assertion_of};
 ghost use Rattle.kn_history.specs.declared.fault.StoreFault.{StoreFault};
@@ -106,6 +107,18 @@ impl Version {
         ensures reading { assertion_of result.now.text ≡ Some result.now.assertion }
     {
         self.live.get(i).credential()
+    }
+
+    /// The i-th live credential, counted from 0 in order of id, to be kept beyond this version. Its text isn't copied.
+    ///
+    /// `NoMemory` comes only for want of memory.
+    pub fn share_credential(&self, i: u32) -> Result<Arc<Credential>, NoMemory>
+        requires in_range { i < length (credentials_of self.now) }
+        ensures text { IfOk result (λ c.
+            slice_get (map (λ c. c.text) (credentials_of self.now)) i ≡ Some (arc_value c).text) }
+        ensures reading { IfOk result (λ c. assertion_of (arc_value c).text ≡ Some (arc_value c).assertion) }
+    {
+        self.live.get(i).share_credential()
     }
 
     /// The i-th update that made it, counted from 0. Takes no memory.
