@@ -1,3 +1,4 @@
 pub mod Texts
 pub mod SharedParts
 pub mod Later
+pub mod Rows

@@ -3,6 +3,7 @@ use Rattle.std.proofs.Common.{◌≡◌, ℕ, zero, suc, ◌≤◌, List, [], �
 use Rattle.std.specs.Prelude.{sum_by}
 use Rattle.std.specs.List.{IsDistinct}
 use Rattle.std.proofs.lemmas.List.{append-nil}
+use Rattle.std.proofs.lemmas.Option.{same_Some}
 use Rattle.std.proofs.lemmas.List.Sums.{sum_by-cons}
 use Rattle.kn_base.specs.declared.limits.TheConstants.{LIVE_BYTES}
 use Rattle.kn_trees.specs.declared.assertion.Assertion.{Assertion}
@@ -31,28 +32,25 @@ parts-count name (c ∷ texts) read =
     ap (λ (o : Option Assertion). length (part_by name c.id o ++ parts_of name texts)) one.1 ∙ ap suc (parts-count name texts read.1)
 
 -- its id is that of the text
-pub id-at : (name : ℕ → Id) (texts : List NumberedText) → AreRead texts → (i k : ℕ) → slice_get (map (λ (c : NumberedText). c.id) texts) i ≡ Some k
-    → IsNumber (map (λ (p : Part). p.id) (parts_of name texts)) (name k) i
-id-at name [] read i k here = absurd (cc)
-id-at name (c ∷ texts) read zero k here =
+pub id-at : (name : ℕ → Id) (texts : List NumberedText) → AreRead texts → (i : ℕ) (text : NumberedText) → slice_get texts i ≡ Some text
+    → IsNumber (map (λ (p : Part). p.id) (parts_of name texts)) (name text.id) i
+id-at name [] read i text here = absurd (cc)
+id-at name (c ∷ texts) read zero text here =
     let one : (a : Assertion) × (assertion_of c.text ≡ Some a) = found (assertion_of c.text) read.0 in
-    let same : c.id ≡ k = cc in
     ap (λ (o : Option Assertion). slice_get (map (λ (p : Part). p.id) (part_by name c.id o ++ parts_of name texts)) zero) one.1
-    ∙ ap (λ (n : ℕ). Some (name n)) same
-id-at name (c ∷ texts) read (suc i) k here =
+    ∙ ap (λ (t : NumberedText). Some (name t.id)) (same_Some c text here)
+id-at name (c ∷ texts) read (suc i) text here =
     let one : (a : Assertion) × (assertion_of c.text ≡ Some a) = found (assertion_of c.text) read.0 in
     ap (λ (o : Option Assertion). slice_get (map (λ (p : Part). p.id) (part_by name c.id o ++ parts_of name texts)) (suc i)) one.1
-    ∙ id-at name texts read.1 i k here
+    ∙ id-at name texts read.1 i text here
 
 -- and its assertion is the reading of the text
-pub assertion-at : (name : ℕ → Id) (texts : List NumberedText) → AreRead texts → (i : ℕ) (text : List ℕ) (a : Assertion)
-    → slice_get (map (λ (c : NumberedText). c.text) texts) i ≡ Some text → assertion_of text ≡ Some a
-    → IsNumber (map (λ (p : Part). p.assertion) (parts_of name texts)) a i
+pub assertion-at : (name : ℕ → Id) (texts : List NumberedText) → AreRead texts → (i : ℕ) (text : NumberedText) (a : Assertion)
+    → slice_get texts i ≡ Some text → assertion_of text.text ≡ Some a → IsNumber (map (λ (p : Part). p.assertion) (parts_of name texts)) a i
 assertion-at name [] read i text a here is = absurd (cc)
 assertion-at name (c ∷ texts) read zero text a here is =
-    let there : c.text ≡ text = cc in
     ap (λ (o : Option Assertion). slice_get (map (λ (p : Part). p.assertion) (part_by name c.id o ++ parts_of name texts)) zero)
-    (ap assertion_of there ∙ is)
+    (ap (λ (t : NumberedText). assertion_of t.text) (same_Some c text here) ∙ is)
 assertion-at name (c ∷ texts) read (suc i) text a here is =
     let one : (b : Assertion) × (assertion_of c.text ≡ Some b) = found (assertion_of c.text) read.0 in
     ap (λ (o : Option Assertion). slice_get (map (λ (p : Part). p.assertion) (part_by name c.id o ++ parts_of name texts)) (suc i)) one.1

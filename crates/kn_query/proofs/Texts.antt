@@ -65,10 +65,10 @@ read_more_from (c ∷ texts) (suc first) (suc i) text a within here read before 
     read_more_from texts first i text a (omega (arith, within)) here read before
 
 -- from a place on there are none before it
-pub none_before : (texts : List NumberedText) (first : ℕ) → drop first (take first texts) ≡ []
-none_before texts zero = refl
+pub none_before : {X : Type 0} (xs : List X) (first : ℕ) → drop first (take first xs) ≡ []
+none_before xs zero = refl
 none_before [] (suc first) = refl
-none_before (c ∷ texts) (suc first) = none_before texts first
+none_before (x ∷ xs) (suc first) = none_before xs first
 
 pub own_read : (privates : List Private) → AreReadPrivates privates → AreRead (map numbered_text privates)
 own_read [] readings = tt

@@ -1,32 +1,67 @@
-//! What the updates behind a version make of its credentials.
-ghost use Rattle.std.specs.Prelude.{◌≡◌, ◌≤◌, true, length, take};
-ghost use Rattle.kn_history.specs.History.{credentials_of};
-ghost use Rattle.kn_query.specs.Following.{GoOn, has_removal};
+//! What later updates make of a base of the credentials of a version.
+ghost use Rattle.std.specs.Prelude.{◌≡◌, ◌≤◌, [], ◌∷◌, ◌++◌, List as ListOf, drop, length};
+ghost use Rattle.kn_history.specs.declared.update.Change.TheVariants.{Remove};
+ghost use Rattle.kn_history.specs.History.{NumberedText, all_changes, credentials_of};
+ghost use Rattle.kn_query.specs.Following.{AreAbove, AreUpTo, FollowsRemovals};
 
-use kn_history::{Change, Update};
+use crate::shared_rows::SharedRows;
+use kn_answer::Base;
+use kn_history::{Change, Numbered, Update};
 use kn_store::Version;
 
-/// Whether the updates of a version from this place on only add credentials.
-pub(crate) fn only_adds(version: &Version, first: u32) -> bool
-    requires { first ≤ length version.now }
-    ensures { result ≡ true → GoOn (credentials_of (take first version.now)) (credentials_of version.now) }
+/// Takes what the updates of a version from this place on removed out of all answers. Takes no memory.
+pub(crate) fn follow_removals(base: &mut Base, rows: &SharedRows, version: &Version, first: u32)
+    requires first { first ≤ length version.now }
+    requires flags { length base.old.live ≡ length rows.now }
+    ensures { FollowsRemovals (all_changes (drop first version.now)) rows.now base.old base.new }
 {
     for place in first..version.number() {
-        if removes(version.update(place)) {
-            return false;
-        }
+        follow_update(base, rows, version.update(place));
     }
-    true
 }
 
-// Whether an update removes a credential.
-fn removes(update: &Update) -> bool
-    ensures { result ≡ has_removal update.now.changes }
+fn follow_update(base: &mut Base, rows: &SharedRows, update: &Update)
+    requires flags { length base.old.live ≡ length rows.now }
+    ensures { FollowsRemovals update.now.changes rows.now base.old base.new }
 {
     for numbered in update.changes.as_slice() {
-        if let Change::Remove = numbered.change {
-            return true;
-        }
+        follow_change(base, rows, numbered);
     }
-    false
+}
+
+fn follow_change(base: &mut Base, rows: &SharedRows, numbered: &Numbered)
+    requires flags { length base.old.live ≡ length rows.now }
+    ensures { FollowsRemovals (numbered.now ∷ []) rows.now base.old base.new }
+{
+    match numbered.change {
+        Change::Add(_) => {}
+        Change::Remove => remove_row(base, rows, numbered.id),
+    }
+}
+
+// Takes the row of an id out of all answers, where there is one.
+fn remove_row(base: &mut Base, rows: &SharedRows, id: u32)
+    requires flags { length base.old.live ≡ length rows.now }
+    ensures { FollowsRemovals (record { change = Remove; id = id } ∷ []) rows.now base.old base.new }
+{
+    let _ids = rows.len();
+    match rows.find(id) {
+        Some(row) => base.remove(row),
+        None => {}
+    }
+}
+
+/// How many credentials of a version have ids up to this, where the others stand behind them.
+pub(crate) fn count_up_to(version: &Version, last: u32) -> u32
+    ensures { (earlier later : ListOf NumberedText) → credentials_of version.now ≡ earlier ++ later
+        → AreUpTo last earlier → AreAbove last later → result ≡ length earlier }
+{
+    let mut count = version.len();
+    while count > 0 {
+        if version.id(count - 1) <= last {
+            return count;
+        }
+        count -= 1;
+    }
+    0
 }

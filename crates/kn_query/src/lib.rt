@@ -3,12 +3,13 @@
 //! next. Each statement is over the session's equations of the sequential specification.
 #![tactic(auto)]
 
-mod credentials;
 mod critical;
 mod following;
 mod parts;
 mod query;
 mod shared_base;
+mod shared_row;
+mod shared_rows;
 
 pub use critical::find_critical;
 pub use query::{answer_query, build_query};

@@ -83,7 +83,7 @@ fn answer_own(
     ensures of_version { IfSome kept.new (IsOfVersion version.now) }
 {
     let shared = take_or_build(alloc, version, kept)?;
-    let (answer, shared) = shared.answer_with(alloc, version, privates, query)?;
+    let (answer, shared) = shared.answer_with(alloc, privates, query)?;
     *kept = shared.into_kept();
     Ok(answer)
 }
@@ -102,7 +102,7 @@ fn answer_shared(
     ensures of_version { IfSome kept.new (IsOfVersion version.now) }
 {
     let mut shared = take_or_build(alloc, version, kept)?;
-    let answer = shared.answer(alloc, version, query);
+    let answer = shared.answer(alloc, query);
     *kept = shared.into_kept();
     answer
 }

@@ -1,18 +1,18 @@
 //! The shared credentials of a version as a base, which is kept from one query to the next.
-ghost use Rattle.std.specs.Prelude.{◌≡◌, ◌<◌, ◌≤◌, ◌++◌, true, List as ListOf, length, map, take, IfOk, IfSome};
+ghost use Rattle.std.specs.Prelude.{◌≡◌, ◌+◌, ◌<◌, ◌≤◌, ◌++◌, true, List as ListOf, length, map, take, IfOk, IfSome};
+ghost use Rattle.kn_base.specs.declared.limits.TheConstants.{LIVE_BYTES};
 ghost use Rattle.kn_history.specs.declared.update.Update.{Update};
-ghost use Rattle.kn_history.specs.History.{credentials_of};
 ghost use Rattle.kn_meaning.specs.Equations.{IsPolicyLevel, equations_over};
 ghost use Rattle.kn_meaning.specs.Proofs.{IsProof};
 ghost use Rattle.kn_session.specs.Views.{numbered_text, AreReadPrivates, ArePrivates};
 ghost use Rattle.kn_system.specs.Equations.{node_total};
-ghost use Rattle.kn_query.specs.Following.{GoOn};
-ghost use Rattle.kn_query.specs.SharedBases.{HasCredentials, IsOfVersion};
+ghost use Rattle.kn_query.specs.Following.{live_credentials};
+ghost use Rattle.kn_query.specs.SharedBases.{HasCredentials, HasRows, IsOfVersion, LacksAdditions};
 ghost use Rattle.kn_query.specs.SharedParts.{private_parts, shared_parts};
 
-use crate::credentials::Credentials;
-use crate::following::only_adds;
+use crate::following::{count_up_to, follow_removals};
 use crate::parts::{push_private, push_shared};
+use crate::shared_rows::SharedRows;
 use kn_answer::{Answer, Base};
 use kn_base::{List, NoMemory};
 use kn_env::Query;
@@ -30,14 +30,30 @@ const MOST_PRINCIPALS: u32 = 131_072;
 /// The most principals that a base gets from queries before it is built anew.
 const MOST_ENTERED: u32 = 4_096;
 
+/// How many more credentials a base has that were removed than such as are still there, before it is built anew.
+const MOST_REMOVED: u32 = 16;
+
 /// The shared credentials of a version as a base: it answers each query over them, and what it was built from need not
 /// be read again.
-#[derive(Drop)]
 pub struct SharedBase {
     base: Base,
+    // The credentials of its rows.
+    rows: SharedRows,
     number: u32,
     // The most principals with which it is kept.
     most: u32,
+}
+
+// Written out, so that a crate that drops a base rests on this proof, and proves none for all that it holds.
+impl Drop for SharedBase {
+    fn drop(self) {
+        let SharedBase {
+            base,
+            rows,
+            number: _,
+            most: _,
+        } = self;
+    }
 }
 
 impl SharedBase {
@@ -52,9 +68,12 @@ impl SharedBase {
         let mut parts = List::new(alloc);
         push_shared(&mut parts, version, 0)?;
         let base = Base::of(alloc, &parts)?;
+        let mut rows = SharedRows::new(alloc);
+        rows.push_from(version, 0)?;
         let most = base.principals() + MOST_ENTERED;
         Ok(SharedBase {
             base,
+            rows,
             number: version.number(),
             most,
         })
@@ -67,8 +86,9 @@ impl SharedBase {
         self.number
     }
 
-    /// The base where it has followed the updates of a version that goes on from its own: the credentials that they
-    /// added stand behind the others. It is gone where they removed one, or where it became too large to be kept.
+    /// The base where it has followed the updates of a version that goes on from its own: what they removed is no more
+    /// there, and the credentials that they added stand behind the others. It is gone where most of its rows were
+    /// removed, or where it became too large to be kept.
     ///
     /// `NoMemory` comes only for want of memory, and the base is gone then.
     pub(crate) fn follow(
@@ -83,87 +103,116 @@ impl SharedBase {
         if self.number == version.number() {
             return Ok(Some(self));
         }
-        if !self.is_small() || !only_adds(version, self.number) {
+        if !self.is_small() {
             return Ok(None);
         }
-        let followed = self.extend(alloc, version)?;
+        let mut shared = self;
+        follow_removals(&mut shared.base, &shared.rows, version, shared.number);
+        let kept = count_up_to(version, shared.rows.last_id());
+        let removed = shared.rows.len().saturating_sub(kept);
+        if removed > version.len() + MOST_REMOVED {
+            return Ok(None);
+        }
+        let followed = shared.extend(alloc, version, kept)?;
         Ok(followed.into_kept())
     }
 
-    // The base with the credentials behind its own.
-    fn extend(self, alloc: Global, version: &Version) -> Result<SharedBase, NoMemory>
-        requires credentials { HasCredentials (take self.number version.now) self }
+    // The base with the credentials of a version that stand behind so many of its own.
+    fn extend(self, alloc: Global, version: &Version, kept: u32) -> Result<SharedBase, NoMemory>
+        requires lacks { LacksAdditions version.now self }
         requires names { length self.base.names ≤ MOST_PRINCIPALS }
         requires nodes { node_total self.base.system.rows ≤ MOST_NODES }
-        requires go_on { GoOn (credentials_of (take self.number version.now)) (credentials_of version.now) }
+        requires kept { kept ≡ length (live_credentials self.rows self.base.live) }
         ensures { IfOk result (HasCredentials version.now) }
     {
         kn_assert::laws::readings_are_computed();
         kn_assert::laws::readings_are_sound();
+        let number = version.number();
         let _live = version.len();
         let mut parts = List::new(alloc);
-        push_shared(&mut parts, version, self.base.rows())?;
-        let SharedBase { base, most, .. } = self;
+        push_shared(&mut parts, version, kept)?;
+        let SharedBase {
+            base,
+            mut rows,
+            number: _,
+            most,
+        } = self;
+        let _ids = rows.len();
         let before = base.principals();
         let base = base.extend_all(alloc, &parts)?;
+        rows.push_from(version, kept)?;
         let most = most.saturating_add(base.principals() - before);
         Ok(SharedBase {
             base,
-            number: version.number(),
+            rows,
+            number,
             most,
         })
     }
 
-    /// The answer to a query over the credentials of the version. `NoMemory` comes only for want of memory, and the
-    /// base stays of them.
-    pub(crate) fn answer(
-        &mut self,
-        alloc: Global,
-        version: &Version,
-        query: &Query<'_>,
-    ) -> Result<Answer, NoMemory>
-        requires of_version { IsOfVersion version.now self.old }
-        ensures proof { IfOk result (λ a.
-            IsProof (equations_over query.now (shared_parts version.now)) a.rows a.value) }
-        ensures least { IfOk result (λ a. IsPolicyLevel (equations_over query.now (shared_parts version.now)) a.value) }
+    /// The answer to a query over the credentials of the version of which the base is. `NoMemory` comes only for want of
+    /// memory, and the base stays of them.
+    pub(crate) fn answer(&mut self, alloc: Global, query: &Query<'_>) -> Result<Answer, NoMemory>
+        requires rows { HasRows self.old }
+        requires few_names { length self.old.base.names ≤ 1 + LIVE_BYTES }
+        ensures proof { (version : ListOf Update) → HasCredentials version self.old → IfOk result (λ a.
+            IsProof (equations_over query.now (shared_parts version)) a.rows a.value) }
+        ensures least { (version : ListOf Update) → HasCredentials version self.old → IfOk result (λ a.
+            IsPolicyLevel (equations_over query.now (shared_parts version)) a.value) }
         ensures below { IfOk result (λ a. a.value < length query.now.values) }
-        ensures credentials { HasCredentials version.now self.new }
+        ensures credentials { (version : ListOf Update) → HasCredentials version self.old
+            → HasCredentials version self.new }
     {
         let _requesters = query.requesters();
-        let lent = Credentials::of(version);
-        self.base.answer(alloc, query, &lent)
+        let _read = self.rows.len();
+        self.base.answer(alloc, query, &self.rows)
     }
 
-    /// The answer to a query over the credentials of the version and behind them these private assertions, of which
-    /// nothing stays in the base.
+    /// The answer to a query over the credentials of the version of which the base is, and behind them these private
+    /// assertions, of which nothing stays in the base.
     ///
     /// `NoMemory` comes only for want of memory, and the base is gone then.
     pub(crate) fn answer_with(
         self,
         alloc: Global,
-        version: &Version,
         privates: &List<Private>,
         query: &Query<'_>,
     ) -> Result<(Answer, SharedBase), NoMemory>
-        requires of_version { IsOfVersion version.now self }
+        requires rows { HasRows self }
+        requires few_names { length self.base.names ≤ 1 + LIVE_BYTES }
+        requires few_nodes { node_total self.base.system.rows ≤ LIVE_BYTES }
         requires privates { ArePrivates (map numbered_text privates.now) }
         requires readings { AreReadPrivates privates.now }
-        ensures proof { IfOk result (λ r. IsProof
-            (equations_over query.now (shared_parts version.now ++ private_parts privates.now)) r.0.rows r.0.value) }
-        ensures least { IfOk result (λ r. IsPolicyLevel
-            (equations_over query.now (shared_parts version.now ++ private_parts privates.now)) r.0.value) }
+        ensures proof { (version : ListOf Update) → HasCredentials version self → IfOk result (λ r. IsProof
+            (equations_over query.now (shared_parts version ++ private_parts privates.now)) r.0.rows r.0.value) }
+        ensures least { (version : ListOf Update) → HasCredentials version self → IfOk result (λ r. IsPolicyLevel
+            (equations_over query.now (shared_parts version ++ private_parts privates.now)) r.0.value) }
         ensures below { IfOk result (λ r. r.0.value < length query.now.values) }
-        ensures of_version { IfOk result (λ r. IsOfVersion version.now r.1) }
+        ensures credentials { (version : ListOf Update) → HasCredentials version self
+            → IfOk result (λ r. HasCredentials version r.1) }
     {
         kn_assert::laws::readings_are_computed();
         kn_assert::laws::readings_are_sound();
         let _requesters = query.requesters();
         let mut parts = List::new(alloc);
         push_private(&mut parts, privates)?;
-        let lent = Credentials::of(version);
-        let SharedBase { base, number, most } = self;
-        let (answer, base) = base.answer_with(alloc, query, &lent, &parts)?;
-        Ok((answer, SharedBase { base, number, most }))
+        let SharedBase {
+            base,
+            rows,
+            number,
+            most,
+        } = self;
+        let _read = rows.len();
+        let (answer, base) = base.answer_with(alloc, query, &rows, &parts)?;
+        Ok((
+            answer,
+            SharedBase {
+                base,
+                rows,
+                number,
+                most,
+            },
+        ))
     }
 
     /// The base, where it is small enough to be kept.
