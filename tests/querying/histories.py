@@ -27,7 +27,7 @@ Step = collections.namedtuple("Step", "peer session sort text version")
 # What a kind of history has: principals, assertions of the policy file, items of a batch, the chances of its requests
 Kind = collections.namedtuple("Kind", "name names loaded items chances")
 CHANCES = {
-    "query": 30, "turns": 2, "add": 6, "drop": 6, "batch": 5, "pin": 6, "pin_at": 8, "open": 3, "close": 1, "assert": 5,
+    "query": 30, "turns": 2, "between": 2, "add": 6, "drop": 6, "batch": 5, "pin": 6, "pin_at": 8, "open": 3, "close": 1, "assert": 5,
     "retract": 4, "set": 6, "unset": 1, "auth": 8, "unauth": 4, "clear": 0.5, "watch": 2, "news": 4, "critical": 0.5,
 }
 KINDS = [
@@ -42,7 +42,7 @@ KINDS = [
 # and names of requesters that no assertion has
 LARGE, STRANGE = 500, 500
 LARGE_KIND = Kind("large texts", (5, 8), (328, 340), (1, 1), {"add": 12, "drop": 12, "batch": 0, "critical": 0})
-STRANGE_KIND = Kind("strangers", (5, 8), (4, 12), (1, 4), {"strangers": 40, "query": 0, "turns": 0})
+STRANGE_KIND = Kind("strangers", (5, 8), (4, 12), (1, 4), {"strangers": 40, "query": 0, "turns": 0, "between": 0})
 LARGE_LEAVES, LARGE_QUERIES, STRANGE_QUERIES = 3200, 10, 75
 
 
@@ -218,6 +218,18 @@ class History:
                 self.draw_pin_at(peer, session)
         for session in taken * 2:
             self.draw_query(peer, session, question)
+
+    def draw_between(self, peer, _):
+        """Two sessions ask by turns, one of them at a version that it keeps, while updates come between."""
+        if len(peer.sessions) < 2:
+            self.draw_open(peer)
+        (moves, stays), question = self.random.sample(list(peer.sessions.values()), 2), self.random.choice(QUESTIONS)
+        self.draw_pin_at(peer, stays)
+        for _ in range(self.random.randint(2, 5)):
+            getattr(self, "draw_" + self.random.choice(["add", "drop", "drop", "batch"]))(peer, None)
+            self.draw_pin(peer, moves)
+            for session in (moves, stays):
+                self.draw_query(peer, session, question)
 
     def draw_strangers(self, peer, session):
         """As many requesters as a session has, most of whom no assertion names."""
