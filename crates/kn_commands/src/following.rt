@@ -19,7 +19,7 @@ pub fn follow<F: Files>(alloc: Global, name: &[u8], files: &mut F) -> FollowEndi
         Err(FileFault::TooLarge) => return FollowEnding::FileTooLarge,
         Err(FileFault::NoMemory) => return FollowEnding::Memory,
     };
-    let replica = match kn_follow::follow(alloc, log.as_slice()) {
+    let replica = match kn_follow::follow(alloc, log) {
         Ok(replica) => replica,
         Err(FollowFault::Line { at }) => return FollowEnding::Line { at },
         Err(FollowFault::Gap { from, have }) => return FollowEnding::Gap { from, have },

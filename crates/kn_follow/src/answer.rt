@@ -1,6 +1,6 @@
 //! The answers that a pull waits for.
-ghost use Rattle.std.specs.Prelude.{ℕ, ◌≡◌, ◌<◌, ◌≤◌, ◌==◌, List, [], ◌∷◌, ◌++◌, length, take, codes, position, slice_index};
-ghost use Rattle.std.specs.Prelude.{IfOk, IfSome, IfNone};
+ghost use Rattle.std.specs.Prelude.{ℕ, ◌≡◌, ◌<◌, ◌≤◌, ◌==◌, List, [], ◌∷◌, ◌++◌, length, take, codes, position};
+ghost use Rattle.std.specs.Prelude.{slice_index, IfOk, IfSome, IfNone};
 ghost use Rattle.kn_follow.specs.Answers.{Awaits, IsAnswer, IsAnswerForm, IsLine, IsLogAnswer, IsNoLine, WaitsFor};
 ghost use Rattle.kn_follow.specs.declared.reply.TheConstants.{REPLY_BYTES};
 

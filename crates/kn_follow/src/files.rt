@@ -1,6 +1,6 @@
 //! Files of replies to LOG.
-ghost use Rattle.std.specs.Prelude.{◌≡◌, ◌<◌, ◌≤◌, take, length, IfOk, IfErr};
-ghost use Rattle.kn_follow.specs.Files.{IsLogFile, IsLogFault, AppliesFront, IsFrontFault};
+ghost use Rattle.std.specs.Prelude.{◌≡◌, ◌<◌, ◌≤◌, ℕ, List, take, length, IfOk, IfErr};
+ghost use Rattle.kn_follow.specs.Files.{IsLogFile, IsLogFault, AppliesFirst, AppliesFront, IsFrontFault};
 ghost use Rattle.kn_follow.specs.Files.{StartsWith, IsFrontReadFault};
 ghost use Rattle.kn_follow.specs.Forms.{HasForm};
 ghost use Rattle.kn_follow.specs.InCode.{reply_of};
@@ -10,32 +10,76 @@ use crate::fault::FollowFault;
 use crate::reading::read_reply;
 use crate::replica::{Replica, line_fault};
 use crate::reply::{REPLY_BYTES, ReadStop, Reply};
-use kn_base::NoMemory;
+use kn_base::{NoMemory, Octets};
 use std::alloc::Global;
 
 /// The replica that the replies of a file make, which is these one after the other.
 ///
 /// `Line` comes where no whole reply of at most 300,000 bytes stands behind those that were applied, `Gap` and
 /// `Refused` where one does and isn't applied; `at` counts from where that reply begins, and is 300,000 where it keeps
-/// the form past this. Out of memory nothing is said of the file. No more is kept than the replica and what is read of
-/// one reply.
-#[tactic(auto, using(crate::proofs::Fronts::follow_begun, crate::proofs::Fronts::follow_more, crate::proofs::Fronts::follow_ended, crate::proofs::Fronts::follow_fails, crate::proofs::Fronts::follow_unbegun))]
-pub fn follow(alloc: Global, log: &[u8]) -> Result<Replica, FollowFault>
-    ensures followed { IfOk result (λ replica. IsLogFile log.now replica) }
-    ensures refused { IfErr result (λ fault. IsLogFault log.now fault) }
+/// the form past this. Out of memory nothing is said of the file. No more is kept than the replica, what is read of one
+/// reply, and the bytes that weren't applied, which a shorter copy takes the place of when a quarter of them was.
+#[tactic(auto, using(crate::proofs::Fronts::follow_begun, crate::proofs::Fronts::follow_ended, crate::proofs::Fronts::follow_unbegun))]
+pub fn follow(alloc: Global, log: Octets) -> Result<Replica, FollowFault>
+    ensures followed { IfOk result (λ replica. IsLogFile log replica) }
+    ensures refused { IfErr result (λ fault. IsLogFault log fault) }
 {
     let mut replica = match Replica::start(alloc) {
         Ok(replica) => replica,
         Err(NoMemory) => return Err(FollowFault::NoMemory),
     };
-    let mut rest = log;
-    'replies: while !rest.is_empty() {
-        rest = match take_front(alloc, &mut replica, rest) {
+    let mut left = log;
+    'parts: while !left.is_empty() {
+        left = match take_part(alloc, &mut replica, left) {
             Ok(behind) => behind,
             Err(fault) => return Err(fault),
         };
     }
     Ok(replica)
+}
+
+/// Applies replies at the front of these bytes, which are a quarter of them or more, and gives a copy of the others. So
+/// the memory of those that were applied is free for what comes of them.
+fn take_part(alloc: Global, replica: &mut Replica, held: Octets) -> Result<Octets, FollowFault>
+    requires some { 1 ≤ length held }
+    ensures shorter { IfOk result (λ left. length left < length held) }
+    ensures applied { IfOk result (λ left. (text : List ℕ) → AppliesFirst text held replica.old
+        → AppliesFirst text left replica.new) }
+    ensures fault { IfErr result (λ fault. (text : List ℕ) → AppliesFirst text held replica.old
+        → IsLogFault text fault) }
+{
+    let rest = match take_replies(alloc, replica, held.as_slice()) {
+        Ok(rest) => rest,
+        Err(fault) => return Err(fault),
+    };
+    match Octets::from_slice(alloc, rest) {
+        Ok(left) => Ok(left),
+        Err(NoMemory) => Err(FollowFault::NoMemory),
+    }
+}
+
+/// Applies replies at the front of these bytes until at most three quarters of them are left, and gives these.
+fn take_replies<'a>(
+    alloc: Global,
+    replica: &mut Replica,
+    bytes: &'a [u8],
+) -> Result<&'a [u8], FollowFault>
+    requires some { 1 ≤ length bytes.now }
+    ensures shorter { IfOk result (λ rest. length rest.now < length bytes.now) }
+    ensures applied { IfOk result (λ rest. (text : List ℕ) → AppliesFirst text bytes.now replica.old
+        → AppliesFirst text rest.now replica.new) }
+    ensures fault { IfErr result (λ fault. (text : List ℕ) → AppliesFirst text bytes.now replica.old
+        → IsLogFault text fault) }
+{
+    let most = bytes.len() / 4 * 3;
+    let mut rest = bytes;
+    'replies: while rest.len() > most {
+        rest = match take_front(alloc, replica, rest) {
+            Ok(behind) => behind,
+            Err(fault) => return Err(fault),
+        };
+    }
+    Ok(rest)
 }
 
 /// Applies the reply at the front of these bytes, and gives those behind it.

@@ -23,9 +23,9 @@ use std::alloc::Global;
 /// Takes what a daemon has behind the updates of a replica, and tells how many updates the replica then holds
 /// (keynoted's own line protocol).
 ///
-/// It writes ADMIN with the digits of the secret, of 1 to 128 bytes, then LOG with the number of updates held, again and
-/// again until a reply has none, then BYE, and reads each answer before it writes the next request. An answer has at
-/// most 300,000 bytes, and no more of them are kept. Replies that were applied before a fault stand.
+/// It writes ADMIN with the digits of the secret, of 1 to 128 bytes, then LOG with the number of updates held, again
+/// and again until a reply has none, then BYE, and reads each answer before it writes the next request. An answer has
+/// at most 300,000 bytes, and no more of them are kept. Replies that were applied before a fault stand.
 pub fn pull<L: Link>(
     alloc: Global,
     link: &mut L,
