@@ -1,0 +1,9 @@
+pub mod Worths
+pub mod Before
+pub mod Started
+pub mod Raised
+pub mod Sums
+pub mod Listed
+pub mod Nodes
+pub mod Spread
+pub mod Bounded

@@ -1,0 +1,5 @@
+pub mod Affected
+pub mod Changes
+pub mod Climbing
+pub mod Found
+pub mod Raising
