@@ -1,3 +1,4 @@
 pub mod SharedParts
 pub mod SharedBases
 pub mod Following
+pub mod KeptBases

@@ -1,10 +1,11 @@
 //! The query of a session: what its view asks becomes the assertions of a query, which is built into a system and
-//! answered, or searched for those that are critical. A base of the shared credentials may be kept from one query to the
+//! answered, or searched for those that are critical. Bases of the shared credentials are kept from one query to the
 //! next. Each statement is over the session's equations of the sequential specification.
 #![tactic(auto)]
 
 mod critical;
 mod following;
+mod kept_bases;
 mod parts;
 mod query;
 mod shared_base;
@@ -12,5 +13,5 @@ mod shared_row;
 mod shared_rows;
 
 pub use critical::find_critical;
+pub use kept_bases::KeptBases;
 pub use query::{answer_query, build_query};
-pub use shared_base::SharedBase;

@@ -1,5 +1,5 @@
 //! The system of what a session asks, and the answer to it.
-ghost use Rattle.std.specs.Prelude.{◌≡◌, ◌⊎◌, ◌<◌, ◌++◌, None, length, map, IfOk, IfSome};
+ghost use Rattle.std.specs.Prelude.{◌<◌, ◌++◌, length, map, IfOk};
 ghost use Rattle.kn_env.specs.Environment.{AreRequesters};
 ghost use Rattle.kn_meaning.specs.Equations.{IsPolicyLevel, equations_over};
 ghost use Rattle.kn_meaning.specs.Proofs.{IsProof};
@@ -7,11 +7,12 @@ ghost use Rattle.kn_session.specs.Views.{session_of_view, numbered_text, AreRead
 ghost use Rattle.kn_daemon.specs.Daemon.{equations_of};
 ghost use Rattle.kn_answer.specs.Built.{IsBuilt};
 ghost use Rattle.kn_answer.specs.Numbering.{AreDistinct};
-ghost use Rattle.kn_query.specs.SharedBases.{IsOfHistory, IsOfVersion};
+ghost use Rattle.kn_query.specs.KeptBases.{EachKept, IsKeptOrOf};
+ghost use Rattle.kn_query.specs.SharedBases.{IsOfHistory};
 ghost use Rattle.kn_query.specs.SharedParts.{private_parts, shared_parts};
 
+use crate::kept_bases::KeptBases;
 use crate::parts::parts_of_view;
-use crate::shared_base::SharedBase;
 use kn_answer::{Answer, Built, build};
 use kn_base::{List, NoMemory};
 use kn_env::{Query, Values};
@@ -38,23 +39,23 @@ pub fn build_query(alloc: Global, view: &View<'_>, values: &Values) -> Result<Bu
 /// The answer to what a session asks where these are the compliance values: its value (RFC 2704, section 5), and the
 /// rows that prove it.
 ///
-/// What is kept from one query to the next is a base of shared credentials. One of the session's version is asked, one
+/// What is kept from one query to the next are bases of shared credentials. One of the session's version is asked, one
 /// of an earlier version of the same history follows it, and else one is built. Private assertions are in it for their
 /// query alone. `NoMemory` comes only for want of memory.
 pub fn answer_query(
     alloc: Global,
     view: &View<'_>,
     values: &Values,
-    kept: &mut Option<SharedBase>,
+    kept: &mut KeptBases,
 ) -> Result<Answer, NoMemory>
     requires privates { ArePrivates (session_of_view view.now).privates }
     requires readings { AreReadPrivates view.now.private.now }
     requires requesters { AreRequesters view.now.requesters.now }
-    requires of_history { IfSome kept.old (IsOfHistory (session_of_view view.now).pinned) }
+    requires of_history { EachKept (IsOfHistory (session_of_view view.now).pinned) kept.old }
     ensures proof { IfOk result (λ a. IsProof (equations_of (session_of_view view.now) values.now) a.rows a.value) }
     ensures least { IfOk result (λ a. IsPolicyLevel (equations_of (session_of_view view.now) values.now) a.value) }
     ensures below { IfOk result (λ a. a.value < length values.now) }
-    ensures of_version { (kept.new ≡ kept.old) ⊎ IfSome kept.new (IsOfVersion (session_of_view view.now).pinned) }
+    ensures of_version { EachKept (IsKeptOrOf (session_of_view view.now).pinned kept.old) kept.new }
 {
     let query = Query::of(alloc, view.attributes, values, view.requesters)?;
     if view.private.is_empty() {
@@ -70,21 +71,21 @@ fn answer_own(
     version: &Version,
     privates: &List<Private>,
     query: &Query<'_>,
-    kept: &mut Option<SharedBase>,
+    kept: &mut KeptBases,
 ) -> Result<Answer, NoMemory>
     requires privates { ArePrivates (map numbered_text privates.now) }
     requires readings { AreReadPrivates privates.now }
-    requires of_history { IfSome kept.old (IsOfHistory version.now) }
+    requires of_history { EachKept (IsOfHistory version.now) kept.old }
     ensures proof { IfOk result (λ a. IsProof
         (equations_over query.now (shared_parts version.now ++ private_parts privates.now)) a.rows a.value) }
     ensures least { IfOk result (λ a. IsPolicyLevel
         (equations_over query.now (shared_parts version.now ++ private_parts privates.now)) a.value) }
     ensures below { IfOk result (λ a. a.value < length query.now.values) }
-    ensures of_version { IfSome kept.new (IsOfVersion version.now) }
+    ensures of_version { EachKept (IsKeptOrOf version.now kept.old) kept.new }
 {
-    let shared = take_or_build(alloc, version, kept)?;
+    let shared = kept.take_or_build(alloc, version)?;
     let (answer, shared) = shared.answer_with(alloc, privates, query)?;
-    *kept = shared.into_kept();
+    kept.keep(shared);
     Ok(answer)
 }
 
@@ -93,36 +94,16 @@ fn answer_shared(
     alloc: Global,
     version: &Version,
     query: &Query<'_>,
-    kept: &mut Option<SharedBase>,
+    kept: &mut KeptBases,
 ) -> Result<Answer, NoMemory>
-    requires of_history { IfSome kept.old (IsOfHistory version.now) }
+    requires of_history { EachKept (IsOfHistory version.now) kept.old }
     ensures proof { IfOk result (λ a. IsProof (equations_over query.now (shared_parts version.now)) a.rows a.value) }
     ensures least { IfOk result (λ a. IsPolicyLevel (equations_over query.now (shared_parts version.now)) a.value) }
     ensures below { IfOk result (λ a. a.value < length query.now.values) }
-    ensures of_version { IfSome kept.new (IsOfVersion version.now) }
+    ensures of_version { EachKept (IsKeptOrOf version.now kept.old) kept.new }
 {
-    let mut shared = take_or_build(alloc, version, kept)?;
+    let mut shared = kept.take_or_build(alloc, version)?;
     let answer = shared.answer(alloc, query);
-    *kept = shared.into_kept();
+    kept.keep(shared);
     answer
-}
-
-// The base that is kept where it is of the version or has followed it, or a new one. None is kept meanwhile.
-fn take_or_build(
-    alloc: Global,
-    version: &Version,
-    kept: &mut Option<SharedBase>,
-) -> Result<SharedBase, NoMemory>
-    requires of_history { IfSome kept.old (IsOfHistory version.now) }
-    ensures of_version { IfOk result (IsOfVersion version.now) }
-    ensures taken { kept.new ≡ None }
-{
-    if let Some(shared) = kept.take() {
-        if shared.number() <= version.number() {
-            if let Some(followed) = shared.follow(alloc, version)? {
-                return Ok(followed);
-            }
-        }
-    }
-    SharedBase::of(alloc, version)
 }

@@ -22,13 +22,13 @@ use kn_store::Version;
 use std::alloc::Global;
 
 /// The most nodes of a base that is kept.
-const MOST_NODES: u32 = 262_144;
+const MOST_NODES: u32 = 131_072;
 
 /// The most principals of a base that is kept.
-const MOST_PRINCIPALS: u32 = 131_072;
+const MOST_PRINCIPALS: u32 = 65_536;
 
 /// The most principals that a base gets from queries before it is built anew.
-const MOST_ENTERED: u32 = 4_096;
+const MOST_ENTERED: u32 = 2_048;
 
 /// How many more credentials a base has that were removed than such as are still there, before it is built anew.
 const MOST_REMOVED: u32 = 16;

@@ -1,9 +1,8 @@
--- The base that is kept, while the pass sees more.
-use Rattle.std.proofs.Common.{◌≡◌, ℕ, zero, suc, Bool, List, [], ◌∷◌, ◌++◌, length, take, Option, Some, None, refl}
+-- The bases that are kept, while the pass sees more.
+use Rattle.std.proofs.Common.{◌≡◌, ℕ, zero, suc, Bool, List, [], ◌∷◌, ◌++◌, length, take, Some, refl}
 use Rattle.std.proofs.Common.{sym, ap}
 use Rattle.std.proofs.Common.{◌∙◌, subst, arith}
 use Rattle.std.proofs.Common.{inl, inr}
-use Rattle.std.specs.Prelude.{◌⊎◌, IfSome}
 use Rattle.std.proofs.lemmas.List.{take_all, take-take}
 use Rattle.kn_outside.specs.Seen.{LinkSeen}
 use Rattle.kn_history.specs.declared.update.Update.{Update}
@@ -13,7 +12,10 @@ use Rattle.kn_daemon.specs.Shapes.{Shape}
 use Rattle.kn_daemon.specs.Daemon.{Grounds}
 use Rattle.kn_registry.specs.Passes.{PassSeen, Moves}
 use Rattle.kn_query.specs.declared.shared_base.SharedBase.{SharedBase}
+use Rattle.kn_query.specs.declared.kept_bases.KeptBases.{KeptBases}
+use Rattle.kn_query.specs.KeptBases.{EachKept, IsKeptOrOf}
 use Rattle.kn_query.specs.SharedBases.{IsOfHistory, IsOfVersion}
+use Rattle.kn_query.proofs.Kept.{each-weaker, kept-has}
 use Rattle.kn_serve.specs.Handling.{Moment, Handles}
 use Rattle.kn_serve.specs.Serving.{Serving}
 use Rattle.kn_serve.specs.Kept.{IsFirstOf, ArePinned, IsKept}
@@ -27,46 +29,51 @@ take-grown (suc n) (x ∷ xs) ys whole =
     let rest : n ≡ length (take n xs) = omega (arith, whole) in ap (λ l. x ∷ l) (take-grown n xs ys rest)
 
 -- what is kept stays of the history while it grows
-pub kept-grown : (history more : List Update) (kept : Option SharedBase) → IsKept history kept
-    → IsKept (history ++ more) kept
-kept-grown history more None is = tt
-kept-grown history more (Some shared) is =
-    subst (λ (u : List Update). IsOfVersion u shared) (take-grown shared.number history more is.credentials.number) is
+pub kept-grown : (history more : List Update) (kept : KeptBases) → IsKept history kept → IsKept (history ++ more) kept
+kept-grown history more kept is =
+    each-weaker (λ shared. IsOfVersion (take shared.number history) shared)
+    (λ shared. IsOfVersion (take shared.number (history ++ more)) shared)
+    (λ shared of. subst (λ (u : List Update). IsOfVersion u shared)
+    (take-grown shared.number history more of.credentials.number) of) kept is
 
-pub kept-moved : (v w : PassSeen) (more own : List Update) (entries : List ℕ) (kept : Option SharedBase)
+pub kept-moved : (v w : PassSeen) (more own : List Update) (entries : List ℕ) (kept : KeptBases)
     → Moves v w more own entries
     → IsKept v.seen kept → IsKept w.seen kept
 kept-moved v w more own entries kept moves is =
     subst (λ (u : List Update). IsKept u kept) (sym moves.seen) (kept-grown v.seen more kept is)
 
-pub kept-handled : (g : Grounds) (shape : Shape) (whole : Bool) (m m' : Moment) (kept : Option SharedBase)
+pub kept-handled : (g : Grounds) (shape : Shape) (whole : Bool) (m m' : Moment) (kept : KeptBases)
     → Handles g shape whole m m' → IsKept m.pass.seen kept → IsKept m'.pass.seen kept
 kept-handled g shape whole m m' kept handled is =
     kept-moved m.pass m'.pass handled.more _ handled.entries kept handled.moves is
 
--- the base is of what the first updates of a later version of the history made
-pub kept-of_earlier : (version history : List Update) (kept : Option SharedBase) → IsFirstOf version history
-    → IsKept history kept
-    → IfSome kept (λ shared. IsOfHistory version shared)
-kept-of_earlier version history None first is = tt
-kept-of_earlier version history (Some shared) first is = λ within.
-    subst (λ (u : List Update). IsOfVersion u shared)
-    (sym (take-take shared.number (length version) history within) ∙ ap (take shared.number) (sym first)) is
+-- each base is of what the first updates of a later version of the history made
+pub kept-of_earlier : (version history : List Update) (kept : KeptBases) → IsFirstOf version history
+    → IsKept history kept → EachKept (IsOfHistory version) kept
+kept-of_earlier version history kept first is =
+    each-weaker (λ shared. IsOfVersion (take shared.number history) shared) (IsOfHistory version)
+    (λ shared of within. subst (λ (u : List Update). IsOfVersion u shared)
+    (sym (take-take shared.number (length version) history within) ∙ ap (take shared.number) (sym first)) of) kept is
 
 -- and one that is of a version of the history is of the history
-kept-of : (version history : List Update) (new : Option SharedBase) → IsFirstOf version history
-    → IfSome new (λ shared. IsOfVersion version shared) → IsKept history new
-kept-of version history None first is = tt
-kept-of version history (Some shared) first is =
+kept-of : (version history : List Update) (shared : SharedBase) → IsFirstOf version history
+    → IsOfVersion version shared → IsOfVersion (take shared.number history) shared
+kept-of version history shared first is =
     subst (λ (u : List Update). IsOfVersion u shared)
     (first ∙ ap (λ (n : ℕ). take n history) (sym is.credentials.number)) is
 
+kept-or-of : (version history : List Update) (old : KeptBases) (shared : SharedBase) → IsFirstOf version history
+    → IsKept history old → IsKeptOrOf version old shared → IsOfVersion (take shared.number history) shared
+kept-or-of version history old shared first is (inl before) =
+    kept-has (λ s. IsOfVersion (take s.number history) s) old shared is before
+kept-or-of version history old shared first is (inr of) = kept-of version history shared first of
+
 -- what is kept after a question is of the history of which it was before
-pub kept-after : (version history : List Update) (old new : Option SharedBase) → IsFirstOf version history
-    → (new ≡ old) ⊎ IfSome new (λ shared. IsOfVersion version shared) → IsKept history old → IsKept history new
-kept-after version history old new first (inl same) is =
-    subst (λ (o : Option SharedBase). IsKept history o) (sym same) is
-kept-after version history old new first (inr of) is = kept-of version history new first of
+pub kept-after : (version history : List Update) (old new : KeptBases) → IsFirstOf version history
+    → EachKept (IsKeptOrOf version old) new → IsKept history old → IsKept history new
+kept-after version history old new first each is =
+    each-weaker (IsKeptOrOf version old) (λ shared. IsOfVersion (take shared.number history) shared)
+    (λ shared from. kept-or-of version history old shared first is from) new each
 
 -- all that was seen is a version of itself
 all-first : (history : List Update) → IsFirstOf history history

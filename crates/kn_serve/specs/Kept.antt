@@ -1,10 +1,11 @@
--- The base that is kept from one question to the next (keynoted's own). What the updates of a history made first is one
--- version, which is known by its number.
-use Rattle.std.specs.Prelude.{ℕ, ◌≡◌, List, length, take, Option, Some, IfSome}
+-- The bases that are kept from one question to the next (keynoted's own). What the updates of a history made first is
+-- one version, which is known by its number.
+use Rattle.std.specs.Prelude.{ℕ, ◌≡◌, List, length, take, Some}
 use Rattle.kn_history.specs.declared.update.Update.{Update}
 use Rattle.kn_session.specs.Sessions.{Session}
 use Rattle.kn_daemon.specs.Daemon.{State, session_of}
-use Rattle.kn_query.specs.declared.shared_base.SharedBase.{SharedBase}
+use Rattle.kn_query.specs.declared.kept_bases.KeptBases.{KeptBases}
+use Rattle.kn_query.specs.KeptBases.{EachKept}
 use Rattle.kn_query.specs.SharedBases.{IsOfVersion}
 
 -- the updates of the version are the first ones of this history
@@ -16,16 +17,16 @@ abbrev pub ArePinned : List Update → State → Type 0
 ArePinned history state =
     (s : ℕ) (session : Session) → session_of state s ≡ Some session → IsFirstOf session.pinned history
 
--- the base that is kept, if there is one, is of that version of this history whose number it has
-abbrev pub IsKept : List Update → Option SharedBase → Type 0
-IsKept history kept = IfSome kept (λ shared. IsOfVersion (take shared.number history) shared)
+-- each base that is kept is of that version of this history whose number it has
+abbrev pub IsKept : List Update → KeptBases → Type 0
+IsKept history kept = EachKept (λ shared. IsOfVersion (take shared.number history) shared) kept
 
--- each open session and the base that is kept are of one history
-pub record AreAllOfOne (state : State) (kept : Option SharedBase) : Type 0 where
+-- each open session and each base that is kept are of one history
+pub record AreAllOfOne (state : State) (kept : KeptBases) : Type 0 where
   pub history : List Update
   pub pinned : ArePinned history state
   pub is : IsKept history kept
 
 -- what is kept is of each history of which the open sessions are, and of which it was
-abbrev pub StaysOf : State → Option SharedBase → Option SharedBase → Type 0
+abbrev pub StaysOf : State → KeptBases → KeptBases → Type 0
 StaysOf state old new = (history : List Update) → ArePinned history state → IsKept history old → IsKept history new

@@ -21,7 +21,7 @@ use crate::watching::{news, watch};
 use kn_auth::Authenticator;
 use kn_daemon::shape::{Shape, shape_of};
 use kn_outside::{Failed, Gate, Link};
-use kn_query::SharedBase;
+use kn_query::KeptBases;
 use kn_refusals::refusal_of_fault;
 use kn_registry::Pass;
 use kn_reply::{Reply, print};
@@ -36,7 +36,7 @@ pub(crate) fn answer<R: Wait, A: Authenticator, L: Link, G: Gate>(
     config: &DaemonConfig<'_, A, G>,
     pass: &mut Pass,
     connection: &mut Connection,
-    kept: &mut Option<SharedBase>,
+    kept: &mut KeptBases,
     request: Request<'_>,
     link: &mut L,
 ) -> Result<(), Failed>

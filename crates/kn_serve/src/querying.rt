@@ -14,7 +14,7 @@ use crate::refusals::{print_refusal, refusal_of_critical};
 use kn_base::NoMemory;
 use kn_env::Values;
 use kn_outside::{Failed, Link};
-use kn_query::{SharedBase, answer_query, find_critical};
+use kn_query::{KeptBases, answer_query, find_critical};
 use kn_refusals::refusal_of_values;
 use kn_reply::{Refusal, Reply, print};
 use kn_session::View;
@@ -49,7 +49,7 @@ pub(crate) fn read_question<'a>(
 pub(crate) fn query<L: Link>(
     alloc: Global,
     connection: &Connection,
-    kept: &mut Option<SharedBase>,
+    kept: &mut KeptBases,
     s: u32,
     names: &[u8],
     link: &mut L,

@@ -15,7 +15,7 @@ use kn_base::limits::REQUESTS;
 use kn_daemon::ended::Ended;
 use kn_daemon::laws;
 use kn_outside::{Gate, Link};
-use kn_query::SharedBase;
+use kn_query::KeptBases;
 use kn_registry::{Pass, Registry};
 use kn_wire::Feed;
 use std::alloc::Global;
@@ -45,12 +45,12 @@ pub fn serve_connection<R: Wait, A: Authenticator, L: Link, G: Gate>(
         IsOrderly input → IsFaultless (L.seen link.old) (L.seen link.new)
         → (result ≡ Ended.Done) ⊎ (result ≡ Ended.Memory)) }
 {
-    let mut kept = None;
+    let mut kept = KeptBases::new();
     serve_with_base(rt, alloc, reg, pass, auth, secret, link, gate, &mut kept)
 }
 
-/// Answers the requests of a connection as `serve_connection` does. The base that is kept from one question to the next
-/// may have come from an earlier connection over the same history, and is left for a later one.
+/// Answers the requests of a connection as `serve_connection` does. The bases that are kept from one question to the
+/// next may have come from an earlier connection over the same history, and are left for a later one.
 pub fn serve_with_base<R: Wait, A: Authenticator, L: Link, G: Gate>(
     rt: &R,
     alloc: Global,
@@ -60,7 +60,7 @@ pub fn serve_with_base<R: Wait, A: Authenticator, L: Link, G: Gate>(
     secret: &[u8],
     link: &mut L,
     gate: &G,
-    kept: &mut Option<SharedBase>,
+    kept: &mut KeptBases,
 ) -> Ended
     requires ready { IsReady reg.now pass.old }
     requires of_history { IsKept pass.old.seen kept.old }
@@ -87,7 +87,7 @@ fn serve_requests<R: Wait, A: Authenticator, L: Link, G: Gate>(
     config: &DaemonConfig<'_, A, G>,
     pass: &mut Pass,
     link: &mut L,
-    kept: &mut Option<SharedBase>,
+    kept: &mut KeptBases,
 ) -> Ended
     requires ready { IsReady config.now.registry.now pass.old }
     requires of_history { IsKept pass.old.seen kept.old }

@@ -14,7 +14,7 @@ use crate::config::DaemonConfig;
 use crate::connection::Connection;
 use kn_auth::Authenticator;
 use kn_outside::{Failed, Gate, Link};
-use kn_query::SharedBase;
+use kn_query::KeptBases;
 use kn_registry::Pass;
 use kn_wire::{Feed, Request, WireFault};
 use std::alloc::Global;
@@ -38,7 +38,7 @@ pub(crate) fn answer_next<R: Wait, A: Authenticator, L: Link, G: Gate>(
     config: &DaemonConfig<'_, A, G>,
     pass: &mut Pass,
     connection: &mut Connection,
-    kept: &mut Option<SharedBase>,
+    kept: &mut KeptBases,
     feed: &mut Feed,
     link: &mut L,
     place: u32,

@@ -13,7 +13,7 @@ use crate::querying::read_question;
 use crate::refusals::print_refusal;
 use kn_base::NoMemory;
 use kn_outside::{Failed, Link};
-use kn_query::{SharedBase, answer_query};
+use kn_query::{KeptBases, answer_query};
 use kn_refusals::refusal_of_session;
 use kn_registry::{Pass, Registry};
 use kn_reply::{Reply, print};
@@ -25,7 +25,7 @@ use std::sync::Wait;
 pub(crate) fn watch<L: Link>(
     alloc: Global,
     connection: &mut Connection,
-    kept: &mut Option<SharedBase>,
+    kept: &mut KeptBases,
     s: u32,
     names: &[u8],
     link: &mut L,
@@ -62,7 +62,7 @@ pub(crate) fn news<R: Wait, L: Link>(
     reg: &Registry,
     pass: &mut Pass,
     connection: &mut Connection,
-    kept: &mut Option<SharedBase>,
+    kept: &mut KeptBases,
     s: u32,
     link: &mut L,
 ) -> Result<(), Failed>

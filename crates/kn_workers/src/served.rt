@@ -8,7 +8,7 @@ ghost use Rattle.kn_workers.specs.Connections.{IsNew, IsConnection};
 
 use kn_auth::Authenticator;
 use kn_outside::{Gate, Link};
-use kn_query::SharedBase;
+use kn_query::KeptBases;
 use kn_registry::{Pass, Registry};
 use kn_serve::{Ended, serve_with_base};
 use std::alloc::Global;
@@ -83,7 +83,7 @@ impl<C> Served<C> {
     }
 }
 
-/// Serves a new connection to its end. The base is kept from one question to the next.
+/// Serves a new connection to its end. Bases are kept from one question to the next.
 pub(crate) fn serve_link<R: Wait, A: Authenticator, C: Link, G: Gate>(
     rt: &R,
     alloc: Global,
@@ -93,7 +93,7 @@ pub(crate) fn serve_link<R: Wait, A: Authenticator, C: Link, G: Gate>(
     secret: &[u8],
     link: C,
     gate: &G,
-    kept: &mut Option<SharedBase>,
+    kept: &mut KeptBases,
 ) -> Served<C>
     requires ready { IsReady reg.now pass.old }
     requires new { IsNew (C.seen link) }

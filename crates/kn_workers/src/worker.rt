@@ -11,6 +11,7 @@ use crate::served::serve_link;
 use kn_auth::Authenticator;
 use kn_daemon::laws;
 use kn_outside::Gate;
+use kn_query::KeptBases;
 use kn_registry::{Pass, Registry};
 use std::alloc::Global;
 use std::sync::Wait;
@@ -44,7 +45,7 @@ pub fn serve_door<R: Wait, A: Authenticator, D: Door, G: Gate>(
     ensures failed { HasGiven result.failed (D.seen door.old) (D.seen door.new) }
 {
     laws::served_longer();
-    let mut kept = None;
+    let mut kept = KeptBases::new();
     let mut finished: u32 = 0;
     'connections: for _ in rt.forever() {
         let link = match door.accept(rt) {

@@ -1,19 +1,20 @@
-use Rattle.std.proofs.Common.{◌≡◌, ◌<◌, ◌++◌, ℕ, List, [], length, map, inr, sym, ap, subst, ◌∙◌}
-use Rattle.std.specs.Prelude.{IfOk, IfSome}
+use Rattle.std.proofs.Common.{◌≡◌, ◌<◌, ◌++◌, ℕ, List, [], length, map, sym, ap, subst, ◌∙◌}
+use Rattle.std.specs.Prelude.{IfOk}
 use Rattle.kn_meaning.specs.Equations.{Equations, IsPolicyLevel, Part, equations_over}
 use Rattle.kn_meaning.specs.Proofs as proof
 use Rattle.kn_history.specs.declared.update.Update.{Update}
 use Rattle.kn_session.specs.Sessions.{Session}
 use Rattle.kn_session.specs.Views.{numbered_text, session_of_view}
 use Rattle.kn_daemon.specs.Daemon.{equations_of}
-use Rattle.kn_query.specs.SharedBases.{IsOfHistory, IsOfVersion}
+use Rattle.kn_query.specs.KeptBases.{EachKept, IsKeptOrOf}
+use Rattle.kn_query.specs.SharedBases.{IsOfHistory}
 use Rattle.kn_query.specs.SharedParts.{private_parts, shared_parts}
 use Rattle.kn_query.proofs.SharedParts.{asked-alone, asked-with}
 use Rattle.kn_query.proofs.query.answer_query.Goals as goal
 
 pub answer_shared-requires : goal.answer_shared-requires
 answer_shared-requires c = record {
-  of_history = subst (λ (u : List Update). IfSome c.args.kept.now (λ shared. IsOfHistory u shared)) (sym c.deref.ensures) c.requires.of_history;
+  of_history = subst (λ (u : List Update). EachKept (IsOfHistory u) c.args.kept.now) (sym c.deref.ensures) c.requires.of_history;
 }
 
 pub returns-then-is_empty : goal.returns-then-is_empty
@@ -27,14 +28,14 @@ returns-then-is_empty c =
       proof = subst (λ (e : Equations). IfOk c.answer_shared.result (λ a. proof.IsProof e a.rows a.value)) same c.answer_shared.ensures.proof;
       least = subst (λ (e : Equations). IfOk c.answer_shared.result (λ a. IsPolicyLevel e a.value)) same c.answer_shared.ensures.least;
       below = subst (λ (vs : List (List ℕ)). IfOk c.answer_shared.result (λ a. a.value < length vs)) c.in_ok-query.ensures.values c.answer_shared.ensures.below;
-      of_version = inr (subst (λ (u : List Update). IfSome c.answer_shared.new.kept (λ shared. IsOfVersion u shared)) c.deref.ensures c.answer_shared.ensures.of_version);
+      of_version = subst (λ (u : List Update). EachKept (IsKeptOrOf u c.args.kept.now) c.answer_shared.new.kept) c.deref.ensures c.answer_shared.ensures.of_version;
     }
 
 pub answer_own-requires : goal.answer_own-requires
 answer_own-requires c = record {
   privates = c.requires.privates;
   readings = c.requires.readings;
-  of_history = subst (λ (u : List Update). IfSome c.args.kept.now (λ shared. IsOfHistory u shared)) (sym c.deref-else-is_empty.ensures) c.requires.of_history;
+  of_history = subst (λ (u : List Update). EachKept (IsOfHistory u) c.args.kept.now) (sym c.deref-else-is_empty.ensures) c.requires.of_history;
 }
 
 pub returns : goal.returns
@@ -48,5 +49,5 @@ returns c =
       proof = subst (λ (e : Equations). IfOk c.answer_own.result (λ a. proof.IsProof e a.rows a.value)) same c.answer_own.ensures.proof;
       least = subst (λ (e : Equations). IfOk c.answer_own.result (λ a. IsPolicyLevel e a.value)) same c.answer_own.ensures.least;
       below = subst (λ (vs : List (List ℕ)). IfOk c.answer_own.result (λ a. a.value < length vs)) c.in_ok-query.ensures.values c.answer_own.ensures.below;
-      of_version = inr (subst (λ (u : List Update). IfSome c.answer_own.new.kept (λ shared. IsOfVersion u shared)) c.deref-else-is_empty.ensures c.answer_own.ensures.of_version);
+      of_version = subst (λ (u : List Update). EachKept (IsKeptOrOf u c.args.kept.now) c.answer_own.new.kept) c.deref-else-is_empty.ensures c.answer_own.ensures.of_version;
     }

@@ -1,0 +1,102 @@
+//! The bases that are kept from one query to the next.
+ghost use Rattle.std.specs.Prelude.{◌≡◌, ◌<◌, ◌≤◌, List as ListOf, None, IfOk, IfSome};
+ghost use Rattle.kn_history.specs.declared.update.Update.{Update};
+ghost use Rattle.kn_query.specs.KeptBases.{EachKept, IsKeptIn};
+ghost use Rattle.kn_query.specs.SharedBases.{HasCredentials, IsOfHistory, IsOfVersion};
+
+use crate::shared_base::SharedBase;
+use kn_base::NoMemory;
+use kn_store::Version;
+use std::alloc::Global;
+use std::mem;
+
+/// The bases of shared credentials that are kept from one query to the next: that of the version that was asked last,
+/// and one of another version. So sessions that stand at two versions may ask by turns.
+pub struct KeptBases {
+    recent: Option<SharedBase>,
+    other: Option<SharedBase>,
+}
+
+// Written out, so that a crate that drops bases rests on this proof.
+impl Drop for KeptBases {
+    fn drop(self) {
+        let KeptBases { recent, other } = self;
+    }
+}
+
+impl KeptBases {
+    /// No base is kept.
+    pub fn new() -> KeptBases
+        ensures recent { result.recent ≡ None }
+        ensures other { result.other ≡ None }
+    {
+        KeptBases {
+            recent: None,
+            other: None,
+        }
+    }
+
+    /// Takes the base of a version, or the one of the last version before it, which follows it; or else one is built.
+    /// What is left is kept as the other base, and none as the one that was asked last.
+    ///
+    /// `NoMemory` comes only for want of memory.
+    pub(crate) fn take_or_build(
+        &mut self,
+        alloc: Global,
+        version: &Version,
+    ) -> Result<SharedBase, NoMemory>
+        requires of_history { EachKept (IsOfHistory version.now) self.old }
+        ensures of_version { IfOk result (IsOfVersion version.now) }
+        ensures recent { self.new.recent ≡ None }
+        ensures other { IfSome self.new.other (IsKeptIn self.old) }
+    {
+        if let Some(shared) = self.take_nearest(version.number()) {
+            if let Some(followed) = shared.follow(alloc, version)? {
+                return Ok(followed);
+            }
+        }
+        SharedBase::of(alloc, version)
+    }
+
+    /// Keeps a base as the one that was asked last, where it is small enough.
+    pub(crate) fn keep(&mut self, shared: SharedBase)
+        ensures recent { (version : ListOf Update) → HasCredentials version shared
+            → IfSome self.new.recent (IsOfVersion version) }
+        ensures other { self.new.other ≡ self.old.other }
+    {
+        self.recent = shared.into_kept();
+    }
+
+    // Takes the base of this number, or the one of the highest number below it. Where there is none, the one that was
+    // asked last stays.
+    fn take_nearest(&mut self, number: u32) -> Option<SharedBase>
+        ensures taken { IfSome result (λ shared. IsKeptIn self.old shared × (shared.number ≤ number)) }
+        ensures recent { self.new.recent ≡ None }
+        ensures other { IfSome self.new.other (IsKeptIn self.old) }
+    {
+        let recent = nearness(&self.recent, number);
+        let other = nearness(&self.other, number);
+        if recent > 0 && recent >= other {
+            return self.recent.take();
+        }
+        let spare = self.recent.take();
+        if other > 0 {
+            return mem::replace(&mut self.other, spare);
+        }
+        if spare.is_none() {
+            return None;
+        }
+        self.other = spare;
+        None
+    }
+}
+
+// 0 where there is no base up to this number, and else the higher the nearer it is to it.
+fn nearness(kept: &Option<SharedBase>, number: u32) -> u32
+    ensures { 0 < result → IfSome kept.now (λ shared. shared.number ≤ number) }
+{
+    match kept {
+        Some(shared) if shared.number() <= number => shared.number().saturating_add(1),
+        _ => 0,
+    }
+}
