@@ -108,7 +108,7 @@ def log_behind(size):
     blocks = [b"".join(pair % number for number in range(first, first + 128)) for first in firsts]
     newest = 1 + len(blocks)
     before = [ADMIN, *(block(b"BATCH", items) for items in blocks)]
-    return trial(b"LOG %d\n" % (newest - LOGGED), before, b"LOG ", keys=keys_of([SHORT]))
+    return trial(b"LOG %d\n" % max(0, newest - LOGGED), before, b"LOG ", keys=keys_of([SHORT]))
 
 
 FAMILIES = [

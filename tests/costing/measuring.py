@@ -50,6 +50,12 @@ class Run:
                 taken += int(file.read().split()[0])
         return taken / 1e9
 
+    def all_processor(self):
+        """The seconds of the processor that the program took in all, when it has ended."""
+        _, status, used = os.wait4(self.run.pid, 0)
+        self.run.returncode = os.waitstatus_to_exitcode(status)
+        return used.ru_utime + used.ru_stime
+
     def read(self, end):
         if not select.select([self.run.stdout], [], [], max(0.0, end - time.monotonic()))[0]:
             raise Slow()
@@ -80,7 +86,7 @@ class Run:
         spent = time.perf_counter() - begun
         if not reply.startswith(trial.wanted):
             raise Wrong(f"{trial.request!r:.60} is answered {reply!r:.100}")
-        return Times(spent, spent if trial.ends else self.processor() - taken)
+        return Times(spent, (self.all_processor() if trial.ends else self.processor()) - taken)
 
     def close(self):
         with contextlib.suppress(OSError):
@@ -113,6 +119,6 @@ def measure(program, trial, runs, seconds, enough):
     times = []
     for _ in range(runs):
         times.append(measure_once(program, trial, seconds))
-        if times[-1].clock > enough:
+        if times[-1].processor > enough:
             break
     return Times(min(each.clock for each in times), min(each.processor for each in times))

@@ -5,7 +5,7 @@ import collections
 from costing import texts
 from costing.family import ADMIN, Family, block, encode, file_of, trial
 from costing.sessions import HELD, READ, assert_all, filled, private_of
-from costing.texts import LIVE, LIVE_BYTES, PRIVATE, PRIVATE_BYTES, VALUE_BYTES, assertion, colliding, name_of
+from costing.texts import LIVE, LIVE_BYTES, PRIVATE, PRIVATE_BYTES, assertion, name_of
 
 # the most nodes that CRITICAL takes
 NODES = 16384
@@ -90,26 +90,6 @@ def levels(size, links):
     return World(shared, told=[auth("r")], values=",".join(values))
 
 
-def collide(size):
-    """Licensees whose names have one hash."""
-    each, made, number = 16000, [], 0
-    for i in range(max(1, size // each)):
-        text, names = f'Authorizer: "b{i}"\nLicensees: "r"', []
-        for _ in range((min(each, size) - len(text) - 1) // 16):
-            names.append(f'||"{colliding(number)}"')
-            number += 1
-        made.append(text + "".join(names) + "\n")
-    return made
-
-
-def colliding_shared(size):
-    return World(collide(size), told=[auth("r")])
-
-
-def colliding_private(size):
-    return World([assertion("POLICY", '"r"')], collide(size), [auth("r")])
-
-
 # -- what a standing query copies and gives back
 
 
@@ -176,8 +156,6 @@ COSTS = [
     ("slow conditions, private", "bytes", PRIVATE_BYTES, slow_private, OWN),
     ("licensees", "bytes", LIVE_BYTES, licensees,
      {"sign": ["||", "&&", ","], "reached": [False, True], "each": [16384, 2048, 4096]}),
-    ("names of one hash", "bytes", LIVE_BYTES, colliding_shared, {}),
-    ("names of one hash, private", "bytes", PRIVATE_BYTES, colliding_private, {}),
     ("a chain", "credentials", LIVE - 1, chain, {"name": ["long", "short"]}),
     ("all levels", "credentials", LIVE - 1, levels, {"links": [60, 16, 4, 1]}),
 ]

@@ -8,6 +8,8 @@ from costing.measuring import Slow, measure
 Found = collections.namedtuple("Found", "family choices sizes")
 # how much more a choice has to take to be taken
 MORE = 1.03
+# the seconds below which a growth isn't told, since other things weigh more
+LEAST = 0.0005
 
 
 class Search:
@@ -19,7 +21,7 @@ class Search:
     def time(self, family, size, choices, runs=None):
         """The times of a size, or None where it takes longer than anybody waits."""
         try:
-            return measure(self.program, family.build(size, **choices), runs or self.runs, 8 * self.enough, self.enough)
+            return measure(self.program, family.build(size, **choices), runs or self.runs, max(60, 8 * self.enough), self.enough)
         except Slow:
             return None
 
@@ -64,23 +66,23 @@ class Search:
             if times is None:
                 break
             sizes.append((size, times))
-            if times.clock > self.enough:
+            if times.processor > self.enough:
                 break
         return Found(family, choices, sizes)
 
 
 def growth(found):
-    """How many times as long the largest size takes as the half of it."""
-    if len(found.sizes) < 2:
+    """How many times as long the largest size takes the processor as the half of it."""
+    if len(found.sizes) < 2 or found.sizes[-2][1].processor < LEAST:
         return None
     (_, before), (_, last) = found.sizes[-2:]
-    return last.clock / before.clock
+    return last.processor / max(before.processor, 1e-9)
 
 
 def at_limit(found):
-    """The seconds at the limit: as measured, or as the growth goes on."""
+    """The seconds of the processor at the limit: as measured, or as the growth goes on."""
     size, times = found.sizes[-1]
-    seconds, times_larger = times.clock, growth(found) or 2.0
+    seconds, times_larger = times.processor, growth(found) or 2.0
     while size < found.family.limit:
         size, seconds = 2 * size, seconds * times_larger
     return seconds

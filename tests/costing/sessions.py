@@ -192,7 +192,7 @@ def refused_block(size, request):
 
 
 def long_line(size):
-    return trial(b"x" * size + b"\n", [], b"NO 14")
+    return trial(b"x" * (LINE_BYTES + size) + b"\n", [], b"NO 14")
 
 
 def admin(size):

@@ -7,9 +7,6 @@ ASSERTION_BYTES, LIVE, LIVE_BYTES = 16384, 4096, 8388608
 PRIVATE, PRIVATE_BYTES = 64, 262144
 VALUE_BYTES, PRINCIPAL_BYTES, ATTRIBUTES, REQUESTERS = 4096, 4096, 256, 64
 LETTERS = string.ascii_letters + "0123456789"
-# the last eight bytes of names of 12 that all have the hash 0: they are the multiplier of the hasher
-# (core's FoldHasher, whose seed is fixed), low byte first
-COLLIDING = (0x9E3779B97F4A7C15).to_bytes(8, "little").decode("latin-1")
 
 
 @functools.lru_cache(maxsize=1 << 20)
@@ -25,10 +22,6 @@ def name_of(number, width=4):
 def attribute_of(number):
     """A name that begins with a letter for each number."""
     return "n" + name_of(number, 2)
-
-
-def colliding(number):
-    return name_of(number) + COLLIDING
 
 
 def assertion(authorizer, licensees, rest="", front=""):
@@ -96,8 +89,8 @@ def slow_assertion(authorizer, licensees, style, parts, each):
     return text + conditions(style, parts, each - len(text))
 
 
-def constants(room):
-    units = numbered(lambda number: f'{attribute_of(number)}=""', room - len("Local-Constants: \n"))
+def constants(room, value=""):
+    units = numbered(lambda number: f'{attribute_of(number)}="{value}"', room - len("Local-Constants: \n"))
     return f"Local-Constants: {units}\n"
 
 
@@ -110,8 +103,8 @@ def by_constants(room):
 
 def by_names(room):
     """Half of it constants, and half licensees that name the last one of them."""
-    front = constants(room // 2)
-    last = front.rsplit('""', 2)[1].split("=")[0]
+    front = constants(room // 2, "p")
+    last = front.rsplit('"p"', 2)[1].split("=")[0]
     text = f'{front}Authorizer: "a"\nLicensees: {last}'
     return text + repeat(f"||{last}", room - len(text) - 1) + "\n"
 
