@@ -59,7 +59,7 @@ class Search:
     def grow(self, family, choices):
         """The times of sizes that double up to the limit, or as far as they take no longer than is enough."""
         steps, sizes = [family.limit], []
-        while steps[0] >= 8 and len(steps) < 8:
+        while steps[0] >= 4 and len(steps) < 12:
             steps.insert(0, steps[0] // 2)
         for place, size in enumerate(steps, 1):
             times = self.time(family, size, choices, self.runs if place > len(steps) - 2 else 1)
