@@ -21,7 +21,8 @@ class Search:
     def time(self, family, size, choices, runs=None):
         """The times of a size, or None where it takes longer than anybody waits."""
         try:
-            return measure(self.program, family.build(size, **choices), runs or self.runs, max(60, 8 * self.enough), self.enough)
+            trial, patience = family.build(size, **choices), max(60, 8 * self.enough)
+            return measure(self.program, trial, runs or self.runs, patience, self.enough)
         except Slow:
             return None
 

@@ -200,8 +200,8 @@ def admin(size):
     return trial(b"ADMIN " + secret + b"\n", keys=b"secret " + secret + b"\n")
 
 
-READ = ["names", "constants", "brackets", "sums", "clauses", "signs", "texts", "semicolons", "parts", "both", "threshold",
-        "principals", "escapes", "comment", "comments", "quotes"]
+READ = ["names", "constants", "brackets", "sums", "clauses", "signs", "texts", "semicolons", "parts", "both",
+        "threshold", "principals", "escapes", "comment", "comments", "quotes"]
 HELD = ["parts", "sums", "threshold", "both", "constants", "clauses", "brackets", "texts", "signs", "comment"]
 OLD = {"style": HELD, "each": [16384, 8192, 4096]}
 FAMILIES = [

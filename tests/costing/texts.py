@@ -158,8 +158,8 @@ READ = {
     "comments": by_comment("x\n#"), "quotes": by_comment('x\n "'),
 }
 
-# what makes a text faulty at its end: a line without the label of a field, one whose field is there already, a byte where
-# nothing begins, a literal that isn't closed, and a token more in the last field
+# what makes a text faulty at its end: a line without the label of a field, one whose field is there already, a byte
+# where nothing begins, a literal that isn't closed, and a token more in the last field
 FAULTS = {"label": 'Foo: "x"\n', "twice": 'Authorizer: "c"\n', "byte": " ?\n", "open": ' "x\n', "more": ' "x"\n'}
 
 

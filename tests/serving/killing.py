@@ -283,7 +283,8 @@ def main():
             rounds += 1
             name = f"round {rounds}"
             tally.attempt(name, lambda: killing.try_round(name, words.seed + 1000 * rounds))
-    print(f"{rounds} rounds in {(time.monotonic() - begun) / 60:.1f} minutes: {killing.kills} clients were killed, with "
+    minutes = (time.monotonic() - begun) / 60
+    print(f"{rounds} rounds in {minutes:.1f} minutes: {killing.kills} clients were killed, with "
           f"{killing.exchanges} requests and {killing.updates} updates, of which {killing.lost} were never answered")
     print(f"{tally.passed} passed, {tally.failed} failed")
     return 0 if tally.passed and not tally.failed else 1
