@@ -1,10 +1,17 @@
-use Rattle.std.proofs.Common.{arith}
+use Rattle.std.proofs.Common.{Option, sym, subst, take, arith}
+use Rattle.std.specs.Prelude.{IfSome}
+use Rattle.kn_query.specs.declared.shared_base.SharedBase.{SharedBase}
+use Rattle.kn_query.specs.SharedBases.{IsOfVersion}
 use Rattle.kn_workers.proofs.WorkLaws.{works_nothing, works_more, works_until, works_closed, works_calmly, calm_nothing}
 use Rattle.kn_workers.proofs.WorkLaws.{gave_less, gave_all, count_fits}
 use Rattle.kn_workers.proofs.worker.serve_door.Goals as goal
 
 pub connections-init : goal.connections-init
-connections-init g c = (c.requires.ready, works_nothing _ _ _ _, calm_nothing _, tt)
+connections-init g c =
+    let none = c.new-kept.ensures in
+    let recent = subst (λ (o : Option SharedBase). IfSome o (λ shared. IsOfVersion (take shared.number c.args.pass.now.seen) shared)) (sym none.recent) tt in
+    let other = subst (λ (o : Option SharedBase). IfSome o (λ shared. IsOfVersion (take shared.number c.args.pass.now.seen) shared)) (sym none.other) tt in
+    (c.requires.ready, works_nothing _ _ _ _, calm_nothing _, (recent, other))
 
 pub returns-in-Closed-clause-works : goal.returns-in-Closed-clause-works
 returns-in-Closed-clause-works g c = works_closed _ _ _ _ _ _ _ _ c.connections.invariant.1 c.in-Closed.ensures.answer.1
