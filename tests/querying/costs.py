@@ -128,9 +128,9 @@ def chain_with_conditions():
 SHAPES = {
     "a comment": lambda: chain_of(1),
     "conditions": chain_with_conditions,
-    "120 licensees": lambda: chain_of(120),
+    "60 licensees": lambda: chain_of(60),
     "800 licensees": lambda: chain_of(800),
-    "60 names": lambda: chain_of(60, 0),
+    "30 names": lambda: chain_of(30, 0),
     "500 names": lambda: chain_of(500, 0),
 }
 
