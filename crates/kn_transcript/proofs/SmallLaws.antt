@@ -126,14 +126,7 @@ requester-made text x = by (is_named x.requesters text)
 
 call-made : (n : ℕ) (call : Call) (x : Session) → x.made ≤ n → (call_change call x).made ≤ n + 1
 call-made n (C.Auth text) x few = let same = requester-made text x in omega (arith, few, same)
-call-made n C.Close x few = omega (arith, few)
-call-made n C.Clear x few = omega (arith, few)
-call-made n (C.Assert text) x few = omega (arith, few)
-call-made n (C.Retract k) x few = omega (arith, few)
-call-made n (C.Set name value) x few = omega (arith, few)
-call-made n (C.Unset name) x few = omega (arith, few)
-call-made n (C.Unauth text) x few = omega (arith, few)
-call-made n C.Unwatch x few = omega (arith, few)
+call-made n call x few = omega (arith, few)
 
 made-keeps : (n : ℕ) (past : List Update) → Keeps (IsMade n) (IsMade (n + 1)) past
 unfolding IsMade

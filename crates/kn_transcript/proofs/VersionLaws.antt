@@ -40,14 +40,7 @@ requester-pinned text x = by (is_named x.requesters text)
 
 call-pinned : (call : Call) (x : Session) → (call_change call x).pinned ≡ x.pinned
 call-pinned (C.Auth text) x = requester-pinned text x
-call-pinned C.Close x = refl
-call-pinned C.Clear x = refl
-call-pinned (C.Assert text) x = refl
-call-pinned (C.Retract k) x = refl
-call-pinned (C.Set name value) x = refl
-call-pinned (C.Unset name) x = refl
-call-pinned (C.Unauth text) x = refl
-call-pinned C.Unwatch x = refl
+call-pinned call x = refl
 
 pinned-keeps : (past : List Update) (update : Option Update) → Keeps (IsPinned past) (IsPinned (with_update past update)) (with_update past update)
 unfolding IsPinned
