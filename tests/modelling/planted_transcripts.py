@@ -352,7 +352,8 @@ class TakesVerdictsOfAnyItem(Verifier):
 
     def admit_last(self, changes):
         try:
-            self.refuse_unadmitted(changes[self.item - 1])
+            if not isinstance(changes[self.item - 1], int):
+                self.refuse_unadmitted(changes[self.item - 1])
         except Refusal as why:
             raise Refusal(b"17 item %d %s" % (self.item, why.text)) from None
 
