@@ -12,3 +12,4 @@ pub mod Steps
 pub mod Levels
 pub mod Nesting
 pub mod Firsts
+pub mod Named

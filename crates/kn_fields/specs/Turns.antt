@@ -1,6 +1,10 @@
 -- A list of constants token by token: what is due at each, as the reader takes them.
-use Rattle.std.specs.Prelude.{ℕ, ◌==◌, Bool, not, ◌&&◌, List, [], ◌∷◌, slice_index, codes}
+use Rattle.std.specs.Prelude.{ℕ, ◌≡◌, ◌==◌, Bool, not, ◌&&◌, List, [], ◌∷◌, slice_index, codes}
+use Rattle.std.specs.Borrow.{Bor}
+use Rattle.std.specs.BTreeSet.{BTreeSet, contains_by}
+use Rattle.std.specs.Cmp.Lexicographic.{slice_cmp}
 use Rattle.std.specs.List.{list_any}
+use Rattle.std.specs.Ordering.{nat_cmp}
 use Rattle.std.specs.Str.{bytes_eq}
 use Rattle.kn_lex.specs.Cutting.{Seen}
 use Rattle.kn_fields.specs.Constants.{is_name_sort, is_sign_sort, is_text_sort}
@@ -10,6 +14,10 @@ use Rattle.kn_fields.specs.declared.constants.Turn.TheVariants.{Setting, Equals,
 -- the token is this name
 abbrev pub is_name : List ℕ → Seen → Bool
 is_name name token = is_name_sort token.sort && bytes_eq token.text name
+
+-- the set has the names among these tokens, and nothing else
+abbrev pub AreNames : BTreeSet (Bor (List ℕ)) → List Seen → Type 0
+AreNames names tokens = (name : List ℕ) → contains_by (λ key. slice_cmp nat_cmp name key.now) names ≡ list_any (is_name name) tokens
 
 abbrev pub next_turn : Turn → Turn
 next_turn Setting = Equals

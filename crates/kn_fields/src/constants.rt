@@ -1,12 +1,11 @@
 //! The field Local-Constants.
 ghost use Rattle.std.specs.Prelude.{◌≡◌, ◌+◌, ◌<◌, ◌≤◌, ◌^◌, [], ◌∷◌, ◌++◌};
 ghost use Rattle.std.specs.Prelude.{Some, None, length, slice_get, slice_index, IfOk, OnOk};
-ghost use Rattle.std.specs.List.{list_any};
 ghost use Rattle.kn_lex.specs.Cutting.{Seen};
 ghost use Rattle.kn_lex.specs.Seeing.{seen};
 ghost use Rattle.kn_fields.specs.Fields.{between, field_with};
 ghost use Rattle.kn_fields.specs.Constants.{constant_of, constants_of, AreSettings};
-ghost use Rattle.kn_fields.specs.Turns.{is_name, next_turn, fits};
+ghost use Rattle.kn_fields.specs.Turns.{AreNames, next_turn, fits};
 ghost use Rattle.kn_fields.specs.Faults.{constants_in};
 ghost use Rattle.kn_fields.specs.Scanning.{end_place, departure, constant_place};
 
@@ -17,6 +16,7 @@ use kn_base::{List, NoMemory, Octets};
 use kn_env::Constant;
 use kn_lex::{Sort, Token, Tokens, literal};
 use std::alloc::Global;
+use std::collections::BTreeSet;
 
 /// What is due next in a list of constants.
 #[derive(Clone, Copy)]
@@ -39,39 +39,30 @@ fn next_turn(turn: Turn) -> Turn
     }
 }
 
-fn is_name(token: &Token<'_>, name: &[u8]) -> bool
-    ensures { result ≡ is_name name.now (seen token.now) }
-{
-    matches!(token.sort, Sort::Name) && token.text == name
-}
+/// The names among the tokens of a list so far: a tree, since no choice of names makes that slow.
+type Names<'a> = BTreeSet<&'a [u8]>;
 
-/// Whether a name stands among the tokens from one place up to another.
-#[tactic(auto, using(crate::proofs::Between::steps))]
-fn stands_among(tokens: &Tokens<'_>, from: u32, to: u32, name: &[u8]) -> bool
-    requires ordered { from ≤ to }
-    requires within { to ≤ length tokens.now }
-    ensures { result ≡ list_any (is_name name.now) (between from to tokens.now) }
+/// Adds a token to the names of those before it, if it is a name.
+fn add_name<'a>(names: &mut Names<'a>, token: &Token<'a>) -> Result<(), NoMemory>
+    ensures { (before : List Seen) → AreNames names.old before
+        → OnOk result (AreNames names.new (before ++ seen token.now ∷ [])) }
 {
-    for i in from..to {
-        if let Some(token) = tokens.get(i) {
-            if is_name(token, name) {
-                return true;
-            }
-        }
+    if !matches!(token.sort, Sort::Name) {
+        return Ok(());
     }
-    false
+    match names.insert(token.text) {
+        Ok(_) => Ok(()),
+        Err(_) => Err(NoMemory),
+    }
 }
 
-/// Whether a token may be set: a name that doesn't begin with `_` and stands nowhere before, from one
-/// place up to another.
-fn is_new_name(tokens: &Tokens<'_>, from: u32, to: u32, token: &Token<'_>) -> bool
-    requires ordered { from ≤ to }
-    requires within { to ≤ length tokens.now }
-    ensures { result ≡ fits Turn.Setting (between from to tokens.now) (seen token.now) }
+/// Whether a token may be set: a name that doesn't begin with `_` and is none of those before.
+fn is_new_name(names: &Names<'_>, token: &Token<'_>) -> bool
+    ensures { (before : List Seen) → AreNames names.now before → result ≡ fits Turn.Setting before (seen token.now) }
 {
     matches!(token.sort, Sort::Name)
         && first_byte(token.text) != b'_'
-        && !stands_among(tokens, from, to, token.text)
+        && !names.contains(token.text)
 }
 
 fn first_byte(text: &[u8]) -> u8
@@ -80,14 +71,12 @@ fn first_byte(text: &[u8]) -> u8
     if text.is_empty() { 0 } else { text[0] }
 }
 
-/// Whether a token is what is due at its place, in a list that began at another.
-fn fits(tokens: &Tokens<'_>, from: u32, to: u32, turn: Turn, token: &Token<'_>) -> bool
-    requires ordered { from ≤ to }
-    requires within { to ≤ length tokens.now }
-    ensures { result ≡ fits turn (between from to tokens.now) (seen token.now) }
+/// Whether a token is what is due at its place, behind tokens with these names.
+fn fits(names: &Names<'_>, turn: Turn, token: &Token<'_>) -> bool
+    ensures { (before : List Seen) → AreNames names.now before → result ≡ fits turn before (seen token.now) }
 {
     match turn {
-        Turn::Setting => is_new_name(tokens, from, to, token),
+        Turn::Setting => is_new_name(names, token),
         Turn::Equals => matches!(token.sort, Sort::Sign) && token.text == b"=".as_slice(),
         Turn::Value => matches!(token.sort, Sort::Text),
     }
@@ -106,21 +95,29 @@ fn end_place(label: Option<u32>, turn: Turn) -> Option<u32>
 
 /// Where a list of constants departs, or `label` where it breaks off at its end.
 #[tactic(auto, using(crate::proofs::Firsts::departure_steps))]
-fn departure(tokens: &Tokens<'_>, from: u32, to: u32, label: Option<u32>) -> Option<u32>
+fn departure(
+    alloc: Global,
+    tokens: &Tokens<'_>,
+    from: u32,
+    to: u32,
+    label: Option<u32>,
+) -> Result<Option<u32>, NoMemory>
     requires ordered { from ≤ to }
     requires within { to ≤ length tokens.now }
-    ensures { result ≡ departure (between from to tokens.now) label }
+    ensures { IfOk result (λ place. place ≡ departure (between from to tokens.now) label) }
 {
+    let mut names = BTreeSet::new(alloc);
     let mut turn = Turn::Setting;
     for i in from..to {
         if let Some(token) = tokens.get(i) {
-            if !fits(tokens, from, i, turn, token) {
-                return Some(token.span.start);
+            if !fits(&names, turn, token) {
+                return Ok(Some(token.span.start));
             }
+            add_name(&mut names, token)?;
         }
         turn = next_turn(turn);
     }
-    end_place(label, turn)
+    Ok(end_place(label, turn))
 }
 
 /// Adds the constant whose name, sign and literal stand from this place on.
@@ -172,14 +169,23 @@ fn constants_between(
 
 /// The place of the first fault of the local constants, if there are any.
 #[tactic(auto, unfolding(crate::specs::Scanning::constant_place))]
-pub(crate) fn constant_place(tokens: &LabelledTokens<'_>) -> Option<u32>
-    ensures { result ≡ constant_place tokens.now }
+pub(crate) fn constant_place(
+    alloc: Global,
+    tokens: &LabelledTokens<'_>,
+) -> Result<Option<u32>, NoMemory>
+    ensures { IfOk result (λ place. place ≡ constant_place tokens.now) }
 {
     let Some(part) = tokens.part(LOCAL_CONSTANTS) else {
-        return None;
+        return Ok(None);
     };
     let list = tokens.tokens();
-    departure(list, part.label + 1, part.end, label_start(list, part))
+    departure(
+        alloc,
+        list,
+        part.label + 1,
+        part.end,
+        label_start(list, part),
+    )
 }
 
 /// The local constants of a text.

@@ -65,7 +65,7 @@ fn fault_in(alloc: Global, tokens: &LabelledTokens<'_>) -> Result<Option<ReadFau
     if let Some(at) = version_place(alloc, tokens)? {
         return Ok(Some(ReadFault::Version { at }));
     }
-    match constant_place(tokens) {
+    match constant_place(alloc, tokens)? {
         Some(at) => Ok(Some(ReadFault::Constant { at })),
         None => Ok(None),
     }
