@@ -5,3 +5,4 @@ pub mod Whole
 pub mod FileLines
 pub mod Signatures
 pub mod Decided
+pub mod Listed

@@ -6,3 +6,4 @@ pub mod Reading
 pub mod Verdicts
 pub mod Causes
 pub mod Numbers
+pub mod Listing

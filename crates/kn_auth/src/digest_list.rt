@@ -8,20 +8,27 @@ use crate::hmac::digest_of;
 use kn_assert::Assertion;
 use kn_base::{List, NoMemory};
 use std::alloc::Global;
+use std::collections::HashSet;
 use std::marker::Model;
 
 /// SHA-256 digests of the texts that are admitted, seen as the list of them in the order of the file.
 #[derive(Drop)]
 pub struct DigestList {
+    /// In the order of the file, by which contracts speak of them.
     digests: List<[u8; 32]>,
+    /// The same digests, to be found without a walk over the list, which may be long.
+    index: HashSet<[u8; 32]>,
 }
 
 impl Model for DigestList {
     ghost use Rattle.std.specs.Prelude.{List, ℕ};
+    ghost use Rattle.kn_auth.specs.Listing.{HasDigests};
 
     ghost Value = { List (List ℕ) };
 
     ghost view = { λ d. d.digests };
+
+    ghost invariant = { λ d. HasDigests d.index d.digests };
 }
 
 impl DigestList {
@@ -30,25 +37,29 @@ impl DigestList {
     {
         DigestList {
             digests: List::new(alloc),
+            index: HashSet::new(alloc),
         }
     }
 
     fn has(&self, digest: &[u8; 32]) -> bool
         ensures { result ≡ has_digest digest.now self.now }
     {
-        self.digests
-            .as_slice()
-            .iter()
-            .any(|listed| listed == digest)
+        self.index.contains(digest)
     }
 
     pub(crate) fn add(&mut self, digest: [u8; 32]) -> Result<(), NoMemory>
         ensures ok { OnOk result (self.new ≡ self.old ++ digest ∷ []) }
         ensures err { OnErr result (self.new ≡ self.old) }
     {
-        match self.digests.push(digest) {
-            Ok(()) => Ok(()),
-            Err(_) => Err(NoMemory),
+        if self.digests.push(digest).is_err() {
+            return Err(NoMemory);
+        }
+        match self.index.insert(digest) {
+            Ok(_) => Ok(()),
+            Err(_) => {
+                self.digests.pop();
+                Err(NoMemory)
+            }
         }
     }
 }
