@@ -8,37 +8,48 @@ use Rattle.kn_cond.specs.Programs.{field_value}
 use Rattle.kn_meaning.specs.Equations.{Part, statement_of}
 use Rattle.kn_answer.specs.Numbering.{IsNumber}
 use Rattle.kn_answer.specs.Removed.{live_parts}
-use Rattle.kn_answer.specs.Based.{ceilings_of}
+use Rattle.kn_answer.specs.Based.{capped_values, ceilings_of, condition_values}
 use Rattle.kn_answer.proofs.Basing.{length-kept}
 use Rattle.kn_answer.proofs.Bounded.{field_value-within}
 
 pub length-ceilings : (asked : Asked) (parts : List Part) (live : List Bool) → length live ≡ length parts → length (ceilings_of asked parts live) ≡ length parts
 length-ceilings asked parts live size = length-map _ _ ∙ length-kept asked parts live size
 
--- a row that has a ceiling is one of an assertion, and it is known whether this is still there
-pub ceiling-rows : (asked : Asked) (parts : List Part) (live : List Bool) (row : ℕ) → row < length (ceilings_of asked parts live) → (row < length parts) × (row < length live)
-ceiling-rows asked [] live row l = absurd (omega (arith, l))
-ceiling-rows asked (part ∷ parts) [] row l = absurd (omega (arith, l))
-ceiling-rows asked (part ∷ parts) (flag ∷ live) zero l = (omega arith, omega arith)
-ceiling-rows asked (part ∷ parts) (flag ∷ live) (suc row) l = let (a, b) = ceiling-rows asked parts live row (omega (arith, l)) in (omega (arith, a), omega (arith, b))
+-- they are the values of conditions, capped
+pub ceilings-capped : (asked : Asked) (parts : List Part) (live : List Bool) → capped_values (condition_values asked parts) live ≡ ceilings_of asked parts live
+ceilings-capped asked [] live = refl
+ceilings-capped asked (part ∷ parts) [] = refl
+ceilings-capped asked (part ∷ parts) (flag ∷ live) = ap (λ cs. cond flag (statement_of asked part).ceiling 0 ∷ cs) (ceilings-capped asked parts live)
 
--- that of an assertion that is still there is the value of its conditions
-pub ceiling-live : (asked : Asked) (parts : List Part) (live : List Bool) (row : ℕ) (flag : Bool) (assertion : Assertion) → row < length live → flag ≡ get_or live row flag → flag ≡ true → IsNumber (map (λ part. part.assertion) parts) assertion row
-    → field_value (record { asked = asked; constants = assertion.constants }) assertion.conditions ≡ slice_index (ceilings_of asked parts live) row
-ceiling-live asked [] live row flag assertion l e yes_now here = absurd (cc)
-ceiling-live asked (part ∷ parts) [] row flag assertion l e yes_now here = absurd (omega (arith, l))
-ceiling-live asked (part ∷ parts) (b ∷ live) zero flag assertion l e yes_now here =
-    let same : part.assertion ≡ assertion = cc in
-    ap (λ (a : Assertion). field_value (record { asked = asked; constants = a.constants }) a.conditions) (sym same)
-    ∙ sym (ap (λ t. cond t (statement_of asked part).ceiling 0) (sym e ∙ yes_now))
-ceiling-live asked (part ∷ parts) (b ∷ live) (suc row) flag assertion l e yes_now here = ceiling-live asked parts live row flag assertion (omega (arith, l)) e yes_now here
+-- a row that has a ceiling has a value, and it is known whether its assertion is still there
+pub capped-rows : (values : List ℕ) (live : List Bool) (row : ℕ) → row < length (capped_values values live) → (row < length values) × (row < length live)
+capped-rows [] live row l = absurd (omega (arith, l))
+capped-rows (value ∷ values) [] row l = absurd (omega (arith, l))
+capped-rows (value ∷ values) (flag ∷ live) zero l = (omega arith, omega arith)
+capped-rows (value ∷ values) (flag ∷ live) (suc row) l = let (a, b) = capped-rows values live row (omega (arith, l)) in (omega (arith, a), omega (arith, b))
+
+-- that of an assertion that is still there is its value
+pub capped-live : (values : List ℕ) (live : List Bool) (row : ℕ) (flag : Bool) → row < length live → flag ≡ get_or live row flag → flag ≡ true → slice_index values row ≡ slice_index (capped_values values live) row
+capped-live [] live row flag l e yes_now = refl
+capped-live (value ∷ values) [] row flag l e yes_now = absurd (omega (arith, l))
+capped-live (value ∷ values) (b ∷ live) zero flag l e yes_now = sym (ap (λ t. cond t value 0) (sym e ∙ yes_now))
+capped-live (value ∷ values) (b ∷ live) (suc row) flag l e yes_now = capped-live values live row flag (omega (arith, l)) e yes_now
 
 -- and that of one that was removed is 0
-pub ceiling-removed : (asked : Asked) (parts : List Part) (live : List Bool) (row : ℕ) (flag : Bool) → row < length live → flag ≡ get_or live row flag → flag ≡ false → 0 ≡ slice_index (ceilings_of asked parts live) row
-ceiling-removed asked [] live row flag l e not_now = refl
-ceiling-removed asked (part ∷ parts) [] row flag l e not_now = absurd (omega (arith, l))
-ceiling-removed asked (part ∷ parts) (b ∷ live) zero flag l e not_now = sym (ap (λ t. cond t (statement_of asked part).ceiling 0) (sym e ∙ not_now))
-ceiling-removed asked (part ∷ parts) (b ∷ live) (suc row) flag l e not_now = ceiling-removed asked parts live row flag (omega (arith, l)) e not_now
+pub capped-removed : (values : List ℕ) (live : List Bool) (row : ℕ) (flag : Bool) → row < length live → flag ≡ get_or live row flag → flag ≡ false → 0 ≡ slice_index (capped_values values live) row
+capped-removed [] live row flag l e not_now = refl
+capped-removed (value ∷ values) [] row flag l e not_now = absurd (omega (arith, l))
+capped-removed (value ∷ values) (b ∷ live) zero flag l e not_now = sym (ap (λ t. cond t value 0) (sym e ∙ not_now))
+capped-removed (value ∷ values) (b ∷ live) (suc row) flag l e not_now = capped-removed values live row flag (omega (arith, l)) e not_now
+
+-- the value of a row's conditions
+pub value-here : (asked : Asked) (parts : List Part) (row : ℕ) (assertion : Assertion) → IsNumber (map (λ part. part.assertion) parts) assertion row
+    → field_value (record { asked = asked; constants = assertion.constants }) assertion.conditions ≡ slice_index (condition_values asked parts) row
+value-here asked [] row assertion here = absurd (cc)
+value-here asked (part ∷ parts) zero assertion here =
+    let same : part.assertion ≡ assertion = cc in
+    ap (λ (a : Assertion). field_value (record { asked = asked; constants = a.constants }) a.conditions) (sym same)
+value-here asked (part ∷ parts) (suc row) assertion here = value-here asked parts row assertion here
 
 -- all are below the number of compliance values
 pub ceilings-low : (asked : Asked) (parts : List Part) (live : List Bool) (levels : ℕ) → levels ≡ length asked.values → 0 < levels → All (λ ceiling. ceiling < levels) (ceilings_of asked parts live)

@@ -1,10 +1,10 @@
 -- What a base is for assertions: built without a query, it is the system of each query with the query's requesters and
 -- ceilings (keynoted's own).
-use Rattle.std.specs.Prelude.{ℕ, ◌≡◌, ◌-◌, ◌≤◌, Bool, List, [], ◌∷◌, length, map, take}
+use Rattle.std.specs.Prelude.{ℕ, ◌≡◌, ◌-◌, ◌≤◌, Bool, List, [], ◌∷◌, length, map, take, if◌then◌else◌}
 use Rattle.kn_principal.specs.Principals.{policy}
 use Rattle.kn_trees.specs.declared.assertion.Assertion.{Assertion}
 use Rattle.kn_env.specs.Environment.{Asked}
-use Rattle.kn_meaning.specs.Equations.{Part, equations_over}
+use Rattle.kn_meaning.specs.Equations.{Part, equations_over, statement_of}
 use Rattle.kn_meaning.specs.Critical.{equation_nodes}
 use Rattle.kn_system.specs.Rows.{SystemRow}
 use Rattle.kn_system.specs.Equations.{SystemEquations, node_total}
@@ -52,6 +52,16 @@ AreNumbersOf names (r ∷ rs) (p ∷ ps) = IsNumber names r p × AreNumbersOf na
 -- the ceilings of a base's rows in a query, 0 for those of assertions that were removed
 abbrev pub ceilings_of : Asked → List Part → List Bool → List ℕ
 ceilings_of asked parts live = map (λ k. (capped_statement k).ceiling) (kept_of asked parts live)
+
+-- the values of the conditions of assertions in a query
+abbrev pub condition_values : Asked → List Part → List ℕ
+condition_values asked parts = map (λ part. (statement_of asked part).ceiling) parts
+
+-- these values, but 0 for those of assertions that were removed
+abbrev pub capped_values : List ℕ → List Bool → List ℕ
+capped_values [] live = []
+capped_values (value ∷ values) [] = []
+capped_values (value ∷ values) (flag ∷ live) = (if flag then value else 0) ∷ capped_values values live
 
 -- a base is the system of each query over its assertions
 abbrev pub BasesStateQueries : Type 0

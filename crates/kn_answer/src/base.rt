@@ -4,7 +4,7 @@ ghost use Rattle.std.specs.Prelude.{All, length, map, replicate, slice_set, take
 ghost use Rattle.kn_meaning.specs.Equations.{IsPolicyLevel, Part as AssertionById, equations_over};
 ghost use Rattle.kn_meaning.specs.Proofs.{IsProof};
 ghost use Rattle.kn_system.specs.Equations.{IsRowOver, SystemEquations, node_total};
-ghost use Rattle.kn_answer.specs.Based.{GoesOn, IsBaseOf};
+ghost use Rattle.kn_answer.specs.Based.{GoesOn, IsBaseOf, condition_values};
 ghost use Rattle.kn_answer.specs.Located.{AreLocated, AreOfSystem, IsLocated, IsOfSystem};
 ghost use Rattle.kn_answer.specs.Numbering.{with_names};
 ghost use Rattle.kn_answer.specs.Removed.{live_parts};
@@ -12,7 +12,7 @@ ghost use Rattle.kn_answer.specs.Sizes.{HaveTexts, IsReadablePart, size_of, tota
 ghost use Rattle.kn_base.specs.declared.limits.TheConstants.{REQUESTERS};
 
 use crate::assertions::Assertions;
-use crate::conditions::Conditions;
+use crate::conditions::{ConditionValues, Conditions, Evaluated};
 use crate::numbered::Numbered;
 use crate::types::{Answer, Part, Tally};
 use crate::with_others::WithOthers;
@@ -201,6 +201,37 @@ impl Base {
         ensures rows { self.new.system.rows ≡ self.old.system.rows }
         ensures live { self.new.live ≡ self.old.live }
     {
+        let values = Evaluated::of(alloc, query, assertions);
+        self.answer_by(alloc, query, assertions, &values)
+    }
+
+    /// The answer to a query as of `answer`, where the caller gives the values of conditions. The value of a row is asked
+    /// for once at most, and only where its assertion is still there and its licensees have a level above the lowest.
+    ///
+    /// `NoMemory` comes only for want of memory, and leaves the base as after `answer`.
+    pub fn answer_by<A: Assertions, V: ConditionValues>(
+        &mut self,
+        alloc: Global,
+        query: &Query<'_>,
+        assertions: &A,
+        values: &V,
+    ) -> Result<Answer, NoMemory>
+        requires base { IsBaseOf (A.parts assertions.now) self.old.names self.old.system }
+        requires room { length (with_names self.old.names query.now.requesters) ≤ 2 ^ 24 }
+        requires each { V.each values.now ≡ condition_values query.now (A.parts assertions.now) }
+        ensures proof { IfOk result (λ a.
+            IsProof (equations_over query.now (live_parts (A.parts assertions.now) self.old.live)) a.rows a.value) }
+        ensures least { IfOk result (λ a.
+            IsPolicyLevel (equations_over query.now (live_parts (A.parts assertions.now) self.old.live)) a.value) }
+        ensures below { IfOk result (λ a. a.value < length query.now.values) }
+        ensures base { IsBaseOf (A.parts assertions.now) self.new.names self.new.system }
+        ensures entered { OnOk result (self.new.names ≡ with_names self.old.names query.now.requesters) }
+        ensures again { with_names self.new.names query.now.requesters
+            ≡ with_names self.old.names query.now.requesters }
+        ensures names { length self.new.names ≤ length self.old.names + length query.now.requesters }
+        ensures rows { self.new.system.rows ≡ self.old.system.rows }
+        ensures live { self.new.live ≡ self.old.live }
+    {
         let requesters = self.numbered.numbers(alloc, query.requesters())?;
         let system = &self.numbered.system;
         let _levels = system.levels();
@@ -208,9 +239,7 @@ impl Base {
         self.scratch
             .fit(alloc, system.principals(), system.nodes(), levels)?;
         let conditions = Conditions {
-            alloc,
-            query,
-            assertions,
+            values,
             live: &self.live,
         };
         let settled = settle_on_demand(

@@ -17,4 +17,5 @@ pub use answers::answer;
 pub use assertions::Assertions;
 pub use base::Base;
 pub use built::{Built, build, locate};
+pub use conditions::{ConditionValues, Evaluated};
 pub use types::{Answer, Part, QUERY_BYTES, Tally};

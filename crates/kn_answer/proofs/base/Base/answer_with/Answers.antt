@@ -1,14 +1,12 @@
-use Rattle.std.proofs.Common.{◌≡◌, ◌+◌, ◌<◌, ◌≤◌, ◌++◌, ℕ, All, Bool, List, length, replicate, take, true, sym, ap, ◌∙◌, subst, arith}
+use Rattle.std.proofs.Common.{◌≡◌, ◌++◌, ℕ, All, List, length, replicate, take, true, sym, ap, ◌∙◌, subst, arith}
 use Rattle.std.proofs.lemmas.List.{length-append}
 use Rattle.std.proofs.lemmas.Option.{slice_get_within}
 use Rattle.kn_principal.specs.Principals.{policy}
 use Rattle.kn_meaning.specs.Equations.{IsPolicyLevel, Part, equations_over}
 use Rattle.kn_meaning.specs.Proofs as proof
-use Rattle.kn_system.specs.Equations.{IsRowOver, IsSystem, SystemEquations}
-use Rattle.kn_system.specs.Rows.{SystemRow}
+use Rattle.kn_system.specs.Equations.{IsRowOver, IsSystem}
 use Rattle.kn_answer.specs.Based.{BaseView, IsBaseOf}
 use Rattle.kn_answer.specs.Removed.{live_parts}
-use Rattle.kn_answer.specs.Sizes.{total_size}
 use Rattle.kn_answer.proofs.Basing.{length-base}
 use Rattle.kn_answer.proofs.Entered.{length-with_names}
 use Rattle.kn_answer.proofs.Overlaid.{first-within, live-more, over-these, take-front, taken-back}

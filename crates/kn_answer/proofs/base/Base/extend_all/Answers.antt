@@ -1,7 +1,6 @@
-use Rattle.std.proofs.Common.{◌≡◌, ◌+◌, ◌^◌, ◌<◌, ◌≤◌, ℕ, All, List, [], ◌∷◌, ◌++◌, length, get_or, replicate, take, drop, true, refl, sym, ap, ◌∙◌, subst, arith, append_assoc}
+use Rattle.std.proofs.Common.{◌≡◌, ◌+◌, ◌<◌, ℕ, List, [], ◌∷◌, ◌++◌, length, get_or, replicate, take, true, sym, ap, ◌∙◌, subst, arith, append_assoc}
 use Rattle.std.proofs.lemmas.List.{append-nil, replicate_more, take_all, take_more}
 use Rattle.kn_meaning.specs.Equations.{Part}
-use Rattle.kn_system.specs.Equations.{node_total}
 use Rattle.kn_answer.specs.Based.{IsBaseOf}
 use Rattle.kn_answer.specs.Sizes.{IsReadablePart, size_of, total_size}
 use Rattle.kn_answer.proofs.Counted.{total_size-drop, total_size-longer, total_size-split}

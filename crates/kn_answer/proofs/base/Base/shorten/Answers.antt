@@ -1,5 +1,5 @@
-use Rattle.std.proofs.Common.{◌≡◌, ◌≤◌, All, Bool, List, length, take, sym, ap, ◌∙◌, subst, arith}
-use Rattle.std.proofs.lemmas.List.{length-take, length-take-le}
+use Rattle.std.proofs.Common.{◌≡◌, All, List, length, take, sym, ap, ◌∙◌, subst, arith}
+use Rattle.std.proofs.lemmas.List.{length-take}
 use Rattle.kn_system.specs.Equations.{IsRowOver, SystemEquations}
 use Rattle.kn_system.specs.Rows.{SystemRow}
 use Rattle.kn_answer.specs.Based.{BaseView}

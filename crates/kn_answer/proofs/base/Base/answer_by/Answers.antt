@@ -1,13 +1,27 @@
-use Rattle.std.proofs.Common.{◌≡◌, ℕ, Bool, List, length, sym, ap, ◌∙◌, subst, arith}
+use Rattle.std.proofs.Common.{◌≡◌, ◌<◌, ℕ, All, Bool, List, length, slice_index, sym, ap, ◌∙◌, subst, arith}
 use Rattle.kn_env.specs.Environment.{Asked}
 use Rattle.kn_meaning.specs.Equations.{IsPolicyLevel, Part, equations_over}
 use Rattle.kn_meaning.specs.Proofs as proof
+use Rattle.kn_proof.specs.declared.row.Row.{Row}
 use Rattle.kn_system.specs.Equations.{SystemEquations}
-use Rattle.kn_answer.specs.Based.{BaseView, AreNumbersOf, IsBaseOf}
+use Rattle.kn_system.specs.Least.{least_levels}
+use Rattle.kn_system.specs.Proofs.{IsProof}
+use Rattle.kn_settle.specs.QuerySystem.{query_system}
+use Rattle.kn_answer.specs.Based.{BaseView, AreNumbersOf, IsBaseOf, capped_values, ceilings_of}
 use Rattle.kn_answer.specs.Removed.{live_parts}
 use Rattle.kn_answer.proofs.Answered.{IsAnswering, answering-below, answering-each, answering-least, answering-low, answering-others, answering-proof, answering-rows}
 use Rattle.kn_answer.proofs.Basing.{length-base}
-use Rattle.kn_answer.proofs.base.Base.answer.Goals as goal
+use Rattle.kn_answer.proofs.Capped.{ceilings-capped}
+use Rattle.kn_answer.proofs.base.Base.answer_by.Goals as goal
+
+-- the policy's least level where these are the ceilings
+abbrev policy_over : SystemEquations → ℕ → List ℕ → List ℕ → ℕ
+policy_over base levels numbers ceilings = slice_index (least_levels (query_system base levels numbers ceilings)) 0
+
+-- rows prove the policy's least level where these are the ceilings
+abbrev ProvesOver : SystemEquations → ℕ → List ℕ → List Row → List ℕ → Type 0
+ProvesOver base levels numbers rows ceilings =
+    IsProof (query_system base levels numbers ceilings) rows (policy_over base levels numbers ceilings)
 
 pub settle_on_demand-requires-clause-others : goal.settle_on_demand-requires-clause-others
 settle_on_demand-requires-clause-others g c =
@@ -49,7 +63,9 @@ settle_on_demand-requires-clause-one_each g c =
       are = subst (AreNumbersOf names asked.requesters) (sym c.as_slice.ensures) (subst (λ rs. AreNumbersOf names rs c.in_ok-requesters.requesters) c.requesters.ensures.requesters c.in_ok-requesters.ensures.numbers);
       others = c.requesters.ensures.right.others;
     } in
-    answering-each asked parts live names base numbers c.len-levels.result answering
+    let each : List ℕ = g.V.ConditionValues.each c.args.values.now in
+    let capped : capped_values each live ≡ ceilings_of asked parts live = ap (λ vs. capped_values vs live) c.requires.each ∙ ceilings-capped asked parts live in
+    subst (λ cs. length cs ≡ length base.rows) (sym capped) (answering-each asked parts live names base numbers c.len-levels.result answering)
 
 pub settle_on_demand-requires-clause-low : goal.settle_on_demand-requires-clause-low
 settle_on_demand-requires-clause-low g c =
@@ -70,7 +86,9 @@ settle_on_demand-requires-clause-low g c =
       are = subst (AreNumbersOf names asked.requesters) (sym c.as_slice.ensures) (subst (λ rs. AreNumbersOf names rs c.in_ok-requesters.requesters) c.requesters.ensures.requesters c.in_ok-requesters.ensures.numbers);
       others = c.requesters.ensures.right.others;
     } in
-    answering-low asked parts live names base numbers c.len-levels.result answering
+    let each : List ℕ = g.V.ConditionValues.each c.args.values.now in
+    let capped : capped_values each live ≡ ceilings_of asked parts live = ap (λ vs. capped_values vs live) c.requires.each ∙ ceilings-capped asked parts live in
+    subst (All (λ ceiling. ceiling < c.len-levels.result)) (sym capped) (answering-low asked parts live names base numbers c.len-levels.result answering)
 
 pub named_rows-requires-clause-numbers : goal.named_rows-requires-clause-numbers
 named_rows-requires-clause-numbers g c =
@@ -91,7 +109,10 @@ named_rows-requires-clause-numbers g c =
       are = subst (AreNumbersOf names asked.requesters) (sym c.as_slice.ensures) (subst (λ rs. AreNumbersOf names rs c.in_ok-requesters.requesters) c.requesters.ensures.requesters c.in_ok-requesters.ensures.numbers);
       others = c.requesters.ensures.right.others;
     } in
-    answering-rows asked parts live names base numbers c.len-levels.result answering c.in_ok-settled.settled.proof.rows _ c.in_ok-settled.ensures.proof
+    let each : List ℕ = g.V.ConditionValues.each c.args.values.now in
+    let capped : capped_values each live ≡ ceilings_of asked parts live = ap (λ vs. capped_values vs live) c.requires.each ∙ ceilings-capped asked parts live in
+    answering-rows asked parts live names base numbers c.len-levels.result answering c.in_ok-settled.settled.proof.rows _
+    (subst (ProvesOver base c.len-levels.result numbers c.in_ok-settled.settled.proof.rows) capped c.in_ok-settled.ensures.proof)
 
 pub named_rows-requires-clause-one_each : goal.named_rows-requires-clause-one_each
 named_rows-requires-clause-one_each g c =
@@ -134,9 +155,13 @@ returns-clause-proof g c =
       others = c.requesters.ensures.right.others;
     } in
     let same : live ≡ c.args.self.now.live = ap (λ (b : BaseView). b.live) c.self.view_is in
+    let each : List ℕ = g.V.ConditionValues.each c.args.values.now in
+    let capped : capped_values each live ≡ ceilings_of asked parts live = ap (λ vs. capped_values vs live) c.requires.each ∙ ceilings-capped asked parts live in
     subst (λ fs. proof.IsProof (equations_over asked (live_parts parts fs)) c.in_ok-named_rows.field-0 c.in_ok-settled.settled.value) same
-    (subst (λ v. proof.IsProof (equations_over asked (live_parts parts live)) c.in_ok-named_rows.field-0 v) (sym c.in_ok-settled.ensures.value)
-    (answering-proof asked parts live names base numbers c.len-levels.result answering c.in_ok-named_rows.field-0 c.in_ok-settled.settled.proof.rows _ (c.in_ok-named_rows.ensures _) c.in_ok-settled.ensures.proof))
+    (subst (λ v. proof.IsProof (equations_over asked (live_parts parts live)) c.in_ok-named_rows.field-0 v)
+    (sym (c.in_ok-settled.ensures.value ∙ ap (policy_over base c.len-levels.result numbers) capped))
+    (answering-proof asked parts live names base numbers c.len-levels.result answering c.in_ok-named_rows.field-0 c.in_ok-settled.settled.proof.rows _ (c.in_ok-named_rows.ensures _)
+    (subst (ProvesOver base c.len-levels.result numbers c.in_ok-settled.settled.proof.rows) capped c.in_ok-settled.ensures.proof)))
 
 pub returns-clause-least : goal.returns-clause-least
 returns-clause-least g c =
@@ -157,9 +182,12 @@ returns-clause-least g c =
       are = subst (AreNumbersOf names asked.requesters) (sym c.as_slice.ensures) (subst (λ rs. AreNumbersOf names rs c.in_ok-requesters.requesters) c.requesters.ensures.requesters c.in_ok-requesters.ensures.numbers);
       others = c.requesters.ensures.right.others;
     } in
+    let each : List ℕ = g.V.ConditionValues.each c.args.values.now in
+    let capped : capped_values each live ≡ ceilings_of asked parts live = ap (λ vs. capped_values vs live) c.requires.each ∙ ceilings-capped asked parts live in
     let same : live ≡ c.args.self.now.live = ap (λ (b : BaseView). b.live) c.self.view_is in
     subst (λ fs. IsPolicyLevel (equations_over asked (live_parts parts fs)) c.in_ok-settled.settled.value) same
-    (subst (λ v. IsPolicyLevel (equations_over asked (live_parts parts live)) v) (sym c.in_ok-settled.ensures.value) (answering-least asked parts live names base numbers c.len-levels.result answering (c.least_levels_are_least.ensures _)))
+    (subst (λ v. IsPolicyLevel (equations_over asked (live_parts parts live)) v)
+    (sym (c.in_ok-settled.ensures.value ∙ ap (policy_over base c.len-levels.result numbers) capped)) (answering-least asked parts live names base numbers c.len-levels.result answering (c.least_levels_are_least.ensures _)))
 
 pub returns-clause-below : goal.returns-clause-below
 returns-clause-below g c =
