@@ -2,6 +2,8 @@
 #![tactic(auto)]
 
 mod fault;
+mod question;
+mod remembered;
 mod runs;
 mod search;
 

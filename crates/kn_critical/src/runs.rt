@@ -7,42 +7,44 @@ ghost use Rattle.kn_answer.specs.Numbering.{AreDistinct};
 ghost use Rattle.kn_critical.specs.Searching.{AreUncritical, IsLevelWithoutRun, IsRowCritical, IsRowNamed, IsWhole};
 ghost use Rattle.kn_critical.specs.Searching.{flags_with, flags_without};
 
-use kn_answer::{Answer, Assertions, Base, Part};
+use crate::question::Question;
+use kn_answer::{Answer, Assertions, Base, ConditionValues, Part};
 use kn_base::{List, NoMemory};
-use kn_env::Query;
 use kn_laws::laws::{every_query_has_a_level, unnamed_is_not_critical};
 use kn_proof::{Id, NamedRow};
 use std::alloc::Global;
 
 // How many rows from this one on, which a proof names, are known not to be critical: none where its own assertion is.
 // So many as `limit` are tried at once, and half as many after each try that lowers the value.
-pub(crate) fn clear_rows(
+pub(crate) fn clear_rows<V: ConditionValues>(
     alloc: Global,
     base: &mut Base,
-    list: &List<Part<'_>>,
-    query: &Query<'_>,
+    question: &Question<'_, '_, '_, V>,
     answer: &Answer,
     row: u32,
     limit: u32,
 ) -> Result<u32, NoMemory>
     requires some { 1 ≤ limit }
-    requires in_range { row + limit ≤ length list.now }
-    requires ids { AreDistinct (map (λ part. part.id) list.now) }
-    requires whole { IsWhole query.now list.now base.old }
-    requires proof { IsProof (equations_over query.now list.now) answer.now.rows answer.now.value }
-    requires least { IsPolicyLevel (equations_over query.now list.now) answer.now.value }
-    requires named { IsRowNamed answer.now.rows list.now row }
+    requires in_range { row + limit ≤ length question.now.list.now }
+    requires ids { AreDistinct (map (λ part. part.id) question.now.list.now) }
+    requires whole { IsWhole question.now.query.now question.now.list.now base.old }
+    requires proof { IsProof (equations_over question.now.query.now question.now.list.now) answer.now.rows
+        answer.now.value }
+    requires least { IsPolicyLevel (equations_over question.now.query.now question.now.list.now) answer.now.value }
+    requires named { IsRowNamed answer.now.rows question.now.list.now row }
     ensures within { IfOk result (λ cleared. cleared ≤ limit) }
-    ensures cleared { IfOk result (λ cleared. AreUncritical query.now list.now row (row + cleared)) }
-    ensures critical { IfOk result (λ cleared. cleared ≡ 0 → IsRowCritical query.now list.now row) }
-    ensures whole { IsWhole query.now list.now base.new }
+    ensures cleared { IfOk result (λ cleared.
+        AreUncritical question.now.query.now question.now.list.now row (row + cleared)) }
+    ensures critical { IfOk result (λ cleared.
+        cleared ≡ 0 → IsRowCritical question.now.query.now question.now.list.now row) }
+    ensures whole { IsWhole question.now.query.now question.now.list.now base.new }
 {
     every_query_has_a_level();
     unnamed_is_not_critical();
-    let _rows = list.len();
+    let _rows = question.list.len();
     let mut count = limit;
     while count > 0 {
-        let value = value_without_run(alloc, base, list, query, &answer.rows, row, row + count)?;
+        let value = value_without_run(alloc, base, question, &answer.rows, row, row + count)?;
         if value >= answer.value {
             return Ok(count);
         }
@@ -52,23 +54,22 @@ pub(crate) fn clear_rows(
 }
 
 // The compliance value without those assertions of a run that a proof names, which are there again afterwards.
-fn value_without_run(
+fn value_without_run<V: ConditionValues>(
     alloc: Global,
     base: &mut Base,
-    list: &List<Part<'_>>,
-    query: &Query<'_>,
+    question: &Question<'_, '_, '_, V>,
     rows: &List<NamedRow>,
     start: u32,
     end: u32,
 ) -> Result<u8, NoMemory>
     requires ordered { start ≤ end }
-    requires in_range { end ≤ length list.now }
-    requires whole { IsWhole query.now list.now base.old }
-    ensures least { IfOk result (IsLevelWithoutRun query.now rows.now list.now start end) }
-    ensures whole { IsWhole query.now list.now base.new }
+    requires in_range { end ≤ length question.now.list.now }
+    requires whole { IsWhole question.now.query.now question.now.list.now base.old }
+    ensures least { IfOk result (IsLevelWithoutRun question.now.query.now rows.now question.now.list.now start end) }
+    ensures whole { IsWhole question.now.query.now question.now.list.now base.new }
 {
-    remove_run(base, list, rows, start, end);
-    let answer = base.answer(alloc, query, list);
+    remove_run(base, question.list, rows, start, end);
+    let answer = base.answer_by(alloc, question.query, question.list, &question.values);
     restore_run(base, start, end);
     Ok(answer?.value)
 }

@@ -9,16 +9,16 @@ use Rattle.kn_critical.proofs.search.critical_ids.Goals.{then-critical+in_ok-add
 use Rattle.kn_critical.proofs.search.critical_ids.Goals as goal
 
 pub loop-row-init : goal.loop-row-init
-loop-row-init c = record {
+loop-row-init g c = record {
   whole = c.requires.whole;
   cleared = λ row from to. absurd (omega (arith, to));
-  found = λ rest behind. subst (λ ids. AreCritical c.args.query.now c.args.list.now c.args.list.now (ids ++ rest)) (sym c.new-ids.ensures) behind;
+  found = λ rest behind. subst (λ ids. AreCritical c.args.question.now.query.now c.args.question.now.list.now c.args.question.now.list.now (ids ++ rest)) (sym c.new-ids.ensures) behind;
 }
 
 pub loop-row-preserved : goal.loop-row-preserved
-loop-row-preserved c =
-    let asked : Asked = c.args.query.now in
-    let parts : List Part = c.args.list.now in
+loop-row-preserved g c =
+    let asked : Asked = c.args.question.now.query.now in
+    let parts : List Part = c.args.question.now.list.now in
     let row : ℕ = c.loop-row.row in
     let within : row < length parts = omega arith in
     record {
@@ -42,6 +42,6 @@ loop-row-preserved c =
     }
 
 pub returns : goal.returns
-returns c =
-    let past : length c.args.list.now ≤ c.loop-row.row = omega arith in
-    all-found c.args.query.now c.args.list.now c.loop-row.row c.loop-row.ids (drop_all c.loop-row.row c.args.list.now past) c.loop-row.invariant.found
+returns g c =
+    let past : length c.args.question.now.list.now ≤ c.loop-row.row = omega arith in
+    all-found c.args.question.now.query.now c.args.question.now.list.now c.loop-row.row c.loop-row.ids (drop_all c.loop-row.row c.args.question.now.list.now past) c.loop-row.invariant.found
