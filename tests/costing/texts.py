@@ -102,8 +102,8 @@ def by_constants(room):
 
 
 def by_names(room):
-    """Half of it constants, and half licensees that name the last one of them."""
-    front = constants(room // 2, "p")
+    """Half of it constants, and half licensees that name the last one of them; a short one is longer than it should be."""
+    front = constants(max(room // 2, 64), "p")
     last = front.rsplit('"p"', 2)[1].split("=")[0]
     text = f'{front}Authorizer: "a"\nLicensees: {last}'
     return text + repeat(f"||{last}", room - len(text) - 1) + "\n"
