@@ -1,0 +1,4 @@
+pub mod Queries
+pub mod Conditions
+pub mod Licences
+pub mod Histories
