@@ -38,3 +38,13 @@ licences = record {
       statement (codes "POLICY") 1 carol ∷ statement (codes "POLICY") 2 (Who (codes "dave"))
       ∷ statement (codes "carol") 2 bob ∷ [];
 }
+
+-- these ask; the policy licenses two of x, y and z, and y licenses w up to the middle level
+abbrev pub asked_by : List (List ℕ) → Equations
+asked_by requesters = record {
+  top = 2;
+  requesters = requesters;
+  statements =
+      statement (codes "POLICY") 2 (Threshold 2 (Who (codes "x") ∷ Who (codes "y") ∷ Who (codes "z") ∷ []))
+      ∷ statement (codes "y") 1 (Who (codes "w")) ∷ [];
+}

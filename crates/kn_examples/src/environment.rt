@@ -60,7 +60,8 @@ pub fn changes_of_attributes()
     ensures first { with_attribute (codes "v") (codes "1") [] ≡ attribute (codes "v") (codes "1") ∷ [] }
     ensures new { with_attribute (codes "w") [] (attribute (codes "v") (codes "1") ∷ [])
         ≡ attribute (codes "v") (codes "1") ∷ attribute (codes "w") [] ∷ [] }
-    ensures again { with_attribute (codes "v") (codes "2") (attribute (codes "v") (codes "1") ∷ attribute (codes "w") [] ∷ [])
+    ensures again { with_attribute (codes "v") (codes "2")
+        (attribute (codes "v") (codes "1") ∷ attribute (codes "w") [] ∷ [])
         ≡ attribute (codes "v") (codes "2") ∷ attribute (codes "w") [] ∷ [] }
     ensures gone { without_attribute (codes "v") (attribute (codes "v") (codes "1") ∷ attribute (codes "w") [] ∷ [])
         ≡ attribute (codes "w") [] ∷ [] }

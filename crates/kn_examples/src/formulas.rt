@@ -3,9 +3,9 @@
 ghost use Rattle.std.specs.Prelude.{◌≡◌, ◌∷◌, [], codes, None};
 ghost use Rattle.kn_trees.specs.declared.formula.Formula.TheVariants.{Who, All, Any, Threshold};
 ghost use Rattle.kn_base.specs.Threshold.{threshold};
-ghost use Rattle.kn_meaning.specs.Formulas.{formula_level};
-ghost use Rattle.kn_meaning.specs.Equations.{licensees_level, worth, round};
-ghost use Rattle.kn_examples.specs.Licences.{levels, alice, bob, carol, of_three, statement, licences};
+ghost use Rattle.kn_meaning.specs.Formulas.{Levels, formula_level};
+ghost use Rattle.kn_meaning.specs.Equations.{IsLeast, licensees_level, worth, round};
+ghost use Rattle.kn_examples.specs.Licences.{levels, alice, bob, carol, of_three, statement, licences, asked_by};
 
 /// The K-th highest of some levels.
 pub fn highest_levels()
@@ -29,8 +29,8 @@ pub fn formula_levels()
     ensures two_of_three { formula_level 2 levels (of_three 2) ≡ 1 }
     ensures three_of_three { formula_level 2 levels (of_three 3) ≡ 0 }
     ensures written_twice { formula_level 2 levels (Threshold 2 (alice ∷ carol ∷ carol ∷ [])) ≡ 2 }
-    ensures nested { formula_level 2 levels (Threshold 2 (All (bob ∷ carol ∷ []) ∷ alice ∷ Any (alice ∷ carol ∷ []) ∷ []))
-        ≡ 1 }
+    ensures nested { formula_level 2 levels
+        (Threshold 2 (All (bob ∷ carol ∷ []) ∷ alice ∷ Any (alice ∷ carol ∷ []) ∷ [])) ≡ 1 }
 {}
 
 /// What an assertion is worth: the lower of its conditions' and its licensees' level.
@@ -47,4 +47,12 @@ pub fn rounds()
     ensures highest { round licences levels (codes "POLICY") ≡ 1 }
     ensures one { round licences levels (codes "carol") ≡ 1 }
     ensures none { round licences levels (codes "bob") ≡ 0 }
+{}
+
+/// The policy's level in the least fixed point, where it licenses two of three principals, one of which is licensed by
+/// another principal up to the middle level.
+pub fn policy_levels()
+    ensures middle { (at : Levels) → IsLeast (asked_by (codes "x" ∷ codes "w" ∷ [])) at → at (codes "POLICY") ≡ 1 }
+    ensures highest { (at : Levels) → IsLeast (asked_by (codes "x" ∷ codes "z" ∷ [])) at → at (codes "POLICY") ≡ 2 }
+    ensures lowest { (at : Levels) → IsLeast (asked_by (codes "x" ∷ [])) at → at (codes "POLICY") ≡ 0 }
 {}

@@ -6,7 +6,8 @@ use Rattle.kn_fields.specs.Words.{words_of, itself}
 use Rattle.kn_fields.specs.Reading.{tail_at, list_at, taken, named}
 use Rattle.kn_program.specs.Signs.{operation_of, comparison_of, prefix_of, truth_of, number_of}
 use Rattle.kn_program.specs.Trees.{joined, chained}
-use Rattle.kn_program.specs.Reading.{read_program, tests_at, negation_at, comparison_at, chain_at, operand_at, atom_at, program_at, clause_at}
+use Rattle.kn_program.specs.Reading.{read_program, tests_at, negation_at, comparison_at, chain_at}
+use Rattle.kn_program.specs.Reading.{operand_at, atom_at, program_at, clause_at}
 use Rattle.kn_env.specs.Environment.{name_value}
 use Rattle.kn_cond.proofs.Meanings.{meanings}
 use Rattle.kn_cond.proofs.Valued.{values}
