@@ -7,6 +7,8 @@ use Rattle.kn_fields.specs.Words.{Word, words_of}
 use Rattle.kn_fields.specs.Reading.{whole}
 use Rattle.kn_trees.specs.declared.program.Expr.{Expr}
 use Rattle.kn_trees.specs.declared.program.Program.{Program}
+use Rattle.kn_trees.specs.declared.kinds.Kind.{Kind}
+use Rattle.kn_trees.specs.ExprKinds.{kind_of}
 use Rattle.kn_program.specs.Reading.{tests_at, read_program}
 use Rattle.kn_program.specs.declared.signs.Joint.TheVariants.{Or}
 use Rattle.kn_cond.specs.Meaning.{Meaning, meaning_of}
@@ -22,6 +24,10 @@ read_expression words = whole (tests_at (12 * length words + 1) Or words)
 
 abbrev pub expression_in : List ℕ → Option Expr
 expression_in text = option_and_then read_expression (words_in text)
+
+-- its kind; none where it has none, or the text spells none
+abbrev pub kind_in : List ℕ → Option Kind
+kind_in text = option_and_then kind_of (expression_in text)
 
 abbrev pub program_in : List ℕ → Option Program
 program_in text = option_and_then read_program (words_in text)

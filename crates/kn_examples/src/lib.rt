@@ -7,5 +7,6 @@ pub mod environment;
 pub mod expressions;
 pub mod formulas;
 pub mod histories;
+pub mod kinds;
 pub mod programs;
 pub mod requests;
