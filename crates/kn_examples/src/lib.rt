@@ -1,5 +1,5 @@
 //! The definitions behind a served connection, worked out on small examples: what a name, an expression, a program, a
-//! formula, a call, a request, a reply and a limit mean. There is no program here, and nothing stands on this crate: it
+//! formula, a request and a limit mean. There is no program here, and nothing stands on this crate: it
 //! shows that these definitions mean what they are meant to.
 #![tactic(auto)]
 
