@@ -2,7 +2,7 @@
 use Rattle.std.specs.Prelude.{ℕ, List, [], ◌∷◌, codes, Some, if◌then◌else◌}
 use Rattle.std.specs.Str.{bytes_eq}
 use Rattle.kn_trees.specs.declared.formula.Formula.{Formula}
-use Rattle.kn_trees.specs.declared.formula.Formula.TheVariants.{Who, All, Any, Threshold}
+use Rattle.kn_trees.specs.declared.formula.Formula.TheVariants.{Who, Threshold}
 use Rattle.kn_proof.specs.declared.named.Id.TheVariants.{Shared}
 use Rattle.kn_meaning.specs.Formulas.{Levels}
 use Rattle.kn_meaning.specs.Equations.{Equations, Statement}

@@ -4,7 +4,7 @@ ghost use Rattle.std.specs.Prelude.{◌≡◌, ◌∷◌, [], true, false, codes
 ghost use Rattle.kn_env.specs.declared.attributes.EnvFault.TheVariants.{BadName, BadValue, Full};
 ghost use Rattle.kn_env.specs.Attributes.{is_attribute_name, is_settable, attribute_value, attribute_fault};
 ghost use Rattle.kn_env.specs.Attributes.{with_attribute, without_attribute};
-ghost use Rattle.kn_env.specs.Environment.{asked_value, constant_value, name_value};
+ghost use Rattle.kn_env.specs.Environment.{asked_value, name_value};
 ghost use Rattle.kn_env.specs.Values.{index_of};
 ghost use Rattle.kn_examples.specs.Queries.{attribute, mail, plain, with_constants};
 

@@ -1,5 +1,5 @@
-use Rattle.std.proofs.Common.{◌≡◌, refl, sym, codes}
-use Rattle.kn_meaning.proofs.Walks.{formula_levels, formula_level_who}
+use Rattle.std.proofs.Common.{◌≡◌, sym, codes}
+use Rattle.kn_meaning.proofs.Walks.{formula_levels}
 use Rattle.kn_examples.proofs.formulas.policy_levels.Goals as goal
 
 pub returns-clause-middle : goal.returns-clause-middle
