@@ -2,3 +2,5 @@ pub mod Queries
 pub mod Conditions
 pub mod Licences
 pub mod Histories
+pub mod Rows
+pub mod Sessions
