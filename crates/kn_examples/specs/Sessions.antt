@@ -1,7 +1,7 @@
 -- Sessions of a connection.
 use Rattle.std.specs.Prelude.{ℕ, List, [], ◌∷◌, codes, None}
 use Rattle.kn_trees.specs.declared.assertion.Assertion.{Assertion}
-use Rattle.kn_session.specs.Sessions.{Session, StandingQuery, query_with}
+use Rattle.kn_session.specs.Sessions.{Session}
 use Rattle.kn_examples.specs.Queries.{attribute}
 use Rattle.kn_examples.specs.Histories.{numbered_text, update, remove}
 
