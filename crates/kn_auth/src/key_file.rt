@@ -18,12 +18,17 @@ use kn_base::{NoMemory, Octets};
 use std::alloc::Global;
 
 /// What a key file says.
-#[derive(Drop)]
 pub struct KeyFile {
     /// Its keys and digests.
     pub auth: Either,
     /// The administrators' secret, of 1 to 128 bytes; empty where the file has none.
     pub secret: Octets,
+}
+
+impl Drop for KeyFile {
+    fn drop(self) {
+        let KeyFile { auth, secret } = self;
+    }
 }
 
 /// Reads a key file.

@@ -7,9 +7,14 @@ use std::alloc::Global;
 use std::marker::Model;
 
 /// Bytes that are kept, seen as the list of them. Up to sixteen take no memory beyond the value itself.
-#[derive(Drop)]
 pub struct Octets {
     bytes: SmallVec<u8, 16>,
+}
+
+impl Drop for Octets {
+    fn drop(self) {
+        let Octets { bytes } = self;
+    }
 }
 
 impl Model for Octets {
