@@ -44,14 +44,14 @@ accepted v size h =
 
 -- One more.
 
-module _ (s : Inside) (pages : List (List NumberedText)) (c : NumberedText) (size : ℕ)
-    (is : pages ≡ with_item CREDENTIALS_PAGE s.pages c) (long : size ≡ length c.text) (next : c.id ≡ s.added + 1) where
+module _ (s : Inside) (pages : List (List NumberedText)) (most : ℕ) (c : NumberedText) (size : ℕ)
+    (is : pages ≡ with_item most s.pages c) (long : size ≡ length c.text) (next : c.id ≡ s.added + 1) where
   longer : joined pages ≡ joined s.pages ++ c ∷ []
-  longer = ap joined is ∙ joined-with_item CREDENTIALS_PAGE s.pages c
+  longer = ap joined is ∙ joined-with_item most s.pages c
 
-  pub added_set : IsLiveSet s → refusal_of_size (view_of_set s) size ≡ None
+  pub added_set : 1 ≤ most → most ≤ CREDENTIALS_PAGE → IsLiveSet s → refusal_of_size (view_of_set s) size ≡ None
       → IsLiveSet (record { pages = pages; count = s.count + 1; bytes = s.bytes + size; changes = s.changes + 1; logged = s.logged + size; added = s.added + 1 })
-  added_set kept none =
+  added_set some few kept none =
       let within = accepted (view_of_set s) size none in
       let count = length-append (joined s.pages) (c ∷ []) in
       let bytes = sum_by_push (λ (x : NumberedText). length x.text) (joined s.pages) c in
@@ -64,7 +64,7 @@ module _ (s : Inside) (pages : List (List NumberedText)) (c : NumberedText) (siz
       let changes_room = within.changes in
       let fewer = kept.fewer in
       record {
-        pages = rw is (sized-with_item CREDENTIALS_PAGE s.pages c (omega arith) kept.pages);
+        pages = rw is (sized-with_item CREDENTIALS_PAGE most s.pages c some few kept.pages);
         ids = rw longer (ascend-push 0 (joined s.pages) c kept.ids below (omega arith));
         newest = rw longer (All-push (λ x. x.id ≤ s.added + 1) (joined s.pages) c higher (omega arith));
         count = rw longer (omega arith);

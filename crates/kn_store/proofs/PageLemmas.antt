@@ -344,14 +344,15 @@ module _ {T : Type 0} where
   sized-unless_empty most [] le = tt
   sized-unless_empty most (x ∷ xs) le = (omega arith, le, tt)
 
-  pub sized-with_item : (most : ℕ) (pages : List (List T)) (item : T) → 1 ≤ most → AreSized most pages → AreSized most (with_item most pages item)
-  sized-with_item most [] item some s = (omega arith, some, tt)
-  sized-with_item most (page ∷ []) item some s = by (nat_lt (length page) most) refl
+  -- also where a page is begun before the last one is full
+  pub sized-with_item : (size most : ℕ) (pages : List (List T)) (item : T) → 1 ≤ most → most ≤ size → AreSized size pages → AreSized size (with_item most pages item)
+  sized-with_item size most [] item some few s = (omega arith, omega arith, tt)
+  sized-with_item size most (page ∷ []) item some few s = by (nat_lt (length page) most) refl
     where
-      by : (room : Bool) → nat_lt (length page) most ≡ room → AreSized most (cond room ((page ++ item ∷ []) ∷ []) (page ∷ (item ∷ []) ∷ []))
+      by : (room : Bool) → nat_lt (length page) most ≡ room → AreSized size (cond room ((page ++ item ∷ []) ∷ []) (page ∷ (item ∷ []) ∷ []))
       by true h = let longer = length-append page (item ∷ []) in let below = ltb-true (length page) most h in (omega arith, omega arith, tt)
-      by false h = (s.0, s.1, (omega arith, some, tt))
-  sized-with_item most (page ∷ next ∷ pages) item some s = (s.0, s.1, sized-with_item most (next ∷ pages) item some s.2)
+      by false h = (s.0, s.1, (omega arith, omega arith, tt))
+  sized-with_item size most (page ∷ next ∷ pages) item some few s = (s.0, s.1, sized-with_item size most (next ∷ pages) item some few s.2)
 
   length-remove_le : (page : List T) (place : ℕ) → length (remove page place) ≤ length page
   length-remove_le page place =

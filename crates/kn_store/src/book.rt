@@ -12,6 +12,7 @@ ghost use Rattle.kn_history.specs.Retained.{retained_version};
 ghost use Rattle.kn_store.specs.EarlierVersions.{AreLeft};
 
 use crate::earlier::Earlier;
+use crate::live_set::CREDENTIALS_PAGE;
 use crate::version::{Snapshot, Version};
 use kn_base::limits::RETAINED_VERSIONS;
 use kn_base::{List, NoMemory};
@@ -19,7 +20,6 @@ use kn_history::{BatchFault, Item, Ready, StoreFault};
 use std::alloc::Global;
 use std::marker::Model;
 use std::mem;
-use std::sync::Arc;
 
 /// All updates so far. It is seen as their list.
 #[derive(Drop)]
@@ -77,14 +77,11 @@ impl Book {
         ensures { IfOk result (λ book. book ≡ []) }
     {
         let earlier = Earlier::empty(alloc)?;
-        match Arc::new(alloc, Version::empty(alloc)) {
-            Ok(newest) => Ok(Book {
-                alloc,
-                newest,
-                earlier,
-            }),
-            Err(_) => Err(NoMemory),
-        }
+        Ok(Book {
+            alloc,
+            newest: Version::empty(alloc).into_snapshot(alloc)?,
+            earlier,
+        })
     }
 
     /// Makes an addition ready, and takes all memory that it needs. The book stays as it is.
@@ -100,8 +97,9 @@ impl Book {
             return Err(fault);
         }
         let newest = self.newest.share(self.alloc)?;
-        let (version, id) = newest.with_addition(self.alloc, caller, ready)?;
-        Ok(make_prepared(self.alloc, version, id)?)
+        let (version, id) = newest.with_addition(self.alloc, caller, ready, CREDENTIALS_PAGE)?;
+        let version = version.into_snapshot(self.alloc)?;
+        Ok(Prepared { version, id })
     }
 
     /// Adds texts, each by an update of its own, or none of them where one is refused: then its place is told, counted
@@ -119,7 +117,7 @@ impl Book {
             return Err((0, StoreFault::NoMemory));
         };
         let (version, earlier) = newest.with_additions(self.alloc, caller, readies, earlier)?;
-        let Ok(newest) = Arc::new(self.alloc, version) else {
+        let Ok(newest) = version.into_snapshot(self.alloc) else {
             return Err((0, StoreFault::NoMemory));
         };
         self.newest = newest;
@@ -149,7 +147,8 @@ impl Book {
         ensures kept { self.new ≡ self.old }
     {
         let version = self.newest.with_removal(self.alloc, caller, id)?;
-        Ok(make_prepared(self.alloc, version, id)?)
+        let version = version.into_snapshot(self.alloc)?;
+        Ok(Prepared { version, id })
     }
 
     /// Makes one update of the changes of these items ready, all of them or none, and takes all memory that it needs.
@@ -165,7 +164,8 @@ impl Book {
     {
         let id = self.newest.next_id();
         let version = self.newest.with_items(self.alloc, caller, items)?;
-        Ok(make_prepared(self.alloc, version, id)?)
+        let version = version.into_snapshot(self.alloc)?;
+        Ok(Prepared { version, id })
     }
 
     /// Enters the update that was made ready. Takes no memory.
@@ -214,15 +214,5 @@ impl Book {
         ensures valid { is_valid_history self.now ≡ true }
     {
         self.newest.number()
-    }
-}
-
-fn make_prepared(alloc: Global, version: Version, id: u32) -> Result<Prepared, NoMemory>
-    ensures log { IfOk result (λ p. p.log ≡ version) }
-    ensures id { IfOk result (λ p. p.id ≡ id) }
-{
-    match Arc::new(alloc, version) {
-        Ok(version) => Ok(Prepared { version, id }),
-        Err(_) => Err(NoMemory),
     }
 }

@@ -10,7 +10,6 @@ use kn_base::limits::RETAINED_VERSIONS;
 use kn_base::{NoMemory, Reserved};
 use std::alloc::Global;
 use std::marker::Model;
-use std::sync::Arc;
 
 /// Versions in their order, with room for all that are retained beside the newest. It is seen as their list.
 #[derive(Drop)]
@@ -79,12 +78,7 @@ impl Earlier {
     pub(crate) fn keep(&mut self, alloc: Global, version: &Version) -> Result<(), NoMemory>
         ensures { OnOk result (self.new ≡ with_version self.old version.now) }
     {
-        match Arc::new(alloc, version.share(alloc)?) {
-            Ok(version) => {
-                self.enter(version);
-                Ok(())
-            }
-            Err(_) => Err(NoMemory),
-        }
+        self.enter(version.share(alloc)?.into_snapshot(alloc)?);
+        Ok(())
     }
 }

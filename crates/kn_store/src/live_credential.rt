@@ -60,22 +60,16 @@ impl LiveCredential {
         ensures text { IfOk result (λ c. (arc_value c).text ≡ self.now.text) }
         ensures reading { IfOk result (λ c. assertion_of self.now.text ≡ Some (arc_value c).assertion) }
     {
-        match Arc::try_clone(&self.credential) {
-            Ok(credential) => Ok(credential),
-            Err(_) => Err(NoMemory),
-        }
+        Arc::try_clone(&self.credential).or(Err(NoMemory))
     }
 }
 
 impl Shareable for LiveCredential {
     #[inline(always)]
     fn share(&self) -> Result<LiveCredential, NoMemory> {
-        match Arc::try_clone(&self.credential) {
-            Ok(credential) => Ok(LiveCredential {
-                id: self.id,
-                credential,
-            }),
-            Err(_) => Err(NoMemory),
-        }
+        Ok(LiveCredential {
+            id: self.id,
+            credential: self.share_credential()?,
+        })
     }
 }

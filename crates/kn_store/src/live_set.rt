@@ -24,7 +24,6 @@ use std::marker::Model;
 pub(crate) const CREDENTIALS_PAGE: u32 = 64;
 
 /// The live credentials in order of id, with the numbers that limits ask for.
-#[derive(Drop)]
 pub(crate) struct LiveSet {
     pages: Pages<LiveCredential>,
     /// How many are live.
@@ -37,6 +36,19 @@ pub(crate) struct LiveSet {
     logged: u32,
     /// How many additions there were.
     added: u32,
+}
+
+impl Drop for LiveSet {
+    fn drop(self) {
+        let LiveSet {
+            pages,
+            count: _,
+            bytes: _,
+            changes: _,
+            logged: _,
+            added: _,
+        } = self;
+    }
 }
 
 impl Model for LiveSet {
@@ -129,14 +141,17 @@ impl LiveSet {
         })
     }
 
-    /// These and one more, which has the next id and a text of this size.
+    /// These and one more, which has the next id and a text of this size. It begins a page where the last has `most`.
     #[inline(always)]
     pub(crate) fn with_addition(
         self,
         alloc: Global,
+        most: u32,
         credential: LiveCredential,
         size: u32,
     ) -> Result<LiveSet, NoMemory>
+        requires some { 1 ≤ most }
+        requires few { most ≤ CREDENTIALS_PAGE }
         requires size { size ≡ length credential.text }
         requires accepted { refusal_of_size self (length credential.text) ≡ None }
         requires next { credential.id ≡ self.added + 1 }
@@ -152,7 +167,7 @@ impl LiveSet {
             added: _,
         } = self;
         Ok(LiveSet {
-            pages: pages.with_item(alloc, CREDENTIALS_PAGE, credential)?,
+            pages: pages.with_item(alloc, most, credential)?,
             count: count + 1,
             bytes: bytes + size,
             changes: changes + 1,
@@ -182,7 +197,7 @@ impl LiveSet {
                 }
                 let id = self.next_id();
                 let (credential, text) = LiveCredential::of(ready, id);
-                let live = self.with_addition(alloc, credential, size as u32)?;
+                let live = self.with_addition(alloc, CREDENTIALS_PAGE, credential, size as u32)?;
                 let change = Change::Add(text);
                 Ok((live, Numbered { change, id }))
             }

@@ -36,10 +36,8 @@ impl LoggedUpdate {
     fn of(alloc: Global, update: Update) -> Result<LoggedUpdate, NoMemory>
         ensures { IfOk result (λ logged. logged ≡ update) }
     {
-        match Arc::new(alloc, update) {
-            Ok(update) => Ok(LoggedUpdate { update }),
-            Err(_) => Err(NoMemory),
-        }
+        let update = Arc::new(alloc, update).or(Err(NoMemory))?;
+        Ok(LoggedUpdate { update })
     }
 
     fn update(&self) -> &Update
@@ -52,10 +50,8 @@ impl LoggedUpdate {
 impl Shareable for LoggedUpdate {
     #[inline(always)]
     fn share(&self) -> Result<LoggedUpdate, NoMemory> {
-        match Arc::try_clone(&self.update) {
-            Ok(update) => Ok(LoggedUpdate { update }),
-            Err(_) => Err(NoMemory),
-        }
+        let update = Arc::try_clone(&self.update).or(Err(NoMemory))?;
+        Ok(LoggedUpdate { update })
     }
 }
 
@@ -186,7 +182,7 @@ impl Log {
         ensures { IfOk result (λ log. log ≡ self.now) }
     {
         Ok(Log {
-            full: share_items(alloc, self.full.as_slice())?,
+            full: share_items(alloc, &self.full)?,
             last: self.last.share(alloc)?,
         })
     }

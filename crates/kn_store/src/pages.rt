@@ -105,7 +105,7 @@ impl<T: Shareable> Pages<T> {
         ensures { IfOk result (λ pages. pages ≡ self.now) }
     {
         Ok(Pages {
-            closed: share_items(alloc, self.closed.as_slice())?,
+            closed: share_items(alloc, &self.closed)?,
             last: copy_page(alloc, &self.last)?,
         })
     }
@@ -262,18 +262,15 @@ fn copy_page<T: Shareable>(alloc: Global, page: &Page<T>) -> Result<Page<T>, NoM
 }
 
 /// A list with the same items, and room for one more.
-pub(crate) fn share_items<'a, T: Drop>(
+pub(crate) fn share_items<T: Drop>(
     alloc: Global,
-    items: &'a [Arc<T>],
+    items: &List<Arc<T>>,
 ) -> Result<List<Arc<T>>, NoMemory>
     ensures { IfOk result (λ page. map arc_value page ≡ map arc_value items.now) }
 {
-    let Ok(most) = u32::try_from(items.len() + 1) else {
-        return Err(NoMemory);
-    };
     let mut room = Reserved::new(alloc);
-    room.reserve(most)?;
-    share(&mut room, items)?;
+    room.reserve(items.len().saturating_add(1))?;
+    share(&mut room, items.as_slice())?;
     Ok(room.finish())
 }
 
@@ -285,10 +282,7 @@ pub(crate) fn share<T: Drop>(room: &mut Reserved<Arc<T>>, items: &[Arc<T>]) -> R
     ensures spare { OnOk result (room.old.spare ≤ room.new.spare + length items.now) }
 {
     for item in items {
-        match Arc::try_clone(item) {
-            Ok(item) => room.put(item),
-            Err(_) => return Err(NoMemory),
-        }
+        room.put(Arc::try_clone(item).or(Err(NoMemory))?);
     }
     Ok(())
 }

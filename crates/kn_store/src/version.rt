@@ -16,7 +16,7 @@ ghost use Rattle.kn_store.specs.EarlierVersions.{AreEarlier, AreLeft};
 
 use crate::earlier::Earlier;
 use crate::live_credential::LiveCredential;
-use crate::live_set::LiveSet;
+use crate::live_set::{CREDENTIALS_PAGE, LiveSet};
 use crate::log::Log;
 use kn_base::limits::RETAINED_VERSIONS;
 use kn_base::{List, NoMemory, Octets};
@@ -147,6 +147,13 @@ impl Version {
         })
     }
 
+    /// The same version, to be kept by several.
+    pub(crate) fn into_snapshot(self, alloc: Global) -> Result<Snapshot, NoMemory>
+        ensures { IfOk result (λ snapshot. arc_value snapshot ≡ self) }
+    {
+        Arc::new(alloc, self).or(Err(NoMemory))
+    }
+
     /// The first fault of an addition of a text of so many bytes.
     pub(crate) fn refusal_of_size(&self, size: usize) -> Option<StoreFault>
         ensures { (text : Of ℕ) → size ≡ length text → result ≡ refusal_of_text (all_changes self.now) text }
@@ -154,14 +161,18 @@ impl Version {
         self.live.refusal_of_size(size)
     }
 
-    /// The version after one more update, which adds this text, and the id of the text.
+    /// The version after one more update, which adds this text, and the id of the text. Its credential begins a page
+    /// where the last one has `most`.
     #[inline(always)]
     pub(crate) fn with_addition(
         self,
         alloc: Global,
         caller: u32,
         ready: Ready,
+        most: u32,
     ) -> Result<(Version, u32), NoMemory>
+        requires some { 1 ≤ most }
+        requires few { most ≤ CREDENTIALS_PAGE }
         requires accepted { refusal_of_text (all_changes self) ready ≡ None }
         ensures id { IfOk result (λ next. next.1 ≡ next_id self) }
         ensures version { IfOk result (λ next. next.0 ≡ self ++ addition_by caller ready next.1 ∷ []) }
@@ -177,7 +188,7 @@ impl Version {
             updates,
             number: _,
         } = self;
-        let live = live.with_addition(alloc, credential, size as u32)?;
+        let live = live.with_addition(alloc, most, credential, size as u32)?;
         let updates = updates.with_update(alloc, update)?;
         Ok((
             Version {
@@ -192,7 +203,8 @@ impl Version {
     /// The version after updates that add these texts one after the other, with those before it that are retained, or
     /// the place of the first text that is refused, counted from 0.
     ///
-    /// One version is handed on in place, and is shared where it is one of the last before the newest.
+    /// One version is handed on in place, and is shared where it is one of the last before the newest. That copies the
+    /// pointers of its last page, so behind the first of them a page begins, unless the last one is still short.
     pub(crate) fn with_additions(
         self,
         alloc: Global,
@@ -218,8 +230,13 @@ impl Version {
             if left < RETAINED_VERSIONS as usize && earlier.keep(alloc, &next).is_err() {
                 return Err((place, StoreFault::NoMemory));
             }
+            let most = if left == RETAINED_VERSIONS as usize - 1 {
+                RETAINED_VERSIONS
+            } else {
+                CREDENTIALS_PAGE
+            };
             left -= 1;
-            match next.with_addition(alloc, caller, ready) {
+            match next.with_addition(alloc, caller, ready, most) {
                 Ok((longer, _)) => next = longer,
                 Err(_) => return Err((place, StoreFault::NoMemory)),
             }
