@@ -9,7 +9,7 @@ use crate::head::Head;
 use crate::part::Part;
 
 /// Where a feed stands in its stream.
-#[derive(Clone, Copy, PartialEq, Eq, Drop)]
+#[derive(Clone, Copy, Drop)]
 pub(crate) enum Stage {
     /// Within a request, or before one.
     Reading,
@@ -20,7 +20,7 @@ pub(crate) enum Stage {
 }
 
 /// What became of the bytes that came.
-#[derive(Clone, Copy, PartialEq, Eq, Drop)]
+#[derive(Clone, Copy, Drop)]
 pub(crate) enum Advanced {
     /// There is no whole request.
     Nothing,
@@ -32,7 +32,7 @@ pub(crate) enum Advanced {
 }
 
 /// Where a feed stands in the bytes that came.
-#[derive(Clone, Copy, PartialEq, Eq, Drop)]
+#[derive(Clone, Copy, Drop)]
 pub(crate) struct Cursor {
     /// How many bytes were spent.
     pub from: usize,

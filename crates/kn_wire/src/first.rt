@@ -10,7 +10,7 @@ use crate::split::{place_of, without_return};
 use kn_base::limits::{ASSERTION_BYTES, LINE_BYTES};
 
 /// The first request of a text.
-#[derive(Clone, Copy, PartialEq, Eq, Drop)]
+#[derive(Clone, Copy, Drop)]
 pub(crate) enum First {
     /// It isn't there yet: so many bytes have no newline among them, and fewer than the bytes needed hold no request.
     Waits {

@@ -9,7 +9,7 @@ use crate::word::Word;
 use kn_base::decimal;
 
 /// A request whose block is still to come.
-#[derive(Clone, Copy, PartialEq, Eq, Drop)]
+#[derive(Clone, Copy, Drop)]
 pub(crate) enum Head {
     Assert { s: u32 },
     Add,

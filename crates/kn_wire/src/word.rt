@@ -1,7 +1,7 @@
 //! The words of a line, which are separated by one space.
 
 /// A command word.
-#[derive(Clone, Copy, PartialEq, Eq)]
+#[derive(Clone, Copy)]
 pub(crate) enum Word {
     Open,
     Close,
