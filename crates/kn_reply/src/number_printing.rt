@@ -1,5 +1,5 @@
 //! Numbers as text, in decimal digits.
-ghost use Rattle.std.specs.Prelude.{◌++◌, ◌∷◌, [], decimal};
+ghost use Rattle.std.specs.Prelude.{◌≡◌, ◌++◌, ◌∷◌, ◌<◌, [], decimal};
 ghost use Rattle.kn_reply.specs.Gathering.{Puts};
 
 use crate::printer::Printer;
@@ -13,8 +13,21 @@ pub(crate) fn put_number<const N: usize, O: Sink>(
 )
     ensures { Puts (decimal number) printer.old (O.seen out.old) printer.new (O.seen out.new) }
 {
-    let mut buffer = Buffer::new();
-    printer.put(out, buffer.format(number).as_bytes());
+    if number < 10 {
+        printer.put(out, &digit(number));
+    } else {
+        let mut buffer = Buffer::new();
+        printer.put(out, buffer.format(number).as_bytes());
+    }
+}
+
+/// The digit of a number that has only one, as most numbers of a reply do.
+#[tactic(auto, using(std::proofs::lemmas::Fmt::decimal_digit))]
+fn digit(number: u32) -> [u8; 1]
+    requires { number < 10 }
+    ensures { result ≡ decimal number }
+{
+    [b'0' + number as u8]
 }
 
 pub(crate) fn put_size<const N: usize, O: Sink>(printer: &mut Printer<N>, out: &mut O, size: usize)

@@ -28,13 +28,24 @@ impl<const N: usize> Printer<N> {
         }
     }
 
-    /// Puts bytes behind those that were put before.
+    /// Puts bytes behind those that were put before. Where there is room for them, which is nearly always, they are
+    /// copied in place: a literal by a store or two.
+    #[inline(always)]
     pub(crate) fn put<O: Sink>(&mut self, out: &mut O, bytes: &[u8])
         ensures { Puts bytes.now self.old (O.seen out.old) self.new (O.seen out.new) }
     {
         if self.gather(bytes) {
             return;
         }
+        self.put_behind_room(out, bytes);
+    }
+
+    /// Puts bytes for which there is no room behind those that are pending.
+    #[cold]
+    #[inline(never)]
+    fn put_behind_room<O: Sink>(&mut self, out: &mut O, bytes: &[u8])
+        ensures { Puts bytes.now self.old (O.seen out.old) self.new (O.seen out.new) }
+    {
         self.flush(out);
         self.put_first(out, bytes);
     }
@@ -49,6 +60,7 @@ impl<const N: usize> Printer<N> {
     }
 
     /// Takes bytes where there is room for them or a write has failed; else nothing changes.
+    #[inline(always)]
     fn gather(&mut self, bytes: &[u8]) -> bool
         ensures put { result ≡ true → (seen : LinkSeen) → Puts bytes.now self.old seen self.new seen }
         ensures full { result ≡ false → self.new ≡ self.old }
