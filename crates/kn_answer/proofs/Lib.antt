@@ -6,7 +6,6 @@ pub mod Pieces
 pub mod Bridge
 pub mod Entered
 pub mod Grown
-pub mod Keyed
 pub mod Followed
 pub mod Rowed
 pub mod Located

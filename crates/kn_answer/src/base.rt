@@ -205,8 +205,9 @@ impl Base {
         self.answer_by(alloc, query, assertions, &values)
     }
 
-    /// The answer to a query as of `answer`, where the caller gives the values of conditions. The value of a row is asked
-    /// for once at most, and only where its assertion is still there and its licensees have a level above the lowest.
+    /// The answer to a query as of `answer`, where the caller gives the values of conditions. The value of a row is
+    /// asked for once at most, and only where its assertion is still there and its licensees have a level above the
+    /// lowest.
     ///
     /// `NoMemory` comes only for want of memory, and leaves the base as after `answer`.
     pub fn answer_by<A: Assertions, V: ConditionValues>(
@@ -258,8 +259,9 @@ impl Base {
         })
     }
 
-    /// The answer to a query as of `answer`, where these assertions stand behind those of the base: the compliance value
-    /// over all of them, with a proof of it. They are taken out again, and the principals with them who weren't known.
+    /// The answer to a query as of `answer`, where these assertions stand behind those of the base: the compliance
+    /// value over all of them, with a proof of it. They are taken out again, and the principals with them who weren't
+    /// known.
     ///
     /// `NoMemory` comes only for want of memory, and the base is gone then.
     pub fn answer_with<A: Assertions>(

@@ -6,11 +6,11 @@ ghost use Rattle.kn_answer.specs.Built.{IsBuilt};
 ghost use Rattle.kn_answer.specs.Located.{IsFound, IsOfSystem, IsLocated, AreLocated};
 ghost use Rattle.kn_answer.specs.Sizes.{HaveTexts};
 
-use crate::names::Names;
 use crate::numbered::{Numbered, numbered_query};
 use crate::types::{Part, Tally};
 use kn_base::{List, NoMemory, Octets};
 use kn_env::Query;
+use kn_names::Names;
 use kn_proof::{Id, NamedRow, Proof, ReadReply, Row};
 use kn_system::System;
 use std::alloc::Global;

@@ -8,7 +8,6 @@ mod base;
 mod built;
 mod conditions;
 pub mod laws;
-mod names;
 mod numbered;
 mod types;
 mod with_others;

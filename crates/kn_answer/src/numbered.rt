@@ -17,12 +17,12 @@ ghost use Rattle.kn_answer.specs.Spelling.{AddsSpelled, AddsGate};
 ghost use Rattle.kn_answer.specs.Sizes.{IsReadablePart, size_of, total_size};
 ghost use Rattle.kn_trees.specs.Formulas.{IsReadable, field_nodes, formula_nodes, is_sound, total};
 
-use crate::names::Names;
 use crate::types::{Part, Tally};
 use kn_assert::{Assertion, Formula};
 use kn_base::{List, NoMemory, Octets};
 use kn_cond::field_value;
 use kn_env::{Env, Query};
+use kn_names::Names;
 use kn_system::{Piece, System};
 use std::alloc::Global;
 
