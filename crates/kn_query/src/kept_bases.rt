@@ -1,11 +1,16 @@
 //! The bases that are kept from one query to the next.
-ghost use Rattle.std.specs.Prelude.{◌≡◌, ◌<◌, ◌≤◌, List as ListOf, None, IfOk, IfSome};
+ghost use Rattle.std.specs.Prelude.{◌≡◌, ◌<◌, ◌≤◌, List as ListOf, None, length, IfOk, IfSome};
 ghost use Rattle.kn_history.specs.declared.update.Update.{Update};
+ghost use Rattle.kn_meaning.specs.Equations.{IsPolicyLevel, equations_over};
+ghost use Rattle.kn_meaning.specs.Proofs.{IsProof};
 ghost use Rattle.kn_query.specs.KeptBases.{EachKept, IsKeptIn};
 ghost use Rattle.kn_query.specs.SharedBases.{HasCredentials, IsOfHistory, IsOfVersion};
+ghost use Rattle.kn_query.specs.SharedParts.{shared_parts};
 
 use crate::shared_base::SharedBase;
+use kn_answer::Answer;
 use kn_base::NoMemory;
+use kn_env::Query;
 use kn_store::Version;
 use std::alloc::Global;
 use std::mem;
@@ -58,6 +63,31 @@ impl KeptBases {
         SharedBase::of(alloc, version)
     }
 
+    /// The answer to a query over the credentials of a version from the base that was asked last, which stays in its
+    /// place; None where that is of no base or of another version.
+    ///
+    /// `NoMemory` comes only for want of memory. The base goes where it became too large to be kept.
+    pub(crate) fn answer_recent(
+        &mut self,
+        alloc: Global,
+        version: &Version,
+        query: &Query<'_>,
+    ) -> Option<Result<Answer, NoMemory>>
+        requires of_history { EachKept (IsOfHistory version.now) self.old }
+        ensures proof { IfSome result (λ answer. IfOk answer (λ a.
+            IsProof (equations_over query.now (shared_parts version.now)) a.rows a.value)) }
+        ensures least { IfSome result (λ answer. IfOk answer (λ a.
+            IsPolicyLevel (equations_over query.now (shared_parts version.now)) a.value)) }
+        ensures below { IfSome result (λ answer. IfOk answer (λ a. a.value < length query.now.values)) }
+        ensures of_version { IfSome result (λ answer. IfSome self.new.recent (IsOfVersion version.now)) }
+        ensures other { self.new.other ≡ self.old.other }
+        ensures none { result ≡ None → self.new ≡ self.old }
+    {
+        let answer = answer_in_place(&mut self.recent, alloc, version, query)?;
+        drop_large(&mut self.recent);
+        Some(answer)
+    }
+
     /// Keeps a base as the one that was asked last, where it is small enough.
     pub(crate) fn keep(&mut self, shared: SharedBase)
         ensures recent { (version : ListOf Update) → HasCredentials version shared
@@ -88,6 +118,39 @@ impl KeptBases {
         }
         self.other = spare;
         None
+    }
+}
+
+// The answer of a base where it is of this version. It is moved by no answer: it is large.
+fn answer_in_place(
+    kept: &mut Option<SharedBase>,
+    alloc: Global,
+    version: &Version,
+    query: &Query<'_>,
+) -> Option<Result<Answer, NoMemory>>
+    requires of_history { IfSome kept.old (IsOfHistory version.now) }
+    ensures proof { IfSome result (λ answer. IfOk answer (λ a.
+        IsProof (equations_over query.now (shared_parts version.now)) a.rows a.value)) }
+    ensures least { IfSome result (λ answer. IfOk answer (λ a.
+        IsPolicyLevel (equations_over query.now (shared_parts version.now)) a.value)) }
+    ensures below { IfSome result (λ answer. IfOk answer (λ a. a.value < length query.now.values)) }
+    ensures credentials { IfSome result (λ answer. IfSome kept.new (HasCredentials version.now)) }
+    ensures none { result ≡ None → kept.new ≡ kept.old }
+{
+    match kept {
+        Some(shared) if shared.number() == version.number() => Some(shared.answer(alloc, query)),
+        _ => None,
+    }
+}
+
+// Takes a base away that became too large to be kept.
+fn drop_large(kept: &mut Option<SharedBase>)
+    ensures { (version : ListOf Update) → IfSome kept.old (HasCredentials version)
+        → IfSome kept.new (IsOfVersion version) }
+{
+    match kept {
+        Some(shared) if !shared.is_small() => *kept = None,
+        _ => {}
     }
 }
 

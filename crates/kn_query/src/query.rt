@@ -102,6 +102,9 @@ fn answer_shared(
     ensures below { IfOk result (λ a. a.value < length query.now.values) }
     ensures of_version { EachKept (IsKeptOrOf version.now kept.old) kept.new }
 {
+    if let Some(answer) = kept.answer_recent(alloc, version, query) {
+        return answer;
+    }
     let mut shared = kept.take_or_build(alloc, version)?;
     let answer = shared.answer(alloc, query);
     kept.keep(shared);

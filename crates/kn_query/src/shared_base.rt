@@ -150,8 +150,8 @@ impl SharedBase {
         })
     }
 
-    /// The answer to a query over the credentials of the version of which the base is. `NoMemory` comes only for want of
-    /// memory, and the base stays of them.
+    /// The answer to a query over the credentials of the version of which the base is. `NoMemory` comes only for want
+    /// of memory, and the base stays of them.
     pub(crate) fn answer(&mut self, alloc: Global, query: &Query<'_>) -> Result<Answer, NoMemory>
         requires rows { HasRows self.old }
         requires few_names { length self.old.base.names ≤ 1 + LIVE_BYTES }
@@ -222,7 +222,8 @@ impl SharedBase {
         if self.is_small() { Some(self) } else { None }
     }
 
-    fn is_small(&self) -> bool
+    /// Whether it is so small that it is kept.
+    pub(crate) fn is_small(&self) -> bool
         ensures names { result ≡ true → length self.now.base.names ≤ MOST_PRINCIPALS }
         ensures nodes { result ≡ true → node_total self.now.base.system.rows ≤ MOST_NODES }
     {
