@@ -16,3 +16,4 @@ pub mod Flattened
 pub mod Linked
 pub mod KeptRows
 pub mod Shortened
+pub mod Recapped

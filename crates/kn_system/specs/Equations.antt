@@ -1,5 +1,5 @@
 -- A query over numbered principals: what a system is seen as (keynoted's own).
-use Rattle.std.specs.Prelude.{ℕ, ◌≡◌, ◌+◌, ◌<◌, ◌≤◌, ◌^◌, Bool, true, false, List, [], ◌∷◌, All, length, slice_index_or}
+use Rattle.std.specs.Prelude.{ℕ, ◌≡◌, ◌+◌, ◌<◌, ◌≤◌, ◌^◌, Bool, true, false, List, [], ◌∷◌, All, length, slice_index_or, slice_set}
 use Rattle.kn_base.specs.declared.limits.TheConstants.{FEWEST_COMPLIANCE_VALUES, MOST_COMPLIANCE_VALUES}
 use Rattle.kn_system.specs.Rows.{SystemRow}
 use Rattle.kn_system.specs.Form.{leaf_count}
@@ -14,6 +14,10 @@ pub record SystemEquations : Type 0 where
 -- a row by its number
 abbrev pub row_at : List SystemRow → ℕ → SystemRow
 row_at rows i = slice_index_or rows i (record { authorizer = 0; ceiling = 0; formula = [] })
+
+-- the rows, where this one has another ceiling
+abbrev pub recapped : List SystemRow → ℕ → ℕ → List SystemRow
+recapped rows i ceiling = slice_set rows i (record { authorizer = (row_at rows i).authorizer; ceiling = ceiling; formula = (row_at rows i).formula })
 
 -- a row's numbers are in range, and its formula is one over the principals
 pub record IsSystemRow (levels principals : ℕ) (row : SystemRow) : Type 0 where

@@ -46,6 +46,7 @@ impl<L> Model for System<L> {
 
 impl<L> System<L> {
     ghost use Rattle.kn_system.specs.Equations.{IsRowOver, IsSystemRow, IsSystem, row_at, node_total, leaf_total};
+    ghost use Rattle.kn_system.specs.Equations.{recapped};
     ghost use Rattle.kn_system.specs.Form.{form_level};
     ghost use Rattle.kn_system.specs.Forms.{IsFormula};
     ghost use Rattle.kn_system.specs.Lawful.{AreLevels};
@@ -125,6 +126,18 @@ impl<L> System<L> {
                 Err(NoMemory)
             }
         }
+    }
+
+    /// Gives a row another ceiling, and answers the one that it had. Takes no memory.
+    pub fn set_ceiling(&mut self, row: u32, ceiling: u8) -> u8
+        requires row_in_range { row < length self.old.rows }
+        requires ceiling_in_range { ceiling < self.old.levels }
+        ensures former { result ≡ (row_at self.old.rows row).ceiling }
+        ensures ok { self.new ≡ record self.old { rows = recapped self.old.rows row ceiling } }
+    {
+        let former = self.rows.as_slice()[row as usize];
+        let _former = self.rows.replace(row, StoredRow { ceiling, ..former });
+        former.ceiling
     }
 
     // Takes the last row away.
