@@ -7,3 +7,5 @@ pub mod Listed
 pub mod Nodes
 pub mod Spread
 pub mod Bounded
+pub mod Former
+pub mod Grown

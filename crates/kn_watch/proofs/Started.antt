@@ -141,7 +141,7 @@ other-low s changed affected p fits first users other =
     omega arith
 
 -- zeros behind a list
-padded : (xs : List ℕ) (n p : ℕ) → slice_index (xs ++ replicate n 0) p ≡ slice_index xs p
+pub padded : (xs : List ℕ) (n p : ℕ) → slice_index (xs ++ replicate n 0) p ≡ slice_index xs p
 padded [] zero p = refl
 padded [] (suc n) zero = refl
 padded [] (suc n) (suc p) = padded [] n p

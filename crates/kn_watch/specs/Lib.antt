@@ -3,3 +3,4 @@ pub mod Changes
 pub mod Climbing
 pub mod Found
 pub mod Raising
+pub mod Watched

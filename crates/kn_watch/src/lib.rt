@@ -3,8 +3,11 @@
 
 mod affected;
 mod changed;
+pub mod laws;
 mod raising;
 mod refreshing;
+mod watched;
 
 pub use changed::Changed;
 pub use refreshing::{begin, refresh};
+pub use watched::Watched;

@@ -1,0 +1,5 @@
+use Rattle.kn_watch.proofs.Grown.{watched-grown}
+use Rattle.kn_watch.proofs.laws.rows_may_be_added.Goals as goal
+
+pub returns : goal.returns
+returns c = watched-grown
