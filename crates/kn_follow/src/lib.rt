@@ -12,8 +12,6 @@ mod items;
 pub mod laws;
 mod numbers;
 mod pull_fault;
-#[cfg(test)]
-mod pull_tests;
 mod pulling;
 mod reading;
 mod replica;
