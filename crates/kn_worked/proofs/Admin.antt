@@ -1,5 +1,5 @@
 -- What the worked connections of an administrator share.
-use Rattle.std.proofs.Common.{ℕ, ◌≡◌, codes, refl, ap, ◌∙◌, Result, true, None, ◌==◌}
+use Rattle.std.proofs.Common.{ℕ, ◌≡◌, List, codes, refl, ap, ◌∙◌, Result, Ok, true, None, ◌==◌}
 use Rattle.std.proofs.lemmas.Bool.{eq-eqb}
 use Rattle.std.specs.Prelude.{is_some}
 use Rattle.std.specs.Result.{result_ok}
@@ -22,15 +22,20 @@ after_admin = changed policy_history after_open (shape_of (Admin (codes "7333637
 pub credential_valid : is_some (result_ok (reading_of credential_text)) ≡ true
 credential_valid = ap (λ (r : Result Assertion ReadFault). is_some (result_ok r)) credential_reading
 
--- the credential is admitted, however a refusal would be told
+-- a text that is read and has no verdict against it is admitted, however a refusal would be told
+pub admits : {X : Type 0} {text : List ℕ} {a : Assertion} (read : ℕ → ℕ → X) (auth : ℕ → X) (g : Grounds)
+    → reading_of text ≡ Ok a → g.verdict text a ≡ 0
+    → refusal_at_reading read (reading_of text) (λ a. refusal_at_verdict auth (g.verdict text a)) ≡ None
+admits {text} read auth g reading verdict =
+    ap (λ (r : Result Assertion ReadFault). refusal_at_reading read r
+    (λ a. refusal_at_verdict auth (g.verdict text a))) reading
+    ∙ ap (refusal_at_verdict auth) verdict
+
 pub admitted : {X : Type 0} (read : ℕ → ℕ → X) (auth : ℕ → X) (g : Grounds)
     → g.verdict credential_text credential_assertion ≡ 0
     → refusal_at_reading read (reading_of credential_text)
     (λ a. refusal_at_verdict auth (g.verdict credential_text a)) ≡ None
-admitted read auth g verdict =
-    ap (λ (r : Result Assertion ReadFault). refusal_at_reading read r
-    (λ a. refusal_at_verdict auth (g.verdict credential_text a))) credential_reading
-    ∙ ap (refusal_at_verdict auth) verdict
+admitted read auth g verdict = admits read auth g credential_reading verdict
 
 pub same_caller : (caller : ℕ) → (caller == caller) ≡ true
 same_caller caller = eq-eqb caller caller refl

@@ -19,7 +19,7 @@ use Rattle.kn_worked.proofs.Admin.{after_open, after_admin, credential_valid, ad
 use Rattle.kn_worked.proofs.Turns.{turns_stand, all_answered}
 
 -- the block of a batch that removes this id
-abbrev block : List ℕ → List ℕ
+abbrev pub block : List ℕ → List ℕ
 block id = codes "ADD 37\n" ++ credential_text ++ codes "\nDROP a" ++ id ++ codes "\n"
 
 after_pin : State
@@ -29,7 +29,7 @@ after_later_pin : ℕ → State
 after_later_pin caller = changed (batched_history caller) after_admin (shape_of (Pin 1))
 
 -- each item of the block is admitted
-items_admitted : (g : Grounds) (k : ℕ) → g.verdict credential_text credential_assertion ≡ 0
+pub items_admitted : (g : Grounds) (k : ℕ) → g.verdict credential_text credential_assertion ≡ 0
     → refusal_from g 1 (AddText credential_text ∷ DropId k ∷ []) ≡ None
 items_admitted g k verdict =
     ap (λ (o : Option ItemRefusal). found_item 1 o (refusal_from g 2 (DropId k ∷ [])))

@@ -5,6 +5,7 @@ pub mod Asking
 pub mod Admin
 pub mod Adding
 pub mod Batches
+pub mod Replacing
 pub mod Looks
 pub mod Only
 pub mod Standing

@@ -1,7 +1,6 @@
 -- That the connections of a standing query are served as they say.
 use Rattle.std.proofs.Common.{ℕ, ◌≡◌, [], ◌∷◌, ◌++◌, List, codes, refl, sym, subst, ap, le_refl, arith, Some, Result}
 use Rattle.std.specs.Fmt.{digits}
-use Rattle.std.specs.Str.{bytes_eq}
 use Rattle.std.specs.Result.{result_ok}
 use Rattle.kn_fields.specs.declared.fault.ReadFault.{ReadFault}
 use Rattle.kn_trees.specs.declared.assertion.Assertion.{Assertion}
@@ -21,8 +20,8 @@ use Rattle.kn_daemon.specs.Linearized.{Exchange, requests_in}
 use Rattle.kn_worked.specs.Texts.{credential_text}
 use Rattle.kn_worked.specs.Connections.{policy_history, longer_history, shorter_history, StandingQueryIsTold}
 use Rattle.kn_worked.specs.Connections.{RequesterIsKept}
-use Rattle.kn_worked.proofs.Readings.{policy_reading, credential_reading}
-use Rattle.kn_worked.proofs.Levels.{of_one, IsWorth, two_values, policy_valid, pinned_session}
+use Rattle.kn_worked.proofs.Readings.{policy_reading}
+use Rattle.kn_worked.proofs.Levels.{of_one, IsWorth, two_values, policy_valid}
 use Rattle.kn_worked.proofs.Levels.{alice_level, alice_session, alice_question, bob_level, bob_proof, bob_session}
 use Rattle.kn_worked.proofs.Levels.{bob_question}
 use Rattle.kn_worked.proofs.Levels.{longer_level, later_question, shorter_level, shorter_question}

@@ -10,7 +10,7 @@ use Rattle.kn_reply.specs.Replies.{News, Critical, No, NoMemory}
 use Rattle.kn_daemon.specs.declared.ended.Ended.TheVariants as E
 use Rattle.kn_daemon.specs.Daemon.{Grounds}
 use Rattle.kn_daemon.specs.Served.{IsServed}
-use Rattle.kn_worked.specs.Texts.{policy_text, credential_text, credential_assertion}
+use Rattle.kn_worked.specs.Texts.{policy_text, policy_assertion, credential_text, credential_assertion}
 
 -- the history behind a policy file of one assertion
 abbrev pub policy_history : List Update
@@ -197,3 +197,29 @@ doubled_told = codes "OK 1 2\nOK\nCRITICAL 1 0\nEND\n"
 abbrev pub NeitherIsCritical : Type 0
 NeitherIsCritical = (g : Grounds) (caller : ℕ)
     → IsServed g doubled_asks doubled_told E.Done true doubled_history 2 2 caller (2 ∷ [])
+
+-- the history with two batches of the caller 0: the credential comes for the policy's assertion, and then the policy's
+-- text again for the credential
+abbrev pub replaced_history : List Update
+replaced_history = batched_history 0 ++ batch_by 0 3 (Add policy_text ∷ Remove 2 ∷ []) ∷ []
+
+-- an administrator sends a batch, keeps a query for alice, sends the other batch, asks for the news, and at version 1
+-- once more, and reads both batches in the log
+abbrev pub replacing_asks : List ℕ
+replacing_asks =
+    codes "ADMIN 733363726574\nBATCH 53\nADD 37\n" ++ credential_text ++ codes "\nDROP a1\n\nOPEN\nAUTH 1 alice\n"
+    ++ codes "WATCH 1 no,yes\nBATCH 56\nADD 40\n" ++ policy_text
+    ++ codes "\nDROP a2\n\nNEWS 1\nPIN 1 1\nQUERY 1 no,yes\nLOG 1\nBYE\n"
+
+abbrev pub replacing_told : List ℕ
+replacing_told =
+    codes "OK\nOK a2 1 2\nOK 1 2\nOK\nNEWS 0 no 2\nOK a3 1 3\nNEWS 1 yes 3\nOK 1 3\n"
+    ++ codes "VALUE 1 yes 1 1\nROW 1 a1 \"POLICY\"\nEND\nLOG 1 2 3\nUPDATE 0 2\nADD 37\n" ++ credential_text
+    ++ codes "\nDROP a1\nUPDATE 0 2\nADD 40\n" ++ policy_text ++ codes "\nDROP a2\nEND\nOK\n"
+
+-- Alice loses what she had by the first batch and has it again by the second. Version 1 has it by the assertion that was
+-- removed. The connection ends with BYE, whether or not the input has ended too.
+abbrev pub BatchesAreSeen : Type 0
+BatchesAreSeen = (g : Grounds) (is_over : Bool) → g.secret ≡ codes "s3cret"
+    → g.verdict credential_text credential_assertion ≡ 0 → g.verdict policy_text policy_assertion ≡ 0
+    → IsServed g replacing_asks replacing_told E.Done is_over replaced_history 1 3 0 (2 ∷ 2 ∷ 3 ∷ 3 ∷ 3 ∷ 3 ∷ [])

@@ -2,6 +2,7 @@
 
 ghost use Rattle.kn_worked.specs.Connections.{AliceIsAnswered, AliceIsAnsweredSo, BobIsAnswered};
 ghost use Rattle.kn_worked.specs.Connections.{BatchIsRefused, BatchIsMade, VersionIsPinned, UpdateIsHandedOn};
+ghost use Rattle.kn_worked.specs.Connections.{BatchesAreSeen};
 ghost use Rattle.kn_worked.specs.Connections.{StandingQueryIsTold, RequesterIsKept, BothAreCritical, NeitherIsCritical};
 
 /// A session that asks whether a principal may is answered with the value and the row that proves it, and by no other
@@ -31,6 +32,12 @@ pub fn version_is_pinned()
 /// told.
 pub fn update_is_handed_on()
     ensures { UpdateIsHandedOn }
+{}
+
+/// What two batches made is seen by the news of a standing query and in the log, and not by a query at an earlier
+/// version.
+pub fn batches_are_seen()
+    ensures { BatchesAreSeen }
 {}
 
 /// A standing query is told over each newer version, and asks with what it was kept with.
