@@ -4,16 +4,8 @@
 mod following;
 mod generating;
 mod idle;
-#[cfg(test)]
-mod meeting;
-#[cfg(test)]
-mod part_tests;
 mod run;
 mod run_service;
-#[cfg(test)]
-mod run_tests;
-#[cfg(test)]
-mod service_tests;
 mod service_words;
 mod verifying;
 mod words;

@@ -1,9 +1,9 @@
 //! What one update of the book costs at 1, 64, 512 and 2,048 live credentials.
 //!
 //! Untimed, one update is made at each size and its version is printed; then books are filled up to each limit, and
-//! the fault of one update more is printed: by the count of live credentials and by their bytes, by the count of changes
-//! and by the bytes of all texts; and of three texts at once, where there is room for one, the place of the first that
-//! is refused.
+//! the fault of one update more is printed: by the count of live credentials and by their bytes, by the count of
+//! changes and by the bytes of all texts; and of three texts at once, where there is room for one, the place of the
+//! first that is refused.
 
 use kn_assert::read;
 use kn_history::{Ready, StoreFault};

@@ -1,5 +1,5 @@
-//! Examples of the kinds of expressions, from their text on: by its form alone each is a truth, a number or a text, or of
-//! no kind. The functions have no body: their clauses are what they say.
+//! Examples of the kinds of expressions, from their text on: by its form alone each is a truth, a number or a text, or
+//! of no kind. The functions have no body: their clauses are what they say.
 
 ghost use Rattle.std.specs.Prelude.{◌≡◌, codes, Some, None};
 ghost use Rattle.kn_trees.specs.declared.kinds.Kind.TheVariants as K;

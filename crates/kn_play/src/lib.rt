@@ -1,7 +1,7 @@
 //! Playing a script of the line protocol offline: the query that it means over a book of the shared credentials.
 //!
-//! The script is played on a daemon of one thread without a secret, so ADMIN, ADD, DROP, BATCH and LOG are always refused.
-//! A session is pinned to the newest version, unless it asks for another one that the book retains.
+//! The script is played on a daemon of one thread without a secret, so ADMIN, ADD, DROP, BATCH and LOG are always
+//! refused. A session is pinned to the newest version, unless it asks for another one that the book retains.
 #![tactic(auto)]
 
 mod answering;
@@ -12,8 +12,6 @@ mod meant;
 mod playing;
 mod query;
 mod script;
-#[cfg(test)]
-mod tests;
 
 pub use answering::{is_block, is_bye};
 pub use meant::Meant;

@@ -45,7 +45,8 @@ pub fn push_piece(script: &[u8], feed: &mut Feed, from: usize) -> usize
     requires none { next_of (held feed.old) ≡ None }
     ensures more { from < result }
     ensures within { result ≤ length script.now }
-    ensures fed { (requests : List Request) → IsFed script.now from (held feed.old) requests → IsFed script.now result (held feed.new) requests }
+    ensures fed { (requests : List Request) → IsFed script.now from (held feed.old) requests
+        → IsFed script.now result (held feed.new) requests }
 {
     let end = if script.len() - from > PIECE_BYTES {
         from + PIECE_BYTES

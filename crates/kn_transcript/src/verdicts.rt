@@ -2,7 +2,8 @@
 ghost use Rattle.std.specs.Prelude.{◌≡◌, ◌≤◌, ◌<◌, IfOk, length, map, option_map};
 ghost use Rattle.std.specs.List.{list_any};
 ghost use Rattle.kn_wire.specs.ItemsInCode as C;
-ghost use Rattle.kn_transcript.specs.Verdicts.{verdict_refusal, adds_text, adds_anew, IsBehindVerdict, IsBehindVerdicts};
+ghost use Rattle.kn_transcript.specs.Verdicts.{verdict_refusal, adds_text, adds_anew};
+ghost use Rattle.kn_transcript.specs.Verdicts.{IsBehindVerdict, IsBehindVerdicts};
 
 use crate::fault::AUTH_FAULTS;
 use crate::matching::behind_reply;

@@ -8,8 +8,6 @@ mod logged;
 mod parking;
 mod pass;
 mod steps;
-#[cfg(test)]
-mod tests;
 mod turn;
 mod view;
 

@@ -15,11 +15,11 @@ pub enum Event {
 pub const EMPTY: u64 = 0xcbf2_9ce4_8422_2325;
 
 /// The print with one more word.
-pub fn mix(print: u64, word: u64) -> u64 {
+pub(crate) fn mix(print: u64, word: u64) -> u64 {
     (print ^ word).wrapping_mul(0x0100_0000_01b3)
 }
 
-pub fn print_of_text(text: &[u8]) -> u64 {
+pub(crate) fn print_of_text(text: &[u8]) -> u64 {
     let mut print = EMPTY;
     for byte in text {
         print = mix(print, u64::from(*byte));
@@ -28,7 +28,7 @@ pub fn print_of_text(text: &[u8]) -> u64 {
 }
 
 /// The print of a version's credentials, in order of id.
-pub fn print_of_version(version: &Version) -> u64 {
+pub(crate) fn print_of_version(version: &Version) -> u64 {
     let mut print = EMPTY;
     for i in 0..version.len() {
         let text = print_of_text(version.credential(i).text.as_slice());

@@ -13,12 +13,12 @@ use std::{io, thread};
 /// The most passes that are split from a root.
 const SPLITS: u32 = 63;
 
-pub fn lacks_memory() -> io::Error {
+pub(crate) fn lacks_memory() -> io::Error {
     io::Error::from(io::ErrorKind::OutOfMemory)
 }
 
 /// Whether all that so many passes answer in so many rounds is one history.
-pub fn is_one_history<R: Threads + Wait + Sync>(
+pub(crate) fn is_one_history<R: Threads + Wait + Sync>(
     rt: &R,
     alloc: Global,
     passes: u32,
@@ -69,7 +69,7 @@ fn play_rounds<R: Threads + Wait + Sync>(
 }
 
 /// So many workers, with passes that are split from the root.
-pub fn hire(
+pub(crate) fn hire(
     alloc: Global,
     registry: &Registry,
     root: &mut Pass,
@@ -119,7 +119,7 @@ fn work_all<R: Threads + Wait + Sync>(
 }
 
 /// Joins the passes into the root, and keeps what their calls answered.
-pub fn gather(
+pub(crate) fn gather(
     registry: &Registry,
     root: &mut Pass,
     mut workers: Vec<Worker>,

@@ -46,7 +46,7 @@ fn fill(alloc: Global, registry: &Registry, root: &mut Pass, rt: &impl Wait)
 }
 
 /// Nanoseconds of so many pins by each worker, with so many readings behind each.
-pub fn pin_time<R: Threads + Wait + Clock + Sync>(
+pub(crate) fn pin_time<R: Threads + Wait + Clock + Sync>(
     rt: &R,
     alloc: Global,
     workers: u32,
@@ -100,7 +100,7 @@ fn read_often(version: &Version, sum: u64, reads: u32) -> u64 {
 }
 
 /// The same with one pin by each worker.
-pub fn read_time<R: Threads + Wait + Clock + Sync>(
+pub(crate) fn read_time<R: Threads + Wait + Clock + Sync>(
     rt: &R,
     alloc: Global,
     workers: u32,
@@ -122,7 +122,7 @@ pub fn read_time<R: Threads + Wait + Clock + Sync>(
 }
 
 /// Nanoseconds of so many updates by one worker, beside so many others that pin.
-pub fn update_time<R: Threads + Wait + Clock + Sync>(
+pub(crate) fn update_time<R: Threads + Wait + Clock + Sync>(
     rt: &R,
     alloc: Global,
     readers: u32,

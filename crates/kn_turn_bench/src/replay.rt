@@ -14,7 +14,7 @@ pub struct Run {
 
 /// Whether each of so many updates was answered once, each caller's in its order, and each pin shows what the updates
 /// before it make.
-pub fn is_replayed(alloc: Global, made: &[Run], updates: u32) -> Result<bool, AllocError> {
+pub(crate) fn is_replayed(alloc: Global, made: &[Run], updates: u32) -> Result<bool, AllocError> {
     let mut table = Vec::new(alloc);
     for _ in 0..updates {
         table.push(None)?;

@@ -28,7 +28,7 @@ pub struct Seen {
 }
 
 /// Calls of a root and of a pass that was split from it.
-pub fn two_passes<R: Wait>(rt: &R, alloc: Global) -> io::Result<Seen> {
+pub(crate) fn two_passes<R: Wait>(rt: &R, alloc: Global) -> io::Result<Seen> {
     let Ok((registry, mut root)) = Registry::start(alloc) else {
         return Err(lacks_memory());
     };

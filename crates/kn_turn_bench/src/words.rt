@@ -14,7 +14,7 @@ pub enum Command {
     Updates(u32, u32),
 }
 
-pub fn read_command(rt: &HostRuntime) -> io::Result<Command> {
+pub(crate) fn read_command(rt: &HostRuntime) -> io::Result<Command> {
     let mut args = env::args(rt)?;
     let _program = args.next();
     let Some(word) = args.next() else {

@@ -19,7 +19,7 @@ pub struct Worker {
 }
 
 /// So many calls: of four one adds a text, one removes it, and two pin. It stops at a refusal.
-pub fn work<R: Wait>(rt: &R, registry: &Registry, worker: &mut Worker, calls: u32)
+pub(crate) fn work<R: Wait>(rt: &R, registry: &Registry, worker: &mut Worker, calls: u32)
     requires { IsReady registry.now worker.old.pass }
     ensures ready { IsReady registry.now worker.new.pass }
     ensures number { worker.new.pass.number ≡ worker.old.pass.number }
@@ -65,7 +65,7 @@ fn call<R: Wait>(
 }
 
 /// Adds a text that no other call adds.
-pub fn add<R: Wait>(
+pub(crate) fn add<R: Wait>(
     rt: &R,
     alloc: Global,
     registry: &Registry,

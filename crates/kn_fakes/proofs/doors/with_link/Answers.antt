@@ -2,7 +2,7 @@ use Rattle.std.proofs.Common.{ℕ, zero, suc, List, [], ◌∷◌, ◌++◌, All
 use Rattle.std.proofs.lemmas.List.Elements.{All-append}
 use Rattle.kn_outside.specs.InMemory.{LinkInMemory}
 use Rattle.kn_workers.specs.InMemory.{IsNewLink}
-use Rattle.keynoted.proofs.service_tests.with_link.Goals as goal
+use Rattle.kn_fakes.proofs.doors.with_link.Goals as goal
 
 one_new : (l : LinkInMemory) → IsNewLink l → All IsNewLink (l ∷ [])
 one_new l is zero d lt = is

@@ -1,4 +1,4 @@
-//! A gate at which two connections of a test meet.
+//! A gate at which two connections meet.
 
 use kn_outside::Gate;
 use std::sync::Wait;
@@ -12,7 +12,7 @@ const LOOKS: u32 = 100_000_000;
 /// Where it holds any reply, it holds caller 2's reply 1 until caller 1 has come to its reply 3, and that one until
 /// caller 2 has come to its reply 4.
 #[derive(Drop)]
-pub(crate) struct Meeting {
+pub struct Meeting {
     holds: bool,
     first: AtomicBool,
     second: AtomicBool,
