@@ -19,6 +19,7 @@ use kn_base::limits::{LIVE_BYTES, LIVE_CREDENTIALS, LOGGED_BYTES, UPDATES};
 use kn_history::{Change, Item, Numbered, StoreFault};
 use std::alloc::Global;
 use std::marker::Model;
+use std::mem;
 
 /// The most credentials of a page.
 pub(crate) const CREDENTIALS_PAGE: u32 = 64;
@@ -176,18 +177,14 @@ impl LiveSet {
         })
     }
 
-    /// What an item makes of these, and the change that it is.
+    /// Makes the change of an item, and gives it. Where it is refused, what is left isn't told.
     #[inline(always)]
-    pub(crate) fn with_item(
-        self,
-        alloc: Global,
-        item: Item,
-    ) -> Result<(LiveSet, Numbered), StoreFault>
-        ensures set { IfOk result (λ next. next.0 ≡ after_item self item) }
-        ensures change { IfOk result (λ next. next.1 ≡ change_of self item) }
-        ensures accepted { OnOk result (refusal_of self item ≡ None) }
+    pub(crate) fn enter(&mut self, alloc: Global, item: Item) -> Result<Numbered, StoreFault>
+        ensures set { OnOk result (self.new ≡ after_item self.old item) }
+        ensures change { IfOk result (λ change. change ≡ change_of self.old item) }
+        ensures accepted { OnOk result (refusal_of self.old item ≡ None) }
         ensures reads { OnOk result (item_reads item ≡ true) }
-        ensures refused { IfErr result (λ fault. RefusesChange (refusal_of self item) fault) }
+        ensures refused { IfErr result (λ fault. RefusesChange (refusal_of self.old item) fault) }
     {
         match item {
             Item::Add(ready) => {
@@ -197,16 +194,66 @@ impl LiveSet {
                 }
                 let id = self.next_id();
                 let (credential, text) = LiveCredential::of(ready, id);
-                let live = self.with_addition(alloc, CREDENTIALS_PAGE, credential, size as u32)?;
+                self.add(alloc, credential, size as u32)?;
                 let change = Change::Add(text);
-                Ok((live, Numbered { change, id }))
+                Ok(Numbered { change, id })
             }
             Item::Remove(id) => {
-                let live = self.with_removal(alloc, id)?;
+                self.remove(alloc, id)?;
                 let change = Change::Remove;
-                Ok((live, Numbered { change, id }))
+                Ok(Numbered { change, id })
             }
         }
+    }
+
+    /// Adds one, which has the next id and a text of this size: in place, but where it begins a page.
+    #[inline(always)]
+    fn add(&mut self, alloc: Global, credential: LiveCredential, size: u32) -> Result<(), NoMemory>
+        requires size { size ≡ length credential.text }
+        requires accepted { refusal_of_size self.old (length credential.text) ≡ None }
+        requires next { credential.id ≡ self.old.added + 1 }
+        ensures ok { OnOk result (self.new ≡ with_addition self.old credential.text) }
+    {
+        match self.pages.add_in_place(CREDENTIALS_PAGE, credential) {
+            Ok(()) => {
+                self.count += 1;
+                self.bytes += size;
+                self.changes += 1;
+                self.logged += size;
+                self.added += 1;
+                Ok(())
+            }
+            Err(credential) => self.add_page(alloc, credential, size),
+        }
+    }
+
+    /// Adds one as `add` does, by the list of all pages.
+    #[inline(never)]
+    fn add_page(
+        &mut self,
+        alloc: Global,
+        credential: LiveCredential,
+        size: u32,
+    ) -> Result<(), NoMemory>
+        requires size { size ≡ length credential.text }
+        requires accepted { refusal_of_size self.old (length credential.text) ≡ None }
+        requires next { credential.id ≡ self.old.added + 1 }
+        ensures ok { OnOk result (self.new ≡ with_addition self.old credential.text) }
+    {
+        let former = mem::replace(self, LiveSet::empty(alloc));
+        *self = former.with_addition(alloc, CREDENTIALS_PAGE, credential, size)?;
+        Ok(())
+    }
+
+    /// Takes the one of this id out. Where it is refused, what is left isn't told.
+    fn remove(&mut self, alloc: Global, id: u32) -> Result<(), StoreFault>
+        ensures ok { OnOk result (self.new ≡ with_removal self.old id) }
+        ensures accepted { OnOk result (refusal_of_removal self.old id ≡ None) }
+        ensures refused { IfErr result (λ fault. RefusesChange (refusal_of_removal self.old id) fault) }
+    {
+        let former = mem::replace(self, LiveSet::empty(alloc));
+        *self = former.with_removal(alloc, id)?;
+        Ok(())
     }
 
     /// These without the one of this id.

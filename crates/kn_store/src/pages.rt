@@ -1,6 +1,6 @@
 //! Lists in pages, which the lists that are made of them share.
 
-ghost use Rattle.std.specs.Prelude.{◌≡◌, ◌<◌, ◌≤◌, ◌+◌, [], ◌∷◌, ◌++◌, map, length, Some, IfOk, OnOk};
+ghost use Rattle.std.specs.Prelude.{◌≡◌, ◌<◌, ◌≤◌, ◌+◌, [], ◌∷◌, ◌++◌, map, length, Some, IfOk, IfErr, OnOk, OnErr};
 ghost use Rattle.std.specs.Prelude.{slice_get, slice_index_or, remove};
 ghost use Rattle.std.specs.Arc.{arc_value};
 ghost use Rattle.std.specs.List.{All};
@@ -132,6 +132,24 @@ impl<T: Shareable> Pages<T> {
             closed,
             last: begin_page(alloc, most, item)?,
         })
+    }
+
+    /// Adds an item at the end of the last page where that has fewer than `most`. Else, and out of memory, the item comes
+    /// back and nothing changes.
+    #[inline(always)]
+    pub(crate) fn add_in_place(&mut self, most: u32, item: T) -> Result<(), T>
+        requires { 1 ≤ most }
+        ensures added { OnOk result (self.new ≡ with_item most self.old item) }
+        ensures kept { OnErr result (self.new ≡ self.old) }
+        ensures back { IfErr result (λ back. back ≡ item) }
+    {
+        if self.last.len() >= most {
+            return Err(item);
+        }
+        match self.last.push(item) {
+            Ok(()) => Ok(()),
+            Err((back, NoMemory)) => Err(back),
+        }
     }
 
     /// The list without the item at a place of a page, and without that page where it was the only one.

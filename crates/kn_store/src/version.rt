@@ -284,11 +284,8 @@ impl Version {
         let mut changes = begin_changes(alloc, items.len())?;
         for place in 0..items.len() {
             let item = items.replace(place, Item::Remove(0));
-            match live.with_item(alloc, item) {
-                Ok((next, change)) => {
-                    live = next;
-                    changes.add(change)?;
-                }
+            match live.enter(alloc, item) {
+                Ok(change) => changes.add(change)?,
                 Err(fault) => return Err(refusal_of_item(place + 1, fault)),
             }
         }

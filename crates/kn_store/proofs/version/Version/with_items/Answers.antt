@@ -28,13 +28,13 @@ loop-place-preserved c =
     let changes = c.loop-place.changes in
     let taken = taken_at items place c.replace-item.result c.replace-item.ensures.former in
     let made = one_more_made past c.args.items place c.loop-place.live changes (drop place items) c.replace-item.result (drop (place + 1) items)
-    c.loop-place.invariant.made taken c.in-Ok.next c.in-Ok.change c.in-Ok.ensures.set c.in-Ok.ensures.change c.in-Ok.ensures.accepted c.in-Ok.ensures.reads in
+    c.loop-place.invariant.made taken c.enter.new.self c.in-Ok.change c.in-Ok.ensures.set c.in-Ok.ensures.change c.in-Ok.ensures.accepted c.in-Ok.ensures.reads in
     let behind = left_behind items c.replace-item.new.self place _ c.replace-item.ensures.after in
     let sizes = ap length c.replace-item.ensures.after ∙ length-set items place _ in
     let same = c.loop-place.invariant.same in
     record {
-      made = subst (λ l. AreMadeUpTo past c.args.items (place + 1) c.in-Ok.next l (drop (place + 1) c.replace-item.new.self)) (sym c.in_ok-add-in-Ok.ensures.ok)
-          (subst (λ l. AreMadeUpTo past c.args.items (place + 1) c.in-Ok.next (changes ++ c.in-Ok.change ∷ []) l) behind made);
+      made = subst (λ l. AreMadeUpTo past c.args.items (place + 1) c.enter.new.self l (drop (place + 1) c.replace-item.new.self)) (sym c.in_ok-add-in-Ok.ensures.ok)
+          (subst (λ l. AreMadeUpTo past c.args.items (place + 1) c.enter.new.self (changes ++ c.in-Ok.change ∷ []) l) behind made);
       same = sizes ∙ same;
     }
 
