@@ -35,6 +35,16 @@ impl Octets {
         }
     }
 
+    /// No bytes, with room for so many: up to there they don't move while some are added.
+    pub fn with_capacity(alloc: Global, most: usize) -> Result<Octets, NoMemory>
+        ensures { IfOk result (λ octets. octets ≡ []) }
+    {
+        match SmallVec::with_capacity(alloc, most) {
+            Ok(bytes) => Ok(Octets { bytes }),
+            Err(_) => Err(NoMemory),
+        }
+    }
+
     /// A copy of these bytes.
     pub fn from_slice(alloc: Global, bytes: &[u8]) -> Result<Octets, NoMemory>
         ensures { IfOk result (λ octets. octets ≡ bytes.now) }

@@ -7,11 +7,17 @@ use itoa::Buffer;
 use kn_base::{NoMemory, Octets};
 use std::alloc::Global;
 
-/// Texts one behind the other.
-fn join(alloc: Global, texts: &[&[u8]]) -> Result<Octets, NoMemory>
+/// Room for a principal's name.
+const NAME_BYTES: usize = 11;
+
+/// Room for a credential's text: its seven numbers have at most ten digits each.
+const TEXT_BYTES: usize = 166;
+
+/// Texts one behind the other, for which room is made at once.
+fn join(alloc: Global, room: usize, texts: &[&[u8]]) -> Result<Octets, NoMemory>
     ensures { IfOk result (λ joined. joined ≡ flat_map (λ t. t.now) texts.now) }
 {
-    let mut joined = Octets::new(alloc);
+    let mut joined = Octets::with_capacity(alloc, room)?;
     for text in texts {
         joined.extend(*text)?;
     }
@@ -23,7 +29,7 @@ pub(crate) fn principal(alloc: Global, number: u32) -> Result<Octets, NoMemory>
     ensures { IfOk result (λ name. name ≡ codes "p" ++ decimal number) }
 {
     let mut digits = Buffer::new();
-    join(alloc, &[b"p", digits.format(number).as_bytes()])
+    join(alloc, NAME_BYTES, &[b"p", digits.format(number).as_bytes()])
 }
 
 /// The text of the credential of a principal by its number.
@@ -43,6 +49,7 @@ pub(crate) fn credential(
     let mut value = Buffer::new();
     join(
         alloc,
+        TEXT_BYTES,
         &[
             b"Authorizer: \"p",
             authorizer_digits.format(authorizer).as_bytes(),
