@@ -88,7 +88,7 @@ func (refusal *Refusal) Unwrap() error {
 func (refusal *Refusal) Is(target error) bool { return target == refusal.Code }
 
 var (
-	// NoMemory says that the daemon had no memory for the request, which has changed nothing: neither a yes nor a no.
+	// NoMemory says that the daemon was out of memory for the request, which has changed nothing: neither a yes nor a no.
 	NoMemory = errors.New("out of memory for this request: no answer")
 
 	// LinkEnded says that the connection has ended: by the other side, by a time limit, by an interrupted exchange, or

@@ -126,7 +126,7 @@ func (connection *Connection) readAnswer(values []string) (*Answer, error) {
 	return answer, nil
 }
 
-// readRest reads a line within a reply, where a refusal or a want of memory is no reply.
+// readRest reads a line within a reply, where a refusal or NOMEM is no reply.
 func (connection *Connection) readRest(form *regexp.Regexp) ([]string, error) {
 	parts, err := connection.readForm(form)
 	if err != nil && isWhole(err) {

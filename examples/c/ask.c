@@ -43,7 +43,7 @@ int main(int count, char **words)
     if (ask("OPEN", "", reply, sizeof reply) || strncmp(reply, "OK 1 ", 5) ||
         ask("AUTH 1 ", words[3], reply, sizeof reply) || strcmp(reply, "OK\n") ||
         ask("QUERY 1 no,yes", "", reply, sizeof reply) || sscanf(reply, "VALUE %d ", &index) != 1)
-        return 2; /* a refusal, want of memory, or no reply: never take one for a yes */
+        return 2; /* a refusal, out of memory, or no reply: never take one for a yes */
     printf("%s\n", index >= 1 ? "yes" : "no");
     return index >= 1 ? 0 : 1;
 }

@@ -1,4 +1,4 @@
-"""Want of memory: runs in which an allocation of a random number is refused, or a stretch of them."""
+"""Out of memory: runs in which an allocation of a random number is refused, or a stretch of them."""
 
 import collections
 import random

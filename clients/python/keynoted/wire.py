@@ -82,7 +82,7 @@ class Reply(NamedTuple):
         return b"\n".join(self.lines) + b"\n"
 
     def raise_refusal(self, request: Request) -> None:
-        """Raises what the daemon refused, or its want of memory."""
+        """Raises what the daemon refused, or that it was out of memory."""
         line = self.lines[0]
         if line == b"NOMEM":
             raise NoMemory(NoMemory.__doc__)

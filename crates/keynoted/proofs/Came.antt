@@ -64,7 +64,7 @@ use Rattle.keynoted.specs.Calling.{TooLarge, Failed, Passed, KeysLead, AskLeads,
 use Rattle.keynoted.specs.Calling.{PolicyLeads, LogLeads, IsAccepted, RepliesLead, AnyScriptLeads, TranscriptLeads}
 use Rattle.keynoted.proofs.Known.{Tells, held, held_too_much}
 
--- an input that is in order is served to its end, if no call of the link fails and there is memory
+-- an input that is in order is served to its end, if no call of the link fails and memory doesn't run out
 abbrev pub IsServedSo : LinkSeen → LinkSeen → ℕ → Type 0
 IsServedSo o o' status = (ended : Ended) × (status ≡ status_of_ended ended)
     × IfSome o.left (λ input. IsOrderly input → IsFaultless o o' → (ended ≡ E.Done) ⊎ (ended ≡ E.Memory))

@@ -142,11 +142,11 @@ module _ {R : Type 0} (given : List (List ℕ)) (before after : OutsideSeen R) w
         → TranscriptLeads before.files names status → CallsFor status
     ByGen : (numbers : GenNumbers) → GenFor given numbers → status ≡ 0 → CallsFor status
 
--- the run has this status, or memory lacked
+-- the run has this status, or memory ran out
 abbrev pub EndsWith : ℕ → ℕ → Type 0
 EndsWith due status = (status ≡ due) ⊎ (status ≡ 5)
 
--- words of no command end with status 1, or with 9 in its place; only those that `clap` reads may lack memory
+-- words of no command end with status 1, or with 9 in its place; only those that `clap` reads may run out of memory
 abbrev pub EndsRefused : List (List ℕ) → LinkSeen → LinkSeen → ℕ → Type 0
 EndsRefused given s s' status =
     (status ≡ 1) ⊎ (((status ≡ 9) × Rose s.faults s'.faults) ⊎ ((status ≡ 5) × AreServeTexts given))

@@ -5,7 +5,7 @@ use Rattle.kn_commands.specs.Generating.{IsGenLine}
 use Rattle.kn_commands.specs.declared.generating.GenNumbers.{GenNumbers}
 use Rattle.keynoted.specs.Outcomes.{IsPrintedOrCut}
 
--- the line of these numbers was due with status 0, or memory lacked
+-- the line of these numbers was due with status 0, or memory ran out
 abbrev pub IsGenPrinted : GenNumbers → LinkSeen → LinkSeen → ℕ → Type 0
 IsGenPrinted numbers s s' status =
     ((line : List ℕ) × IsGenLine numbers line × IsPrintedOrCut line 0 s s' status)

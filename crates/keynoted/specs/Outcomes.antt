@@ -28,8 +28,8 @@ pub record OutsideSeen (R : Type 0) : Type 0 where
   pub link : LinkSeen
   pub output : LinkSeen
 
--- How a run ends: the words were those of no command; there was no memory to read those of `serve`; or a command over
--- these files or numbers ended so. `gen` made its line, or memory lacked.
+-- How a run ends: the words were those of no command; memory ran out while those of `serve` were read; or a command
+-- over these files or numbers ended so. `gen` made its line, or memory ran out.
 pub data Outcome : Type 0 where
   NoCommand : Outcome
   WordsLackMemory : Outcome

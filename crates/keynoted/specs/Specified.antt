@@ -15,7 +15,7 @@ module _ {C R : Type 0} (door : R → DoorSeen (ServedSeen C)) (connection : C �
     pub ends : IsEnded door connection given before after status
     -- Words of no command are refused.
     pub refused : IsNoCommand given → EndsRefused given before.output after.output status
-    -- Where no call fails, the status is the one for which words, files and input call, or memory lacked, or writing
+    -- Where no call fails, the status is the one for which words, files and input call, or memory ran out, or writing
     -- the line failed.
     pub called : (due : ℕ) → CallsFor given before after due
         → EndsWith due status ⊎ ((status ≡ 9) × Rose before.output.faults after.output.faults)

@@ -35,7 +35,7 @@ fn numbers_of(first: &[u8], second: &[u8]) -> Option<GenNumbers>
     Some(GenNumbers { start, count })
 }
 
-/// Settles the generator's query and ends with its line and status 0; with 5 where memory lacks, and with 9 where the
+/// Settles the generator's query and ends with its line and status 0; with 5 when out of memory, and with 9 where the
 /// line can't be written.
 pub(crate) fn run_gen<R: Wait, O: Sink>(
     rt: &R,

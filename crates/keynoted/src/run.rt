@@ -174,7 +174,7 @@ where
 /// | 4 | `error link cut HELD` | `ask`: the input ended while so many bytes of an unfinished request were held |
 /// | 4 | `error link block N` | `ask`: a block of this length was refused |
 /// | 4 | `error link budget` | `ask`: 1,000,000 requests were answered, as many as a connection has |
-/// | 5 | `error memory` | want of memory; `own` wasn't touched, and no connection was accepted |
+/// | 5 | `error memory` | out of memory; `own` wasn't touched, and no connection was accepted |
 /// | 6 | `error proof text FAULT LINE` | `check`: the reply's text has this fault first, or is to another query |
 /// | 6 | `error proof reject REASON ROW FOUND` | `check`: the rows prove no such value; this is what fails first |
 /// | 7 | `error listener` | `serve`: the address couldn't be bound, or a door gave fewer connections than its quota |

@@ -17,7 +17,7 @@ use std::alloc::Global;
 /// The compliance value of a query (RFC 2704, section 5), with a proof of it by names (keynoted's own). Its assertions
 /// are those of texts that have at most 16,777,000 bytes together.
 ///
-/// `NoMemory` comes only for want of memory.
+/// `NoMemory` comes only when memory runs out.
 pub fn answer(alloc: Global, list: &List<Part<'_>>, query: &Query<'_>) -> Result<Answer, NoMemory>
     requires { HaveTexts list.now }
     ensures proof { IfOk result (λ a. IsProof (equations_over query.now list.now) a.rows a.value) }

@@ -67,7 +67,7 @@ impl Base {
     /// The base of these assertions, in their order. They are those of texts that have at most 16,777,000 bytes
     /// together.
     ///
-    /// `NoMemory` comes only for want of memory.
+    /// `NoMemory` comes only when memory runs out.
     pub fn of(alloc: Global, list: &List<Part<'_>>) -> Result<Base, NoMemory>
         requires { HaveTexts list.now }
         ensures base { IfOk result (λ base. IsBaseOf list.now base.names base.system) }
@@ -87,7 +87,7 @@ impl Base {
 
     /// The base with these assertions, behind the others and in their order.
     ///
-    /// `NoMemory` comes only for want of memory, and the base is gone then.
+    /// `NoMemory` comes only when memory runs out, and the base is gone then.
     pub fn extend_all(self, alloc: Global, list: &List<Part<'_>>) -> Result<Base, NoMemory>
         requires readable { All IsReadablePart list.now }
         requires names_fit { length self.names + total_size list.now ≤ 2 ^ 24 }
@@ -110,7 +110,7 @@ impl Base {
     /// The base with one more assertion, behind the others. Its text has more bytes than its formula has nodes, so a
     /// caller who counts bytes knows that it has room.
     ///
-    /// `NoMemory` comes only for want of memory, and the base is gone then.
+    /// `NoMemory` comes only when memory runs out, and the base is gone then.
     pub fn extend(self, alloc: Global, part: &Part<'_>) -> Result<Base, NoMemory>
         requires readable { IsReadablePart part.now }
         requires names_fit { length self.names + size_of part.now ≤ 2 ^ 24 }
@@ -178,8 +178,8 @@ impl Base {
     /// The compliance value of a query (RFC 2704, section 5) over the assertions that are still there, with a proof of
     /// it by names (keynoted's own). The assertions are those that were added, in their order.
     ///
-    /// `NoMemory` comes only for want of memory. After it, as after an answer, the base is of the same assertions, and
-    /// requesters who weren't known may have got numbers. So there is room for the same query again.
+    /// `NoMemory` comes only when memory runs out. After it, as after an answer, the base is of the same assertions,
+    /// and requesters who weren't known may have got numbers. So there is room for the same query again.
     pub fn answer<A: Assertions>(
         &mut self,
         alloc: Global,
@@ -209,7 +209,7 @@ impl Base {
     /// asked for once at most, and only where its assertion is still there and its licensees have a level above the
     /// lowest.
     ///
-    /// `NoMemory` comes only for want of memory, and leaves the base as after `answer`.
+    /// `NoMemory` comes only when memory runs out, and leaves the base as after `answer`.
     pub fn answer_by<A: Assertions, V: ConditionValues>(
         &mut self,
         alloc: Global,
@@ -263,7 +263,7 @@ impl Base {
     /// value over all of them, with a proof of it. They are taken out again, and the principals with them who weren't
     /// known.
     ///
-    /// `NoMemory` comes only for want of memory, and the base is gone then.
+    /// `NoMemory` comes only when memory runs out, and the base is gone then.
     pub fn answer_with<A: Assertions>(
         self,
         alloc: Global,

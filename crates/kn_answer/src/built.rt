@@ -39,7 +39,7 @@ impl Model for Built {
 
 /// The system of a query. Its assertions are those of texts that have at most 16,777,000 bytes together.
 ///
-/// `NoMemory` comes only for want of memory.
+/// `NoMemory` comes only when memory runs out.
 pub fn build(alloc: Global, list: &List<Part<'_>>, query: &Query<'_>) -> Result<Built, NoMemory>
     requires { HaveTexts list.now }
     ensures built { IfOk result (λ built. IsBuilt (equations_over query.now list.now) built) }
@@ -141,7 +141,7 @@ impl Built {
 /// The rows that a reply tells by names, by their numbers in a system, in the same order and with the same levels. A
 /// name or an id that isn't in the system becomes the greatest u32, which is the number of none.
 ///
-/// `NoMemory` comes only for want of memory.
+/// `NoMemory` comes only when memory runs out.
 pub fn locate(alloc: Global, built: &Built, reply: &ReadReply) -> Result<Proof, NoMemory>
     ensures located { IfOk result (λ proof. AreLocated built.now reply.now.rows proof.rows) }
 {

@@ -18,7 +18,7 @@ pub trait ConditionValues {
     /// The value of each row's conditions, whether or not its assertion is still there.
     ghost each: { Self → List ℕ };
 
-    /// The value of a row's conditions. `NoMemory` comes only for want of memory.
+    /// The value of a row's conditions. `NoMemory` comes only when memory runs out.
     fn value(&self, row: u32) -> Result<u8, NoMemory>
         requires { row < length (each self.now) }
         ensures { IfOk result (λ value. value ≡ slice_index (each self.now) row) };

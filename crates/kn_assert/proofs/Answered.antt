@@ -126,7 +126,7 @@ first_told told text (Ok assertion) e = tt
 first_told told text (Err fault) (inl none) = inl none
 first_told told text (Err fault) (inr e) = inr ((told text fault).0 e)
 
--- whatever there is of the text is answered, if there is memory
+-- whatever there is of the text is answered, unless memory runs out
 pub each_told : (text : List ℕ) (r read : Result Assertion ReadFault) → Gives r (reading_of text) → reading_of text ≡ read → (r ≡ read) ⊎ (r ≡ Err NoMemory)
 each_told text (Ok assertion) read e is = inl (sym e ∙ is)
 each_told text (Err fault) read (inl none) is = inr (ap Err none)

@@ -359,7 +359,7 @@ fault_reading told text fault (inr h) =
       shown_first told.parts (constants_of h.tokens) nothing h.shown.before h.shown.field h.shown.behind fault h.shown.shown h.shown.least h.shown.first,
     ) refl
 
--- want of memory is no text's fault
+-- `NoMemory` is no text's fault
 pub no_memory : (text : List ℕ) → IsFirstReadFault text NoMemory → ⊥
 no_memory text (inl h) = of h.has
   where

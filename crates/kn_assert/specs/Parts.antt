@@ -19,7 +19,7 @@ use Rattle.kn_program.specs.declared.fault.ProgramFault.TheVariants.{Syntax as N
 use Rattle.kn_fields.specs.declared.fault.ReadFault.{ReadFault}
 use Rattle.kn_fields.specs.declared.fault.ReadFault.TheVariants.{Syntax, Kind, Threshold, Name, NoMemory}
 
--- this is given, or there was no memory for it
+-- this is given, or memory ran out
 abbrev pub Gives : {X : Type 0} → Result X ReadFault → Result X ReadFault → Type 0
 Gives (Ok x) read = read ≡ Ok x
 Gives (Err fault) read = (fault ≡ NoMemory) ⊎ (read ≡ Err fault)
@@ -58,7 +58,7 @@ authorizer_by constants token = one_by 1 is_principal_token (λ t. ok_or (princi
 unfoldable pub authorizer_of : List Constant → List Seen → Result (List ℕ) ReadFault
 authorizer_of constants tokens = authorizer_by constants (only_of tokens)
 
--- the fault of a program as one of the text; a program's reading is never want of memory
+-- the fault of a program as one of the text; a program's reading is never `NoMemory`
 abbrev pub program_fault : ProgramFault → ReadFault
 program_fault NoProgram = Syntax 3
 program_fault WrongKind = Kind 3
@@ -68,7 +68,7 @@ abbrev pub conditions_by : Result (Option Program) ProgramFault → Result (Opti
 conditions_by (Ok conditions) = Ok conditions
 conditions_by (Err fault) = Err (program_fault fault)
 
--- the fault of a formula as one of the text; a formula's reading is never want of memory
+-- the fault of a formula as one of the text; a formula's reading is never `NoMemory`
 abbrev pub formula_fault : FormulaFault → ReadFault
 formula_fault NoFormula = Syntax 5
 formula_fault WrongThreshold = Threshold 5

@@ -81,7 +81,7 @@ reading_with text tokens =
     and_then (stated_by (constants_in (field_with 6 tokens)) nothing (fields_of tokens))
     (λ s. assembled (constants_in (field_with 6 tokens)) (signed_to text tokens) s s.authorizer)
 
--- the assertion of a text, or its first fault; it is never want of memory
+-- the assertion of a text, or its first fault; it is never `NoMemory`
 unfoldable pub reading_of : List ℕ → Result Assertion ReadFault
 reading_of text = and_then (fields_or_fault text) (reading_with text)
 

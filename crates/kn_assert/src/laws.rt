@@ -13,8 +13,7 @@ ghost use Rattle.kn_assert.specs.Spelled.{IsReading, IsFirstReadFault};
 ghost use Rattle.kn_fields.specs.declared.fault.ReadFault.{ReadFault};
 ghost use Rattle.kn_fields.specs.declared.fault.ReadFault.TheVariants.{NoMemory};
 
-/// What is computed of a text is the assertion that it spells, or else its first fault, which is never want
-/// of memory.
+/// What is computed of a text is the assertion that it spells, or else its first fault, which is never `NoMemory`.
 pub fn readings_are_computed()
     ensures reading { (text : List ℕ) (assertion : Assertion)
         → (reading_of text ≡ Ok assertion) ↔ IsReading text assertion }

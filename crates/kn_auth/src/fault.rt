@@ -47,7 +47,7 @@ pub enum KeyFault {
     /// Fault 1: line `line`, counted from 1, is malformed, and none before it.
     #[error("line {line} of the key file is malformed")]
     Line { line: usize },
-    /// There was no memory for what the file says.
+    /// Out of memory for what the file says.
     #[error("there was no memory for the key file")]
     NoMemory,
 }

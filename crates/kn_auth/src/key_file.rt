@@ -40,7 +40,7 @@ impl Drop for KeyFile {
 /// hexadecimal of either case. Any other line is malformed, and so are a principal that is empty or above 4,096 bytes,
 /// a principal whose normal form had a key before, and a second secret.
 ///
-/// `Line` tells the first malformed line, `NoMemory` that there was no memory for what the file says.
+/// `Line` tells the first malformed line; `NoMemory`: out of memory for what the file says.
 pub fn read_keys(alloc: Global, bytes: &[u8]) -> Result<KeyFile, KeyFault>
     ensures ok { IfOk result (λ file. IsKeyFile bytes.now file) }
     ensures err { IfErr result (λ fault. IsCause bytes.now fault) }

@@ -28,7 +28,7 @@ impl<T> Boxed<T> {
 }
 
 impl<T: Drop> Boxed<T> {
-    /// Moves a value to the heap, or drops it where there is no memory.
+    /// Moves a value to the heap, or drops it when out of memory.
     pub fn new(alloc: Global, value: T) -> Result<Boxed<T>, NoMemory>
         ensures { IfOk result (λ boxed. boxed ≡ value) }
     {

@@ -49,7 +49,7 @@ impl<T> List<T> {
         List { items }
     }
 
-    /// Adds an item at the end, or gives it back where there is no memory or the list is full.
+    /// Adds an item at the end, or gives it back when memory runs out or the list is full.
     pub fn push(&mut self, item: T) -> Result<(), (T, NoMemory)>
         ensures ok { OnOk result (self.new ≡ self.old ++ item ∷ []) }
         ensures err { OnErr result (self.new ≡ self.old) }
@@ -64,7 +64,7 @@ impl<T> List<T> {
         }
     }
 
-    /// The same list with room for `more` items, or the list itself where there is no memory for it.
+    /// The same list with room for `more` items, or the list itself when out of memory.
     pub fn reserve(self, more: u32) -> Result<Reserved<T>, (List<T>, NoMemory)>
         ensures items { IfOk result (λ room. room.items ≡ self) }
         ensures spare { IfOk result (λ room. more ≤ room.spare) }
@@ -130,7 +130,7 @@ impl<T> List<T> {
 }
 
 impl<T: Drop> List<T> {
-    /// Adds an item at the end, or drops it where there is no memory or the list is full.
+    /// Adds an item at the end, or drops it when memory runs out or the list is full.
     ///
     /// The first item gets room for itself alone, since many lists of a tree have one item.
     pub fn add(&mut self, item: T) -> Result<(), NoMemory>

@@ -1,5 +1,5 @@
-//! Want of memory.
-/// There was no memory for what a call had to keep.
+//! Out of memory.
+/// Out of memory for what a call had to keep.
 ///
 /// A list also answers it where its length would not fit a `u32`.
 #[derive(Debug, Clone, Copy, PartialEq, Eq)]

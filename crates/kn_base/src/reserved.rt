@@ -63,7 +63,7 @@ impl<T> Reserved<T> {
         List::of(items)
     }
 
-    /// Makes room for `more` items, unless there is no memory for it or the list would be too long.
+    /// Makes room for `more` items, unless memory runs out or the list would be too long.
     pub fn reserve(&mut self, more: u32) -> Result<(), NoMemory>
         ensures items { self.new.items ≡ self.old.items }
         ensures spare { OnOk result (more ≤ self.new.spare) }
@@ -80,7 +80,7 @@ impl<T> Reserved<T> {
         }
     }
 
-    /// Adds an item at the end, or gives it back where there is no memory or the list is full.
+    /// Adds an item at the end, or gives it back when memory runs out or the list is full.
     pub fn push(&mut self, item: T) -> Result<(), (T, NoMemory)>
         ensures ok { OnOk result (self.new.items ≡ self.old.items ++ item ∷ []) }
         ensures spare { OnOk result (self.old.spare ≤ self.new.spare + 1) }

@@ -71,8 +71,7 @@ fn add_batch(alloc: Global, book: &mut Book, count: u32) -> Result<Done, BatchFa
     make(book, items)
 }
 
-/// The nanoseconds of a batch of additions and of one that removes them again, or None where there is no memory for
-/// them.
+/// The nanoseconds of a batch of additions and of one that removes them again, or None when out of memory.
 fn time_pair(
     clock: &impl Clock,
     alloc: Global,

@@ -45,7 +45,7 @@ fn take_all(feed: &mut Feed) -> Option<u32>
     None
 }
 
-/// Counts the requests of a stream in pieces of so many bytes; 0 where there was no memory or a block was refused.
+/// Counts the requests of a stream in pieces of so many bytes; 0 when memory ran out or a block was refused.
 fn hear(alloc: Global, text: &[u8], size: usize) -> u32
     requires some { 0 < size }
     requires short { size ≤ PIECE_BYTES }

@@ -72,7 +72,7 @@ pub(crate) fn fill_book(alloc: Global, live: u32) -> Result<Book, StoreFault> {
     }
 }
 
-/// The nanoseconds of one removal of the first id, or None where there is no memory for it.
+/// The nanoseconds of one removal of the first id, or None when out of memory.
 fn time_removal(clock: &impl Clock, book: &mut Book) -> io::Result<Option<u128>> {
     let id = if book.snapshot().len() > 0 {
         book.snapshot().id(0)
@@ -86,7 +86,7 @@ fn time_removal(clock: &impl Clock, book: &mut Book) -> io::Result<Option<u128>>
     }
 }
 
-/// The nanoseconds of one addition of a text that was read before, or None where there is no memory for it.
+/// The nanoseconds of one addition of a text that was read before, or None when out of memory.
 fn time_addition(clock: &impl Clock, alloc: Global, book: &mut Book) -> io::Result<Option<u128>> {
     let Ok(ready) = make_ready(alloc, TEXT) else {
         return Ok(None);

@@ -10,7 +10,7 @@ use Rattle.kn_load.specs.declared.fault.LoadFault.{LoadFault}
 use Rattle.kn_load.specs.declared.fault.LoadFault.TheVariants.{Faulty, Full, NoMemory}
 use Rattle.kn_load.proofs.Alone.{looks_alone}
 
--- loading them is stopped by nothing but want of memory
+-- only running out of memory stops loading them
 pub only_memory : ((texts : List (List ℕ)) → LoadingEndsOnce texts) → (texts others : List (List ℕ)) → IsLoadable others → texts ≡ others → (fault : LoadFault) → StopsLoading texts fault → fault ≡ NoMemory
 only_memory once texts others loadable same (Faulty n fault) stops = absurd ((once texts).faulty n fault (subst IsLoadable (sym same) loadable) stops)
 only_memory once texts others loadable same (Full n refusal) stops = absurd ((once texts).full n refusal (subst IsLoadable (sym same) loadable) stops)

@@ -31,7 +31,7 @@ grounds_of keys = record { secret = keys.secret; verdict = verdict_of keys.auth 
 
 -- The link was served over this history, to which caller 0 added these updates: the bytes that were taken of it and written to
 -- it, where the turn was had, and why the connection ended so. Caller 0 is the only one, so the replies tell each place. An input
--- that is in order is served to its end, if no call of the link fails and there is memory.
+-- that is in order is served to its end, if no call of the link fails and memory doesn't run out.
 pub record IsLinkServed (g : Grounds) (past : List Update) (o o' : LinkSeen) (ended : Ended) : Type 0 where
   pub taken : List ℕ
   pub written : List ℕ

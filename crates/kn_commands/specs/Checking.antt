@@ -72,13 +72,13 @@ pub record IsTextTo (session : Session) (values : List (List ℕ)) (text : List 
   pub read : IsReplyText text reply
   pub to_query : IsReplyTo (length session.pinned) values reply
 
--- what is known of a file behind which memory lacks: that of the reply holds the text of one to the query
+-- what is known of a file behind which memory ran out: that of the reply holds the text of one to the query
 abbrev pub HoldsWhereMemoryLacks : FilesSeen → CheckNames → Source → Type 0
 HoldsWhereMemoryLacks f names Policy = Unit {0}
 HoldsWhereMemoryLacks f names TheScript = Unit {0}
 HoldsWhereMemoryLacks f names Reply = (session : Session) × (values : List (List ℕ)) × (text : List ℕ) × HasQuery f names session values × HasContent f names.reply text × IsTextTo session values text
 
--- memory lacks where a file was about to be asked for, or was, and nothing else changed
+-- memory ran out where a file was about to be asked for, or was, and nothing else changed
 abbrev pub LacksAt : FilesSeen → FilesSeen → CheckNames → Source → Type 0
 LacksAt f f' names source =
     HasAsked (take (count_before source) (in_order names)) f f' ⊎ (HasAsked (take (count_to source) (in_order names)) f f' × HoldsWhereMemoryLacks f names source)
@@ -93,7 +93,7 @@ StopsCheckAt f f' names source Memory = Reached f names source × LacksAt f f' n
 StopsCheckAt f f' names source Words = ⊥
 StopsCheckAt f f' names source (KeyLine n) = ⊥
 
--- how a run ends at a fault of a text; want of memory has no number
+-- how a run ends at a fault of a text; `NoMemory` has no number
 abbrev pub ending_of_fault : ProofFault → Ending
 ending_of_fault (F.Line n) = Faulty 1 n
 ending_of_fault (F.Number n) = Faulty 2 n
@@ -120,7 +120,7 @@ pub record IsProvedText (session : Session) (values : List (List ℕ)) (text : L
   pub name_told : reply.name ≡ name
   pub proved : IsProved (equations_of session values) (length session.pinned) values reply
 
--- what the text of a reply to a query shows where a run ends so; memory lacks only for one to the query
+-- what the text of a reply to a query shows where a run ends so; memory runs out only for one to the query
 abbrev pub ReplyShows : Session → List (List ℕ) → List ℕ → Ending → Type 0
 ReplyShows session values text (Stopped source stop) = (source ≡ Reply) × (stop ≡ Memory) × IsTextTo session values text
 ReplyShows session values text NoQuery = ⊥

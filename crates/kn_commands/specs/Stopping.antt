@@ -54,7 +54,7 @@ status_of (Limit n word count) = 3
 status_of (KeyLine n) = 8
 status_of Memory = 5
 
--- the line that tells a fault of the n-th assertion of a policy file; want of memory has no number, and is told otherwise
+-- the line that tells a fault of the n-th assertion of a policy file; `NoMemory` has no number, and is told otherwise
 unfoldable pub policy_fault_line : List ℕ → ℕ → ReadFault → List ℕ
 policy_fault_line name n fault =
     codes "error policy " ++ name ++ codes " " ++ decimal n ++ codes " " ++ decimal (unwrap_or (fault_number fault) 0) ++ codes " " ++ decimal (fault_place fault) ++ codes "\n"

@@ -52,7 +52,7 @@ pub record IsTranscriptRead (f f' : FilesSeen) (names : VerifyNames)
   pub replies_are : HasContent f names.replies replies
   pub holds : Is (loaded_history (pieces_of bytes)) script replies
 
--- what is known of a transcript that isn't accepted: its fault, or that there was no memory to judge it
+-- what is known of a transcript that isn't accepted: its fault, or that memory ran out
 abbrev pub IsRefused : TranscriptFault → List Update → List ℕ → List ℕ → Type 0
 IsRefused fault past script replies = (fault ≡ F.NoMemory) ⊎ IsFaultyTranscript past script replies fault
 

@@ -8,7 +8,7 @@ pub enum FollowEnding {
     FileFailed,
     /// The file is larger than any that is read.
     FileTooLarge,
-    /// There was no memory.
+    /// Out of memory.
     Memory,
     /// A reply departs from its form at this byte, counted from its first, or breaks off there.
     Line { at: u32 },

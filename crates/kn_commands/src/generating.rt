@@ -23,7 +23,7 @@ pub struct GenNumbers {
 
 /// Settles the generator's query over its credentials, which the root pass of a new registry has added.
 ///
-/// `NoMemory` comes only for want of memory.
+/// `NoMemory` comes only when memory runs out.
 pub fn generate<R: Wait>(rt: &R, alloc: Global, numbers: GenNumbers) -> Result<Measured, NoMemory>
     requires some { 1 ≤ numbers.count }
     requires most { numbers.count ≤ GENERATED_CREDENTIALS }

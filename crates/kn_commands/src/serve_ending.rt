@@ -10,11 +10,11 @@ pub enum ServeEnding {
     PolicyStopped(Stop),
     /// The key file could not be read.
     KeysStopped(Stop),
-    /// There was no memory to bind the address.
+    /// Out of memory for binding the address.
     BindMemory,
     /// The address could not be bound.
     Unbound,
-    /// There was no memory for the workers, and no connection was accepted.
+    /// Out of memory for the workers; no connection was accepted.
     WorkMemory,
     /// A door gave fewer connections than its quota, since a call of it failed.
     DoorFailed,

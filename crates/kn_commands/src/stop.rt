@@ -31,7 +31,7 @@ pub enum Stop {
     KeyLine {
         line: usize,
     },
-    /// There was no memory.
+    /// Out of memory.
     Memory,
 }
 

@@ -14,7 +14,7 @@ pub enum VerifyEnding {
     ScriptStopped(Stop),
     /// The file of the replies could not be read.
     RepliesStopped(Stop),
-    /// The transcript isn't accepted, or there was no memory to judge it.
+    /// The transcript isn't accepted, or memory ran out.
     Faulty(TranscriptFault),
     /// It is accepted: `answers` replies give a value, and there are `version` updates behind it.
     Verified { answers: u32, version: u32 },

@@ -16,7 +16,7 @@ use kn_env::{Env, is_attribute_name};
 use kn_trees::{Comparison, ExprRef, Form, Links, Operation, Parts};
 use std::alloc::Global;
 
-/// What an expression gives in an environment. `Err` says that there was no memory for a joined text.
+/// What an expression gives in an environment. `Err`: out of memory for a joined text.
 #[cycle(outcomes)]
 #[tactic(auto, using(crate::proofs::Meanings::meanings, crate::proofs::Joined::joined, crate::proofs::Descent::depths))]
 pub(crate) fn outcome<'e>(

@@ -15,7 +15,7 @@ use kn_trees::{Clause, FlatExpr, Program, Then};
 use std::alloc::Global;
 
 /// The value of a Conditions field, by its index among the compliance values of the query. A missing field has the
-/// highest. `Err` says that there was no memory for a joined text.
+/// highest. `Err`: out of memory for a joined text.
 pub fn field_value<'e>(
     alloc: Global,
     conditions: &'e Option<Program>,
@@ -32,8 +32,7 @@ pub fn field_value<'e>(
 }
 
 /// The value of a conditions program, by its index among the compliance values of the query (RFC 2704, section 4, the
-/// Conditions field). A fault of a test or a value is part of its meaning. `Err` says that there was no memory for a
-/// joined text.
+/// Conditions field). A fault of a test or a value is part of its meaning. `Err`: out of memory for a joined text.
 #[cycle(programs)]
 #[tactic(auto, using(crate::proofs::Valued::values, crate::proofs::Joined::joined))]
 pub fn conditions_value<'e>(

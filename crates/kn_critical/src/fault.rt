@@ -7,7 +7,7 @@ use kn_base::NoMemory;
 pub enum CriticalFault {
     /// Fault 1: the assertions' formulas have `nodes` nodes together, more than 16,384.
     Large { nodes: u32 },
-    /// There was no memory.
+    /// Out of memory.
     NoMemory,
 }
 

@@ -36,7 +36,7 @@ pub struct Critical {
 /// each of them by itself, taken away, lowers the value. The assertions are those of texts that have at most
 /// 16,777,000 bytes together.
 ///
-/// More nodes than 16,384 are refused. `NoMemory` comes only for want of memory.
+/// More nodes than 16,384 are refused. `NoMemory` comes only when memory runs out.
 pub fn find_critical(
     alloc: Global,
     list: &List<Part<'_>>,

@@ -109,7 +109,7 @@ refusal_of_fault F.Command = R.Command
 refusal_of_fault F.Long = R.Long
 refusal_of_fault (F.Block n) = R.Block
 
--- the refusal that a fault of the sessions is; want of memory is none
+-- the refusal that a fault of the sessions is; none when out of memory
 abbrev pub refusal_of_session : SessionFault → Option Refusal
 refusal_of_session (S.Unknown s) = Some R.Session
 refusal_of_session (S.Sessions count) = Some (R.Limit W.Sessions count)
@@ -137,15 +137,15 @@ in_session (Some session) refusal = refusal session
 abbrev pub session_refusal : State → ℕ → (Session → Option SessionFault) → Option Refusal
 session_refusal state s fault = refusal_by (fault_in s (session_of state s) fault)
 
--- The refusal that the fault of a text is, however it is told: of a request, or of an item of a batch. Want of memory
--- is none.
+-- The refusal that the fault of a text is, however it is told: of a request, or of an item of a batch. None when out
+-- of memory.
 abbrev pub refusal_at_text : {X : Type 0} → (ℕ → ℕ → X) → ReadFault → Option X
 refusal_at_text told fault = option_map (λ number. told number (fault_place fault)) (fault_number fault)
 
 abbrev pub refusal_of_text : ReadFault → Option Refusal
 refusal_of_text fault = refusal_at_text R.Read fault
 
--- a text that has no reading is refused by its first fault, which is never want of memory
+-- a text that has no reading is refused by its first fault, which is never `NoMemory`
 abbrev pub refusal_at_reading : {X : Type 0} → (ℕ → ℕ → X) → Result Assertion ReadFault → (Assertion → Option X)
     → Option X
 refusal_at_reading told (Ok assertion) next = next assertion
@@ -186,7 +186,7 @@ abbrev pub refusal_of_block : Grounds → Result (List BatchItem) ℕ → Option
 refusal_of_block g (Ok items) = refusal_from g 1 items
 refusal_of_block g (Err number) = Some (R.Batch number)
 
--- the refusal that a fault of a call is; want of memory is none
+-- the refusal that a fault of a call is; none when out of memory
 abbrev pub refusal_of_call : CallFault → Option Refusal
 refusal_of_call (T.Text fault) = refusal_of_text fault
 refusal_of_call (T.Session fault) = refusal_of_session fault
@@ -233,8 +233,8 @@ own_refusal g state (AtFault fault) = Some (refusal_of_fault fault)
 
 -- Refusals by the history before the request.
 
--- the refusal that a fault of the store is, however it is told: of a request, or of an item of a batch; want of memory
--- is none
+-- the refusal that a fault of the store is, however it is told: of a request, or of an item of a batch; none when
+-- out of memory
 abbrev pub refusal_at_store : {X : Type 0} → X → (LimitWord → ℕ → X) → StoreFault → Option X
 refusal_at_store unknown limit (U.Unknown id) = Some unknown
 refusal_at_store unknown limit (U.LiveFull count) = Some (limit W.Live count)
@@ -428,7 +428,7 @@ pub record Does (g : Grounds) (caller : ℕ) (past : List Update) (old : State) 
   pub answered : Answers caller past old shape reply
   pub next : new ≡ changed past old shape
 
--- the requests to which want of memory may be the reply; then nothing has changed
+-- the requests to which `NoMemory` may be the reply; then nothing has changed
 abbrev pub may_lack_memory : Shape → Bool
 may_lack_memory (Calls s call) = call_may_lack_memory call
 may_lack_memory (Updates update) = true

@@ -114,7 +114,7 @@ EndsByBudget = (g : Grounds) (taken written : List ℕ) (history : List Update) 
     → IsUnderway g taken written history start caller stops state held REQUESTS → is_valid_history history ≡ true
     → IsServed g taken written E.Budget is_over history start (length history) caller stops
 
--- memory was wanting at first
+-- memory ran out at first
 abbrev pub EndsByMemory : Type 0
 EndsByMemory = (g : Grounds) (history : List Update) (caller : ℕ) (is_over : Bool)
     → is_valid_history history ≡ true
@@ -127,7 +127,7 @@ ServedLonger = (g : Grounds) (taken written : List ℕ) (ended : Ended) (is_over
     → is_valid_history (history ++ more) ≡ true → IsServed g taken written ended is_over history start end caller stops
     → IsServed g taken written ended is_over (history ++ more) start end caller stops
 
--- what the daemon permits changes the state as playing does, unless memory was wanting
+-- what the daemon permits changes the state as playing does, unless memory ran out
 abbrev pub PermittedIsPlayed : Type 0
 PermittedIsPlayed = (g : Grounds) (caller : ℕ) (past : List Update) (old : State) (request : Request) (reply : Reply)
     (new : State)
@@ -230,7 +230,7 @@ UnplacedIsFree = (g : Grounds) (caller : ℕ) (past other : List Update) (old : 
     (new : State) → is_placed shape reply ≡ false → Permits g caller past old shape reply new
     → Permits g caller other old shape reply new
 
--- want of memory is no reply to this request
+-- `NoMemory` is no reply to this request
 abbrev pub NeverLacksMemory : Request → Type 0
 NeverLacksMemory request = (g : Grounds) (caller : ℕ) (past : List Update) (old new : State)
     → Permits g caller past old (shape_of request) NoMemory new → ⊥

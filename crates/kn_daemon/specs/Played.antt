@@ -1,5 +1,5 @@
 -- Playing requests on the daemon of one thread (keynoted's own): each at one place of one history, and none is answered
--- by want of memory.
+-- by `NoMemory`.
 use Rattle.std.specs.Prelude.{ℕ, ◌≡◌, List, [], ◌∷◌, ◌++◌, Bool, ◌||◌, Some, if◌then◌else◌}
 use Rattle.std.specs.Option.{option_map_or}
 use Rattle.kn_env.specs.Values.{values_of}

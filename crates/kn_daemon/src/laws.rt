@@ -39,7 +39,7 @@ pub fn serving_ends()
     ensures write { EndsByWrite }
 {}
 
-/// The connection ends between requests: no whole one is held, as many were answered as it has, or memory was wanting
+/// The connection ends between requests: no whole one is held, as many were answered as it has, or memory ran out
 /// at first.
 pub fn serving_stops()
     ensures dry { EndsDry }
@@ -52,7 +52,7 @@ pub fn served_longer()
     ensures { ServedLonger }
 {}
 
-/// What the daemon of one thread permits changes the state as playing does, unless memory was wanting: after one
+/// What the daemon of one thread permits changes the state as playing does, unless memory ran out: after one
 /// request, and along exchanges that stand each after the whole history.
 pub fn permitted_is_played()
     ensures request { PermittedIsPlayed }
@@ -106,7 +106,7 @@ pub fn unplaced_is_free()
     ensures { UnplacedIsFree }
 {}
 
-/// What takes something away, ADMIN, BYE and faults are never answered by want of memory.
+/// What takes something away, ADMIN, BYE and faults are never answered by `NoMemory`.
 pub fn fewer_takes_no_memory()
     ensures { FewerTakesNoMemory }
 {}

@@ -23,7 +23,7 @@ pub enum EnvFault {
     BadValue,
     /// Fault 3: the name is new, and there are `count` attributes, as many as there may be.
     Full { count: u32 },
-    /// There was no memory for the attribute.
+    /// Out of memory for the attribute.
     NoMemory,
 }
 

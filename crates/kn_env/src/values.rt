@@ -21,7 +21,7 @@ pub enum ValuesFault {
     BadName { i: u32 },
     /// Fault 3: the name at place `i`, counted from 0, stood before.
     Twice { i: u32 },
-    /// There was no memory for the names.
+    /// Out of memory for the names.
     NoMemory,
 }
 
@@ -45,7 +45,7 @@ impl Model for Values {
 }
 
 impl Values {
-    /// The values whose names a text has with commas between them. `NoMemory` says that there was no memory for them.
+    /// The values whose names a text has with commas between them. `NoMemory`: out of memory for them.
     pub fn of(alloc: Global, text: &[u8]) -> Result<Values, ValuesFault>
         ensures ok { IfOk result (λ values. values_of text.now ≡ Some values) }
         ensures fault { IfErr result (λ fault. (fault ≡ F.NoMemory) ⊎ (values_fault text.now ≡ Some fault)) }

@@ -112,7 +112,7 @@ pub fn sessions_of_a_connection()
     ensures ended { after_call (watch_with [] session ∷ []) 2 Q.Unwatch ≡ session ∷ [] }
 {}
 
-/// Which calls may find no memory.
+/// Which calls may run out of memory.
 pub fn memory_of_calls()
     ensures assert { call_may_lack_memory (Q.Assert []) ≡ true }
     ensures set { call_may_lack_memory (Q.Set [] []) ≡ true }

@@ -131,6 +131,6 @@ abbrev pub constants_in : Option Field → List Set
 constants_in None = []
 constants_in (Some field) = constants_of field.tokens
 
--- the fault is the first of the text, or there is no memory
+-- the fault is the first of the text, or memory ran out
 abbrev pub HasCause : List ℕ → ReadFault → Type 0
 HasCause text fault = (fault ≡ NoMemory) ⊎ IsFirstFault text fault

@@ -49,12 +49,12 @@ pub enum ReadFault {
     Threshold { field: u8 },
     /// Fault 19: a principal is a name without a value, is empty or has more than 4,096 bytes.
     Name { field: u8 },
-    /// There was no memory for the assertion.
+    /// Out of memory for the assertion.
     NoMemory,
 }
 
 impl ReadFault {
-    /// The number of the fault, from 1 to 19, and the place that is told with it. Want of memory has none.
+    /// The number of the fault, from 1 to 19, and the place that is told with it. `NoMemory` has none.
     fn code(&self) -> Option<(u8, usize)>
         ensures { result ≡ fault_code self.now }
     {
@@ -82,7 +82,7 @@ impl ReadFault {
         }
     }
 
-    /// The number of the fault, from 1 to 19. Want of memory has none.
+    /// The number of the fault, from 1 to 19. `NoMemory` has none.
     pub fn number(&self) -> Option<u8>
         ensures { result ≡ fault_number self.now }
     {

@@ -7,7 +7,7 @@ use kn_base::NoMemory;
 pub enum Unread {
     /// The tokens spell nothing.
     Syntax,
-    /// There was no memory for the tree.
+    /// Out of memory for the tree.
     NoMemory,
 }
 

@@ -167,12 +167,12 @@ pub stopped-unanswered : (request : Request) (line held : List ℕ) (l l' : Link
 stopped-unanswered request line held l l' holds fault n =
     record { piece = n.piece; written = n.written; gains = n.gains; stops = inl (record { cause = n.cause; kept = refl }) }
 
--- there was no memory for the line
+-- out of memory for the line
 pub stopped-before : (request : Request) (line held : List ℕ) (l : LinkSeen) (holds : List Update) → IsStopped request line held l l holds holds NoMemory
 stopped-before request line held l holds =
     record { piece = []; written = []; gains = gains-nothing l; stops = inl (record { cause = (inl refl, refl); kept = refl }) }
 
--- there was no memory for what is held behind the answer
+-- out of memory for what is held behind the answer
 pub stopped-behind : (request : Request) (line old mid : List ℕ) (l l' : LinkSeen) (count : ℕ) (holds : List Update) → IsAnswered request line old mid l l' count → IsStopped request line old l l' holds holds NoMemory
 stopped-behind request line old mid l l' count holds a =
     record { piece = a.piece; written = line; gains = a.gains; stops = inl (record { cause = (inr refl, a.calm); kept = refl }) }

@@ -37,7 +37,7 @@ request_line Bye secret held = bye_line
 abbrev pub ok_line : List ℕ
 ok_line = codes "OK\n"
 
--- the daemon had no memory for the reply to LOG
+-- the daemon was out of memory for the reply to LOG
 abbrev pub nomem_line : List ℕ
 nomem_line = codes "NOMEM\n"
 

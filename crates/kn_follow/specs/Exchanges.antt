@@ -51,7 +51,7 @@ pub record Grows (old new : List ℕ) (l l' : LinkSeen) (count : ℕ) : Type 0 w
   pub over : count ≡ 0 → IfSome l'.left (λ left. left ≡ [])
   pub calm : l'.faults ≡ l.faults
 
--- no piece came: the read failed, or there was no memory for the piece
+-- no piece came: the read failed, or memory ran out for the piece
 abbrev pub IsNotRead : LinkSeen → LinkSeen → PullFault → Type 0
 IsNotRead l l' Read = Gains l l' [] [] × Rose l.faults l'.faults
 IsNotRead l l' NoMemory = (piece : List ℕ) × Gains l l' piece [] × (l'.faults ≡ l.faults)

@@ -47,8 +47,8 @@ pub record FrontDepartsAt (left : List ℕ) (at : ℕ) : Type 0 where
       → IsLogText text reply → ⊥
   pub departs : DepartsAt (take REPLY_BYTES left) at
 
--- why these bytes, which are left where a replica has these updates, don't begin with a reply that it applies; that
--- there was no memory says nothing of them
+-- why these bytes, which are left where a replica has these updates, don't begin with a reply that it applies; when
+-- out of memory nothing is said of them
 abbrev pub IsFrontFault : List Update → List ℕ → FollowFault → Type 0
 IsFrontFault held left (Line at) = FrontDepartsAt left at
 IsFrontFault held left (Gap from have) = RefusesFront held left (Gap from have)

@@ -80,7 +80,7 @@ pub record IsReplyRefused (old : List Update) (text : List ℕ) (fault : FollowF
   pub fault_is : IsReplyFault old reply fault new
 
 -- Why a text isn't applied, and what the replica then is. It is as before where the text isn't of the form, and where it
--- is to a client that holds another number of updates; want of memory leaves some first updates of the reply taken.
+-- is to a client that holds another number of updates; when out of memory some first updates of the reply are taken.
 abbrev pub IsFollowFault : List Update → List ℕ → FollowFault → List Update → Type 0
 IsFollowFault old text (Line at) new = DepartsAt text at × (new ≡ old)
 IsFollowFault old text (Gap from have) new = IsReplyRefused old text (Gap from have) new

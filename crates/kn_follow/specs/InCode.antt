@@ -23,7 +23,7 @@ updates_of updates = map update_of updates
 abbrev pub reply_of : Reply → LogReply
 reply_of reply = record { from = reply.from; place = reply.place; updates = updates_of reply.updates }
 
--- what is returned, seen so, is what is read; that there was no memory says nothing of it
+-- what is returned, seen so, is what is read; nothing is said of it when out of memory
 abbrev pub Stops : {A : Type 0} → ReadStop → Result A (List ℕ) → Type 0
 Stops (Departs rest) read = read ≡ Err rest.now
 Stops NoMemory read = Unit {0}
@@ -39,7 +39,7 @@ asked_item item = item_of (I.item_of item)
 abbrev pub asked_items : List BatchItem → List Item
 asked_items items = map item_of (map I.item_of items)
 
--- the item is the addition of a text that has no reading, or there was no memory
+-- the item is the addition of a text that has no reading, or memory ran out
 abbrev pub IsUnreadable : Item → ItemFault → Type 0
 IsUnreadable item F.Unreadable = item_reads item ≡ false
 IsUnreadable item F.NoMemory = Unit {0}

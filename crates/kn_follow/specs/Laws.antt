@@ -20,12 +20,12 @@ pub record OneReading (text : List ℕ) : Type 0 where
   pub one_byte : (at other : ℕ) → DepartsAt text at → DepartsAt text other → at ≡ other
   pub not_both : (reply : LogReply) (at : ℕ) → IsLogText text reply → DepartsAt text at → ⊥
 
--- a file of replies has some ending: these make a history, or it has a fault that isn't want of memory
+-- a file of replies has some ending: these make a history, or it has a fault other than `NoMemory`
 abbrev pub SomeEnding : Type 0
 SomeEnding = (text : List ℕ)
     → ((new : List Update) × IsLogFile text new) ⊎ ((fault : FollowFault) × (fault ≢ NoMemory) × IsLogFault text fault)
 
--- it has one ending: its replies make one history alone, or it has one fault that isn't want of memory, and never both
+-- it has one ending: its replies make one history alone, or it has one fault other than `NoMemory`, and never both
 pub record OneEnding (text : List ℕ) : Type 0 where
   pub one_history : (new other : List Update) → IsLogFile text new → IsLogFile text other → new ≡ other
   pub one_fault : (fault other : FollowFault) → fault ≢ NoMemory → other ≢ NoMemory

@@ -11,7 +11,7 @@ pub enum FollowFault {
     Gap { from: u32, have: u32 },
     /// Fault 3: the update of this place in the history, counted from 1, is the first that is refused.
     Refused { place: u32 },
-    /// There was no memory for the reply or for one of its updates.
+    /// Out of memory for the reply or for one of its updates.
     NoMemory,
 }
 

@@ -17,8 +17,9 @@ use std::alloc::Global;
 ///
 /// `Line` comes where no whole reply of at most 300,000 bytes stands behind those that were applied, `Gap` and
 /// `Refused` where one does and isn't applied; `at` counts from where that reply begins, and is 300,000 where it keeps
-/// the form past this. Out of memory nothing is said of the file. No more is kept than the replica, what is read of one
-/// reply, and the bytes that weren't applied, which a shorter copy takes the place of when a quarter of them was.
+/// the form past this. When out of memory, nothing is said of the file. No more is kept than the replica, what is read
+/// of one reply, and the bytes that weren't applied, which a shorter copy takes the place of when a quarter of them
+/// was.
 #[tactic(auto, using(crate::proofs::Fronts::follow_begun, crate::proofs::Fronts::follow_ended, crate::proofs::Fronts::follow_unbegun))]
 pub fn follow(alloc: Global, log: Octets) -> Result<Replica, FollowFault>
     ensures followed { IfOk result (λ replica. IsLogFile log replica) }

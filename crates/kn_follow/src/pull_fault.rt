@@ -21,7 +21,7 @@ pub enum PullFault {
     Follow(FollowFault),
     /// The daemon answers LOG by `NOMEM`.
     Unserved,
-    /// There was no memory for a line, an answer or an update.
+    /// Out of memory for a line, an answer or an update.
     NoMemory,
 }
 

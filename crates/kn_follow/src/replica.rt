@@ -64,7 +64,7 @@ impl Replica {
     ///
     /// `Line` comes where the text isn't of the form, `Gap` where it is to a client that holds another number of
     /// updates, and both leave the replica as before; `Refused` comes at the first update that may not follow those
-    /// before it, which then stand. Out of memory some first updates of the reply stand.
+    /// before it, which then stand. When out of memory, some first updates of the reply stand.
     #[tactic(auto, using(crate::proofs::Takings::follow_fault, crate::proofs::Takings::read_fault))]
     pub fn apply(&mut self, reply: &[u8]) -> Result<u32, FollowFault>
         requires short { length reply.now ≤ REPLY_BYTES }

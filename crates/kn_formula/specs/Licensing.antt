@@ -67,7 +67,7 @@ unfoldable pub licensees_of : List Constant → List Seen → Result (Option For
 licensees_of constants [] = Ok None
 licensees_of constants (token ∷ tokens) = judged_read constants (read_words (words_of (token ∷ tokens)))
 
--- this is given, or there was no memory for it
+-- this is given, or memory ran out
 abbrev pub Gives : {X : Type 0} → Result X FormulaFault → Result X FormulaFault → Type 0
 Gives (Ok x) read = read ≡ Ok x
 Gives (Err NoMemory) read = Unit {0}

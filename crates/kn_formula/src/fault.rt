@@ -11,7 +11,7 @@ pub enum FormulaFault {
     /// Fault 19: a principal is a name without quotes other than `POLICY` that no local constant has, or its
     /// text is empty or has more than 4,096 bytes.
     Name,
-    /// There was no memory for the formula.
+    /// Out of memory for the formula.
     NoMemory,
 }
 

@@ -40,7 +40,7 @@ pub struct Measured {
 
 /// Settles the generator's query over a version, where the last of `count` principals requests.
 ///
-/// `NoMemory` comes only for want of memory.
+/// `NoMemory` comes only when memory runs out.
 pub fn measure(alloc: Global, snapshot: &Snapshot, count: u32) -> Result<Measured, NoMemory>
     requires some { 1 ≤ count }
     requires most { count ≤ GENERATED_CREDENTIALS }
@@ -53,7 +53,7 @@ pub fn measure(alloc: Global, snapshot: &Snapshot, count: u32) -> Result<Measure
 
 /// Builds the system of the generator's query over a version, where the last of `count` principals requests.
 ///
-/// `NoMemory` comes only for want of memory.
+/// `NoMemory` comes only when memory runs out.
 pub fn build_generated(alloc: Global, snapshot: &Snapshot, count: u32) -> Result<Built, NoMemory>
     requires some { 1 ≤ count }
     requires most { count ≤ GENERATED_CREDENTIALS }
@@ -150,7 +150,7 @@ fn requesters(alloc: Global, count: u32) -> Result<List<Octets>, NoMemory>
 
 /// Settles the system of a query.
 ///
-/// `NoMemory` comes only for want of memory.
+/// `NoMemory` comes only when memory runs out.
 pub fn measure_built(alloc: Global, built: &Built) -> Result<Measured, NoMemory>
     ensures measured { (e : Equations) → IsBuilt e built.now → IfOk result (λ m. IsMeasured e m) }
     ensures low { IfOk result (λ m. m.level < built.now.system.levels) }

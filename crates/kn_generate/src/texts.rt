@@ -10,7 +10,7 @@ use std::alloc::Global;
 
 /// The texts of `count` credentials by the draws from `start`.
 ///
-/// `NoMemory` comes only for want of memory.
+/// `NoMemory` comes only when memory runs out.
 pub fn generate_texts(alloc: Global, start: u32, count: u32) -> Result<List<Octets>, NoMemory>
     requires some { 1 ≤ count }
     requires most { count ≤ GENERATED_CREDENTIALS }

@@ -89,7 +89,7 @@ pub record IsRefusedItem (past : List Numbered) (items : List Item) (number : �
       → refusal_of_item (past ++ all_numbered past first) one ≡ None
   pub refused : refusal_of_item (past ++ all_numbered past front) item ≡ Some fault
 
--- why a batch is refused: its first refused item, counted from 1, and for what; want of memory tells nothing
+-- why a batch is refused: its first refused item, counted from 1, and for what; nothing is told when out of memory
 abbrev pub RefusesBatch : Option (ℕ × StoreFault) → BatchFault → Type 0
 RefusesBatch found (B.Item item fault) = found ≡ Some (item, fault)
 RefusesBatch found B.NoMemory = Unit {0}

@@ -16,7 +16,7 @@ pub enum StoreFault {
     HistoryFull { updates: u32 },
     /// Fault 5: all texts that were ever added have `bytes` bytes, and with the text they would pass the limit.
     LogFull { bytes: u32 },
-    /// There was no memory for the change.
+    /// Out of memory for the change.
     NoMemory,
 }
 
@@ -34,10 +34,10 @@ impl From<NoMemory> for StoreFault {
 /// Why a batch is refused.
 #[derive(Debug, Clone, Copy, PartialEq, Eq, Drop)]
 pub enum BatchFault {
-    /// The first item that is refused behind those in front of it, counted from 1, and why. The fault is never want of
-    /// memory.
+    /// The first item that is refused behind those in front of it, counted from 1, and why. The fault is never
+    /// `NoMemory`.
     Item { item: u32, fault: StoreFault },
-    /// There was no memory for the batch.
+    /// Out of memory for the batch.
     NoMemory,
 }
 

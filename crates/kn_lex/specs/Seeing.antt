@@ -15,12 +15,12 @@ abbrev pub is_label_sort : Sort → Bool
 is_label_sort Label = true
 is_label_sort sort = false
 
--- these tokens are given, unless there is no memory
+-- these tokens are given, unless memory ran out
 abbrev pub GivesTokens : List Seen → Result (List Seen) LexFault → Type 0
 GivesTokens tokens (Ok given) = given ≡ tokens
 GivesTokens tokens (Err fault) = fault ≡ NoMemory
 
--- the fault is the first of the text, or there is no memory
+-- the fault is the first of the text, or memory ran out
 abbrev pub HasCause : List ℕ → LexFault → Type 0
 HasCause text NoMemory = Unit {0}
 HasCause text fault = IsFirstLexicalFault text fault

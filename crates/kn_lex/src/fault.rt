@@ -21,12 +21,12 @@ pub enum LexFault {
     Number { at: u32 },
     /// Fault 7: a blank line between tokens.
     Blank { at: u32 },
-    /// There was no memory for the tokens.
+    /// Out of memory for the tokens.
     NoMemory,
 }
 
 impl LexFault {
-    /// The number of the fault. Want of memory has none.
+    /// The number of the fault. `NoMemory` has none.
     pub fn number(&self) -> Option<u8>
         ensures { result ≡ fault_number self.now }
     {

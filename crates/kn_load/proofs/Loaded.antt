@@ -136,7 +136,7 @@ module _ (front texts : List (List ℕ)) (registry : TableId) (v w : PassSeen) (
     refusal_stops (LogFull bytes) refused = full_here (LogFull bytes) refused
     refusal_stops NoMemory refused = tt
 
--- a fault of the next text stops loading, and so does want of memory
+-- a fault of the next text stops loading, and so does running out of memory
 pub fault_stops : (front rest : List (List ℕ)) (text : List ℕ) (number : ℕ) (fault : ReadFault) (stop : LoadFault) → IsLoadable front → number ≡ length front + 1 → IsFaultyFor text fault →
     MatchOption (fault_number fault) (stop ≡ L.NoMemory) (λ _. stop ≡ L.Faulty number fault) → StopsLoading (front ++ text ∷ rest) stop
 fault_stops front rest text number fault stop loadable place (inl none) is =

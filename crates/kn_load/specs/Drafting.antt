@@ -7,17 +7,17 @@ use Rattle.kn_load.specs.declared.drafts.Draft.{Draft}
 use Rattle.kn_load.specs.declared.drafts.Draft.TheVariants.{Unread, Read, Faulty}
 use Rattle.kn_load.specs.declared.readings.Readings.{Readings}
 
--- the text has this fault, or there was no memory to read it
+-- the text has this fault, or memory ran out
 abbrev pub IsFaultyFor : List ℕ → ReadFault → Type 0
 IsFaultyFor text fault = (fault ≡ NoMemory) ⊎ (fault_of text ≡ Some fault)
 
--- the draft has the text with its reading, or the text's first fault, or there was no memory
+-- the draft has the text with its reading, or the text's first fault, or memory ran out
 abbrev pub IsDraftOf : List ℕ → Draft → Type 0
 IsDraftOf text Unread = ⊥
 IsDraftOf text (Read ready) = (ready ≡ text) × IsSome (assertion_of text)
 IsDraftOf text (Faulty fault) = IsFaultyFor text fault
 
--- the first of these texts has this fault, or there was no memory to read it
+-- the first of these texts has this fault, or memory ran out
 abbrev pub IsFirstFaulty : List (List ℕ) → ReadFault → Type 0
 IsFirstFaulty [] fault = ⊥
 IsFirstFaulty (text ∷ rest) fault = IsFaultyFor text fault

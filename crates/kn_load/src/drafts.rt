@@ -28,7 +28,7 @@ pub(crate) enum Draft {
     Unread,
     /// The text with its reading.
     Read(Ready),
-    /// The first fault of the text, or want of memory.
+    /// The first fault of the text, or out of memory.
     Faulty(ReadFault),
 }
 

@@ -141,7 +141,7 @@ fn add_readings<R: Wait>(
     }
 }
 
-/// What stops loading at an assertion that has this fault. Want of memory has no number.
+/// What stops loading at an assertion that has this fault. `NoMemory` has no number.
 fn stop_by_fault(assertion: u32, fault: ReadFault) -> LoadFault
     ensures { MatchOption (fault_number fault) (result ≡ L.NoMemory) (λ _. result ≡ L.Faulty assertion fault) }
 {
@@ -152,7 +152,7 @@ fn stop_by_fault(assertion: u32, fault: ReadFault) -> LoadFault
 }
 
 /// What stops loading where this many texts were loaded before, and the one at this place behind them is refused for
-/// this. Where memory lacks, the place tells nothing.
+/// this. When out of memory, the place tells nothing.
 fn stop_by_refusal(before: u32, place: u32, refusal: StoreFault) -> LoadFault
     requires room { refusal ≢ S.NoMemory → before + place + 1 < 2 ^ 32 }
     ensures { result ≡ refused_at (before + place + 1) refusal }

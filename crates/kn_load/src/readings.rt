@@ -14,7 +14,7 @@ use std::alloc::Global;
 pub(crate) struct Readings {
     /// The texts before it, with their readings.
     pub readies: Vec<Ready>,
-    /// The fault of that text, or want of memory; none where all have a reading.
+    /// The fault of that text, or `NoMemory`; none where all have a reading.
     pub fault: Option<ReadFault>,
 }
 

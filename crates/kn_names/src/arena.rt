@@ -51,7 +51,7 @@ impl Arena {
         part(self.bytes.as_slice(), start, end)
     }
 
-    /// Adds a name behind the others. They have fewer than 2^32 bytes together: one more finds no memory.
+    /// Adds a name behind the others. They have fewer than 2^32 bytes together: one more is `NoMemory`.
     pub(crate) fn push(&mut self, name: &[u8]) -> Result<(), NoMemory>
         ensures ok { OnOk result (self.new ≡ self.old ++ name.now ∷ []) }
         ensures err { OnErr result (self.new ≡ self.old) }

@@ -78,7 +78,7 @@ impl Names {
 
     /// Adds a name behind the others.
     ///
-    /// `NoMemory` comes for want of memory, and where all names together would have 2^32 bytes.
+    /// `NoMemory` comes when memory runs out, and where all names together would have 2^32 bytes.
     pub fn push(&mut self, name: &[u8]) -> Result<(), NoMemory>
         requires few { length self.old < 2 ^ 24 }
         requires absent { (number : ℕ) → slice_get self.old number ≡ Some name.now → ⊥ }

@@ -104,7 +104,7 @@ abbrev pub next_answer : FilesInMemory → List ℕ → Result (List ℕ) FileFa
 next_answer files name =
     if is_failing files.failing (raised files.calls) then Err Failed else answer_of (content_of files.entries name)
 
--- an answer is the one that is due, or there was no memory for it
+-- an answer is the one that is due, or memory ran out
 abbrev pub IsAnswer : Result (List ℕ) FileFault → Result (List ℕ) FileFault → Type 0
 IsAnswer due (Ok content) = due ≡ Ok content
 IsAnswer due (Err Failed) = due ≡ Err Failed

@@ -39,7 +39,7 @@ impl Model for MemFiles {
 
 impl MemFiles {
     /// These files, the first one of each name. The reads with the numbers in `failing`, counted from 1,
-    /// fail; a read that finds no memory isn't counted.
+    /// fail; a read that runs out of memory isn't counted.
     pub fn of(alloc: Global, entries: List<FileEntry>, failing: List<u32>) -> MemFiles
         ensures { result ≡ record { entries = entries; asked = []; calls = 0; faults = 0; failing = failing } }
     {

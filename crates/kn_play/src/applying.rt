@@ -63,7 +63,7 @@ fn start(book: &Book, sessions: &mut Sessions) -> Result<(), NoMemory>
     }
 }
 
-/// Hands on want of memory, and passes over a refusal.
+/// Hands on `NoMemory`, and passes over a refusal.
 fn pass_refusal(fault: SessionFault) -> Result<(), NoMemory>
     ensures ok { OnOk result (fault ≢ F.NoMemory) }
     ensures err { OnErr result (fault ≡ F.NoMemory) }

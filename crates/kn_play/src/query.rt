@@ -16,7 +16,7 @@ use std::alloc::Global;
 ///
 /// It is the last QUERY, up to BYE, a refused block or the last whole request, on an open session and for well-formed
 /// compliance values (keynoted's own). A refused request changes nothing, as on the daemon. A session starts with the
-/// newest version, and may pin another one that the book retains. `NoMemory` comes only for want of memory.
+/// newest version, and may pin another one that the book retains. `NoMemory` comes only when memory runs out.
 pub fn find_query(alloc: Global, book: &Book, script: &[u8]) -> Result<Option<Meant>, NoMemory>
     requires short { length script.now ≤ FILE_BYTES }
     ensures some { IfOk result (λ found. IfSome found (IsMeantQuery book.now script.now)) }

@@ -17,12 +17,12 @@ pub enum PrincipalFault {
     Empty,
     /// Fault 2: the text has `len` bytes, more than a principal may have.
     TooLong { len: usize },
-    /// There was no memory for the normal form.
+    /// Out of memory for the normal form.
     NoMemory,
 }
 
 impl PrincipalFault {
-    /// The number of the fault. Want of memory has none.
+    /// The number of the fault. `NoMemory` has none.
     pub fn number(&self) -> Option<u8>
         ensures { result ≡ principal_fault_number self.now }
     {

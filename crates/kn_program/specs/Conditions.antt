@@ -52,7 +52,7 @@ unfoldable pub program_of : List Seen → Result (Option Program) ProgramFault
 program_of [] = Ok None
 program_of (token ∷ tokens) = judged_read (read_program (words_of (token ∷ tokens)))
 
--- this is given, or there was no memory for it
+-- this is given, or memory ran out
 abbrev pub Gives : {X : Type 0} → Result X ProgramFault → Result X ProgramFault → Type 0
 Gives (Ok x) read = read ≡ Ok x
 Gives (Err NoMemory) read = Unit {0}

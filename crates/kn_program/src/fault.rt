@@ -8,7 +8,7 @@ pub enum ProgramFault {
     Syntax,
     /// Fault 17: a test isn't a truth, or a value no text.
     Kind,
-    /// There was no memory for the program.
+    /// Out of memory for the program.
     NoMemory,
 }
 

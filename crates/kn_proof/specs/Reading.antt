@@ -121,11 +121,11 @@ pub record HasHead (text : List ℕ) (value : ℕ) (name : List ℕ) (version : 
   pub read : IsReplyText text reply
   pub head : IsHeadOf reply value name version
 
--- why a text isn't read: its first fault, or for the text of a reply want of memory
+-- why a text isn't read: its first fault, or, for the text of a reply, out of memory
 abbrev pub IsUnread : List ℕ → ProofFault → Type 0
 IsUnread text fault = IsFirstFault text fault ⊎ ((fault ≡ NoMemory) × ((reply : ReadReply) × IsReplyText text reply))
 
--- the number of a fault; want of memory has none
+-- the number of a fault; `NoMemory` has none
 abbrev pub fault_number : ProofFault → Option ℕ
 fault_number (Line n) = Some 1
 fault_number (Number n) = Some 2

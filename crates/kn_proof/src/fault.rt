@@ -12,12 +12,12 @@ pub enum ProofFault {
     Number { n: usize },
     /// Fault 3: there are `n` ROW lines, which isn't the number that line 1 tells.
     Count { n: usize },
-    /// There was no memory for the parts of the reply.
+    /// Out of memory for the parts of the reply.
     NoMemory,
 }
 
 impl ProofFault {
-    /// The number of the fault, from 1 to 3. Want of memory has none.
+    /// The number of the fault, from 1 to 3. `NoMemory` has none.
     pub fn number(&self) -> Option<u8>
         ensures { result ≡ fault_number self.now }
     {
@@ -29,7 +29,7 @@ impl ProofFault {
         }
     }
 
-    /// The `n` of the fault, a line or for `Count` the number of ROW lines. Want of memory has none.
+    /// The `n` of the fault, a line or for `Count` the number of ROW lines. `NoMemory` has none.
     pub fn line(&self) -> Option<usize>
         ensures { result ≡ fault_line self.now }
     {

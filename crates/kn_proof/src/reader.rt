@@ -26,7 +26,7 @@ use std::alloc::Global;
 /// else is escaped.
 ///
 /// Lines are tried in order, and in a line its form comes before its numbers. The number of rows is tried at the line
-/// `END`, before what stands behind it. All this takes no memory: for want of it only a reply isn't read.
+/// `END`, before what stands behind it. All this takes no memory: only reading a reply may run out of it.
 pub fn read_reply(alloc: Global, text: &[u8]) -> Result<ReadReply, ProofFault>
     ensures ok { IfOk result (λ reply. IsReplyText text.now reply) }
     ensures err { IfErr result (λ fault. IsUnread text.now fault) }

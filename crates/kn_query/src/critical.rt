@@ -17,7 +17,7 @@ use std::alloc::Global;
 /// assertions are critical (keynoted's own): the credentials of the version that it is pinned to, in order of id, and
 /// then its private assertions.
 ///
-/// More nodes than 16,384 are refused. `NoMemory` comes only for want of memory.
+/// More nodes than 16,384 are refused. `NoMemory` comes only when memory runs out.
 pub fn find_critical(
     alloc: Global,
     view: &View<'_>,

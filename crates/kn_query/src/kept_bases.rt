@@ -44,7 +44,7 @@ impl KeptBases {
     /// Takes the base of a version, or the one of the last version before it, which follows it; or else one is built.
     /// What is left is kept as the other base, and none as the one that was asked last.
     ///
-    /// `NoMemory` comes only for want of memory.
+    /// `NoMemory` comes only when memory runs out.
     pub(crate) fn take_or_build(
         &mut self,
         alloc: Global,
@@ -66,7 +66,7 @@ impl KeptBases {
     /// The answer to a query over the credentials of a version from the base that was asked last, which stays in its
     /// place; None where that is of no base or of another version.
     ///
-    /// `NoMemory` comes only for want of memory. The base goes where it became too large to be kept.
+    /// `NoMemory` comes only when memory runs out. The base goes where it became too large to be kept.
     pub(crate) fn answer_recent(
         &mut self,
         alloc: Global,

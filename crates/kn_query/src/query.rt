@@ -23,7 +23,7 @@ use std::alloc::Global;
 /// The system of what a session asks where these are the compliance values: a row for each credential of the version
 /// that it is pinned to, in order of id, and then one for each of its private assertions.
 ///
-/// `NoMemory` comes only for want of memory.
+/// `NoMemory` comes only when memory runs out.
 pub fn build_query(alloc: Global, view: &View<'_>, values: &Values) -> Result<Built, NoMemory>
     requires privates { ArePrivates (session_of_view view.now).privates }
     requires readings { AreReadPrivates view.now.private.now }
@@ -41,7 +41,7 @@ pub fn build_query(alloc: Global, view: &View<'_>, values: &Values) -> Result<Bu
 ///
 /// What is kept from one query to the next are bases of shared credentials. One of the session's version is asked, one
 /// of an earlier version of the same history follows it, and else one is built. Private assertions are in it for their
-/// query alone. `NoMemory` comes only for want of memory.
+/// query alone. `NoMemory` comes only when memory runs out.
 pub fn answer_query(
     alloc: Global,
     view: &View<'_>,

@@ -57,7 +57,7 @@ impl Drop for SharedBase {
 }
 
 impl SharedBase {
-    /// The base of the credentials of a version. `NoMemory` comes only for want of memory.
+    /// The base of the credentials of a version. `NoMemory` comes only when memory runs out.
     pub(crate) fn of(alloc: Global, version: &Version) -> Result<SharedBase, NoMemory>
         ensures { IfOk result (IsOfVersion version.now) }
     {
@@ -90,7 +90,7 @@ impl SharedBase {
     /// there, and the credentials that they added stand behind the others. It is gone where most of its rows were
     /// removed, or where it became too large to be kept.
     ///
-    /// `NoMemory` comes only for want of memory, and the base is gone then.
+    /// `NoMemory` comes only when memory runs out, and the base is gone then.
     pub(crate) fn follow(
         self,
         alloc: Global,
@@ -150,8 +150,8 @@ impl SharedBase {
         })
     }
 
-    /// The answer to a query over the credentials of the version of which the base is. `NoMemory` comes only for want
-    /// of memory, and the base stays of them.
+    /// The answer to a query over the credentials of the version of which the base is. `NoMemory` comes only when
+    /// memory runs out, and the base stays of them.
     pub(crate) fn answer(&mut self, alloc: Global, query: &Query<'_>) -> Result<Answer, NoMemory>
         requires rows { HasRows self.old }
         requires few_names { length self.old.base.names ≤ 1 + LIVE_BYTES }
@@ -171,7 +171,7 @@ impl SharedBase {
     /// The answer to a query over the credentials of the version of which the base is, and behind them these private
     /// assertions, of which nothing stays in the base.
     ///
-    /// `NoMemory` comes only for want of memory, and the base is gone then.
+    /// `NoMemory` comes only when memory runs out, and the base is gone then.
     pub(crate) fn answer_with(
         self,
         alloc: Global,

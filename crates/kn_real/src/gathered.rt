@@ -18,7 +18,7 @@ pub(crate) struct Gathered {
 }
 
 impl Gathered {
-    /// No bytes. Where there is no memory for the room nothing is gathered: each piece is written at once.
+    /// No bytes. When out of memory for the room, nothing is gathered: each piece is written at once.
     pub(crate) fn new(alloc: Global) -> Gathered
         ensures { result.bytes.items ≡ [] }
     {

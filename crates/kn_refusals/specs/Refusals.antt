@@ -1,4 +1,4 @@
--- Refusals that tell the faults of a query's names and of a batch (keynoted's own). Want of memory is none.
+-- Refusals that tell the faults of a query's names and of a batch (keynoted's own). None when out of memory.
 use Rattle.std.specs.Prelude.{Option, Some, None}
 use Rattle.kn_env.specs.declared.values.ValuesFault.{ValuesFault}
 use Rattle.kn_env.specs.declared.values.ValuesFault.TheVariants as V

@@ -25,7 +25,7 @@ pub fn refusal_of_fault(fault: WireFault) -> Refusal
     }
 }
 
-/// The refusal of a text with this fault; None for want of memory.
+/// The refusal of a text with this fault; None when out of memory.
 pub fn refusal_of_text(fault: &ReadFault) -> Option<Refusal>
     requires { fault_place fault.now < 2 ^ 32 }
     ensures { result ≡ refusal_of_text fault.now }
@@ -37,7 +37,7 @@ pub fn refusal_of_text(fault: &ReadFault) -> Option<Refusal>
     }
 }
 
-/// The refusal of names that are no compliance values; None for want of memory.
+/// The refusal of names that are no compliance values; None when out of memory.
 pub fn refusal_of_values(fault: ValuesFault) -> Option<Refusal>
     ensures { result ≡ refusal_of_values fault }
 {
@@ -49,7 +49,7 @@ pub fn refusal_of_values(fault: ValuesFault) -> Option<Refusal>
     }
 }
 
-/// The refusal of a call of a session; None for want of memory.
+/// The refusal of a call of a session; None when out of memory.
 pub fn refusal_of_call(fault: &CallFault) -> Option<Refusal>
     requires { place_of_fault fault.now < 2 ^ 32 }
     ensures { result ≡ refusal_of_call fault.now }
@@ -60,7 +60,7 @@ pub fn refusal_of_call(fault: &CallFault) -> Option<Refusal>
     }
 }
 
-/// The refusal that a fault of the sessions is; None for want of memory.
+/// The refusal that a fault of the sessions is; None when out of memory.
 pub fn refusal_of_session(fault: SessionFault) -> Option<Refusal>
     ensures { result ≡ refusal_of_session fault }
 {

@@ -1,5 +1,5 @@
-//! How the faults of the parts are told: each is the refusal that the daemon's definitions give it. A fault that is
-//! want of memory has none.
+//! How the faults of the parts are told: each is the refusal that the daemon's definitions give it. A fault that
+//! means out of memory has none.
 #![tactic(auto)]
 
 mod calls;

@@ -10,7 +10,7 @@ use kn_history::{BatchFault, StoreFault};
 use kn_reply::{ItemRefusal, LimitWord, Refusal};
 use kn_wire::BatchText;
 
-/// The refusal of an item of a batch whose text has this fault; None for want of memory.
+/// The refusal of an item of a batch whose text has this fault; None when out of memory.
 pub fn item_refusal_of_text(fault: &ReadFault) -> Option<ItemRefusal>
     requires { fault_place fault.now < 2 ^ 32 }
     ensures { result ≡ refusal_at_text I.Read fault.now }
@@ -22,7 +22,7 @@ pub fn item_refusal_of_text(fault: &ReadFault) -> Option<ItemRefusal>
     }
 }
 
-/// The refusal of an item of a batch by the shared credentials; None for want of memory.
+/// The refusal of an item of a batch by the shared credentials; None when out of memory.
 fn item_refusal_of_store(fault: StoreFault) -> Option<ItemRefusal>
     ensures { result ≡ refusal_at_store I.Unknown I.Limit fault }
 {
@@ -42,7 +42,7 @@ fn item_limit(word: LimitWord, count: u32) -> ItemRefusal
     ItemRefusal::Limit { word, count }
 }
 
-/// The refusal of a request for that for which an item of a batch is refused so; None for want of memory.
+/// The refusal of a request for that for which an item of a batch is refused so; None when out of memory.
 pub fn refusal_as_request(refusal: Option<ItemRefusal>) -> Option<Refusal>
     ensures { result ≡ option_map request_refusal refusal }
 {
@@ -55,14 +55,14 @@ pub fn refusal_as_request(refusal: Option<ItemRefusal>) -> Option<Refusal>
     }
 }
 
-/// The refusal of a change of the shared credentials; None for want of memory.
+/// The refusal of a change of the shared credentials; None when out of memory.
 pub fn refusal_of_store(fault: StoreFault) -> Option<Refusal>
     ensures { result ≡ refusal_of_store fault }
 {
     refusal_as_request(item_refusal_of_store(fault))
 }
 
-/// The refusal of a batch by the item of this number; None for want of memory.
+/// The refusal of a batch by the item of this number; None when out of memory.
 pub fn refusal_of_item(item: u32, refusal: Option<ItemRefusal>) -> Option<Refusal>
     ensures { result ≡ option_map (λ inner. Refusal.Item item inner) refusal }
 {
@@ -72,7 +72,7 @@ pub fn refusal_of_item(item: u32, refusal: Option<ItemRefusal>) -> Option<Refusa
     }
 }
 
-/// The refusal of a block that isn't made of items; None for want of memory.
+/// The refusal of a block that isn't made of items; None when out of memory.
 pub fn refusal_of_block(fault: BatchText) -> Option<Refusal>
     ensures { result ≡ refusal_of_batch_text fault }
 {
@@ -82,7 +82,7 @@ pub fn refusal_of_block(fault: BatchText) -> Option<Refusal>
     }
 }
 
-/// The refusal of a batch by the shared credentials; None for want of memory.
+/// The refusal of a batch by the shared credentials; None when out of memory.
 pub fn refusal_of_batch(fault: BatchFault) -> Option<Refusal>
     ensures { result ≡ refusal_of_batch_fault fault }
 {

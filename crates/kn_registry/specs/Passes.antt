@@ -83,7 +83,7 @@ pub record IsRefused {F : Type 0} (refusal : Option F) (fault : F) (old new : Pa
   pub refusal_is : refusal ≡ Some fault
   pub looks : Looks old new
 
--- this holds of the store's fault; without memory nothing was tried
+-- this holds of the store's fault; when out of memory nothing was tried
 abbrev pub Refuses : (StoreFault → Type 0) → PassSeen → PassSeen → StoreFault → Type 0
 Refuses IsFor old new NoMemory = Stays old new
 Refuses IsFor old new (Unknown id) = IsFor (Unknown id)
@@ -101,7 +101,7 @@ pub record IsOneRefused (old new : PassSeen) (texts : List (List ℕ)) (place : 
   pub first : IsFirstRefused new.seen old.number texts place fault
   pub looks : Looks old new
 
--- why none of the texts was added, and the place of the refused one; without memory the place tells nothing
+-- why none of the texts was added, and the place of the refused one; when out of memory the place tells nothing
 abbrev pub RefusesOne : PassSeen → PassSeen → List (List ℕ) → ℕ → StoreFault → Type 0
 RefusesOne old new texts place fault = Refuses (λ f. IsOneRefused old new texts place f) old new fault
 

@@ -16,6 +16,6 @@ pub struct Batched {
 pub enum PinFault {
     /// The version isn't retained: it is above the newest, whose number is told, or too far below it.
     Missing { newest: u32 },
-    /// There was no memory.
+    /// Out of memory.
     NoMemory,
 }

@@ -149,8 +149,8 @@ impl Registry {
     /// Adds texts, each by an update of its own, at one turn; or none of them where one is refused: then its place is
     /// told, counted from 0.
     ///
-    /// A refusal is that behind the texts in front of the refused one, so a limit's number counts them too. Beside
-    /// want of memory the place tells nothing.
+    /// A refusal is that behind the texts in front of the refused one, so a limit's number counts them too. When
+    /// out of memory, the place tells nothing.
     pub fn add_all<R: Wait>(
         &self,
         rt: &R,

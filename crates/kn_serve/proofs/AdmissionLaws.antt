@@ -24,7 +24,7 @@ use Rattle.kn_daemon.specs.Daemon.{Grounds, item_refusal, refusal_at_text, refus
 use Rattle.kn_daemon.proofs.Reading.{fault-refuses_item, reading-admits_item}
 use Rattle.kn_serve.specs.Admission.{Admits, RefusesItem, AdmitsAll, RefusesOneItem}
 
--- the text has a fault, or there was no memory to read it
+-- the text has a fault, or memory ran out
 pub text_unread : (verdict : List ℕ → Assertion → ℕ) (text : List ℕ) (fault : ReadFault)
     (refusal : Option ItemRefusal) → (fault ≡ F.NoMemory) ⊎ (fault_of text ≡ Some fault) →
     refusal ≡ refusal_at_text I.Read fault → RefusesItem verdict (AddText text) refusal

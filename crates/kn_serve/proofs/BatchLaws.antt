@@ -35,7 +35,7 @@ use Rattle.kn_serve.proofs.HandlingLaws.{told_refused, told_memory}
 abbrev batches : List ℕ → Shape
 batches block = Updates (ApplyBlock block)
 
--- the block isn't made of items, or there was no memory for them
+-- the block isn't made of items, or memory ran out
 pub batch_unread : (g : Grounds) (whole : Bool) (l l' : LinkSeen) (now : State) (block : List ℕ) (fault : BatchText)
     (told : Option Refusal) → now.is_admin ≡ true → HasFault block fault → told ≡ refusal_of_batch_text fault →
     Prints whole (reply_text (refused_reply told)) l l' → Tells g (batches block) whole now now l l'
@@ -64,7 +64,7 @@ module _ (g : Grounds) (now : State) (block : List ℕ) (items : List BatchItem)
   pub batch_admitted : AdmitsAll verdict items → own_refusal g now (batches block) ≡ None
   batch_admitted admitted = own_of_items None (admitted g grounds)
 
-  -- an item isn't admitted, or there was no memory
+  -- an item isn't admitted, or memory ran out
   pub batch_unadmitted : (whole : Bool) (l l' : LinkSeen) (refusal : Option Refusal) →
       RefusesOneItem verdict items refusal → Prints whole (reply_text (refused_reply refusal)) l l' →
       Tells g (batches block) whole now now l l'
@@ -116,7 +116,7 @@ module _ (g : Grounds) (whole : Bool) (v w : PassSeen) (l l' : LinkSeen) (now : 
                 (ap (λ (n : ℕ). Batched n (additions (numbered_from n items)) (length w.seen)) b.first);
           }
 
-  -- the history refuses an item, or there was no memory
+  -- the history refuses an item, or memory ran out
   pub batch_unapplied : (fault : BatchFault) (told : Option Refusal) → RefusesItems v w items fault →
       told ≡ refusal_of_batch_fault fault → Prints whole (reply_text (refused_reply told)) l l' →
       Handles g (batches block) whole before after

@@ -60,7 +60,7 @@ module _ (g : Grounds) (whole : Bool) (v w : PassSeen) (l l' : LinkSeen) (now : 
         next = refl;
       }) refl (unrefused (own_refusal g now (Updates (DropId id))) own) prints
 
-  -- the store refused what was asked of it, or there was no memory
+  -- the store refused what was asked of it, or memory ran out
   store_refused : (change : Updating) (asked : Option StoreFault) (fault : StoreFault) (refusal : Option Refusal) →
       placed_refusal w.seen (Updates change) ≡ option_and_then refusal_of_store asked →
       Refuses (λ f. IsRefused asked f v w) v w fault → own_refusal g now (Updates change) ≡ None →

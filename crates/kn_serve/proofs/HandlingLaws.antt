@@ -94,12 +94,12 @@ module _ (g : Grounds) (shape : Shape) (whole : Bool) (m m' : Moment) where
       ap (λ (o : Option Refusal). option_or o (placed_refusal m'.pass.seen shape)) own ∙ placed in
       looked_handled (No refusal) looks own refl (first, same) prints
 
-  -- there was no memory once the turn was had
+  -- memory ran out once the turn was had
   pub unserved_handled : m'.state ≡ m.state → Looks m.pass m'.pass → own_refusal g m.state shape ≡ None →
       may_lack_memory shape ≡ true → Prints whole (reply_text NoMemory) m.link m'.link → Handles g shape whole m m'
   unserved_handled same looks own may prints = looked_handled NoMemory looks own refl (may, same) prints
 
-  -- there was no memory, and the turn was had once at most
+  -- memory ran out, and the turn was had once at most
   pub lacking_handled : m'.state ≡ m.state → Stays m.pass m'.pass → own_refusal g m.state shape ≡ None →
       may_lack_memory shape ≡ true → Prints whole (reply_text NoMemory) m.link m'.link → Handles g shape whole m m'
   lacking_handled same stays own may prints = stayed_handled NoMemory stays own refl refl (may, same) prints
@@ -167,7 +167,7 @@ module _ (g : Grounds) (shape : Shape) (whole : Bool) (old : State) (l l' : Link
     prints = prints;
   }
 
-  -- there was no memory
+  -- out of memory
   pub told_memory : may_lack_memory shape ≡ true → Prints whole (reply_text NoMemory) l l' →
       Tells g shape whole old old l l'
   told_memory may prints = record {
@@ -178,7 +178,7 @@ module _ (g : Grounds) (shape : Shape) (whole : Bool) (old : State) (l l' : Link
     prints = prints;
   }
 
-  -- the state refuses the request so, or there was no memory
+  -- the state refuses the request so, or memory ran out
   pub told_either : (refusal : Option Refusal) → may_lack_memory shape ≡ true →
       ((due : Refusal) → refusal ≡ Some due → own_refusal g old shape ≡ Some due) →
       Prints whole (reply_text (refused_reply refusal)) l l' → Tells g shape whole old old l l'

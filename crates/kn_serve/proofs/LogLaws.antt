@@ -27,7 +27,7 @@ module _ (g : Grounds) (whole : Bool) (v w : PassSeen) (l l' : LinkSeen) (now : 
   shown : own_refusal g now (logs n) ≡ None
   shown = rw admin refl
 
-  -- there was no memory for the version
+  -- out of memory for the version
   pub log_memory : Stays v w → Prints whole (reply_text NoMemory) l l' →
       Handles g (logs n) whole (in_state now v l) (in_state now w l')
   log_memory stays prints =

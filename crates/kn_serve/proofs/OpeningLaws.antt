@@ -50,7 +50,7 @@ module _ (g : Grounds) (whole : Bool) (v w : PassSeen) (l l' : LinkSeen) (now : 
   abbrev Keeps : Shape → Type 0
   Keeps shape = Handles g shape whole (in_state now v l) (in_state now w l')
 
-  -- there was no memory for the version
+  -- out of memory for the version
   pub open_unpinned : (count : ℕ) → count ≡ length now.sessions → count < SESSIONS → Stays v w →
       Prints whole (reply_text NoMemory) l l' → Keeps opens
   open_unpinned count same few stays prints =
@@ -63,7 +63,7 @@ module _ (g : Grounds) (whole : Bool) (v w : PassSeen) (l l' : LinkSeen) (now : 
       lacking_handled g (Looks (ForOpen s)) whole (in_state now v l) (in_state now w l') refl stays (rw found refl)
       refl prints
 
-  -- the version isn't retained, or there was no memory for it
+  -- the version isn't retained, or memory ran out for it
   pub pin_at_refused : (s version : ℕ) (session : Session) (fault : PinFault) (told : Option Refusal) →
       session_of now s ≡ Some session → RefusesVersion v w version fault → told ≡ refusal_of_version fault →
       Prints whole (reply_text (refused_reply told)) l l' → Keeps (Looks (ForRetained s version))
@@ -94,7 +94,7 @@ module _ (g : Grounds) (whole : Bool) (v w : PassSeen) (l l' : LinkSeen) (a b : 
   abbrev Changes : Shape → Type 0
   Changes shape = Handles g shape whole (in_state old v l) (in_state new w l')
 
-  -- there was no memory for the session
+  -- out of memory for the session
   pub open_unstarted : (count : ℕ) → count ≡ length a.sessions → count < SESSIONS → PassLooks v w → b ≡ a →
       Prints whole (reply_text NoMemory) l l' → Changes opens
   open_unstarted count size few looks same prints =

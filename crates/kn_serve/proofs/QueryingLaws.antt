@@ -136,7 +136,7 @@ module _ (g : Grounds) (whole : Bool) (old : State) (s : ℕ) (names : List ℕ)
         answer = record { level = level; ids = ids; told = refl; least = least; critical = critical };
       }) (λ past. refl) (λ caller. refl) refl prints
 
-  -- it has too many nodes, or there was no memory
+  -- it has too many nodes, or memory ran out
   pub critical_refused : (fault : CriticalFault) (told : Option Refusal) →
       (fault ≡ C.NoMemory) ⊎ (critical_fault nodes ≡ Some fault) → told ≡ refusal_of_critical fault →
       Prints whole (reply_text (refused_reply told)) l l' → Tells g (Asks WithCritical s names) whole old old l l'

@@ -39,7 +39,7 @@ serving_begun law g v l now h first empty =
     subst (λ (x : State). Serving g v l (in_state x v l) h 0) (sym first)
     (subst (λ (x : Held). Serving g v l (in_state first_state v l) x 0) (sym empty) begun)
 
--- a connection for which there was no memory
+-- a connection for which memory ran out
 pub serves_nothing : EndsByMemory → (g : Grounds) (v : PassSeen) (l : LinkSeen) → is_valid_history v.seen ≡ true →
     Serves g v v l l E.Memory
 serves_nothing law g v l valid = record {

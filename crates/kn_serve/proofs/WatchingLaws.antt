@@ -60,7 +60,7 @@ module _ (a b : OpenSessions) (s : ℕ) (session : Session) (values : List (List
       subst (λ (o : Option Session). IsSomeAnd o (λ x. x.standing ≡ Some query)) keeps found in
       cc
 
--- there was no memory to keep the query
+-- memory ran out before the query was kept
 pub watch_unkept : (g : Grounds) (whole : Bool) (a b : OpenSessions) (is_admin : Bool) (s : ℕ) (names : List ℕ)
     (l l' : LinkSeen) → b ≡ a → Prints whole (reply_text NoMemory) l l' →
     Tells g (Asks ToKeep s names) whole (state_with a is_admin) (state_with b is_admin) l l'
@@ -131,7 +131,7 @@ unrefused_by s None query stands = absurd stands
 unrefused_by s (Some session) query stands = rw stands refl
 
 module _ (g : Grounds) (whole : Bool) (v w : PassSeen) (l l' : LinkSeen) (s : ℕ) (query : StandingQuery) where
-  -- there was no memory for the version
+  -- out of memory for the version
   pub news_unpinned : (now : State) → IsSomeAnd (session_of now s) (λ x. x.standing ≡ Some query) → Stays v w →
       Prints whole (reply_text NoMemory) l l' →
       Handles g (asks_anew s) whole (in_state now v l) (in_state now w l')
@@ -139,7 +139,7 @@ module _ (g : Grounds) (whole : Bool) (v w : PassSeen) (l l' : LinkSeen) (s : �
       lacking_handled g (asks_anew s) whole (in_state now v l) (in_state now w l') refl stays
       (unrefused_by s (session_of now s) query stands) refl prints
 
-  -- there was no memory for the answer
+  -- out of memory for the answer
   pub news_unanswered : (now : State) → IsSomeAnd (session_of now s) (λ x. x.standing ≡ Some query) →
       PassLooks v w → Prints whole (reply_text NoMemory) l l' →
       Handles g (asks_anew s) whole (in_state now v l) (in_state now w l')

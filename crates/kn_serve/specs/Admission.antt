@@ -11,7 +11,7 @@ use Rattle.kn_daemon.specs.Daemon.{Grounds, item_refusal, refusal_from}
 abbrev pub Admits : (List ℕ → Assertion → ℕ) → BatchItem → Type 0
 Admits verdict item = (g : Grounds) → g.verdict ≡ verdict → item_refusal g item ≡ None
 
--- the item is refused so, or without a refusal there was no memory
+-- the item is refused so, or without a refusal memory ran out
 abbrev pub RefusesItem : (List ℕ → Assertion → ℕ) → BatchItem → Option ItemRefusal → Type 0
 RefusesItem verdict item refusal =
     (refusal ≡ None) ⊎ ((g : Grounds) → g.verdict ≡ verdict → item_refusal g item ≡ refusal)
@@ -20,7 +20,7 @@ RefusesItem verdict item refusal =
 abbrev pub AdmitsAll : (List ℕ → Assertion → ℕ) → List BatchItem → Type 0
 AdmitsAll verdict items = (g : Grounds) → g.verdict ≡ verdict → refusal_from g 1 items ≡ None
 
--- one of them isn't, and the first such one is refused so; or without a refusal there was no memory
+-- one of them isn't, and the first such one is refused so; or without a refusal memory ran out
 abbrev pub RefusesOneItem : (List ℕ → Assertion → ℕ) → List BatchItem → Option Refusal → Type 0
 RefusesOneItem verdict items refusal =
     (refusal ≡ None) ⊎ ((g : Grounds) → g.verdict ≡ verdict → refusal_from g 1 items ≡ refusal)

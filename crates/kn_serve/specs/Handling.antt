@@ -78,22 +78,22 @@ MakesStep g m m' h h' SaidBye = TakesNext g m m' h h' Bye true
 MakesStep g m m' h h' (Blocked n) = TakesNext g m m' h h' (Faulty (F.Block n)) true
 MakesStep g m m' h h' WriteFailed = (request : Request) × TakesNext g m m' h h' request false
 
--- each question of the session with these names is refused so, or without a refusal there was no memory
+-- each question of the session with these names is refused so, or without a refusal memory ran out
 abbrev pub RefusesQuestions : State → ℕ → List ℕ → Option Refusal → Type 0
 RefusesQuestions state s names refusal =
     (refusal ≡ None) ⊎ ((g : Grounds) (question : Question) → own_refusal g state (Asks question s names) ≡ refusal)
 
--- the refusal of a query that is too large for a search of its critical assertions; want of memory is none
+-- the refusal of a query that is too large for a search of its critical assertions; none when out of memory
 abbrev pub refusal_of_critical : CriticalFault → Option Refusal
 refusal_of_critical (C.Large nodes) = Some (R.Limit W.Nodes nodes)
 refusal_of_critical C.NoMemory = None
 
--- the refusal of a version that isn't retained; want of memory is none
+-- the refusal of a version that isn't retained; none when out of memory
 abbrev pub refusal_of_version : PinFault → Option Refusal
 refusal_of_version (P.Missing newest) = Some (R.Retained newest)
 refusal_of_version P.NoMemory = None
 
--- the reply that tells a refusal; where there is none there was no memory
+-- the reply that tells a refusal; where there is none, memory ran out
 abbrev pub refused_reply : Option Refusal → Reply
 refused_reply None = NoMemory
 refused_reply (Some refusal) = No refusal

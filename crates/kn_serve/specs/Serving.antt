@@ -49,16 +49,16 @@ pub record Serving (g : Grounds) (v : PassSeen) (l : LinkSeen) (m : Moment) (hel
   pub underway : IsUnderway g taken written m.pass.seen (length v.seen) v.number stops m.state held answered
   pub calm : m.link.faults ≡ l.faults
 
--- A fault has a cause, and at every other end no call of the link has failed; without memory nothing was read or
--- written.
+-- A fault has a cause, and at every other end no call of the link has failed; when out of memory nothing was
+-- read or written.
 abbrev pub HasCause : Ended → LinkSeen → LinkSeen → Type 0
 HasCause E.Memory l l' = l' ≡ l
 HasCause E.ReadFault l l' = Rose l.faults l'.faults
 HasCause E.WriteFault l l' = Rose l.faults l'.faults
 HasCause ended l l' = l'.faults ≡ l.faults
 
--- The call has served the connection: what it took and wrote, what the pass has seen and where it had the turn. Without
--- memory the pass is as before.
+-- The call has served the connection: what it took and wrote, what the pass has seen and where it had the turn. When
+-- out of memory the pass is as before.
 pub record Serves (g : Grounds) (v w : PassSeen) (l l' : LinkSeen) (ended : Ended) : Type 0 where
   pub taken : List ℕ
   pub written : List ℕ

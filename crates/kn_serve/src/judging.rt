@@ -15,7 +15,7 @@ use kn_reply::{ItemRefusal, Refusal};
 use kn_wire::BatchItem;
 use std::alloc::Global;
 
-/// Reads a text that the authenticator admits, and makes it ready to be added. The refusal is None for want of memory.
+/// Reads a text that the authenticator admits, and makes it ready to be added. The refusal is None when out of memory.
 pub(crate) fn admit_text<A: Authenticator>(
     alloc: Global,
     authenticator: &A,
@@ -44,7 +44,7 @@ pub(crate) fn admit_text<A: Authenticator>(
 }
 
 /// What the store is asked for by items whose texts are read and admitted. The refusal is that of the first item that
-/// isn't admitted, and None for want of memory.
+/// isn't admitted, and None when out of memory.
 pub(crate) fn admit_items<A: Authenticator>(
     alloc: Global,
     authenticator: &A,
@@ -71,7 +71,7 @@ pub(crate) fn admit_items<A: Authenticator>(
     Ok(admitted)
 }
 
-/// What the store is asked for by an item whose text is read and admitted. The refusal is None for want of memory.
+/// What the store is asked for by an item whose text is read and admitted. The refusal is None when out of memory.
 fn admit_item<A: Authenticator>(
     alloc: Global,
     authenticator: &A,

@@ -21,7 +21,7 @@ use kn_session::View;
 use std::alloc::Global;
 
 /// What a session asks with, and the compliance values of a text. The refusal is that of each question with these; it
-/// is None for want of memory.
+/// is None when out of memory.
 pub(crate) fn read_question<'a>(
     alloc: Global,
     connection: &'a Connection,

@@ -11,7 +11,7 @@ use kn_registry::PinFault;
 use kn_reply::{LimitWord, Refusal, Reply, print};
 use kn_session::Applied;
 
-/// The refusal of a query that is too large for a search of its critical assertions; None for want of memory.
+/// The refusal of a query that is too large for a search of its critical assertions; None when out of memory.
 pub(crate) fn refusal_of_critical(fault: CriticalFault) -> Option<Refusal>
     ensures { result ≡ refusal_of_critical fault }
 {
@@ -24,7 +24,7 @@ pub(crate) fn refusal_of_critical(fault: CriticalFault) -> Option<Refusal>
     }
 }
 
-/// The refusal of a version that isn't retained; None for want of memory.
+/// The refusal of a version that isn't retained; None when out of memory.
 pub(crate) fn refusal_of_version(fault: PinFault) -> Option<Refusal>
     ensures { result ≡ refusal_of_version fault }
 {
@@ -34,7 +34,7 @@ pub(crate) fn refusal_of_version(fault: PinFault) -> Option<Refusal>
     }
 }
 
-/// Prints a refusal, or that there was no memory.
+/// Prints a refusal, or that memory ran out.
 pub(crate) fn print_refusal<L: Link>(refusal: Option<Refusal>, link: &mut L) -> Result<(), Failed>
     ensures prints { Prints (is_whole result) (reply_text (refused_reply refusal)) (L.seen link.old) (L.seen link.new) }
 {

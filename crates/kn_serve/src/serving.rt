@@ -40,7 +40,7 @@ pub fn serve_connection<R: Wait, A: Authenticator, L: Link, G: Gate>(
     ensures ready { IsReady reg.now pass.new }
     ensures serves { Serves (grounds_by A.verdict auth.now secret.now)
         pass.old pass.new (L.seen link.old) (L.seen link.new) result }
-    // Where the link tells an input that is in order, and no call of it fails, all is answered if there is memory.
+    // Where the link tells an input that is in order, and no call of it fails, all is answered unless memory runs out.
     ensures complete { IfSome (L.seen link.old).left (λ input.
         IsOrderly input → IsFaultless (L.seen link.old) (L.seen link.new)
         → (result ≡ Ended.Done) ⊎ (result ≡ Ended.Memory)) }

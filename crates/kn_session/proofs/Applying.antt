@@ -88,7 +88,7 @@ pub change-makes : (call : Call) → is_change call ≡ true → (a : OpenSessio
 change-makes C.Close is a s = absurd (cc (is))
 change-makes call is a s = refl
 
--- a fault that is named isn't want of memory
+-- a fault that is named isn't `NoMemory`
 named-fault : (b : Bool) (fault : SessionFault) → fault ≢ F.NoMemory → fault_if b fault None ≢ Some F.NoMemory
 named-fault true fault other e = other (cc)
 named-fault false fault other e = absurd (cc (e))

@@ -123,7 +123,7 @@ call_of (Q.Unauth principal) = Unauth principal.now
 call_of Q.Unwatch = Unwatch
 
 -- The sorts of calls: one closes its session, one adds the assertion of a text, and each other one changes a session that stays
--- open and gives nothing: it stores something, for which it may find no memory, or it frees something.
+-- open and gives nothing: it stores something, for which memory may run out, or it frees something.
 pub data CallSort : Type 0 where
   Closing : CallSort
   Adding : List ℕ → CallSort
@@ -141,7 +141,7 @@ sort_of (Auth text) = Storing
 sort_of (Unauth text) = Freeing
 sort_of Unwatch = Freeing
 
--- a text that has no reading has its first fault, which is never want of memory
+-- a text that has no reading has its first fault, which is never `NoMemory`
 abbrev pub text_fault : Result Assertion ReadFault → (Assertion → Option CallFault) → Option CallFault
 text_fault (Ok assertion) next = next assertion
 text_fault (Err fault) next = Some (T.Text fault)
@@ -213,7 +213,7 @@ answer_of_sort Freeing session = A.Done
 abbrev pub call_answer : Call → Session → Applied
 call_answer call session = answer_of_sort (sort_of call) session
 
--- the calls that may find no memory; then nothing has changed
+-- the calls that may run out of memory; then nothing has changed
 abbrev pub needs_memory : CallSort → Bool
 needs_memory Closing = false
 needs_memory (Adding text) = true
@@ -223,7 +223,7 @@ needs_memory Freeing = false
 abbrev pub call_may_lack_memory : Call → Bool
 call_may_lack_memory call = needs_memory (sort_of call)
 
--- the fault is want of memory
+-- the fault means out of memory
 abbrev pub lacks_memory : CallFault → Bool
 lacks_memory (T.Text fault) = is_none (fault_number fault)
 lacks_memory (T.Session F.NoMemory) = true
@@ -256,7 +256,7 @@ pub record Accepts (old new : OpenSessions) (s : ℕ) (call : Call) (applied : A
   pub gives : applied ≡ call_answer call session
   pub makes : new ≡ with_call old s call
 
--- it was refused for this, or found no memory, and nothing has changed
+-- it was refused for this, or ran out of memory, and nothing has changed
 pub record Refuses (old new : OpenSessions) (s : ℕ) (call : Call) (fault : CallFault) : Type 0 where
   pub why : (lacks_memory fault ≡ true) ⊎ (call_fault_in s (session_in old.sessions s) call ≡ Some fault)
   pub memory : lacks_memory fault ≡ true → call_may_lack_memory call ≡ true
@@ -278,7 +278,7 @@ is_changing Freeing = true
 abbrev pub is_change : Call → Bool
 is_change call = is_changing (sort_of call)
 
--- the fault that is due, or, where the call may find none, want of memory
+-- the fault that is due, or `NoMemory` where the call may run out of memory
 abbrev pub IsDue : Bool → Option SessionFault → SessionFault → Type 0
 IsDue true due fault = (fault ≡ F.NoMemory) ⊎ (due ≡ Some fault)
 IsDue false due fault = due ≡ Some fault

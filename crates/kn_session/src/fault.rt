@@ -31,7 +31,7 @@ pub enum SessionFault {
     Attributes { count: u32 },
     /// Fault 12: the session hasn't this attribute, this requester, or a standing query.
     Absent,
-    /// There was no memory.
+    /// Out of memory.
     NoMemory,
 }
 
@@ -45,7 +45,7 @@ pub enum CallFault {
 }
 
 impl CallFault {
-    /// Whether there was no memory.
+    /// Whether it means out of memory.
     pub fn lacks_memory(&self) -> bool
         ensures { result ≡ lacks_memory self.now }
     {

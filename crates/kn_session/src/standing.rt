@@ -46,7 +46,7 @@ impl Model for StandingQuery {
 impl StandingQuery {
     ghost use Rattle.kn_session.specs.Views.{session_of_view, ArePrivates, IsSession};
 
-    /// What a session asks with, and these compliance values. `NoMemory` comes only for want of memory.
+    /// What a session asks with, and these compliance values. `NoMemory` comes only when memory runs out.
     pub(crate) fn of(
         alloc: Global,
         view: &View<'_>,

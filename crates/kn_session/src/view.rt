@@ -23,7 +23,7 @@ pub struct Private {
 impl Private {
     ghost use Rattle.kn_session.specs.Views.{IsReadPrivate};
 
-    /// The same private assertion, read anew from its text. `NoMemory` comes only for want of memory.
+    /// The same private assertion, read anew from its text. `NoMemory` comes only when memory runs out.
     pub(crate) fn copy(&self, alloc: Global) -> Result<Private, NoMemory>
         requires { IsReadPrivate self.now }
         ensures { IfOk result (λ copy. copy ≡ self.now) }
@@ -38,7 +38,7 @@ impl Private {
         })
     }
 
-    // The assertion that the text spells. It is there, so only memory may be wanting.
+    // The assertion that the text spells. It is there, so the only fault is out of memory.
     fn read_again(&self, alloc: Global) -> Result<Assertion, ReadFault>
         requires { IsReadPrivate self.now }
         ensures ok { IfOk result (λ assertion. assertion ≡ self.now.assertion) }

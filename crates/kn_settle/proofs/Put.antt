@@ -57,7 +57,7 @@ ends_at_put s v node row levels counts now_counts buckets now_buckets next old m
       waits-put s v levels m now_buckets next j row low within put adds on.waits,
     )
 
--- there is no memory for a row
+-- out of memory for a row
 pub breaks_at_row : (s : SystemEquations) (v node row : ℕ) (levels counts now_counts : List ℕ) (buckets now_buckets : List (List ℕ)) (old mid new : ℕ) → IsWithin 1 mid new
     → GoesOn s v node counts buckets (Row row) now_counts now_buckets old mid → (marks : List Bool) (p : ℕ) → piece_at s node ≡ Who p → IsPending s marks counts node → AreWaiting s v levels marks buckets
     → (after : List Bool) × IsClimbed s marks after node old new × Unit {0}

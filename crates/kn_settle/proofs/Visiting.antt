@@ -58,7 +58,7 @@ goes_on_at s v p k node levels counts now_counts next_counts buckets now_buckets
       },
     )
 
--- a climb that wanted memory, too
+-- a climb that ran out of memory, too
 abbrev pub ClimbBreaksAt : SystemEquations → ℕ → ℕ → List ℕ → List ℕ → List (List ℕ) → ℕ → ℕ → Type 0
 ClimbBreaksAt s v node levels counts buckets old new =
     (marks : List Bool) (p : ℕ) → piece_at s node ≡ Who p → IsPending s marks counts node → AreWaiting s v levels marks buckets → (after : List Bool) × IsClimbed s marks after node old new × Unit {0}

@@ -11,7 +11,7 @@ pub trait Ceilings<L> {
     /// The ceiling of each row.
     ghost each: { Self → List ℕ };
 
-    /// The ceiling of a row. `NoMemory` comes only for want of memory. One tick.
+    /// The ceiling of a row. `NoMemory` comes only when memory runs out. One tick.
     fn ceiling(&self, row: u32, steps: &mut Steps<L>) -> Result<u8, NoMemory>
         requires { row < length (each self.now) }
         ensures exact { IfOk result (λ ceiling. ceiling ≡ slice_index (each self.now) row) }

@@ -6,7 +6,7 @@ use kn_base::{List, NoMemory};
 use kn_system::System;
 use std::alloc::Global;
 
-/// The numbers of a system's requesters, ascending. `NoMemory` comes only for want of memory.
+/// The numbers of a system's requesters, ascending. `NoMemory` comes only when memory runs out.
 pub(crate) fn requesters_of<L>(alloc: Global, system: &System<L>) -> Result<List<u32>, NoMemory>
     ensures flags { IfOk result (λ numbers. flags_from numbers 0 (length system.now.requesters)
         ≡ system.now.requesters) }

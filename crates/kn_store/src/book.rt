@@ -105,8 +105,8 @@ impl Book {
     /// Adds texts, each by an update of its own, or none of them where one is refused: then its place is told, counted
     /// from 0. It takes all memory that it needs before it changes anything.
     ///
-    /// A refusal is that behind the texts in front of the refused one, so a limit's number counts them too. Beside want
-    /// of memory the place tells nothing.
+    /// A refusal is that behind the texts in front of the refused one, so a limit's number counts them too. When
+    /// out of memory, the place tells nothing.
     pub fn add_all(&mut self, caller: u32, readies: Vec<Ready>) -> Result<(), (u32, StoreFault)>
         ensures log { OnOk result (self.new ≡ self.old ++ additions_behind self.old caller readies.items) }
         ensures follow { OnOk result (UpdatesFollow self.old (additions_behind self.old caller readies.items)) }

@@ -55,7 +55,7 @@ impl LiveCredential {
         &self.credential
     }
 
-    /// The credential, to be kept beyond the set. `NoMemory` comes only for want of memory.
+    /// The credential, to be kept beyond the set. `NoMemory` comes only when memory runs out.
     pub(crate) fn share_credential(&self) -> Result<Arc<Credential>, NoMemory>
         ensures text { IfOk result (λ c. (arc_value c).text ≡ self.now.text) }
         ensures reading { IfOk result (λ c. assertion_of self.now.text ≡ Some (arc_value c).assertion) }

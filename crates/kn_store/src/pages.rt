@@ -134,8 +134,8 @@ impl<T: Shareable> Pages<T> {
         })
     }
 
-    /// Adds an item at the end of the last page where that has fewer than `most`. Else, and out of memory, the item comes
-    /// back and nothing changes.
+    /// Adds an item at the end of the last page where that has fewer than `most`. Else, and when out of memory, the
+    /// item comes back and nothing changes.
     #[inline(always)]
     pub(crate) fn add_in_place(&mut self, most: u32, item: T) -> Result<(), T>
         requires { 1 ≤ most }

@@ -111,7 +111,7 @@ impl Version {
 
     /// The i-th live credential, counted from 0 in order of id, to be kept beyond this version. Its text isn't copied.
     ///
-    /// `NoMemory` comes only for want of memory.
+    /// `NoMemory` comes only when memory runs out.
     pub fn share_credential(&self, i: u32) -> Result<Arc<Credential>, NoMemory>
         requires in_range { i < length (credentials_of self.now) }
         ensures text { IfOk result (λ c.

@@ -133,7 +133,7 @@ impl Flat {
         }
     }
 
-    // As `add`, but want of memory leaves the nodes that came before it.
+    // As `add`, but when out of memory the nodes that came before stay.
     fn add_nodes(
         &mut self,
         above: &mut Vec<Up>,

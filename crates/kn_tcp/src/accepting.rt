@@ -52,7 +52,7 @@ fn again_after(number: Option<i32>) -> Again
         Some(1 | 4 | 71 | 103 | 104 | 110) => Again::AtOnce,
         // ENONET, ENOPROTOOPT, ENETDOWN, ENETUNREACH, EHOSTDOWN, EHOSTUNREACH: the network of the new connection
         Some(64 | 92 | 100 | 101 | 112 | 113) => Again::AtOnce,
-        // EMFILE, ENFILE, ENOBUFS, ENOMEM: descriptors or memory lack; and whatever else
+        // EMFILE, ENFILE, ENOBUFS, ENOMEM: out of descriptors or memory; and whatever else
         _ => Again::Later,
     }
 }

@@ -14,7 +14,7 @@ use std::sync::{Arc, Wait};
 use std::time::Duration;
 
 /// A door of the listener that all doors of an address share, with a quota. It fails only where the listener can't
-/// accept any more; where descriptors or memory lack, it waits.
+/// accept any more; when out of descriptors or memory, it waits.
 #[derive(Drop)]
 pub struct TcpDoor {
     rt: HostRuntime,

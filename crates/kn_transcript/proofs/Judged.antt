@@ -84,7 +84,7 @@ pub as_text : {X E : Type 0} (result : Result X E) (view : X → Option (List �
     → IfOk result (λ found. IsBehind left a (view found)) → IfOk result (λ found. IsBehind left b (view found))
 as_text result view left a b same is = subst (λ (l : List ℕ). IfOk result (λ found. IsBehind left l (view found))) same is
 
--- a refusal that was looked for, where it isn't want of memory
+-- a refusal that was looked for, unless memory ran out
 pub told_by : {X E : Type 0} (result : Result X E) (view : X → Option (List ℕ)) (left : List ℕ) (refusal : Option Refusal) (Q : X → Type 0)
     → IfOk result (λ found. (due : Refusal) × (refusal ≡ Some due) × IsBehind left (reply_text (No due)) (view found))
     → ((due : Refusal) (r : Result X E) → refusal ≡ Some due

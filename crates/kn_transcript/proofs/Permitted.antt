@@ -38,7 +38,7 @@ is_acceptance (Critical index ids) = true
 is_acceptance (No refusal) = false
 is_acceptance NoMemory = false
 
--- a request is refused, accepted, or finds no memory
+-- a request is refused, accepted, or runs out of memory
 pub permits_cases : (g : Grounds) (caller : ℕ) (past : List Update) (old : State) (shape : Shape) (reply : Reply) (new : State)
     → reply ≢ NoMemory → Permits g caller past old shape reply new
     → IsRefusal g past old shape reply new ⊎ Does g caller past old shape reply new
@@ -74,7 +74,7 @@ does_permitted g caller past old shape (Critical index ids) new is d = d
 does_permitted g caller past old shape (No refusal) new is d = absurd (cc is)
 does_permitted g caller past old shape NoMemory new is d = absurd (cc is)
 
--- on these grounds no other reply than this is permitted, unless it is want of memory
+-- on these grounds no other reply than this is permitted, unless it is `NoMemory`
 abbrev pub OnlyAt : Grounds → List Update → State → Shape → Reply → Type 0
 OnlyAt g past old shape due = (reply : Reply) (other : State) → reply ≢ NoMemory
     → Permits g 0 (history_behind past shape reply) old shape reply other → reply ≡ due

@@ -90,7 +90,7 @@ module _ (items : List ItemInCode) (i : ℕ) (d : ItemInCode) (within : i < leng
       by (inl none) g = absurd (cc none)
       by (inr refused) g = refused g
 
-  -- what ended the reading isn't want of memory
+  -- the reading didn't end by running out of memory
   pub read_ended : {E : Type 0} (result : Result ReadItems E) (read : List Item) (refusal : Option ItemRefusal)
       → read ≡ map item_of (map item_in_code (take i items))
       → AllByRecursion HasReading (map item_in_code (take i items))

@@ -1,4 +1,4 @@
--- The reply to a request, judged with want of memory, and the request's fault.
+-- The reply to a request, judged with `NOMEM` too, and the request's fault.
 use Rattle.std.proofs.Common.{◌≡◌, ◌≢◌, ◌⊎◌, ℕ, true, false, List, ◌++◌, codes, Option, Some, None, refl, sym, ap, ◌∙◌, arith, subst, inl, inr}
 use Rattle.std.specs.Prelude.{Result, Ok, Err, IfOk}
 use Rattle.kn_history.specs.declared.update.Update.{Update}
@@ -48,7 +48,7 @@ value_told (No refusal) rest = refl
 value_told NoMemory rest = refl
 
 module _ (past : List Update) (old : State) (shape : Shape) (left : List ℕ) where
-  -- want of memory stands there, and is permitted
+  -- `NOMEM` stands there, and is permitted
   pub memory_taken : (rest : List ℕ) → left ≡ codes "NOMEM\n" ++ rest → may_lack_memory shape ≡ true
       → JudgesReply past old shape left past old (Some rest)
   memory_taken rest cut may = record {
@@ -73,7 +73,7 @@ module _ (past : List Update) (old : State) (shape : Shape) (left : List ℕ) wh
         | inr some ↦ judged reply rest other some taken
       ]
 
-  -- want of memory isn't permitted, and other replies were judged
+  -- `NOMEM` isn't permitted, and other replies were judged
   pub never_memory : (history : List Update) (new : State) (found : Option (List ℕ)) → may_lack_memory shape ≡ false
       → Judges past old shape left history new found → JudgesReply past old shape left history new found
   never_memory history new (Some rest) may judged = judged

@@ -29,7 +29,7 @@ verdict_refuses n above =
     let other : (n == 0) ≡ false = grind (arith, nat_tests, above) in
     rw other refl
 
--- a refusal of the store that isn't want of memory
+-- a refusal of the store other than `NoMemory`
 pub store_told : (found : Option StoreFault) (fault : StoreFault) (told : Option Refusal) (due : Refusal)
     → RefusesChange found fault → told ≡ refusal_of_store fault → told ≡ Some due
     → option_and_then refusal_of_store found ≡ Some due

@@ -37,13 +37,13 @@ pub record Takes (past : List Update) (old : State) (shape : Shape) (left rest :
   pub taken : IsTaken past old shape left reply rest new
   pub behind : history ≡ history_behind past shape reply
 
--- A permitted reply was taken, or the bytes begin with none that is permitted. That memory was wanting is judged apart.
+-- A permitted reply was taken, or the bytes begin with none that is permitted. `NoMemory` is judged apart.
 abbrev pub Judges : List Update → State → Shape → List ℕ → List Update → State → Option (List ℕ) → Type 0
 Judges past old shape left history new None =
     (reply : Reply) (rest : List ℕ) (other : State) → reply ≢ NoMemory → ¬ IsTaken past old shape left reply rest other
 Judges past old shape left history new (Some rest) = Takes past old shape left rest history new
 
--- the same where also want of memory is judged
+-- the same where `NoMemory` is judged too
 abbrev pub JudgesReply : List Update → State → Shape → List ℕ → List Update → State → Option (List ℕ) → Type 0
 JudgesReply past old shape left history new None =
     (reply : Reply) (rest : List ℕ) (other : State) → ¬ IsTaken past old shape left reply rest other

@@ -51,7 +51,7 @@ abbrev pub NoneIsPermitted : Progress → Request → Type 0
 NoneIsPermitted old request = (reply : Reply) (new : State) → BeginsWith old.left.now reply
     → ¬ IsPermitted old.book (state_of old.connection) (shape_of request) reply new
 
--- The request of this number has this fault. Of want of memory nothing is told.
+-- The request of this number has this fault. When out of memory nothing is told.
 abbrev pub IsFaultAt : Progress → Request → ℕ → TranscriptFault → Type 0
 IsFaultAt old request number (F.Missing n) = (is_foreign request ≡ false) × IsMissed old.left.now number (F.Missing n)
 IsFaultAt old request number (F.Text n) = (is_foreign request ≡ false) × IsMissed old.left.now number (F.Text n)

@@ -60,7 +60,7 @@ abbrev pub HasReading : BatchItem → Type 0
 HasReading (AddText text) = IsSome (assertion_of text)
 HasReading (DropId k) = ⊤
 
--- the item is refused so whatever an authenticator says of it, or without a refusal there was no memory
+-- the item is refused so whatever an authenticator says of it, or without a refusal memory ran out
 abbrev pub IsUnread : BatchItem → Option ItemRefusal → Type 0
 IsUnread item refusal = (refusal ≡ None) ⊎ ((g : Grounds) → item_refusal g item ≡ refusal)
 

@@ -108,7 +108,7 @@ fn tell_missed(left: &[u8], request: u32) -> TranscriptFault
     }
 }
 
-/// Judges the reply to a request, which may also be want of memory.
+/// Judges the reply to a request, which may also be `NOMEM`.
 fn judge_reply<'a>(
     alloc: Global,
     book: &mut Book,
@@ -149,7 +149,7 @@ fn is_foreign(request: &Request<'_>) -> bool
     )
 }
 
-/// Whether want of memory may be the reply to a request of this shape.
+/// Whether `NOMEM` may be the reply to a request of this shape.
 fn may_lack_memory(shape: &Shape<'_>) -> bool
     ensures { result ≡ may_lack_memory (shape_in_code shape.now) }
 {
@@ -171,7 +171,7 @@ fn may_lack_memory(shape: &Shape<'_>) -> bool
     }
 }
 
-/// Whether want of memory may be the reply to a call of a session: one that stores something has it.
+/// Whether `NOMEM` may be the reply to a call of a session: one that stores something has it.
 fn call_may_lack_memory(call: &Call<'_>) -> bool
     ensures { result ≡ call_may_lack_memory (call_of call.now) }
 {

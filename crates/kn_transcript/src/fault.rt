@@ -18,7 +18,7 @@ pub enum TranscriptFault {
     Rest { at: u32 },
     /// Fault 5: the request is WATCH, NEWS, UNWATCH, LOG or CRITICAL, which a transcript doesn't judge.
     Foreign { request: u32 },
-    /// There was no memory.
+    /// Out of memory.
     NoMemory,
 }
 

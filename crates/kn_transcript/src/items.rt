@@ -45,7 +45,7 @@ pub(crate) fn read_items(alloc: Global, items: &[BatchItem<'_>]) -> Result<ReadI
     })
 }
 
-/// The items in front of one that is refused so. A refusal that is None is want of memory.
+/// The items in front of one that is refused so. A refusal that is None means out of memory.
 fn end_reading(items: List<Item>, refusal: Option<ItemRefusal>) -> Result<ReadItems, NoMemory>
     ensures { IfOk result (λ read. (inner : ItemRefusal) × (refusal ≡ Some inner)
         × (read ≡ record { items = items; refusal = Some inner })) }
@@ -59,7 +59,7 @@ fn end_reading(items: List<Item>, refusal: Option<ItemRefusal>) -> Result<ReadIt
     }
 }
 
-/// What the store is asked for by an item whose text is read. The refusal is None for want of memory.
+/// What the store is asked for by an item whose text is read. The refusal is None when out of memory.
 fn read_item(alloc: Global, item: &BatchItem<'_>) -> Result<Item, Option<ItemRefusal>>
     requires short { C.IsWithin ASSERTION_BYTES item.now }
     ensures item { IfOk result (λ asked. asked ≡ item_of (C.item_of item.now)) }
@@ -75,7 +75,7 @@ fn read_item(alloc: Global, item: &BatchItem<'_>) -> Result<Item, Option<ItemRef
     }
 }
 
-/// A text that is read, ready to be added. The refusal is None for want of memory.
+/// A text that is read, ready to be added. The refusal is None when out of memory.
 fn read_text(alloc: Global, text: &[u8]) -> Result<Ready, Option<ItemRefusal>>
     requires short { length text.now ≤ ASSERTION_BYTES }
     ensures text { IfOk result (λ ready. ready ≡ text.now) }

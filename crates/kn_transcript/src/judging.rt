@@ -20,7 +20,7 @@ use kn_wire::Request;
 use std::alloc::Global;
 
 /// Judges the reply to a request, and gives what is left behind it; None where no permitted one stands there. An
-/// accepted update is made in the book. Want of memory as a reply is judged apart.
+/// accepted update is made in the book. `NOMEM` is judged apart.
 pub(crate) fn judge<'a>(
     alloc: Global,
     book: &mut Book,

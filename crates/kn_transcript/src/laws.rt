@@ -12,7 +12,7 @@ pub fn transcripts()
 {}
 
 /// A transcript has at most one verdict: it is accepted with one pair of numbers, or it has one fault. So `verify`
-/// refuses none that is accepted, but for want of memory.
+/// refuses none that is accepted, unless memory runs out.
 pub fn one_verdict()
     ensures { OneVerdict }
 {}

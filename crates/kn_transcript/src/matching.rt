@@ -26,7 +26,7 @@ pub(crate) fn behind_reply<'a>(
     }
 }
 
-/// What is left of bytes behind the text of a refusal. A refusal that is None is want of memory.
+/// What is left of bytes behind the text of a refusal. A refusal that is None means out of memory.
 pub(crate) fn behind_refusal<'a>(
     alloc: Global,
     left: &'a [u8],

@@ -31,7 +31,7 @@ pub struct Verified {
 /// don't count. The transcript is accepted where the replies are one to each of them, and each is one that a daemon of
 /// one thread may give to a connection that is alone. Whether a secret was right, and what the authenticator said of a
 /// text, is read off each reply. Else the fault is that of the first request that has one, or tells where the bytes
-/// begin that are left in the end. `NoMemory` comes only for want of memory.
+/// begin that are left in the end. `NoMemory` comes only when memory runs out.
 pub fn verify(
     alloc: Global,
     book: Book,

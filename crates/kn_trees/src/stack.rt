@@ -26,7 +26,7 @@ type Roots = SmallVec<Root, 8>;
 
 /// Expressions that are being read, the last on top, seen as the list of their trees.
 ///
-/// They share one list of nodes. After want of memory the stack is as it was.
+/// They share one list of nodes. When memory runs out, the stack is as it was.
 #[derive(Drop)]
 pub struct ExprStack {
     forest: Forest,

@@ -14,7 +14,7 @@ abbrev pub AnswersAreProved : Type 0
 AnswersAreProved = (session : Session) (values : List (List ℕ)) (reply : Reply) → 0 < length values → IsAnswer session values reply
     → (read : ReadReply) × (reply ≡ Value read.value read.name read.version read.rows) × IsProved (equations_of session values) (length session.pinned) values read
 
--- a reply that proves its value is refused for want of memory alone
+-- a reply that proves its value is refused only when out of memory
 abbrev pub ProvedIsAccepted : Type 0
 ProvedIsAccepted = (e : Equations) (version : ℕ) (values : List (List ℕ)) (read : ReadReply) (refused : Refused)
     → IsProved e version values read → IsRefusal e version values read refused → refused ≡ NoMemory

@@ -32,7 +32,7 @@ pub record IsUnproved (e : Equations) (version : ℕ) (values : List (List ℕ))
   pub rejected : IsRejected e reply.rows reply.value reject
   pub only : (other : Reject) → IsRejected e reply.rows reply.value other → reject ≡ other
 
--- why a reply is refused; memory lacks only for one that is to the query
+-- why a reply is refused; memory runs out only for one that is to the query
 abbrev pub IsRefusal : Equations → ℕ → List (List ℕ) → ReadReply → Refused → Type 0
 IsRefusal e version values reply Other = ¬ IsReplyTo version values reply
 IsRefusal e version values reply (Rejected reject) = IsUnproved e version values reply reject

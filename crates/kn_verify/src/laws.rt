@@ -9,7 +9,7 @@ pub fn one_verdict()
 {}
 
 /// What the daemon answers to a query is a VALUE reply that proves its value, and such a reply is accepted: `verify`
-/// refuses it for want of memory alone.
+/// refuses it only when out of memory.
 pub fn answers_are_accepted()
     ensures proved { AnswersAreProved }
     ensures accepted { ProvedIsAccepted }

@@ -29,7 +29,7 @@ pub enum Refused {
     Other,
     /// Its rows are no proof of its value: the first item that fails.
     Rejected(Reject),
-    /// There was no memory.
+    /// Out of memory.
     NoMemory,
 }
 
@@ -46,7 +46,7 @@ impl From<NoMemory> for Refused {
 
 /// Whether a reply proves its value of what a session asks where these are the compliance values.
 ///
-/// `NoMemory` comes only for want of memory, and never for the reply to another query, which needs none.
+/// `NoMemory` comes only when memory runs out, and never for the reply to another query, which needs none.
 pub fn verify(
     alloc: Global,
     view: &View<'_>,

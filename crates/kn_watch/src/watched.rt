@@ -33,7 +33,7 @@ impl Model for Watched {
 impl Watched {
     /// The least levels of a system (RFC 2704, section 5).
     ///
-    /// `NoMemory` comes only for want of memory.
+    /// `NoMemory` comes only when memory runs out.
     pub fn begin<L>(
         alloc: Global,
         system: &System<L>,
@@ -51,7 +51,7 @@ impl Watched {
     /// Makes the levels the least ones of the system as it is now. A step is one of `refresh` over the rows whose
     /// ceilings aren't those that they had, and over those that were added with a ceiling above the lowest.
     ///
-    /// `NoMemory` comes only for want of memory.
+    /// `NoMemory` comes only when memory runs out.
     pub fn refresh<L>(
         &mut self,
         alloc: Global,

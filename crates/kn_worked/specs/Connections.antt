@@ -44,7 +44,7 @@ is_no_memory (No refusal) = false
 is_no_memory NoMemory = true
 
 -- Nothing else is written for these bytes, where the caller had seen the policy file's history, which is all that there
--- is, and no reply is want of memory.
+-- is, and no reply is `NOMEM`.
 abbrev pub AliceIsAnsweredSo : Type 0
 AliceIsAnsweredSo = (g : Grounds) (written : List ℕ) (start end caller : ℕ) (stops : List ℕ)
     (s : IsServed g alice_asks written E.Done true policy_history start end caller stops) → 1 ≤ start

@@ -33,7 +33,7 @@ pub record IsNew (l : LinkSeen) : Type 0 where
 
 -- The caller's connection was served over this history: all that was taken of its link and written to it, if the link
 -- tells that. Only where it ended by a fault did a call of its link fail. Where the link tells an input that is in
--- order, and no call of it failed, all of it was answered if there was memory.
+-- order, and no call of it failed, all of it was answered unless memory ran out.
 pub record IsConnection {C : Type 0} (seen : C → LinkSeen) (g : Grounds) (history : List Update) (caller : ℕ)
     (s : ServedSeen C) : Type 0 where
   pub number : s.caller ≡ caller

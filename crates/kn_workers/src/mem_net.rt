@@ -43,8 +43,8 @@ impl Model for MemNet {
 }
 
 impl MemNet {
-    /// A net with these rooms. Its calls of `bind` with the numbers in `failing`, counted from 1, fail; one that finds
-    /// no memory isn't counted.
+    /// A net with these rooms. Its calls of `bind` with the numbers in `failing`, counted from 1, fail; one that runs
+    /// out of memory isn't counted.
     pub fn of(alloc: Global, rooms: List<MemRoom>, failing: List<u32>) -> MemNet
         ensures { result ≡ record {
           waiting = rooms;

@@ -15,7 +15,7 @@ pub trait Net {
 
     type Room: Door;
 
-    /// What is seen of a net: the binding, which is None at first and after want of memory, the rooms that came back,
+    /// What is seen of a net: the binding, which is None at first and when out of memory, the rooms that came back,
     /// none at first, and the count of faults, which stays at the greatest `u64`.
     ghost seen: { Self → NetSeen Self.Room };
 

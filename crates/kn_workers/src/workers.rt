@@ -25,7 +25,7 @@ use std::thread::Threads;
 /// Serves all doors side by side, each by a worker with a pass that is split from the root. Afterwards all passes are
 /// joined into the root again, and the doors are as their workers left them.
 ///
-/// Want of memory comes before any connection is accepted. Where no thread can be made the doors are served one after
+/// `NoMemory` comes before any connection is accepted. Where no thread can be made the doors are served one after
 /// another.
 pub fn serve_all<R: Threads + Wait + Sync, A: Authenticator, D: Door, G: Gate>(
     rt: &R,
