@@ -1,5 +1,5 @@
 -- Lists of numbers in one list, where each has a block with room of its own.
-use Rattle.std.specs.Prelude.{ℕ, ◌+◌, ◌≢◌, ◌≤◌, ◌⊎◌, List, length, take, drop, slice_index_or}
+use Rattle.std.specs.Prelude.{ℕ, ◌≡◌, ◌+◌, ◌≢◌, ◌≤◌, ◌⊎◌, List, length, take, drop, slice_index_or}
 use Rattle.kn_system.specs.declared.uses.Block.{Block}
 
 -- the block at a place, and an empty one behind the last
@@ -18,6 +18,10 @@ list_at nodes blocks p = list_in nodes (block_at blocks p)
 pub record FitsIn (nodes : List ℕ) (block : Block) : Type 0 where
   pub len : block.len ≤ block.room
   pub inside : block.start + block.room ≤ length nodes
+
+-- a block has the room that the other one had, or twice that and one more
+abbrev pub IsSameOrDouble : Block → Block → Type 0
+IsSameOrDouble old new = (new.room ≡ old.room) ⊎ (new.room ≡ old.room + old.room + 1)
 
 -- one of them ends before the other begins
 abbrev pub AreApart : Block → Block → Type 0

@@ -2,7 +2,7 @@
 ghost use Rattle.std.specs.Prelude.{◌≡◌, ◌≢◌, ◌+◌, ◌-◌, ◌<◌, ◌≤◌, ◌==◌, ◌⊎◌, if◌then◌else◌};
 ghost use Rattle.std.specs.Prelude.{[], ◌∷◌, ◌++◌, ℕ, List as ListOf};
 ghost use Rattle.std.specs.Prelude.{IfOk, OnOk, OnErr, length, slice_get, slice_range};
-ghost use Rattle.kn_system.specs.Blocks.{ArePlaced, FitsIn, block_at, list_at, list_in};
+ghost use Rattle.kn_system.specs.Blocks.{ArePlaced, FitsIn, IsSameOrDouble, block_at, list_at, list_in};
 
 use kn_base::NoMemory;
 use std::alloc::Global;
@@ -57,6 +57,8 @@ impl Uses {
             else list_at self.old.nodes.items self.old.blocks.items p)) }
         ensures err { OnErr result ((p : ℕ) → list_at self.new.nodes.items self.new.blocks.items p
             ≡ list_at self.old.nodes.items self.old.blocks.items p) }
+        ensures room { OnOk result (IsSameOrDouble (block_at self.old.blocks.items principal)
+            (block_at self.new.blocks.items principal)) }
     {
         let place = principal as usize;
         widen(&mut self.blocks, place)?;
@@ -124,6 +126,7 @@ fn make_room(nodes: &mut Vec<u32>, block: Block) -> Result<Block, NoMemory>
     ensures room { IfOk result (λ moved. moved.len < moved.room) }
     ensures same { IfOk result (λ moved. list_in nodes.new.items moved ≡ list_in nodes.old.items block) }
     ensures place { IfOk result (λ moved. (moved ≡ block) ⊎ (moved.start ≡ length nodes.old.items)) }
+    ensures wide { IfOk result (IsSameOrDouble block) }
 {
     if block.len < block.room {
         return Ok(block);
@@ -139,6 +142,7 @@ fn double(nodes: &mut Vec<u32>, block: Block) -> Result<Block, NoMemory>
     ensures room { IfOk result (λ moved. moved.len < moved.room) }
     ensures same { IfOk result (λ moved. list_in nodes.new.items moved ≡ list_in nodes.old.items block) }
     ensures place { IfOk result (λ moved. moved.start ≡ length nodes.old.items) }
+    ensures wide { IfOk result (λ moved. moved.room ≡ block.room + block.room + 1) }
 {
     let start = nodes.len();
     let end = block.start + block.room;
