@@ -1,5 +1,5 @@
 -- Where a feed stands in the bytes that came.
-use Rattle.std.specs.Prelude.{ℕ, ◌≡◌, ◌≤◌, List, length, drop, Some, None}
+use Rattle.std.specs.Prelude.{ℕ, ◌≡◌, ◌<◌, ◌≤◌, ◌⊎◌, ⊤, List, length, drop, Some, None}
 use Rattle.kn_wire.specs.declared.cursor.Advanced.{Advanced}
 use Rattle.kn_wire.specs.declared.cursor.Advanced.TheVariants as A
 use Rattle.kn_wire.specs.declared.cursor.Cursor.{Cursor}
@@ -30,3 +30,12 @@ Advances old A.Nothing bytes new = (next_of old ≡ None) × (new ≡ old)
 Advances old (A.Line line) bytes new = SpendsLine old bytes line new
 Advances old (A.Blocked head block) bytes new = SpendsBlock old bytes head block new
 Advances old (A.Refused fault) bytes new = next_of old ≡ Some (Faulty fault, new)
+
+-- where nothing was spent, fewer bytes are held than hold a request, and unless all is as before, the first line was
+-- searched to its end
+abbrev pub Waits : Cursor → Advanced → List ℕ → Cursor → Type 0
+Waits old A.Nothing bytes new = (length (drop new.from bytes) < new.needed)
+    × ((new ≡ old) ⊎ (new.searched ≡ line_length (drop new.from bytes)))
+Waits old (A.Line line) bytes new = ⊤
+Waits old (A.Blocked head block) bytes new = ⊤
+Waits old (A.Refused fault) bytes new = ⊤

@@ -30,7 +30,7 @@ pub record SpendsBlock (old : Held) (bytes : List ℕ) (head : Head) (block : Pa
   pub short : block.len ≤ ASSERTION_BYTES
 
 pub record WaitsFor (text : List ℕ) (searched needed : ℕ) : Type 0 where
-  pub clean : searched ≤ line_length text
+  pub clean : searched ≡ line_length text
   pub fewer : length text < needed
   pub none : HasNoneBelow needed text
 

@@ -1,6 +1,6 @@
 //! Where a feed stands in the bytes that came.
 ghost use Rattle.std.specs.Prelude.{◌≡◌, ◌+◌, ◌<◌, ◌≤◌, ◌^◌};
-ghost use Rattle.kn_wire.specs.Cursors.{Advances, IsSound, held_at};
+ghost use Rattle.kn_wire.specs.Cursors.{Advances, IsSound, Waits, held_at};
 ghost use Rattle.kn_wire.specs.declared.cursor.Stage.TheVariants as S;
 
 use crate::fault::WireFault;
@@ -61,6 +61,7 @@ impl Cursor {
         requires sound { IsSound self.old bytes.now }
         ensures sound { IsSound self.new bytes.now }
         ensures advances { Advances (held_at self.old bytes.now) result bytes.now (held_at self.new bytes.now) }
+        ensures waits { self.old.stage ≡ S.Reading → Waits self.old result bytes.now self.new }
     {
         match self.stage {
             Stage::Reading => self.advance_reading(bytes),
@@ -75,6 +76,7 @@ impl Cursor {
         requires sound { IsSound self.old bytes.now }
         ensures sound { IsSound self.new bytes.now }
         ensures advances { Advances (held_at self.old bytes.now) result bytes.now (held_at self.new bytes.now) }
+        ensures waits { Waits self.old result bytes.now self.new }
     {
         let start = self.from;
         let text = bytes.split_at(start).1;
