@@ -13,7 +13,7 @@ use Rattle.kn_trees.proofs.program.Then.TheLaws.TheKnot.{send-Program, sync-Prog
 use Rattle.kn_history.specs.contracts.credential.Credential as credential
 use Rattle.kn_store.specs.contracts.live_credential.LiveCredential as live
 use Rattle.kn_history.specs.contracts.update.Update as update
-use Rattle.kn_store.proofs.pages.Pages.TheSendSync as pages
+use Rattle.kn_pages.proofs.pages.Pages.TheSendSync as pages
 use Rattle.kn_store.specs.contracts.live_set.LiveSet as set
 use Rattle.kn_store.specs.contracts.log.LoggedUpdate as logged
 use Rattle.kn_store.specs.contracts.log.LogPage as page

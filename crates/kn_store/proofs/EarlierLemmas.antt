@@ -5,7 +5,7 @@ use Rattle.std.proofs.lemmas.Bool.{ltb-true, ltb-false}
 use Rattle.std.proofs.lemmas.List.{take_all, take-append-le}
 use Rattle.kn_history.specs.declared.update.Update.{Update}
 use Rattle.kn_store.specs.EarlierVersions.{AreLeft, AreEarlier, with_version}
-use Rattle.kn_store.proofs.PageLemmas.{slice_get-left, slice_get-right}
+use Rattle.kn_pages.proofs.PageLemmas.{slice_get-left, slice_get-right}
 
 -- each version has its number
 abbrev Each : ℕ → List Update → List (List Update) → Type 0

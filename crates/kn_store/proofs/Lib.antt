@@ -1,4 +1,3 @@
-pub mod PageLemmas
 pub mod LiveLemmas
 pub mod SearchLemmas
 pub mod LiveSetLemmas

@@ -11,9 +11,9 @@ use Rattle.std.proofs.lemmas.List.Folds.{list_any-append}
 use Rattle.kn_history.specs.History.{NumberedText}
 use Rattle.kn_history.specs.Ids.{IdsAscend}
 use Rattle.kn_history.proofs.Ids.{ascend-weaker}
-use Rattle.kn_store.specs.Pages.{joined, without_item}
+use Rattle.kn_pages.specs.Pages.{joined, without_item}
 use Rattle.kn_store.specs.Places.{IsIdAt, IsPlaceOf, ends_before}
-use Rattle.kn_store.proofs.PageLemmas.{joined-append, joined-around, joined-without_item}
+use Rattle.kn_pages.proofs.PageLemmas.{joined-append, joined-around, joined-without_item}
 
 other_id : (a b : ℕ) → (a ≡ b → ⊥) → (a == b) ≡ false
 other_id a b apart = ne_eqb a b apart

@@ -15,8 +15,8 @@ use Rattle.kn_history.specs.History.{NumberedText, text_bytes}
 use Rattle.kn_store.specs.LiveView.{LiveView, refusal_of_size, refusal_of_removal, with_addition, with_removal}
 use Rattle.kn_history.specs.Ids.{IdsAscend}
 use Rattle.kn_store.specs.LiveSets.{view_of_set, IsLiveSet}
-use Rattle.kn_store.specs.Pages.{joined, with_item, without_item}
-use Rattle.kn_store.proofs.PageLemmas.{joined-with_item, sized-with_item, sized-without_item}
+use Rattle.kn_pages.specs.Pages.{joined, with_item, without_item}
+use Rattle.kn_pages.proofs.PageLemmas.{joined-with_item, sized-with_item, sized-without_item}
 use Rattle.kn_store.proofs.LiveLemmas.{IsCut, ascend-push, ascend-without, filter-one}
 
 tested : (b : Bool) (fault : StoreFault) (rest : Option StoreFault) → cond b (Some fault) rest ≡ None → (b ≡ false) × (rest ≡ None)

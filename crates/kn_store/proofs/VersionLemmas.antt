@@ -9,10 +9,10 @@ use Rattle.kn_history.specs.History.{all_changes, additions, is_valid_history, u
 use Rattle.kn_history.specs.Batches.{batch_by}
 use Rattle.kn_history.proofs.Histories.{valid-grows, changes-push, has_changes}
 use Rattle.kn_store.specs.LiveView.{LiveView, live_view}
-use Rattle.kn_store.specs.Pages.{joined, with_item}
+use Rattle.kn_pages.specs.Pages.{joined, with_item}
 use Rattle.kn_store.specs.Versions.{updates_of, IsVersion}
 use Rattle.kn_store.proofs.ItemLemmas.{AreMadeUpTo, changes_are, batch_follows}
-use Rattle.kn_store.proofs.PageLemmas.{joined-with_item, filled-with_item}
+use Rattle.kn_pages.proofs.PageLemmas.{joined-with_item, filled-with_item}
 
 module _ (v : Inside) (updates : List (List Update)) (update : Update) (live : LiveView) (is : updates ≡ with_item UPDATES_PAGE v.updates update) where
   pub longer_log : joined updates ≡ updates_of v ++ update ∷ []

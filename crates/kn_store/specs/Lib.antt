@@ -1,4 +1,3 @@
-pub mod Pages
 pub mod LiveView
 pub mod ItemViews
 pub mod Places

@@ -6,7 +6,7 @@ use Rattle.kn_store.specs.declared.live_set.TheConstants.{CREDENTIALS_PAGE}
 use Rattle.kn_store.specs.declared.live_set.LiveSet.TheInside.{Inside}
 use Rattle.kn_history.specs.History.{text_bytes}
 use Rattle.kn_history.specs.Ids.{IdsAscend}
-use Rattle.kn_store.specs.Pages.{joined, AreSized}
+use Rattle.kn_pages.specs.Pages.{joined, AreSized}
 use Rattle.kn_store.specs.LiveView.{LiveView}
 
 abbrev pub view_of_set : Inside → LiveView

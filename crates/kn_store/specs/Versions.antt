@@ -5,7 +5,7 @@ use Rattle.kn_store.specs.declared.log.TheConstants.{UPDATES_PAGE}
 use Rattle.kn_store.specs.declared.version.Version.TheInside.{Inside}
 use Rattle.kn_history.specs.History.{all_changes, is_valid_history}
 use Rattle.kn_store.specs.LiveView.{live_view}
-use Rattle.kn_store.specs.Pages.{joined, AreFilled}
+use Rattle.kn_pages.specs.Pages.{joined, AreFilled}
 
 -- the updates that made it
 abbrev pub updates_of : Inside → List Update

@@ -4,10 +4,10 @@ ghost use Rattle.std.specs.Prelude.{◌≡◌, [], length, slice_get, option_map
 ghost use Rattle.std.specs.Arc.{arc_value};
 ghost use Rattle.kn_store.specs.EarlierVersions.{with_version};
 
-use crate::pages::share;
 use crate::version::{Snapshot, Version};
 use kn_base::limits::RETAINED_VERSIONS;
 use kn_base::{NoMemory, Reserved};
+use kn_pages::share_into;
 use std::alloc::Global;
 use std::marker::Model;
 
@@ -46,7 +46,7 @@ impl Earlier {
     {
         let mut versions = Reserved::new(alloc);
         versions.reserve(RETAINED_VERSIONS - 1)?;
-        share(&mut versions, self.versions.as_slice())?;
+        share_into(&mut versions, self.versions.as_slice())?;
         Ok(Earlier { versions })
     }
 

@@ -6,7 +6,6 @@ mod earlier;
 mod live_credential;
 mod live_set;
 mod log;
-mod pages;
 mod version;
 
 pub use book::{Book, Done, Prepared};

@@ -4,9 +4,9 @@ ghost use Rattle.std.specs.Prelude.{◌≡◌, Some, IfOk};
 ghost use Rattle.std.specs.Arc.{arc_value};
 ghost use Rattle.kn_assert.specs.Reading.{assertion_of};
 
-use crate::pages::Shareable;
 use kn_base::{NoMemory, Octets};
 use kn_history::{Credential, Ready};
+use kn_pages::Shareable;
 use std::marker::Model;
 use std::sync::Arc;
 

@@ -9,14 +9,14 @@ ghost use Rattle.kn_history.specs.History.{text_bytes, RefusesChange};
 ghost use Rattle.kn_history.specs.Ids.{IdsAscend};
 ghost use Rattle.kn_store.specs.ItemViews.{after_item, change_of, refusal_of};
 ghost use Rattle.kn_store.specs.LiveView.{live_view, refusal_of_size, refusal_of_removal, with_addition, with_removal};
-ghost use Rattle.kn_store.specs.Pages.{joined};
+ghost use Rattle.kn_pages.specs.Pages.{joined};
 ghost use Rattle.kn_store.specs.Places.{has_id, IsIdAt, IsPlaceOf, ends_before};
 
 use crate::live_credential::LiveCredential;
-use crate::pages::Pages;
 use kn_base::NoMemory;
 use kn_base::limits::{LIVE_BYTES, LIVE_CREDENTIALS, LOGGED_BYTES, UPDATES};
 use kn_history::{Change, Item, Numbered, StoreFault};
+use kn_pages::Pages;
 use std::alloc::Global;
 use std::marker::Model;
 use std::mem;

@@ -1,11 +1,11 @@
 //! The log of updates, in pages that are kept in blocks.
 
 ghost use Rattle.std.specs.Prelude.{◌≡◌, ◌<◌, [], ◌∷◌, ◌++◌, length, Some, IfOk, slice_get};
-ghost use Rattle.kn_store.specs.Pages.{joined, with_item, AreFilled};
+ghost use Rattle.kn_pages.specs.Pages.{joined, with_item, AreFilled};
 
-use crate::pages::{Pages, Shareable, share_items};
 use kn_base::{List, NoMemory};
 use kn_history::Update;
+use kn_pages::{Pages, Shareable, share_items};
 use std::alloc::Global;
 use std::marker::Model;
 use std::sync::Arc;
@@ -64,7 +64,7 @@ struct LogPage {
 
 impl Model for LogPage {
     ghost use Rattle.std.specs.Prelude.{List, ◌≡◌, length};
-    ghost use Rattle.kn_store.specs.Pages.{joined};
+    ghost use Rattle.kn_pages.specs.Pages.{joined};
     ghost use Rattle.kn_history.specs.declared.update.Update.{Update};
 
     ghost Value = { List Update };
@@ -136,7 +136,7 @@ impl Model for Log {
     ghost use Rattle.std.specs.Prelude.{List, map, ◌++◌, ◌≡◌, ◌≤◌, ◌⊎◌, [], length};
     ghost use Rattle.std.specs.Arc.{arc_value};
     ghost use Rattle.kn_history.specs.declared.update.Update.{Update};
-    ghost use Rattle.kn_store.specs.Pages.{unless_empty};
+    ghost use Rattle.kn_pages.specs.Pages.{unless_empty};
 
     ghost Value = { List (List Update) };
 

@@ -2,7 +2,7 @@ use Rattle.std.proofs.Common.{rules, ℕ, ◌≡◌, ◌==◌, false, sym, subst
 use Rattle.std.specs.Prelude.{Option, None, MatchOption}
 use Rattle.std.specs.List.{list_any}
 use Rattle.kn_history.specs.History.{NumberedText}
-use Rattle.kn_store.specs.Pages.{joined}
+use Rattle.kn_pages.specs.Pages.{joined}
 use Rattle.kn_store.specs.Places.{IsPlaceOf}
 use Rattle.kn_store.proofs.LiveLemmas.{found_in, search_on, search_ends}
 use Rattle.kn_store.proofs.live_set.place_of.Goals as goal

@@ -3,11 +3,11 @@ use Rattle.std.specs.Prelude.{◌≡◌, Some, None}
 use Rattle.std.proofs.lemmas.Option.{same_Some}
 use Rattle.kn_history.specs.declared.fault.StoreFault.TheVariants.{Unknown, HistoryFull}
 use Rattle.kn_store.specs.LiveView.{refusal_of_removal, with_removal}
-use Rattle.kn_store.specs.Pages.{without_item}
+use Rattle.kn_pages.specs.Pages.{without_item}
 use Rattle.kn_store.proofs.LiveLemmas.{cut_at}
 use Rattle.kn_store.proofs.LiveSetLemmas.{removed_set, removed_view, removed_size, removed_count, removal_accepted, refused_unknown, refused_full}
 use Rattle.kn_store.specs.declared.live_set.TheConstants.{CREDENTIALS_PAGE}
-use Rattle.kn_store.proofs.PageLemmas.{sized-some}
+use Rattle.kn_pages.proofs.PageLemmas.{sized-some}
 use Rattle.kn_store.proofs.live_set.LiveSet.with_removal.Goals as goal
 
 pub returns-in_default-clause-refused : goal.returns-in_default-clause-refused

@@ -1,8 +1,8 @@
 use Rattle.std.proofs.Common.{rules, ◌∙◌, ◌++◌, ap, map, length, arith}
 use Rattle.std.specs.Arc.{arc_value}
 use Rattle.kn_store.specs.declared.log.TheConstants.{UPDATES_PAGE}
-use Rattle.kn_store.specs.Pages.{with_item, unless_empty}
-use Rattle.kn_store.proofs.PageLemmas.{none_seen, longer-room, seen-full}
+use Rattle.kn_pages.specs.Pages.{with_item, unless_empty}
+use Rattle.kn_pages.proofs.PageLemmas.{none_seen, longer-room, seen-full}
 use Rattle.kn_store.proofs.log.Log.with_update.Goals as goal
 
 pub returns-then-len-lt-UPDATES_PAGE : goal.returns-then-len-lt-UPDATES_PAGE

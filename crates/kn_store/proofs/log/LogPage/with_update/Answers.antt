@@ -1,6 +1,6 @@
 use Rattle.std.proofs.Common.{[], ◌∷◌, ◌++◌, length, ap, ◌∙◌, arith, length-append}
-use Rattle.kn_store.specs.Pages.{joined}
-use Rattle.kn_store.proofs.PageLemmas.{joined-with_item}
+use Rattle.kn_pages.specs.Pages.{joined}
+use Rattle.kn_pages.proofs.PageLemmas.{joined-with_item}
 use Rattle.kn_store.proofs.log.LogPage.with_update.Goals as goal
 
 pub invariant_of-result : goal.invariant_of-result

@@ -2,7 +2,7 @@ use Rattle.std.proofs.Common.{◌≡◌, ◌+◌, [], ◌∷◌, ◌++◌, true,
 use Rattle.kn_history.specs.History.{all_changes, addition_by, update_may_follow}
 use Rattle.kn_history.proofs.Histories.{addition-follows}
 use Rattle.kn_store.specs.LiveView.{live_view, with_addition}
-use Rattle.kn_store.specs.Pages.{joined}
+use Rattle.kn_pages.specs.Pages.{joined}
 use Rattle.kn_store.specs.Versions.{IsVersion}
 use Rattle.kn_store.proofs.ViewLemmas.{view-addition}
 use Rattle.kn_store.proofs.VersionLemmas.{version_after}

@@ -3,7 +3,7 @@ use Rattle.std.proofs.lemmas.List.{drop_all, length-set}
 use Rattle.kn_store.specs.declared.log.TheConstants.{UPDATES_PAGE}
 use Rattle.kn_history.specs.Batches.{batch_by, refusal_of_items}
 use Rattle.kn_history.specs.History.{all_changes, additions, update_may_follow}
-use Rattle.kn_store.specs.Pages.{joined, with_item}
+use Rattle.kn_pages.specs.Pages.{joined, with_item}
 use Rattle.kn_store.proofs.ItemLemmas.{AreMadeUpTo, refused_item, one_more_made, taken_at, left_behind}
 use Rattle.kn_store.proofs.VersionLemmas.{version_after_items}
 use Rattle.kn_store.proofs.version.Version.with_items.Goals as goal

@@ -4,7 +4,7 @@ use Rattle.kn_history.proofs.Histories.{removal-follows}
 use Rattle.kn_store.specs.declared.log.TheConstants.{UPDATES_PAGE}
 use Rattle.kn_history.specs.History.{all_changes, update_may_follow}
 use Rattle.kn_store.specs.LiveView.{live_view, refusal_of_removal, with_removal}
-use Rattle.kn_store.specs.Pages.{joined, with_item}
+use Rattle.kn_pages.specs.Pages.{joined, with_item}
 use Rattle.kn_store.specs.Versions.{IsVersion}
 use Rattle.kn_store.proofs.ViewLemmas.{view-removal}
 use Rattle.kn_store.proofs.VersionLemmas.{version_after}

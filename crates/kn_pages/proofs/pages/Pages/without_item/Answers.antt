@@ -1,8 +1,8 @@
 use Rattle.std.proofs.Common.{rules, ◌≡◌, ◌<◌, ◌∙◌, ap, sym, subst, length}
 use Rattle.std.specs.Prelude.{IfOk}
-use Rattle.kn_store.specs.Pages.{without_item}
-use Rattle.kn_store.proofs.PageLemmas.{shared-out_of_last}
-use Rattle.kn_store.proofs.pages.Pages.without_item.Goals as goal
+use Rattle.kn_pages.specs.Pages.{without_item}
+use Rattle.kn_pages.proofs.PageLemmas.{shared-out_of_last}
+use Rattle.kn_pages.proofs.pages.Pages.without_item.Goals as goal
 
 pub returns-then-page-len : goal.returns-then-page-len
 returns-then-page-len g c =

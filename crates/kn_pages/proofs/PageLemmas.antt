@@ -11,7 +11,7 @@ use Rattle.std.proofs.lemmas.List.Concat.{flat_map-append}
 use Rattle.std.specs.Arc.{arc_value}
 use Rattle.std.specs.declared.sync.Arc.{Arc}
 use Rattle.std.specs.declared.alloc.Global.{Global}
-use Rattle.kn_store.specs.Pages.{pages_of, joined, AreSized, AreFilled, with_item, unless_empty, without_item}
+use Rattle.kn_pages.specs.Pages.{pages_of, joined, AreSized, AreFilled, with_item, unless_empty, without_item}
 
 pub map-remove : {A B : Type 0} (f : A → B) (items : List A) (place : ℕ) → map f (remove items place) ≡ remove (map f items) place
 map-remove f items place =

@@ -1,8 +1,8 @@
 use Rattle.std.proofs.Common.{rules, ◌∙◌, ap}
-use Rattle.kn_store.specs.Pages.{with_item}
-use Rattle.kn_store.proofs.PageLemmas.{shared-room}
-use Rattle.kn_store.proofs.pages.Pages.add_in_place.Goals.{in-Ok, in-Err}
-use Rattle.kn_store.proofs.pages.Pages.add_in_place.Goals as goal
+use Rattle.kn_pages.specs.Pages.{with_item}
+use Rattle.kn_pages.proofs.PageLemmas.{shared-room}
+use Rattle.kn_pages.proofs.pages.Pages.add_in_place.Goals.{in-Ok, in-Err}
+use Rattle.kn_pages.proofs.pages.Pages.add_in_place.Goals as goal
 
 pub returns-clause-added : goal.returns-clause-added
 returns-clause-added g c =

@@ -1,26 +1,26 @@
 //! Lists in pages, which the lists that are made of them share.
 
-ghost use Rattle.std.specs.Prelude.{◌≡◌, ◌<◌, ◌≤◌, ◌+◌, [], ◌∷◌, ◌++◌, map, length, Some, IfOk, IfErr, OnOk, OnErr};
+ghost use Rattle.std.specs.Prelude.{◌≡◌, ◌<◌, ◌≤◌, ◌+◌, [], ◌∷◌, ◌++◌, length, Some, IfOk, IfErr, OnOk, OnErr};
 ghost use Rattle.std.specs.Prelude.{slice_get, slice_index_or, remove};
 ghost use Rattle.std.specs.Arc.{arc_value};
 ghost use Rattle.std.specs.List.{All};
-ghost use Rattle.std.specs.Option.{option_copied};
-ghost use Rattle.kn_store.specs.Pages.{joined, pages_of, unless_empty, with_item, without_item};
+ghost use Rattle.kn_pages.specs.Pages.{joined, pages_of, unless_empty, with_item, without_item};
 
+use crate::sharing::share_items;
 use kn_base::{List, NoMemory, Reserved};
 use std::alloc::Global;
 use std::marker::Model;
 use std::sync::Arc;
 
 /// An item of a page: what is large of it is shared, so that to copy a page is to copy pointers.
-pub(crate) trait Shareable: Drop {
-    /// The same item.
+pub trait Shareable: Drop {
+    /// The same item, which shares what is large of it.
     fn share(&self) -> Result<Self, NoMemory>
         ensures { IfOk result (λ item. item ≡ self.now) };
 }
 
 /// The items of a page.
-pub(crate) type Page<T> = List<T>;
+type Page<T> = List<T>;
 
 /// A list in pages. It is seen as the list of its pages, each of them the list of its items.
 ///
@@ -28,7 +28,7 @@ pub(crate) type Page<T> = List<T>;
 /// pointers to the closed pages and those of the last one, and the closed pages belong to both. Of these a page is
 /// copied when an item is taken out of it for the first time.
 #[derive(Drop)]
-pub(crate) struct Pages<T> {
+pub struct Pages<T> {
     /// The pages that get no more items.
     closed: List<Arc<Page<T>>>,
     /// The page behind them. It is empty only where there are no closed ones.
@@ -38,7 +38,7 @@ pub(crate) struct Pages<T> {
 impl<T> Model for Pages<T> {
     ghost use Rattle.std.specs.Prelude.{List, ◌++◌, ◌≡◌, ◌≤◌, ◌⊎◌, [], length};
     ghost use Rattle.std.specs.Coded.{coded_list};
-    ghost use Rattle.kn_store.specs.Pages.{pages_of, unless_empty};
+    ghost use Rattle.kn_pages.specs.Pages.{pages_of, unless_empty};
 
     ghost Value = { List (List T) };
 
@@ -50,7 +50,8 @@ impl<T> Model for Pages<T> {
 }
 
 impl<T: Shareable> Pages<T> {
-    pub(crate) fn empty(alloc: Global) -> Pages<T>
+    /// No pages. Takes no memory.
+    pub fn empty(alloc: Global) -> Pages<T>
         ensures { result ≡ [] }
     {
         Pages {
@@ -59,8 +60,8 @@ impl<T: Shareable> Pages<T> {
         }
     }
 
-    /// How many pages there are.
-    pub(crate) fn count(&self) -> usize
+    /// How many pages there are. None of them is looked at.
+    pub fn count(&self) -> usize
         ensures { result ≡ length self.now }
     {
         let closed = self.closed.len() as usize;
@@ -71,8 +72,8 @@ impl<T: Shareable> Pages<T> {
         }
     }
 
-    /// The items of the page at this place.
-    pub(crate) fn page(&self, page: usize) -> &[T]
+    /// The items of the page at this place, counted from 0, in one piece.
+    pub fn page(&self, page: usize) -> &[T]
         requires { page < length self.now }
         ensures { slice_get self.now page ≡ Some result.now }
     {
@@ -82,9 +83,9 @@ impl<T: Shareable> Pages<T> {
         }
     }
 
-    /// The item at a place of a page.
+    /// The item at a place of a page, both counted from 0.
     #[tactic(auto, using(crate::proofs::PageLemmas::within_page, crate::proofs::PageLemmas::item_of_page))]
-    pub(crate) fn item(&self, page: usize, place: usize) -> &T
+    pub fn item(&self, page: usize, place: usize) -> &T
         requires page { page < length self.now }
         requires place { place < length (slice_index_or self.now page []) }
         ensures { slice_get (slice_index_or self.now page []) place ≡ Some result.now }
@@ -92,16 +93,16 @@ impl<T: Shareable> Pages<T> {
         &self.page(page)[place]
     }
 
-    /// The item at place `i` of all, counted from 0.
-    pub(crate) fn get(&self, i: u32) -> &T
+    /// The item at place `i` of all, counted from 0. It is looked for page by page.
+    pub fn get(&self, i: u32) -> &T
         requires { i < length (joined self.now) }
         ensures { slice_get (joined self.now) i ≡ Some result.now }
     {
         item_at(self.closed.as_slice(), self.last.as_slice(), i as usize)
     }
 
-    /// The same list, which shares the closed pages and all items.
-    pub(crate) fn share(&self, alloc: Global) -> Result<Pages<T>, NoMemory>
+    /// The same list, which shares the closed pages and all items. Only pointers and the last page are copied.
+    pub fn share(&self, alloc: Global) -> Result<Pages<T>, NoMemory>
         ensures { IfOk result (λ pages. pages ≡ self.now) }
     {
         Ok(Pages {
@@ -112,7 +113,7 @@ impl<T: Shareable> Pages<T> {
 
     /// The list with an item at the end: on the last page, or where that has `most` items on a new one.
     #[inline(always)]
-    pub(crate) fn with_item(self, alloc: Global, most: u32, item: T) -> Result<Pages<T>, NoMemory>
+    pub fn with_item(self, alloc: Global, most: u32, item: T) -> Result<Pages<T>, NoMemory>
         requires { 1 ≤ most }
         ensures { IfOk result (λ pages. pages ≡ with_item most self item) }
     {
@@ -137,7 +138,7 @@ impl<T: Shareable> Pages<T> {
     /// Adds an item at the end of the last page where that has fewer than `most`. Else, and when out of memory, the
     /// item comes back and nothing changes.
     #[inline(always)]
-    pub(crate) fn add_in_place(&mut self, most: u32, item: T) -> Result<(), T>
+    pub fn add_in_place(&mut self, most: u32, item: T) -> Result<(), T>
         requires { 1 ≤ most }
         ensures added { OnOk result (self.new ≡ with_item most self.old item) }
         ensures kept { OnErr result (self.new ≡ self.old) }
@@ -152,8 +153,9 @@ impl<T: Shareable> Pages<T> {
         }
     }
 
-    /// The list without the item at a place of a page, and without that page where it was the only one.
-    pub(crate) fn without_item(
+    /// The list without the item at a place of a page, and without that page where it was the only one. Of a closed page
+    /// that other lists have the items are copied.
+    pub fn without_item(
         self,
         alloc: Global,
         page: usize,
@@ -277,30 +279,4 @@ fn copy_page<T: Shareable>(alloc: Global, page: &Page<T>) -> Result<Page<T>, NoM
         room.put(item.share()?);
     }
     Ok(room.finish())
-}
-
-/// A list with the same items, and room for one more.
-pub(crate) fn share_items<T: Drop>(
-    alloc: Global,
-    items: &List<Arc<T>>,
-) -> Result<List<Arc<T>>, NoMemory>
-    ensures { IfOk result (λ page. map arc_value page ≡ map arc_value items.now) }
-{
-    let mut room = Reserved::new(alloc);
-    room.reserve(items.len().saturating_add(1))?;
-    share(&mut room, items.as_slice())?;
-    Ok(room.finish())
-}
-
-/// Adds a share of each of these at the end, for which there is room.
-pub(crate) fn share<T: Drop>(room: &mut Reserved<Arc<T>>, items: &[Arc<T>]) -> Result<(), NoMemory>
-    requires room { length items.now ≤ room.old.spare }
-    ensures items { OnOk result (map arc_value room.new.items
-        ≡ map arc_value room.old.items ++ map arc_value items.now) }
-    ensures spare { OnOk result (room.old.spare ≤ room.new.spare + length items.now) }
-{
-    for item in items {
-        room.put(Arc::try_clone(item).or(Err(NoMemory))?);
-    }
-    Ok(())
 }

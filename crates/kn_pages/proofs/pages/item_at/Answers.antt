@@ -1,7 +1,7 @@
 use Rattle.std.proofs.Common.{rules, ◌∙◌}
 use Rattle.std.proofs.lemmas.Option.{slice_get_read}
-use Rattle.kn_store.proofs.PageLemmas.{item_here, item_behind, item_last}
-use Rattle.kn_store.proofs.pages.item_at.Goals as goal
+use Rattle.kn_pages.proofs.PageLemmas.{item_here, item_behind, item_last}
+use Rattle.kn_pages.proofs.pages.item_at.Goals as goal
 
 pub returns-then-left-len : goal.returns-then-left-len
 returns-then-left-len g c =

@@ -1,7 +1,7 @@
 use Rattle.std.proofs.Common.{◌≡◌, ◌<◌, ◌++◌, drop, length}
 use Rattle.std.specs.Prelude.{slice_get}
-use Rattle.kn_store.specs.Pages.{joined, pages_of}
-use Rattle.kn_store.proofs.pages.item_at.Given as goal
+use Rattle.kn_pages.specs.Pages.{joined, pages_of}
+use Rattle.kn_pages.proofs.pages.item_at.Given as goal
 
 abbrev pub invariant-loop-page : goal.invariant-loop-page
 invariant-loop-page g l = record {

@@ -1,9 +1,9 @@
 use Rattle.std.proofs.Common.{rules, ◌<◌, ◌≤◌, ◌∙◌, refl, sym, ap, subst, length}
 use Rattle.std.specs.Arc.{arc_value}
 use Rattle.std.proofs.lemmas.Option.{same_Some, slice_get_read}
-use Rattle.kn_store.specs.Pages.{pages_of}
-use Rattle.kn_store.proofs.PageLemmas.{place_on_page, place_in_copy, page_out, page_shorter}
-use Rattle.kn_store.proofs.pages.without_closed.Goals as goal
+use Rattle.kn_pages.specs.Pages.{pages_of}
+use Rattle.kn_pages.proofs.PageLemmas.{place_on_page, place_in_copy, page_out, page_shorter}
+use Rattle.kn_pages.proofs.pages.without_closed.Goals as goal
 
 pub returns-then-count-le1 : goal.returns-then-count-le1
 returns-then-count-le1 g c =

@@ -1,6 +1,6 @@
 use Rattle.std.proofs.Common.{rules, ◌∙◌, inr}
-use Rattle.kn_store.proofs.PageLemmas.{last_shorter, last_opened, last_out}
-use Rattle.kn_store.proofs.pages.without_last.Goals as goal
+use Rattle.kn_pages.proofs.PageLemmas.{last_shorter, last_opened, last_out}
+use Rattle.kn_pages.proofs.pages.without_last.Goals as goal
 
 pub returns-then-len-gt1 : goal.returns-then-len-gt1
 returns-then-len-gt1 g c = last_shorter c.args.closed c.args.last c.remove-item.new.self c.args.place c.remove-item.ensures.rest

@@ -1,7 +1,7 @@
 use Rattle.std.proofs.Common.{rules, ◌∙◌, ap}
-use Rattle.kn_store.specs.Pages.{with_item}
-use Rattle.kn_store.proofs.PageLemmas.{shared-room, shared-full}
-use Rattle.kn_store.proofs.pages.Pages.with_item.Goals as goal
+use Rattle.kn_pages.specs.Pages.{with_item}
+use Rattle.kn_pages.proofs.PageLemmas.{shared-room, shared-full}
+use Rattle.kn_pages.proofs.pages.Pages.with_item.Goals as goal
 
 pub returns-then-len-most : goal.returns-then-len-most
 returns-then-len-most g c =

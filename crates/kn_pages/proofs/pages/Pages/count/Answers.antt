@@ -1,6 +1,6 @@
 use Rattle.std.proofs.Common.{rules, ◌+◌, ◌∙◌, sym, ap, length}
-use Rattle.kn_store.proofs.PageLemmas.{shared-count}
-use Rattle.kn_store.proofs.pages.Pages.count.Goals as goal
+use Rattle.kn_pages.proofs.PageLemmas.{shared-count}
+use Rattle.kn_pages.proofs.pages.Pages.count.Goals as goal
 
 pub returns-else-is_empty : goal.returns-else-is_empty
 returns-else-is_empty g c =
