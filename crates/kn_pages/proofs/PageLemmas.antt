@@ -170,11 +170,13 @@ module _ {T : Type 0} where
       ap (λ l. pages_of closed ++ unless_empty l) is
       ∙ longer-room most (pages_of closed) last item (none_seen arc_value closed (length last) (length last) (omega arith) kept) room
 
-  pub shared-full : (most : ℕ) (closed after : List (Arc (List T) Global)) (last : List T) (full : Arc (List T) Global) (opened : List T) (item : T)
-      → 1 ≤ most → most ≤ length last → after ≡ closed ++ full ∷ [] → arc_value full ≡ last → opened ≡ item ∷ []
+  pub shared-full : (most : ℕ) (closed after : List (Arc (List T) Global)) (last opened : List T) (item : T) → 1 ≤ most → most ≤ length last
+      → pages_of after ≡ pages_of closed ++ last ∷ [] → opened ≡ item ∷ []
       → pages_of after ++ unless_empty opened ≡ with_item most (pages_of closed ++ unless_empty last) item
-  shared-full most closed after last full opened item some all is value begun =
-      seen-full arc_value most closed after last full opened item some all is value begun
+  shared-full most closed after last opened item some full is begun =
+      ap (λ l. l ++ unless_empty opened) is
+      ∙ ap (λ l. (pages_of closed ++ last ∷ []) ++ unless_empty l) begun
+      ∙ longer-full most (pages_of closed) last item some full
 
   pub shared-same : (closed other : List (Arc (List T) Global)) (last copy : List T) → map arc_value other ≡ map arc_value closed
       → copy ≡ last → pages_of other ++ unless_empty copy ≡ pages_of closed ++ unless_empty last

@@ -10,6 +10,7 @@ use crate::sharing::share_items;
 use kn_base::{List, NoMemory, Reserved};
 use std::alloc::Global;
 use std::marker::Model;
+use std::mem;
 use std::sync::Arc;
 
 /// An item of a page: what is large of it is shared, so that to copy a page is to copy pointers.
@@ -111,45 +112,28 @@ impl<T: Shareable> Pages<T> {
         })
     }
 
-    /// The list with an item at the end: on the last page, or where that has `most` items on a new one.
+    /// Adds an item at the end: on the last page, or where that has `most` items on a new one, which has room for as many.
     #[inline(always)]
-    pub fn with_item(self, alloc: Global, most: u32, item: T) -> Result<Pages<T>, NoMemory>
-        requires { 1 ≤ most }
-        ensures { IfOk result (λ pages. pages ≡ with_item most self item) }
-    {
-        let Pages {
-            mut closed,
-            mut last,
-        } = self;
-        if last.len() < most {
-            last.add(item)?;
-            return Ok(Pages { closed, last });
-        }
-        let Ok(full) = Arc::new(alloc, last) else {
-            return Err(NoMemory);
-        };
-        closed.add(full)?;
-        Ok(Pages {
-            closed,
-            last: begin_page(alloc, most, item)?,
-        })
-    }
-
-    /// Adds an item at the end of the last page where that has fewer than `most`. Else, and when out of memory, the
-    /// item comes back and nothing changes.
-    #[inline(always)]
-    pub fn add_in_place(&mut self, most: u32, item: T) -> Result<(), T>
+    pub fn add(&mut self, alloc: Global, most: u32, item: T) -> Result<(), NoMemory>
         requires { 1 ≤ most }
         ensures added { OnOk result (self.new ≡ with_item most self.old item) }
         ensures kept { OnErr result (self.new ≡ self.old) }
-        ensures back { IfErr result (λ back. back ≡ item) }
     {
-        if self.last.len() >= most {
-            return Err(item);
+        if self.last.len() < most {
+            return self.last.add(item);
         }
-        match self.last.push(item) {
-            Ok(()) => Ok(()),
-            Err((back, NoMemory)) => Err(back),
+        let opened = begin_page(alloc, most, item)?;
+        let closed = mem::replace(&mut self.closed, List::new(alloc));
+        match close(alloc, closed, mem::replace(&mut self.last, opened)) {
+            Ok(closed) => {
+                self.closed = closed;
+                Ok(())
+            }
+            Err((closed, last)) => {
+                self.closed = closed;
+                self.last = last;
+                Err(NoMemory)
+            }
         }
     }
 
@@ -201,6 +185,28 @@ fn begin_page<T: Drop>(alloc: Global, most: u32, item: T) -> Result<Page<T>, NoM
     room.reserve(most)?;
     room.put(item);
     Ok(room.finish())
+}
+
+/// These closed pages and the last one, which is closed. When out of memory, both come back.
+fn close<T: Drop>(
+    alloc: Global,
+    closed: List<Arc<Page<T>>>,
+    last: Page<T>,
+) -> Result<List<Arc<Page<T>>>, (List<Arc<Page<T>>>, Page<T>)>
+    ensures added { IfOk result (λ pages. pages_of pages ≡ pages_of closed ++ last ∷ []) }
+    ensures closed_back { IfErr result (λ back. back.0 ≡ closed) }
+    ensures last_back { IfErr result (λ back. back.1 ≡ last) }
+{
+    match closed.reserve(1) {
+        Err((closed, NoMemory)) => Err((closed, last)),
+        Ok(mut room) => match Arc::new(alloc, last) {
+            Err(failed) => Err((room.finish(), failed.value)),
+            Ok(full) => {
+                room.put(full);
+                Ok(room.finish())
+            }
+        },
+    }
 }
 
 /// These closed pages and the last one without the item at a place of it. Where it was the only one, the page in front

@@ -1,7 +1,7 @@
 //! The live credentials with what is counted beside them.
 
 ghost use Rattle.std.specs.Prelude.{◌≡◌, ◌<◌, ◌≤◌, ◌+◌, true, false, [], length, None, Some, slice_get};
-ghost use Rattle.std.specs.Prelude.{IfOk, IfErr, OnOk, MatchOption};
+ghost use Rattle.std.specs.Prelude.{IfOk, IfErr, OnOk, OnErr, MatchOption};
 ghost use Rattle.kn_base.specs.declared.limits.TheConstants.{LIVE_CREDENTIALS as MOST_CREDENTIALS};
 ghost use Rattle.kn_base.specs.declared.limits.TheConstants.{LIVE_BYTES as MOST_BYTES, UPDATES as MOST_UPDATES};
 ghost use Rattle.kn_history.specs.Batches.{item_reads};
@@ -142,41 +142,6 @@ impl LiveSet {
         })
     }
 
-    /// These and one more, which has the next id and a text of this size. It begins a page where the last has `most`.
-    #[inline(always)]
-    pub(crate) fn with_addition(
-        self,
-        alloc: Global,
-        most: u32,
-        credential: LiveCredential,
-        size: u32,
-    ) -> Result<LiveSet, NoMemory>
-        requires some { 1 ≤ most }
-        requires few { most ≤ CREDENTIALS_PAGE }
-        requires size { size ≡ length credential.text }
-        requires accepted { refusal_of_size self (length credential.text) ≡ None }
-        requires next { credential.id ≡ self.added + 1 }
-        ensures ok { IfOk result (λ set. set ≡ with_addition self credential.text) }
-    {
-        let added = self.added + 1;
-        let LiveSet {
-            pages,
-            count,
-            bytes,
-            changes,
-            logged,
-            added: _,
-        } = self;
-        Ok(LiveSet {
-            pages: pages.with_item(alloc, most, credential)?,
-            count: count + 1,
-            bytes: bytes + size,
-            changes: changes + 1,
-            logged: logged + size,
-            added,
-        })
-    }
-
     /// Makes the change of an item, and gives it. Where it is refused, what is left isn't told.
     #[inline(always)]
     pub(crate) fn enter(&mut self, alloc: Global, item: Item) -> Result<Numbered, StoreFault>
@@ -194,7 +159,7 @@ impl LiveSet {
                 }
                 let id = self.next_id();
                 let (credential, text) = LiveCredential::of(ready, id);
-                self.add(alloc, credential, size as u32)?;
+                self.add(alloc, CREDENTIALS_PAGE, credential, size as u32)?;
                 let change = Change::Add(text);
                 Ok(Numbered { change, id })
             }
@@ -206,42 +171,29 @@ impl LiveSet {
         }
     }
 
-    /// Adds one, which has the next id and a text of this size: in place, but where it begins a page.
+    /// Adds one, which has the next id and a text of this size. It begins a page where the last has `most`.
     #[inline(always)]
-    fn add(&mut self, alloc: Global, credential: LiveCredential, size: u32) -> Result<(), NoMemory>
-        requires size { size ≡ length credential.text }
-        requires accepted { refusal_of_size self.old (length credential.text) ≡ None }
-        requires next { credential.id ≡ self.old.added + 1 }
-        ensures ok { OnOk result (self.new ≡ with_addition self.old credential.text) }
-    {
-        match self.pages.add_in_place(CREDENTIALS_PAGE, credential) {
-            Ok(()) => {
-                self.count += 1;
-                self.bytes += size;
-                self.changes += 1;
-                self.logged += size;
-                self.added += 1;
-                Ok(())
-            }
-            Err(credential) => self.add_page(alloc, credential, size),
-        }
-    }
-
-    /// Adds one as `add` does, by the list of all pages.
-    #[inline(never)]
-    fn add_page(
+    pub(crate) fn add(
         &mut self,
         alloc: Global,
+        most: u32,
         credential: LiveCredential,
         size: u32,
     ) -> Result<(), NoMemory>
+        requires some { 1 ≤ most }
+        requires few { most ≤ CREDENTIALS_PAGE }
         requires size { size ≡ length credential.text }
         requires accepted { refusal_of_size self.old (length credential.text) ≡ None }
         requires next { credential.id ≡ self.old.added + 1 }
         ensures ok { OnOk result (self.new ≡ with_addition self.old credential.text) }
+        ensures kept { OnErr result (self.new ≡ self.old) }
     {
-        let former = mem::replace(self, LiveSet::empty(alloc));
-        *self = former.with_addition(alloc, CREDENTIALS_PAGE, credential, size)?;
+        self.pages.add(alloc, most, credential)?;
+        self.count += 1;
+        self.bytes += size;
+        self.changes += 1;
+        self.logged += size;
+        self.added += 1;
         Ok(())
     }
 

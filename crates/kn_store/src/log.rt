@@ -116,9 +116,10 @@ impl LogPage {
         ensures { IfOk result (λ page. page ≡ self ++ update ∷ []) }
     {
         let update = LoggedUpdate::of(alloc, update)?;
-        let LogPage { blocks, count } = self;
+        let LogPage { mut blocks, count } = self;
+        blocks.add(alloc, UPDATES_BLOCK, update)?;
         Ok(LogPage {
-            blocks: blocks.with_item(alloc, UPDATES_BLOCK, update)?,
+            blocks,
             count: count + 1,
         })
     }

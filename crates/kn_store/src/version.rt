@@ -184,11 +184,11 @@ impl Version {
         let (credential, text) = LiveCredential::of(ready, id);
         let update = addition(alloc, caller, text, id)?;
         let Version {
-            live,
+            mut live,
             updates,
             number: _,
         } = self;
-        let live = live.with_addition(alloc, most, credential, size as u32)?;
+        live.add(alloc, most, credential, size as u32)?;
         let updates = updates.with_update(alloc, update)?;
         Ok((
             Version {
