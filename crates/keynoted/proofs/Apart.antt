@@ -2,7 +2,7 @@
 use Rattle.std.proofs.Common.{◌≡◌, ℕ, List, [], ◌∷◌, sym, ap, ◌∙◌, arith, get_or, Option, Some, None}
 use Rattle.std.specs.Prelude.{codes, slice_get, All}
 use Rattle.std.specs.Str.{IsUtf8}
-use Rattle.kn_commands.specs.Names.{AskNames, CheckNames, VerifyNames}
+use Rattle.kn_endings.specs.Names.{AskNames, CheckNames, VerifyNames}
 use Rattle.kn_commands.specs.declared.generating.GenNumbers.{GenNumbers}
 use Rattle.keynoted.specs.Commands.{AskFor, CheckFor, FollowFor, GenFor, ServeFor, VerifyFor, IsNo, IsNoCommand}
 

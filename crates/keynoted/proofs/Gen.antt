@@ -10,7 +10,7 @@ use Rattle.kn_generate.specs.declared.query.Measured.{Measured}
 use Rattle.kn_generate.specs.Generated.{generated_query, generated_values}
 use Rattle.kn_generate.specs.Measured.{IsMeasured}
 use Rattle.kn_outside.specs.Seen.{LinkSeen}
-use Rattle.kn_commands.specs.Generating.{gen_line}
+use Rattle.kn_endings.specs.GenLine.{gen_line}
 use Rattle.kn_commands.specs.declared.generating.GenNumbers.{GenNumbers}
 use Rattle.kn_workers.specs.Connections.{ServedSeen}
 use Rattle.kn_workers.specs.Doors.{DoorSeen}

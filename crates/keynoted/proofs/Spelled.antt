@@ -5,7 +5,7 @@ use Rattle.std.specs.Prelude.{◌==◌, not, codes, slice_get, option_to_list}
 use Rattle.std.specs.Str.{bytes_eq}
 use Rattle.std.proofs.lemmas.Bool.{cases_Bool}
 use Rattle.std.proofs.lemmas.Slice.Eq.{bytes_eq-Decides}
-use Rattle.kn_commands.specs.Names.{AskNames, ask_order, CheckNames, in_order, VerifyNames, verify_order}
+use Rattle.kn_endings.specs.Names.{AskNames, ask_order, CheckNames, in_order, VerifyNames, verify_order}
 
 -- a word that doesn't differ from a text is that text
 pub same_word : (first given text literal : List ℕ) (differs : Bool) → given ≡ first → text ≡ literal

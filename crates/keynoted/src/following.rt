@@ -1,11 +1,11 @@
 //! The words of `follow`, and how it ends.
 ghost use Rattle.std.specs.Prelude.{IfSome, IfNone};
-ghost use Rattle.kn_commands.specs.Following.{line_of_follow, status_of_follow};
+ghost use Rattle.kn_endings.specs.FollowEndings.{line_of_follow, status_of_follow};
 ghost use Rattle.keynoted.specs.Commands.{FollowFor, IsNo};
 ghost use Rattle.keynoted.specs.Outcomes.{IsPrintedOrCut};
 
 use kn_base::Octets;
-use kn_commands::{FollowEnding, print_follow};
+use kn_endings::{FollowEnding, print_follow};
 use kn_outside::{Failed, Sink};
 
 /// The file, where the words are `follow` and one more.

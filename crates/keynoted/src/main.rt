@@ -12,7 +12,7 @@ mod words;
 
 use crate::idle::{IdleFault, idle_timeout};
 use kn_base::NoMemory;
-use kn_commands::Stop;
+use kn_endings::Stop;
 use kn_outside::Passing;
 use kn_real::{RealFiles, StdLink, StdOut};
 use kn_tcp::TcpNet;

@@ -1,8 +1,8 @@
 //! The program over whatever files, link and output it is given.
 ghost use Rattle.std.specs.Prelude.{◌≡◌, [], IfSome, IfNone, None, option_map, slice_get};
-ghost use Rattle.kn_commands.specs.Stopping.{stop_line, status_of};
-ghost use Rattle.kn_commands.specs.Asking.{line_of_ask, status_of_ask};
-ghost use Rattle.kn_commands.specs.Checking.{line_of_ending, status_of_ending};
+ghost use Rattle.kn_endings.specs.Stops.{stop_line, status_of};
+ghost use Rattle.kn_endings.specs.AskEndings.{line_of_ask, status_of_ask};
+ghost use Rattle.kn_endings.specs.CheckEndings.{line_of_ending, status_of_ending};
 ghost use Rattle.keynoted.specs.Commands.{AskFor, CheckFor, IsNo};
 ghost use Rattle.keynoted.specs.Outcomes.{IsPrintedOrCut, IsEnded};
 ghost use Rattle.keynoted.specs.Specified.{IsRun};
@@ -12,9 +12,9 @@ use crate::generating::{gen_numbers, run_gen};
 use crate::run_service::{asks_to_serve, run_service};
 use crate::verifying::{end_verify, verify_files};
 use kn_base::Octets;
-use kn_commands::{
-    AskEnding, AskFiles, CheckFiles, Ending, Stop, ask, check, follow, print_ask, print_ending,
-    print_line, verify,
+use kn_commands::{ask, check, follow, verify};
+use kn_endings::{
+    AskEnding, AskFiles, CheckFiles, Ending, Stop, print_ask, print_ending, print_line,
 };
 use kn_follow::laws::one_ending;
 use kn_outside::{Failed, Files, Gate, Link, Sink};

@@ -1,11 +1,11 @@
 //! The words of `verify`, and how it ends.
 ghost use Rattle.std.specs.Prelude.{IfSome, IfNone};
-ghost use Rattle.kn_commands.specs.Verifying.{line_of_verify, status_of_verify};
+ghost use Rattle.kn_endings.specs.VerifyEndings.{line_of_verify, status_of_verify};
 ghost use Rattle.keynoted.specs.Commands.{VerifyFor, IsNo};
 ghost use Rattle.keynoted.specs.Outcomes.{IsPrintedOrCut};
 
 use kn_base::Octets;
-use kn_commands::{VerifyEnding, VerifyFiles, print_verify};
+use kn_endings::{VerifyEnding, VerifyFiles, print_verify};
 use kn_outside::{Failed, Sink};
 
 /// The files, where the words are `verify` and three more.

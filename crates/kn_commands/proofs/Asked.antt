@@ -16,16 +16,17 @@ use Rattle.kn_daemon.specs.declared.ended.Ended.{Ended}
 use Rattle.kn_daemon.specs.declared.ended.Ended.TheVariants as E
 use Rattle.kn_registry.specs.Passes.{PassSeen, IsSoundPass}
 use Rattle.kn_serve.specs.Serving.{Serves, is_over, IsOrderly, IsFaultless}
-use Rattle.kn_commands.specs.declared.stop.Stop.{Stop}
-use Rattle.kn_commands.specs.declared.stop.Stop.TheVariants.{Words, FileFailed, FileTooLarge, Policy, Limit, KeyLine, Memory}
-use Rattle.kn_commands.specs.Names.{AskNames}
+use Rattle.kn_endings.specs.declared.stop.Stop.{Stop}
+use Rattle.kn_endings.specs.declared.stop.Stop.TheVariants.{Words, FileFailed, FileTooLarge, Policy, Limit, KeyLine, Memory}
+use Rattle.kn_endings.specs.Names.{AskNames}
+use Rattle.kn_endings.specs.Stops.{stop_of}
 use Rattle.kn_commands.specs.Held.{HasContent, IsPolicy, AreKeys, IsFileRead}
 use Rattle.kn_load.specs.Loaded.{StopsLoading}
 use Rattle.kn_load.specs.declared.fault.LoadFault.{LoadFault}
 use Rattle.kn_load.specs.declared.fault.LoadFault.TheVariants as L
 use Rattle.kn_history.specs.declared.fault.StoreFault.TheVariants as F
 use Rattle.kn_load.proofs.Alone.{alone}
-use Rattle.kn_commands.specs.Stopping.{IsUnread, stop_of}
+use Rattle.kn_commands.specs.Stopping.{IsUnread}
 use Rattle.kn_commands.specs.Asking.{IsLinkServed, IsLinkAnswered, StopsAtPolicy, StopsAtKeys, AreKeysStopped, grounds_of}
 use Rattle.kn_commands.proofs.Files.{content_there, too_large_there, keeps_content, asked_both, failed_behind, asked_nothing}
 

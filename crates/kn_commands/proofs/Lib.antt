@@ -1,8 +1,4 @@
 pub mod Files
-pub mod Printed
-pub mod Told
-pub mod Lines
-pub mod GenLines
 pub mod GenLoads
 pub mod Reached
 pub mod Asked

@@ -5,11 +5,11 @@ use Rattle.kn_outside.specs.Asked.{HasAsked}
 use Rattle.kn_files.specs.Pieces.{pieces_of}
 use Rattle.kn_history.specs.declared.update.Update.{Update}
 use Rattle.kn_history.specs.History.{loaded_history}
-use Rattle.kn_commands.specs.declared.stop.Stop.{Stop}
-use Rattle.kn_commands.specs.declared.stop.Stop.TheVariants.{Words, FileFailed, FileTooLarge, Policy, Limit, KeyLine}
-use Rattle.kn_commands.specs.declared.stop.Stop.TheVariants.{Memory}
+use Rattle.kn_endings.specs.declared.stop.Stop.{Stop}
+use Rattle.kn_endings.specs.declared.stop.Stop.TheVariants.{Words, FileFailed, FileTooLarge, Policy, Limit, KeyLine}
+use Rattle.kn_endings.specs.declared.stop.Stop.TheVariants.{Memory}
+use Rattle.kn_endings.specs.Names.{VerifyNames}
 use Rattle.kn_commands.specs.Held.{HasContent, IsPolicy}
-use Rattle.kn_commands.specs.Names.{VerifyNames}
 use Rattle.kn_commands.specs.Stopping.{IsUnread}
 use Rattle.kn_commands.specs.Verifying.{StopsAtFile, IsTranscriptRead}
 use Rattle.kn_commands.proofs.Files.{content_there, too_large_there, keeps_content, asked_both, failed_behind}

@@ -1,6 +1,5 @@
--- How serving a link over a policy ends: its status, the line that tells it, and what it leaves (keynoted's own).
-use Rattle.std.specs.Prelude.{ℕ, ◌≡◌, ◌⊎◌, List, [], ◌∷◌, ◌++◌, codes, decimal, Some, IfSome, length}
-use Rattle.std.specs.Option.{unwrap_or}
+-- Why serving a link over a policy ends, and what it leaves (keynoted's own).
+use Rattle.std.specs.Prelude.{ℕ, ◌≡◌, ◌⊎◌, List, [], ◌∷◌, ◌++◌, Some, IfSome, length}
 use Rattle.kn_outside.specs.Seen.{FilesSeen, LinkSeen}
 use Rattle.kn_outside.specs.Asked.{HasAsked, HasFailed}
 use Rattle.kn_outside.specs.Told.{more, before}
@@ -17,13 +16,13 @@ use Rattle.kn_daemon.specs.Served.{IsServed}
 use Rattle.kn_daemon.specs.declared.ended.Ended.{Ended}
 use Rattle.kn_daemon.specs.declared.ended.Ended.TheVariants as E
 use Rattle.kn_serve.specs.Serving.{is_over, HasCause, IsOrderly, IsFaultless}
-use Rattle.kn_commands.specs.Names.{AskNames, ask_order}
+use Rattle.kn_endings.specs.Names.{AskNames, ask_order}
+use Rattle.kn_endings.specs.declared.stop.Stop.{Stop}
+use Rattle.kn_endings.specs.declared.stop.Stop.TheVariants.{FileFailed, FileTooLarge, Policy, Limit, KeyLine, Memory}
+use Rattle.kn_endings.specs.declared.ask_ending.AskEnding.{AskEnding}
+use Rattle.kn_endings.specs.declared.ask_ending.AskEnding.TheVariants.{PolicyStopped, KeysStopped, Served}
 use Rattle.kn_commands.specs.Held.{HasContent, IsTooLarge, IsPolicy, AreKeys, IsFileRead}
-use Rattle.kn_commands.specs.Stopping.{IsLimitAt, status_of, stop_line}
-use Rattle.kn_commands.specs.declared.stop.Stop.{Stop}
-use Rattle.kn_commands.specs.declared.stop.Stop.TheVariants.{FileFailed, FileTooLarge, Policy, Limit, KeyLine, Memory}
-use Rattle.kn_commands.specs.declared.ask_ending.AskEnding.{AskEnding}
-use Rattle.kn_commands.specs.declared.ask_ending.AskEnding.TheVariants.{PolicyStopped, KeysStopped, Served}
+use Rattle.kn_commands.specs.Stopping.{IsLimitAt}
 
 -- what a connection is served with: the secret and the verdicts of a key file
 abbrev pub grounds_of : KeyFile → Grounds
@@ -88,37 +87,3 @@ abbrev pub AskCause : FilesSeen → FilesSeen → LinkSeen → LinkSeen → AskN
 AskCause f f' o o' names (PolicyStopped stop) = StopsAtPolicy f f' names.policy stop × (o' ≡ o)
 AskCause f f' o o' names (KeysStopped stop) = AreKeysStopped f f' names stop × (o' ≡ o)
 AskCause f f' o o' names (Served ended) = IsLinkAnswered f f' o o' names ended
-
-abbrev pub status_of_ended : Ended → ℕ
-status_of_ended E.Done = 0
-status_of_ended E.Memory = 5
-status_of_ended ended = 4
-
-abbrev pub status_of_ask : AskEnding → ℕ
-status_of_ask (PolicyStopped stop) = status_of stop
-status_of_ask (KeysStopped stop) = status_of stop
-status_of_ask (Served ended) = status_of_ended ended
-
--- the line that tells that the input ended while so many bytes of an unfinished request were held
-unfoldable pub cut_line : ℕ → List ℕ
-cut_line held = codes "error link cut " ++ decimal held ++ codes "\n"
-
--- the line that tells that a block of so many bytes was refused
-unfoldable pub block_line : ℕ → List ℕ
-block_line n = codes "error link block " ++ decimal n ++ codes "\n"
-
--- the line that tells how a connection ended; where it is done there is none
-abbrev pub line_of_ended : Ended → List ℕ
-line_of_ended E.Done = []
-line_of_ended E.Memory = codes "error memory\n"
-line_of_ended E.ReadFault = codes "error link read\n"
-line_of_ended E.WriteFault = codes "error link write\n"
-line_of_ended (E.Cut held) = cut_line held
-line_of_ended (E.Block n) = block_line n
-line_of_ended E.Budget = codes "error link budget\n"
-
--- the line that is due
-abbrev pub line_of_ask : AskNames → AskEnding → List ℕ
-line_of_ask names (PolicyStopped stop) = stop_line names.policy stop
-line_of_ask names (KeysStopped stop) = stop_line (unwrap_or names.keys []) stop
-line_of_ask names (Served ended) = line_of_ended ended

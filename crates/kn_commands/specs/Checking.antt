@@ -1,11 +1,10 @@
--- How checking a reply ends: its status, the line that tells it, and what it leaves (keynoted's own).
-use Rattle.std.specs.Prelude.{ℕ, ◌≡◌, ◌⊎◌, List, ◌++◌, length, take, codes, decimal, Some}
+-- Why checking a reply ends, and what it leaves (keynoted's own).
+use Rattle.std.specs.Prelude.{ℕ, ◌≡◌, ◌⊎◌, List, length, take, Some}
 use Rattle.kn_outside.specs.Seen.{FilesSeen}
 use Rattle.kn_outside.specs.Asked.{HasAsked, HasFailed}
 use Rattle.kn_files.specs.Pieces.{pieces_of}
 use Rattle.kn_proof.specs.declared.reply.ReadReply.{ReadReply}
 use Rattle.kn_check.specs.declared.reject.Reject.{Reject}
-use Rattle.kn_check.specs.Rejects.{reason_numbers}
 use Rattle.kn_history.specs.History.{loaded_history}
 use Rattle.kn_history.specs.Loading.{IsFaultyAt}
 use Rattle.kn_session.specs.Sessions.{Session}
@@ -15,16 +14,17 @@ use Rattle.kn_proof.specs.declared.fault.ProofFault.{ProofFault}
 use Rattle.kn_proof.specs.declared.fault.ProofFault.TheVariants as F
 use Rattle.kn_proof.specs.Reading.{IsReplyText, IsFirstFault, fault_number, fault_line}
 use Rattle.kn_verify.specs.Verdicts.{IsReplyTo, IsProved, IsUnproved}
-use Rattle.kn_commands.specs.declared.stop.Stop.{Stop}
-use Rattle.kn_commands.specs.declared.stop.Stop.TheVariants.{Words, FileFailed, FileTooLarge, Limit, KeyLine, Memory}
-use Rattle.kn_commands.specs.declared.stop.Stop.TheVariants as S
-use Rattle.kn_commands.specs.declared.ending.Source.{Source}
-use Rattle.kn_commands.specs.declared.ending.Source.TheVariants.{Policy, Script as TheScript, Reply}
-use Rattle.kn_commands.specs.declared.ending.Ending.{Ending}
-use Rattle.kn_commands.specs.declared.ending.Ending.TheVariants.{Stopped, NoQuery, Faulty, Rejected, Proved}
-use Rattle.kn_commands.specs.Names.{CheckNames, in_order}
+use Rattle.kn_endings.specs.declared.stop.Stop.{Stop}
+use Rattle.kn_endings.specs.declared.stop.Stop.TheVariants.{Words, FileFailed, FileTooLarge, Limit, KeyLine, Memory}
+use Rattle.kn_endings.specs.declared.stop.Stop.TheVariants as S
+use Rattle.kn_endings.specs.declared.ending.Source.{Source}
+use Rattle.kn_endings.specs.declared.ending.Source.TheVariants.{Policy, Script as TheScript, Reply}
+use Rattle.kn_endings.specs.declared.ending.Ending.{Ending}
+use Rattle.kn_endings.specs.declared.ending.Ending.TheVariants.{Stopped, NoQuery, Faulty, Rejected, Proved}
+use Rattle.kn_endings.specs.Names.{CheckNames, in_order}
+use Rattle.kn_endings.specs.CheckEndings.{name_of}
 use Rattle.kn_commands.specs.Held.{HasContent, IsTooLarge, IsPolicy, IsFileRead}
-use Rattle.kn_commands.specs.Stopping.{IsLimitAt, stop_line, status_of}
+use Rattle.kn_commands.specs.Stopping.{IsLimitAt}
 
 -- the files hold a policy, and a script that means this query over it
 pub record HasQuery (f : FilesSeen) (names : CheckNames) (session : Session) (values : List (List ℕ)) : Type 0 where
@@ -41,12 +41,6 @@ pub record HasNoQuery (f : FilesSeen) (names : CheckNames) : Type 0 where
   pub script : List ℕ
   pub content : HasContent f names.script script
   pub none : (session : Session) (values : List (List ℕ)) → ¬ Means (loaded_history (pieces_of bytes)) script session values
-
--- the name of a file
-abbrev pub name_of : CheckNames → Source → List ℕ
-name_of names Policy = names.policy
-name_of names TheScript = names.script
-name_of names Reply = names.reply
 
 -- how many files were asked for before this one
 abbrev pub count_before : Source → ℕ
@@ -157,30 +151,3 @@ CheckCause f f' names NoQuery = HasAsked (take 2 (in_order names)) f f' × HasNo
 CheckCause f f' names (Faulty fault line) = IsShown f f' names (Faulty fault line)
 CheckCause f f' names (Rejected reject) = IsShown f f' names (Rejected reject)
 CheckCause f f' names (Proved value name) = IsShown f f' names (Proved value name)
-
-abbrev pub status_of_ending : Ending → ℕ
-status_of_ending (Stopped source stop) = status_of stop
-status_of_ending NoQuery = 10
-status_of_ending (Faulty fault line) = 6
-status_of_ending (Rejected reject) = 6
-status_of_ending (Proved value name) = 0
-
--- the line that tells a fault in the text of a reply
-unfoldable pub text_line : ℕ → ℕ → List ℕ
-text_line fault line = codes "error proof text " ++ decimal fault ++ codes " " ++ decimal line ++ codes "\n"
-
--- the line that tells why rows are no proof
-unfoldable pub reject_line : Reject → List ℕ
-reject_line reject =
-    codes "error proof reject " ++ decimal (reason_numbers reject).0 ++ codes " " ++ decimal (reason_numbers reject).1 ++ codes " " ++ decimal (reason_numbers reject).2 ++ codes "\n"
-
-unfoldable pub proved_line : ℕ → List ℕ → List ℕ
-proved_line value name = codes "PROVED " ++ decimal value ++ codes " " ++ name ++ codes "\n"
-
--- the line that is due
-abbrev pub line_of_ending : CheckNames → Ending → List ℕ
-line_of_ending names (Stopped source stop) = stop_line (name_of names source) stop
-line_of_ending names NoQuery = codes "error query\n"
-line_of_ending names (Faulty fault line) = text_line fault line
-line_of_ending names (Rejected reject) = reject_line reject
-line_of_ending names (Proved value name) = proved_line value name

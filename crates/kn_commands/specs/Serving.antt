@@ -1,5 +1,5 @@
--- How serving the connections of an address ends: its status, the line that tells it, and what it leaves (keynoted's own).
-use Rattle.std.specs.Prelude.{ℕ, ◌≡◌, true, false, List, [], ◌++◌, codes, decimal, length, Some, unwrap_or}
+-- Why serving the connections of an address ends, and what it leaves (keynoted's own).
+use Rattle.std.specs.Prelude.{ℕ, ◌≡◌, true, false, List, length, Some}
 use Rattle.kn_outside.specs.Seen.{FilesSeen, LinkSeen}
 use Rattle.kn_outside.specs.Faults.{Rose}
 use Rattle.kn_history.specs.declared.update.Update.{Update}
@@ -11,16 +11,10 @@ use Rattle.kn_workers.specs.Connections.{ServedSeen}
 use Rattle.kn_workers.specs.Doors.{DoorSeen}
 use Rattle.kn_workers.specs.Nets.{NetSeen, AreBound, with_faults}
 use Rattle.kn_workers.specs.Workers.{AllServed}
-use Rattle.kn_commands.specs.Names.{AskNames}
-use Rattle.kn_commands.specs.Stopping.{status_of, stop_line}
+use Rattle.kn_endings.specs.Names.{Order}
+use Rattle.kn_endings.specs.declared.serve_ending.ServeEnding.{ServeEnding}
+use Rattle.kn_endings.specs.declared.serve_ending.ServeEnding.TheVariants.{PolicyStopped, KeysStopped, BindMemory, Unbound, WorkMemory, DoorFailed, Served}
 use Rattle.kn_commands.specs.Asking.{RunsOver, StopsAtPolicy, AreKeysStopped}
-use Rattle.kn_commands.specs.declared.serve_ending.ServeEnding.{ServeEnding}
-use Rattle.kn_commands.specs.declared.serve_ending.ServeEnding.TheVariants.{PolicyStopped, KeysStopped, BindMemory, Unbound, WorkMemory, DoorFailed, Served}
-
--- what a service is asked to do: the files that it is given by, and the address with its workers and its connections
-pub record Order : Type 0 where
-  pub files : AskNames
-  pub binding : Binding
 
 module _ {C R : Type 0} (door : R → DoorSeen (ServedSeen C)) (link : C → LinkSeen) where
   -- The address was bound, which gave these doors, and as many came back. The net's count is then its own and theirs.
@@ -65,26 +59,3 @@ module _ {C R : Type 0} (door : R → DoorSeen (ServedSeen C)) (link : C → Lin
   ServeCause f f' n n' order (PolicyStopped stop) = StopsAtPolicy f f' order.files.policy stop × (n' ≡ n)
   ServeCause f f' n n' order (KeysStopped stop) = AreKeysStopped f f' order.files stop × (n' ≡ n)
   ServeCause f f' n n' order ending = IsServiceRun f f' n n' order ending
-
-abbrev pub status_of_serve : ServeEnding → ℕ
-status_of_serve (PolicyStopped stop) = status_of stop
-status_of_serve (KeysStopped stop) = status_of stop
-status_of_serve BindMemory = 5
-status_of_serve Unbound = 7
-status_of_serve WorkMemory = 5
-status_of_serve DoorFailed = 7
-status_of_serve (Served finished version) = 0
-
--- the line that tells how many connections were served, and the last version
-unfoldable pub served_line : ℕ → ℕ → List ℕ
-served_line finished version = codes "served " ++ decimal finished ++ codes " version " ++ decimal version ++ codes "\n"
-
--- the line that is due
-abbrev pub line_of_serve : Order → ServeEnding → List ℕ
-line_of_serve order (PolicyStopped stop) = stop_line order.files.policy stop
-line_of_serve order (KeysStopped stop) = stop_line (unwrap_or order.files.keys []) stop
-line_of_serve order BindMemory = codes "error memory\n"
-line_of_serve order Unbound = codes "error listener\n"
-line_of_serve order WorkMemory = codes "error memory\n"
-line_of_serve order DoorFailed = codes "error listener\n"
-line_of_serve order (Served finished version) = served_line finished version

@@ -9,37 +9,18 @@ ghost use Rattle.kn_commands.specs.Held.{IsPolicy, AreKeys};
 ghost use Rattle.kn_load.specs.Loaded.{IsLoaded};
 ghost use Rattle.kn_commands.specs.Asking.{AskCause, IsLinkServed, StopsAtKeys, grounds_of};
 
-use crate::ask_ending::AskEnding;
 use crate::content::read_file;
-use crate::stop::Stop;
 use kn_auth::{KeyFault, KeyFile, read_keys};
 use kn_daemon::laws::served_alone;
+use kn_endings::{AskEnding, AskFiles, Stop};
 use kn_load::load_file;
 use kn_outside::{Files, Gate, Link};
 use kn_registry::{Pass, Registry};
 use kn_serve::{Ended, serve_connection};
 use std::alloc::Global;
-use std::marker::Model;
 use std::mem;
 use std::sync::Wait;
 use std::thread::Threads;
-
-/// The files of `ask`, by their names.
-#[derive(Drop)]
-pub struct AskFiles<'a> {
-    pub policy: &'a [u8],
-    /// The key file, if there is one.
-    pub keys: Option<&'a [u8]>,
-}
-
-impl<'a> Model for AskFiles<'a> {
-    ghost use Rattle.std.specs.Prelude.{option_map};
-    ghost use Rattle.kn_commands.specs.Names.{AskNames};
-
-    ghost Value = { AskNames };
-
-    ghost view = { λ f. record { policy = f.policy.now; keys = option_map (λ k. k.now) f.keys } };
-}
 
 /// Serves the link over the policy in a file, with the secret and the keys of the key file, and tells how that ends.
 ///

@@ -6,15 +6,14 @@ ghost use Rattle.kn_outside.specs.Seen.{FilesSeen};
 ghost use Rattle.kn_outside.specs.Asked.{HasAsked};
 ghost use Rattle.kn_session.specs.Sessions.{Session, session_in};
 ghost use Rattle.kn_session.specs.Views.{session_of_view, AreReadPrivates, ArePrivates};
+ghost use Rattle.kn_endings.specs.Names.{in_order};
 ghost use Rattle.kn_commands.specs.Held.{HasContent};
-ghost use Rattle.kn_commands.specs.Names.{in_order};
 ghost use Rattle.kn_load.specs.Loaded.{IsLoaded};
-ghost use Rattle.kn_commands.specs.Checking.{CheckCause, HasQuery, ReadShows, ReplyShows, ending_of_fault, name_of};
+ghost use Rattle.kn_commands.specs.Checking.{CheckCause, HasQuery, ReadShows, ReplyShows, ending_of_fault};
 
 use crate::content::read_file;
-use crate::ending::{Ending, Source};
-use crate::stop::Stop;
 use kn_base::NoMemory;
+use kn_endings::{CheckFiles, Ending, Source, Stop};
 use kn_env::Values;
 use kn_load::load_file;
 use kn_outside::Files;
@@ -24,38 +23,8 @@ use kn_registry::{Pass, Registry};
 use kn_session::View;
 use kn_verify::{Refused, is_reply_to, verify};
 use std::alloc::Global;
-use std::marker::Model;
 use std::sync::Wait;
 use std::thread::Threads;
-
-/// The files of the command, by their names.
-#[derive(Drop)]
-pub struct CheckFiles<'a> {
-    pub policy: &'a [u8],
-    pub script: &'a [u8],
-    pub reply: &'a [u8],
-}
-
-impl<'a> Model for CheckFiles<'a> {
-    ghost use Rattle.kn_commands.specs.Names.{CheckNames};
-
-    ghost Value = { CheckNames };
-
-    ghost view = { λ f. record { policy = f.policy.now; script = f.script.now; reply = f.reply.now } };
-}
-
-impl<'a> CheckFiles<'a> {
-    /// The name of one of them.
-    pub(crate) fn name(&self, source: Source) -> &[u8]
-        ensures { result.now ≡ name_of self.now source }
-    {
-        match source {
-            Source::Policy => self.policy,
-            Source::Script => self.script,
-            Source::Reply => self.reply,
-        }
-    }
-}
 
 /// Checks the reply in a file to the query that a script means over a policy, and tells how that ends.
 ///

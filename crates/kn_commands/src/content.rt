@@ -4,8 +4,8 @@ ghost use Rattle.kn_outside.specs.Asked.{HasAsked};
 ghost use Rattle.kn_commands.specs.Held.{HasContent};
 ghost use Rattle.kn_commands.specs.Stopping.{IsUnread};
 
-use crate::stop::Stop;
 use kn_base::Octets;
+use kn_endings::Stop;
 use kn_outside::{FileFault, Files};
 
 /// The content of a file.

@@ -1,7 +1,7 @@
 //! Following the log in a file: what its replies make of a replica.
 ghost use Rattle.kn_commands.specs.Following.{FollowCause};
 
-use crate::follow_ending::FollowEnding;
+use kn_endings::FollowEnding;
 use kn_follow::FollowFault;
 use kn_outside::{FileFault, Files};
 use std::alloc::Global;

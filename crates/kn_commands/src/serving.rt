@@ -12,10 +12,8 @@ ghost use Rattle.kn_commands.specs.Serving.{ServeCause, ServesOver};
 
 use crate::asking::keys_of;
 use crate::content::read_file;
-use crate::serve_ending::ServeEnding;
-use crate::service::Service;
-use crate::stop::Stop;
 use kn_auth::KeyFile;
+use kn_endings::{ServeEnding, Service, Stop};
 use kn_load::load_file;
 use kn_outside::{Files, Gate};
 use kn_registry::{Pass, Registry};

@@ -8,33 +8,13 @@ ghost use Rattle.kn_commands.specs.Held.{IsPolicy};
 ghost use Rattle.kn_commands.specs.Verifying.{VerifyCause};
 
 use crate::content::read_file;
-use crate::stop::Stop;
-use crate::verify_ending::VerifyEnding;
+use kn_endings::{Stop, VerifyEnding, VerifyFiles};
 use kn_load::load_file;
 use kn_outside::Files;
 use kn_registry::{Pass, Registry};
 use std::alloc::Global;
-use std::marker::Model;
 use std::sync::Wait;
 use std::thread::Threads;
-
-/// The files of `verify`, by their names.
-#[derive(Drop)]
-pub struct VerifyFiles<'a> {
-    pub policy: &'a [u8],
-    /// What a client sent on a whole connection.
-    pub script: &'a [u8],
-    /// What it got.
-    pub replies: &'a [u8],
-}
-
-impl<'a> Model for VerifyFiles<'a> {
-    ghost use Rattle.kn_commands.specs.Names.{VerifyNames};
-
-    ghost Value = { VerifyNames };
-
-    ghost view = { λ f. record { policy = f.policy.now; script = f.script.now; replies = f.replies.now } };
-}
 
 /// Verifies the transcript in two files over the policy in another, and tells how that ends.
 ///

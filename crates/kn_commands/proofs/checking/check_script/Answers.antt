@@ -5,8 +5,8 @@ use Rattle.kn_session.specs.Sessions.{Session}
 use Rattle.kn_history.specs.declared.update.Update.{Update}
 use Rattle.kn_history.specs.History.{loaded_history}
 use Rattle.kn_play.specs.Meaning.{Means, IsMeantQuery}
-use Rattle.kn_commands.specs.Names.{in_order}
-use Rattle.kn_commands.specs.declared.ending.Source.TheVariants.{Script as TheScript}
+use Rattle.kn_endings.specs.Names.{in_order}
+use Rattle.kn_endings.specs.declared.ending.Source.TheVariants.{Script as TheScript}
 use Rattle.kn_commands.specs.Held.{HasContent}
 use Rattle.kn_commands.specs.Checking.{HasQuery}
 use Rattle.kn_load.proofs.Alone.{looks_alone}

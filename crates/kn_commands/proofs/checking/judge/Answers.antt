@@ -1,6 +1,6 @@
 use Rattle.std.proofs.Common.{sym, subst}
 use Rattle.kn_session.specs.Views.{session_of_view}
-use Rattle.kn_commands.specs.declared.ending.Ending.{Ending}
+use Rattle.kn_endings.specs.declared.ending.Ending.{Ending}
 use Rattle.kn_commands.specs.Checking.{ReplyShows}
 use Rattle.kn_commands.proofs.Reached.{read_to_query, shown_fault, shown_other, shown_text, shown_unread}
 use Rattle.kn_commands.proofs.checking.judge.Goals as goal

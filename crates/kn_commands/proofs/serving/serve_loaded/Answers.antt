@@ -2,9 +2,9 @@ use Rattle.std.proofs.Common.{◌≡◌, ◌∙◌, ap, [], refl}
 use Rattle.std.specs.Prelude.{IsSomeAnd, option_map, option_to_list}
 use Rattle.kn_outside.specs.Asked.{HasAsked}
 use Rattle.kn_files.specs.Pieces.{pieces_of}
+use Rattle.kn_endings.specs.declared.service.Service.TheInside.{Inside}
+use Rattle.kn_endings.specs.Names.{Order}
 use Rattle.kn_commands.specs.Held.{AreKeys}
-use Rattle.kn_commands.specs.declared.service.Service.TheInside.{Inside}
-use Rattle.kn_commands.specs.Serving.{Order}
 use Rattle.kn_commands.specs.Asking.{StopsAtKeys}
 use Rattle.kn_commands.proofs.Asked.{keys_stopped}
 use Rattle.kn_commands.proofs.ServingLaws.{served_there}

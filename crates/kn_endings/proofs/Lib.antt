@@ -1,0 +1,4 @@
+pub mod Printed
+pub mod Told
+pub mod Lines
+pub mod GenLines

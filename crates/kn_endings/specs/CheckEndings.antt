@@ -1,0 +1,43 @@
+-- How checking a reply ended: its status, and the line that tells it (keynoted's own).
+use Rattle.std.specs.Prelude.{ℕ, List, ◌++◌, codes, decimal}
+use Rattle.kn_check.specs.declared.reject.Reject.{Reject}
+use Rattle.kn_check.specs.Rejects.{reason_numbers}
+use Rattle.kn_endings.specs.declared.ending.Source.{Source}
+use Rattle.kn_endings.specs.declared.ending.Source.TheVariants.{Policy, Script as TheScript, Reply}
+use Rattle.kn_endings.specs.declared.ending.Ending.{Ending}
+use Rattle.kn_endings.specs.declared.ending.Ending.TheVariants.{Stopped, NoQuery, Faulty, Rejected, Proved}
+use Rattle.kn_endings.specs.Names.{CheckNames}
+use Rattle.kn_endings.specs.Stops.{stop_line, status_of}
+
+-- the name of a file
+abbrev pub name_of : CheckNames → Source → List ℕ
+name_of names Policy = names.policy
+name_of names TheScript = names.script
+name_of names Reply = names.reply
+
+abbrev pub status_of_ending : Ending → ℕ
+status_of_ending (Stopped source stop) = status_of stop
+status_of_ending NoQuery = 10
+status_of_ending (Faulty fault line) = 6
+status_of_ending (Rejected reject) = 6
+status_of_ending (Proved value name) = 0
+
+-- the line that tells a fault in the text of a reply
+unfoldable pub text_line : ℕ → ℕ → List ℕ
+text_line fault line = codes "error proof text " ++ decimal fault ++ codes " " ++ decimal line ++ codes "\n"
+
+-- the line that tells why rows are no proof
+unfoldable pub reject_line : Reject → List ℕ
+reject_line reject =
+    codes "error proof reject " ++ decimal (reason_numbers reject).0 ++ codes " " ++ decimal (reason_numbers reject).1 ++ codes " " ++ decimal (reason_numbers reject).2 ++ codes "\n"
+
+unfoldable pub proved_line : ℕ → List ℕ → List ℕ
+proved_line value name = codes "PROVED " ++ decimal value ++ codes " " ++ name ++ codes "\n"
+
+-- the line that is due
+abbrev pub line_of_ending : CheckNames → Ending → List ℕ
+line_of_ending names (Stopped source stop) = stop_line (name_of names source) stop
+line_of_ending names NoQuery = codes "error query\n"
+line_of_ending names (Faulty fault line) = text_line fault line
+line_of_ending names (Rejected reject) = reject_line reject
+line_of_ending names (Proved value name) = proved_line value name

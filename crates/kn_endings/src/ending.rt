@@ -1,0 +1,46 @@
+//! How checking a reply ends.
+ghost use Rattle.std.specs.Prelude.{◌≡◌};
+
+use crate::stop::Stop;
+use kn_base::Octets;
+use kn_check::Reject;
+
+/// Which file of the command.
+#[derive(Clone, Copy, PartialEq, Eq)]
+pub enum Source {
+    Policy,
+    Script,
+    Reply,
+}
+
+/// Why checking a reply ends.
+#[derive(Drop)]
+pub enum Ending {
+    /// This file could not be read, or the policy in it could not be loaded.
+    Stopped { source: Source, stop: Stop },
+    /// The script has no query that is answered.
+    NoQuery,
+    /// The text of the reply has the fault of this number in this line, counted from 1; of a wrong count of rows,
+    /// `line` is the number of ROW lines.
+    Faulty { fault: u8, line: usize },
+    /// The rows prove no such value: the first item that fails.
+    Rejected(Reject),
+    /// The rows prove that the query has this value, counted from the lowest, 0, of this name.
+    Proved { value: u8, name: Octets },
+}
+
+impl Ending {
+    ghost use Rattle.kn_endings.specs.CheckEndings.{status_of_ending};
+
+    /// The exit status.
+    pub fn status(&self) -> u8
+        ensures { result ≡ status_of_ending self.now }
+    {
+        match self {
+            Ending::Stopped { stop, .. } => stop.status(),
+            Ending::NoQuery => 10,
+            Ending::Faulty { .. } | Ending::Rejected(_) => 6,
+            Ending::Proved { .. } => 0,
+        }
+    }
+}

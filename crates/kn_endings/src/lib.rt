@@ -1,0 +1,37 @@
+//! How a command ended, and the line that says so.
+//!
+//! Each ending has its exit status and its line, which may name a file. What stops a command before its work is done is
+//! a part of most of them. Of `gen` there is the line alone.
+#![tactic(auto)]
+
+mod ask_ending;
+mod ask_line;
+mod ending;
+mod ending_line;
+mod files;
+mod follow_ending;
+mod follow_line;
+mod gen_line;
+mod line;
+mod serve_ending;
+mod serve_line;
+mod service;
+mod stop;
+mod verify_ending;
+mod verify_line;
+
+pub use ask_ending::AskEnding;
+pub use ask_line::print_ask;
+pub use ending::{Ending, Source};
+pub use ending_line::print_ending;
+pub use files::{AskFiles, CheckFiles, VerifyFiles};
+pub use follow_ending::FollowEnding;
+pub use follow_line::print_follow;
+pub use gen_line::print_gen;
+pub use line::print_line;
+pub use serve_ending::ServeEnding;
+pub use serve_line::print_serve;
+pub use service::Service;
+pub use stop::Stop;
+pub use verify_ending::VerifyEnding;
+pub use verify_line::print_verify;
