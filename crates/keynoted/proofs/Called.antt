@@ -11,11 +11,12 @@ use Rattle.kn_transcript.specs.Laws.{OneVerdict}
 use Rattle.kn_serve.specs.Serving.{IsOrderly, IsFaultless}
 use Rattle.kn_workers.specs.Connections.{ServedSeen}
 use Rattle.kn_workers.specs.Doors.{DoorSeen}
-use Rattle.kn_endings.specs.Names.{AskNames, CheckNames, VerifyNames, Order}
+use Rattle.kn_endings.specs.Names.{AskNames, CheckNames, VerifyNames}
+use Rattle.kn_service.specs.Orders.{Order}
 use Rattle.kn_endings.specs.AskEndings.{status_of_ended, status_of_ask}
 use Rattle.kn_endings.specs.CheckEndings.{status_of_ending}
 use Rattle.kn_endings.specs.FollowEndings.{status_of_follow}
-use Rattle.kn_endings.specs.ServeEndings.{status_of_serve}
+use Rattle.kn_service.specs.ServeEndings.{status_of_serve}
 use Rattle.kn_endings.specs.VerifyEndings.{status_of_verify}
 use Rattle.kn_commands.specs.declared.generating.GenNumbers.{GenNumbers}
 use Rattle.keynoted.specs.Commands.{AskFor, CheckFor, FollowFor, GenFor, ServeFor, VerifyFor}

@@ -39,8 +39,8 @@ use Rattle.kn_endings.specs.declared.stop.Stop.{Stop}
 use Rattle.kn_endings.specs.declared.stop.Stop.TheVariants as S
 use Rattle.kn_endings.specs.declared.ask_ending.AskEnding.{AskEnding}
 use Rattle.kn_endings.specs.declared.ask_ending.AskEnding.TheVariants as A
-use Rattle.kn_endings.specs.declared.serve_ending.ServeEnding.{ServeEnding}
-use Rattle.kn_endings.specs.declared.serve_ending.ServeEnding.TheVariants as V
+use Rattle.kn_service.specs.declared.serve_ending.ServeEnding.{ServeEnding}
+use Rattle.kn_service.specs.declared.serve_ending.ServeEnding.TheVariants as V
 use Rattle.kn_endings.specs.declared.follow_ending.FollowEnding.{FollowEnding}
 use Rattle.kn_endings.specs.declared.follow_ending.FollowEnding.TheVariants as W
 use Rattle.kn_endings.specs.declared.verify_ending.VerifyEnding.{VerifyEnding}
@@ -49,19 +49,20 @@ use Rattle.kn_endings.specs.declared.ending.Source.{Source}
 use Rattle.kn_endings.specs.declared.ending.Source.TheVariants.{Policy, Script as TheScript, Reply}
 use Rattle.kn_endings.specs.declared.ending.Ending.{Ending}
 use Rattle.kn_endings.specs.declared.ending.Ending.TheVariants.{Stopped, NoQuery, Faulty, Rejected, Proved}
-use Rattle.kn_endings.specs.Names.{AskNames, CheckNames, VerifyNames, Order}
+use Rattle.kn_endings.specs.Names.{AskNames, CheckNames, VerifyNames}
+use Rattle.kn_service.specs.Orders.{Order}
 use Rattle.kn_endings.specs.Stops.{status_of}
 use Rattle.kn_endings.specs.AskEndings.{status_of_ended, status_of_ask}
 use Rattle.kn_endings.specs.CheckEndings.{name_of, status_of_ending}
 use Rattle.kn_endings.specs.FollowEndings.{status_of_follow}
-use Rattle.kn_endings.specs.ServeEndings.{status_of_serve}
+use Rattle.kn_service.specs.ServeEndings.{status_of_serve}
 use Rattle.kn_endings.specs.VerifyEndings.{status_of_verify}
 use Rattle.kn_commands.specs.Held.{HasContent, IsTooLarge, IsPolicy, AreKeys}
 use Rattle.kn_commands.specs.Stopping.{IsLimitAt}
 use Rattle.kn_commands.specs.Asking.{AskCause, StopsAtPolicy, StopsAtKeys, AreKeysStopped}
 use Rattle.kn_commands.specs.Checking.{HasQuery, Reached, CheckCause, IsFaultyText, IsUnprovedText}
 use Rattle.kn_commands.specs.Following.{HasLogFault, FollowCause}
-use Rattle.kn_commands.specs.Serving.{ServeCause}
+use Rattle.kn_service.specs.Serving.{ServeCause}
 use Rattle.kn_commands.specs.Verifying.{IsScriptStopped, AreRepliesStopped, IsTranscriptRead, IsRefused, VerifyCause}
 use Rattle.keynoted.specs.Calling.{TooLarge, Failed, Passed, KeysLead, AskLeads, IsTextOfProof, ReplyLeads, CheckLeads}
 use Rattle.keynoted.specs.Calling.{PolicyLeads, LogLeads, IsAccepted, RepliesLead, AnyScriptLeads, TranscriptLeads}

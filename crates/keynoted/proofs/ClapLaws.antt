@@ -8,7 +8,7 @@ use Rattle.clap.specs.declared.parser.matches.ArgMatches.{ArgMatches}
 use Rattle.clap.proofs.OnLiterals.{clap_on_literals}
 use Rattle.clap.proofs.WalkLemmas.{first_value-rows}
 use Rattle.kn_base.specs.Decimal.{decimal_of}
-use Rattle.kn_endings.specs.Names.{Order}
+use Rattle.kn_service.specs.Orders.{Order}
 use Rattle.keynoted.specs.Commands.{serve_app, option_value, AreValuesOf, ServeFor, IsNo}
 
 -- the command is one of which `clap` says what it reads

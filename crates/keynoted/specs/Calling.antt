@@ -19,7 +19,8 @@ use Rattle.kn_play.specs.Meaning.{Means}
 use Rattle.kn_verify.specs.Verdicts.{IsReplyTo}
 use Rattle.kn_serve.specs.Serving.{IsOrderly, IsFaultless}
 use Rattle.kn_transcript.specs.Accepted.{IsAcceptedTranscript}
-use Rattle.kn_endings.specs.Names.{AskNames, CheckNames, VerifyNames, Order}
+use Rattle.kn_endings.specs.Names.{AskNames, CheckNames, VerifyNames}
+use Rattle.kn_service.specs.Orders.{Order}
 use Rattle.kn_commands.specs.declared.generating.GenNumbers.{GenNumbers}
 use Rattle.keynoted.specs.Commands.{AskFor, CheckFor, FollowFor, GenFor, ServeFor, VerifyFor}
 use Rattle.keynoted.specs.Outcomes.{OutsideSeen, AreServeTexts}

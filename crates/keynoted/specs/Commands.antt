@@ -4,7 +4,8 @@ use Rattle.std.specs.Str.{IsUtf8}
 use Rattle.clap.specs.Words.{App, Rule, Text, new_app, new_rule, with_rule, matches_of, first_of, fault_of}
 use Rattle.kn_base.specs.Decimal.{decimal_of}
 use Rattle.kn_base.specs.declared.limits.TheConstants.{GENERATED_CREDENTIALS, WORKERS, CONNECTIONS}
-use Rattle.kn_endings.specs.Names.{AskNames, ask_order, CheckNames, in_order, VerifyNames, verify_order, Order}
+use Rattle.kn_endings.specs.Names.{AskNames, ask_order, CheckNames, in_order, VerifyNames, verify_order}
+use Rattle.kn_service.specs.Orders.{Order}
 use Rattle.kn_commands.specs.declared.generating.GenNumbers.{GenNumbers}
 
 -- the words ask for the policy in a file, and name a key file or none

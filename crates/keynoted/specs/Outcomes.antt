@@ -6,22 +6,23 @@ use Rattle.kn_outside.specs.Printing.{Writes}
 use Rattle.kn_workers.specs.Connections.{ServedSeen}
 use Rattle.kn_workers.specs.Doors.{DoorSeen}
 use Rattle.kn_workers.specs.Nets.{NetSeen}
-use Rattle.kn_endings.specs.Names.{AskNames, CheckNames, VerifyNames, Order}
+use Rattle.kn_endings.specs.Names.{AskNames, CheckNames, VerifyNames}
+use Rattle.kn_service.specs.Orders.{Order}
 use Rattle.kn_endings.specs.AskEndings.{status_of_ask, line_of_ask}
 use Rattle.kn_endings.specs.CheckEndings.{status_of_ending, line_of_ending}
 use Rattle.kn_endings.specs.FollowEndings.{status_of_follow, line_of_follow}
-use Rattle.kn_endings.specs.ServeEndings.{status_of_serve, line_of_serve}
+use Rattle.kn_service.specs.ServeEndings.{status_of_serve, line_of_serve}
 use Rattle.kn_endings.specs.VerifyEndings.{status_of_verify, line_of_verify}
 use Rattle.kn_endings.specs.declared.ask_ending.AskEnding.{AskEnding}
 use Rattle.kn_endings.specs.declared.ending.Ending.{Ending}
 use Rattle.kn_endings.specs.declared.follow_ending.FollowEnding.{FollowEnding}
-use Rattle.kn_endings.specs.declared.serve_ending.ServeEnding.{ServeEnding}
+use Rattle.kn_service.specs.declared.serve_ending.ServeEnding.{ServeEnding}
 use Rattle.kn_endings.specs.declared.verify_ending.VerifyEnding.{VerifyEnding}
 use Rattle.kn_commands.specs.Asking.{AskCause}
 use Rattle.kn_commands.specs.Checking.{CheckCause}
 use Rattle.kn_commands.specs.Following.{FollowCause}
 use Rattle.kn_commands.specs.Generating.{IsGenLine}
-use Rattle.kn_commands.specs.Serving.{ServeCause}
+use Rattle.kn_service.specs.Serving.{ServeCause}
 use Rattle.kn_commands.specs.Verifying.{VerifyCause}
 use Rattle.kn_commands.specs.declared.generating.GenNumbers.{GenNumbers}
 use Rattle.keynoted.specs.Commands.{AskFor, CheckFor, FollowFor, GenFor, ServeFor, VerifyFor, IsNoCommand}

@@ -1,15 +1,15 @@
 //! The program where its first word is `serve`.
 ghost use Rattle.std.specs.Prelude.{◌≡◌, ◌≢◌, [], None, Some, true, false, codes, slice_get};
 ghost use Rattle.kn_outside.specs.Seen.{LinkSeen};
-ghost use Rattle.kn_endings.specs.ServeEndings.{status_of_serve, line_of_serve};
+ghost use Rattle.kn_service.specs.ServeEndings.{status_of_serve, line_of_serve};
 ghost use Rattle.keynoted.specs.Outcomes.{IsPrintedOrCut, IsEnded};
 
 use crate::run::end;
 use crate::service_words::{service_of, texts_of};
 use kn_base::{NoMemory, Octets};
-use kn_commands::serve;
-use kn_endings::{ServeEnding, Service, Stop, print_serve};
+use kn_endings::Stop;
 use kn_outside::{Failed, Files, Gate, Sink};
+use kn_service::{ServeEnding, Service, print_serve, serve};
 use kn_workers::{Door, Net};
 use std::alloc::Global;
 use std::sync::Wait;

@@ -5,14 +5,15 @@ ghost use Rattle.std.specs.Bool.{OnTrue, OnFalse};
 ghost use Rattle.std.specs.Str.{IsUtf8};
 ghost use Rattle.clap.specs.Words.{app_of, rule_of, first_value, found_of};
 ghost use Rattle.kn_base.specs.Decimal.{decimal_of};
-ghost use Rattle.kn_endings.specs.Names.{Order};
+ghost use Rattle.kn_service.specs.Orders.{Order};
 ghost use Rattle.keynoted.specs.Commands.{serve_app, address_rule, policy_rule, keys_rule, workers_rule};
 ghost use Rattle.keynoted.specs.Commands.{connections_rule, AreValuesOf, ServeFor, IsNo};
 
 use clap::{Arg, ArgMatches, Command};
 use kn_base::limits::{CONNECTIONS, WORKERS};
 use kn_base::{NoMemory, Octets, decimal};
-use kn_endings::{AskFiles, Service};
+use kn_endings::AskFiles;
+use kn_service::Service;
 use std::alloc::{AllocError, Global};
 use std::str;
 

@@ -3,4 +3,3 @@ pub mod GenLoads
 pub mod Reached
 pub mod Asked
 pub mod Transcripts
-pub mod ServingLaws

@@ -5,4 +5,3 @@ pub mod Checking
 pub mod Following
 pub mod Verifying
 pub mod Generating
-pub mod Serving

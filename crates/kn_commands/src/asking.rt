@@ -73,12 +73,10 @@ fn ask_loaded<R: Wait, F: Files, L: Link, G: Gate>(
     }
 }
 
-/// What the key file says; where none is named, no key and no digest is known, and the secret is empty.
-pub(crate) fn keys_of<F: Files>(
-    alloc: Global,
-    name: Option<&[u8]>,
-    files: &mut F,
-) -> Result<KeyFile, Stop>
+/// What the key file of this name says; where none is named, no key and no digest is known, and the secret is empty.
+/// The `Stop` says why there is none: the file can't be read or is too large, a line of it is malformed, or memory ran
+/// out.
+pub fn keys_of<F: Files>(alloc: Global, name: Option<&[u8]>, files: &mut F) -> Result<KeyFile, Stop>
     ensures known { IfOk result (λ keys. AreKeys (F.seen files.old) (option_map (λ n. n.now) name.entry) keys) }
     ensures asked { OnOk result (HasAsked (option_to_list (option_map (λ n. n.now) name.entry))
         (F.seen files.old) (F.seen files.new)) }

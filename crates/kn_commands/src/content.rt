@@ -8,8 +8,9 @@ use kn_base::Octets;
 use kn_endings::Stop;
 use kn_outside::{FileFault, Files};
 
-/// The content of a file.
-pub(crate) fn read_file<F: Files>(files: &mut F, name: &[u8]) -> Result<Octets, Stop>
+/// The content of the file of this name. The `Stop` says why there is none: the file can't be read or is too large, or
+/// memory ran out.
+pub fn read_file<F: Files>(files: &mut F, name: &[u8]) -> Result<Octets, Stop>
     ensures content { IfOk result (λ bytes. HasContent (F.seen files.old) name.now bytes) }
     ensures asked { OnOk result (HasAsked (name.now ∷ []) (F.seen files.old) (F.seen files.new)) }
     ensures err { IfErr result (λ stop. IsUnread (F.seen files.old) (F.seen files.new) name.now stop) }

@@ -5,7 +5,6 @@ use Rattle.kn_check.specs.declared.reject.Reject.{Reject}
 use Rattle.kn_check.specs.Rejects.{reason_number, reason_row, reason_found}
 use Rattle.kn_endings.specs.CheckEndings.{text_line, reject_line, proved_line}
 use Rattle.kn_endings.specs.FollowEndings.{followed_line, log_line}
-use Rattle.kn_endings.specs.ServeEndings.{served_line}
 use Rattle.kn_endings.specs.VerifyEndings.{verified_line, transcript_line}
 
 pub text_parts : (a b : List ℕ) (fault line : ℕ) → a ≡ decimal fault → b ≡ decimal line →
@@ -22,11 +21,6 @@ pub proved_parts : (a name : List ℕ) (value : ℕ) → a ≡ decimal value →
     codes "PROVED " ++ (a ++ (codes " " ++ (name ++ (codes "\n" ++ [])))) ≡ proved_line value name
 unfolding proved_line
 proved_parts a name value first = rw first (simp append_assoc)
-
-pub served_parts : (a b : List ℕ) (finished version : ℕ) → a ≡ decimal finished → b ≡ decimal version →
-    codes "served " ++ (a ++ (codes " version " ++ (b ++ (codes "\n" ++ [])))) ≡ served_line finished version
-unfolding served_line
-served_parts a b finished version first second = rw (first, second) (simp append_assoc)
 
 pub followed_parts : (a b : List ℕ) (version live : ℕ) → a ≡ decimal version → b ≡ decimal live
     → codes "FOLLOW " ++ (a ++ (codes " " ++ (b ++ (codes "\n" ++ [])))) ≡ followed_line version live

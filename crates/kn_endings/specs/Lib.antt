@@ -1,7 +1,6 @@
 pub mod Names
 pub mod Stops
 pub mod AskEndings
-pub mod ServeEndings
 pub mod CheckEndings
 pub mod VerifyEndings
 pub mod FollowEndings

@@ -1,6 +1,5 @@
--- The names of a command's files, and what a service is asked to do (keynoted's own).
+-- The names of a command's files (keynoted's own).
 use Rattle.std.specs.Prelude.{ℕ, List, [], ◌∷◌, Option, option_to_list}
-use Rattle.kn_workers.specs.declared.binding.Binding.{Binding}
 
 -- the files of `ask`: the policy, and the key file where one is named
 pub record AskNames : Type 0 where
@@ -30,8 +29,3 @@ pub record VerifyNames : Type 0 where
 -- in the order in which they are read
 abbrev pub verify_order : VerifyNames → List (List ℕ)
 verify_order names = names.policy ∷ names.script ∷ names.replies ∷ []
-
--- what a service is asked to do: the files that it is given by, and the address with its workers and its connections
-pub record Order : Type 0 where
-  pub files : AskNames
-  pub binding : Binding

@@ -11,9 +11,9 @@ use Rattle.kn_workers.specs.Connections.{ServedSeen}
 use Rattle.kn_workers.specs.Doors.{DoorSeen}
 use Rattle.kn_workers.specs.Nets.{NetSeen, AreBound, with_faults}
 use Rattle.kn_workers.specs.Workers.{AllServed}
-use Rattle.kn_endings.specs.Names.{Order}
-use Rattle.kn_endings.specs.declared.serve_ending.ServeEnding.{ServeEnding}
-use Rattle.kn_endings.specs.declared.serve_ending.ServeEnding.TheVariants.{PolicyStopped, KeysStopped, BindMemory, Unbound, WorkMemory, DoorFailed, Served}
+use Rattle.kn_service.specs.Orders.{Order}
+use Rattle.kn_service.specs.declared.serve_ending.ServeEnding.{ServeEnding}
+use Rattle.kn_service.specs.declared.serve_ending.ServeEnding.TheVariants.{PolicyStopped, KeysStopped, BindMemory, Unbound, WorkMemory, DoorFailed, Served}
 use Rattle.kn_commands.specs.Asking.{RunsOver, StopsAtPolicy, AreKeysStopped}
 
 module _ {C R : Type 0} (door : R → DoorSeen (ServedSeen C)) (link : C → LinkSeen) where

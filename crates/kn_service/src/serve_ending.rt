@@ -1,7 +1,7 @@
 //! How a service ends.
 ghost use Rattle.std.specs.Prelude.{◌≡◌};
 
-use crate::stop::Stop;
+use kn_endings::Stop;
 
 /// Why `serve` ends.
 #[derive(Clone, Copy, PartialEq, Eq)]
@@ -28,7 +28,7 @@ pub enum ServeEnding {
 }
 
 impl ServeEnding {
-    ghost use Rattle.kn_endings.specs.ServeEndings.{status_of_serve};
+    ghost use Rattle.kn_service.specs.ServeEndings.{status_of_serve};
 
     /// The exit status.
     pub fn status(self) -> u8

@@ -2,11 +2,11 @@ use Rattle.std.proofs.Common.{◌≡◌, ◌∷◌, ◌∙◌, [], ap, refl}
 use Rattle.kn_files.specs.Pieces.{pieces_of}
 use Rattle.kn_outside.specs.Asked.{HasAsked}
 use Rattle.kn_load.specs.Loaded.{StopsLoading}
-use Rattle.kn_endings.specs.declared.service.Service.TheInside.{Inside}
-use Rattle.kn_endings.specs.Names.{Order}
+use Rattle.kn_service.specs.declared.service.Service.TheInside.{Inside}
+use Rattle.kn_service.specs.Orders.{Order}
 use Rattle.kn_commands.specs.Held.{HasContent}
 use Rattle.kn_commands.proofs.Asked.{unloaded_policy}
-use Rattle.kn_commands.proofs.serving.serve.Goals as goal
+use Rattle.kn_service.proofs.serving.serve.Goals as goal
 
 pub returns : goal.returns
 returns g c =

@@ -19,12 +19,12 @@ use Rattle.kn_workers.specs.Doors.{DoorSeen, HasGiven}
 use Rattle.kn_workers.specs.Nets.{NetSeen, AreBound, with_faults}
 use Rattle.kn_workers.specs.Workers.{Work, EachWorked, AllServed, all_quotas, gave_less}
 use Rattle.kn_workers.proofs.ShareLaws.{shares_add_up}
-use Rattle.kn_endings.specs.Names.{Order}
-use Rattle.kn_endings.specs.declared.serve_ending.ServeEnding.{ServeEnding}
-use Rattle.kn_endings.specs.declared.serve_ending.ServeEnding.TheVariants.{PolicyStopped, KeysStopped, BindMemory, Unbound, WorkMemory, DoorFailed, Served}
+use Rattle.kn_service.specs.Orders.{Order}
+use Rattle.kn_service.specs.declared.serve_ending.ServeEnding.{ServeEnding}
+use Rattle.kn_service.specs.declared.serve_ending.ServeEnding.TheVariants.{PolicyStopped, KeysStopped, BindMemory, Unbound, WorkMemory, DoorFailed, Served}
 use Rattle.kn_commands.specs.Held.{IsPolicy, AreKeys}
 use Rattle.kn_commands.specs.Asking.{grounds_of}
-use Rattle.kn_commands.specs.Serving.{AreServed, ServesOver, IsServiceRun, ServeCause}
+use Rattle.kn_service.specs.Serving.{AreServed, ServesOver, IsServiceRun, ServeCause}
 use Rattle.kn_commands.proofs.Asked.{keys_there}
 use Rattle.kn_commands.proofs.Files.{asked_both}
 

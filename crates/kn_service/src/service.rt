@@ -1,6 +1,6 @@
 //! What a service is asked to do.
 
-use crate::files::AskFiles;
+use kn_endings::AskFiles;
 use std::marker::Model;
 
 /// A service: the files that it is given by, the address that it binds, and how its connections are shared.
@@ -16,7 +16,7 @@ pub struct Service<'a> {
 }
 
 impl<'a> Model for Service<'a> {
-    ghost use Rattle.kn_endings.specs.Names.{Order};
+    ghost use Rattle.kn_service.specs.Orders.{Order};
 
     ghost Value = { Order };
 

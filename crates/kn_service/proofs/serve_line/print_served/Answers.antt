@@ -1,8 +1,8 @@
 use Rattle.std.proofs.Common.{◌≡◌, ◌∙◌}
 use Rattle.std.specs.Prelude.{decimal}
 use Rattle.kn_endings.proofs.Told.{told}
-use Rattle.kn_endings.proofs.Lines.{served_parts}
-use Rattle.kn_endings.proofs.serve_line.print_served.Goals as goal
+use Rattle.kn_service.proofs.ServeLines.{served_parts}
+use Rattle.kn_service.proofs.serve_line.print_served.Goals as goal
 
 pub returns : goal.returns
 returns g c =

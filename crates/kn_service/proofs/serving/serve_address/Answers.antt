@@ -5,12 +5,12 @@ use Rattle.kn_workers.specs.Workers.{AllServed}
 use Rattle.kn_workers.proofs.ShareLaws.{shares_add_up}
 use Rattle.kn_daemon.specs.Daemon.{Grounds}
 use Rattle.kn_history.specs.History.{loaded_history}
-use Rattle.kn_endings.specs.Names.{Order}
-use Rattle.kn_endings.specs.declared.serve_ending.ServeEnding.TheVariants.{DoorFailed, Served}
+use Rattle.kn_service.specs.Orders.{Order}
+use Rattle.kn_service.specs.declared.serve_ending.ServeEnding.TheVariants.{DoorFailed, Served}
 use Rattle.kn_commands.specs.Asking.{grounds_of}
-use Rattle.kn_commands.specs.Serving.{ServesOver}
-use Rattle.kn_commands.proofs.ServingLaws.{served_less, served_whole}
-use Rattle.kn_commands.proofs.serving.serve_address.Goals as goal
+use Rattle.kn_service.specs.Serving.{ServesOver}
+use Rattle.kn_service.proofs.ServingLaws.{served_less, served_whole}
+use Rattle.kn_service.proofs.serving.serve_address.Goals as goal
 
 pub serve_all-ended-requires-clause-quotas : goal.serve_all-ended-requires-clause-quotas
 serve_all-ended-requires-clause-quotas g c κs within =

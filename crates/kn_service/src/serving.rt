@@ -8,12 +8,13 @@ ghost use Rattle.kn_history.specs.History.{loaded_history};
 ghost use Rattle.kn_commands.specs.Held.{IsPolicy};
 ghost use Rattle.kn_load.specs.Loaded.{IsLoaded};
 ghost use Rattle.kn_commands.specs.Asking.{grounds_of};
-ghost use Rattle.kn_commands.specs.Serving.{ServeCause, ServesOver};
+ghost use Rattle.kn_service.specs.Serving.{ServeCause, ServesOver};
 
-use crate::asking::keys_of;
-use crate::content::read_file;
+use crate::serve_ending::ServeEnding;
+use crate::service::Service;
 use kn_auth::KeyFile;
-use kn_endings::{ServeEnding, Service, Stop};
+use kn_commands::{keys_of, read_file};
+use kn_endings::Stop;
 use kn_load::load_file;
 use kn_outside::{Files, Gate};
 use kn_registry::{Pass, Registry};

@@ -2,13 +2,13 @@ use Rattle.std.proofs.Common.{◌≡◌, ◌∙◌, ap, [], refl}
 use Rattle.std.specs.Prelude.{IsSomeAnd, option_map, option_to_list}
 use Rattle.kn_outside.specs.Asked.{HasAsked}
 use Rattle.kn_files.specs.Pieces.{pieces_of}
-use Rattle.kn_endings.specs.declared.service.Service.TheInside.{Inside}
-use Rattle.kn_endings.specs.Names.{Order}
+use Rattle.kn_service.specs.declared.service.Service.TheInside.{Inside}
+use Rattle.kn_service.specs.Orders.{Order}
 use Rattle.kn_commands.specs.Held.{AreKeys}
 use Rattle.kn_commands.specs.Asking.{StopsAtKeys}
 use Rattle.kn_commands.proofs.Asked.{keys_stopped}
-use Rattle.kn_commands.proofs.ServingLaws.{served_there}
-use Rattle.kn_commands.proofs.serving.serve_loaded.Goals as goal
+use Rattle.kn_service.proofs.ServingLaws.{served_there}
+use Rattle.kn_service.proofs.serving.serve_loaded.Goals as goal
 
 pub returns-in-Ok : goal.returns-in-Ok
 returns-in-Ok g c = λ f bytes policy loaded before.

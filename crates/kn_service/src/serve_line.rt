@@ -1,11 +1,11 @@
 //! The line that tells how a service ended.
 ghost use Rattle.kn_outside.specs.Printing.{Prints, is_whole};
-ghost use Rattle.kn_endings.specs.ServeEndings.{line_of_serve, served_line};
+ghost use Rattle.kn_service.specs.ServeEndings.{line_of_serve, served_line};
 
-use crate::line::{print_all, print_line};
 use crate::serve_ending::ServeEnding;
 use crate::service::Service;
 use itoa::Buffer;
+use kn_endings::{print_all, print_line};
 use kn_outside::{Failed, Sink, write_all};
 
 /// Prints the line of so many connections that were served, over a history of so many updates.
