@@ -2,7 +2,7 @@
 use Rattle.std.proofs.Common.{◌≡◌, ℕ, ◌+◌, ◌-◌, ◌*◌, ◌≤◌, Bool, true, false, cond, List, [], ◌∷◌, length, refl, sym, ap, subst, arith}
 use Rattle.std.proofs.lemmas.Nat.{mul-le}
 use Rattle.kn_system.specs.Counts.{IsWithin}
-use Rattle.kn_system.specs.Equations.{SystemEquations, IsSystem}
+use Rattle.kn_system.specs.Equations.{SystemEquations}
 use Rattle.kn_settle.proofs.Climbed.{within-further, within-more}
 use Rattle.kn_system.specs.Rows.{SystemRow}
 use Rattle.kn_watch.specs.Affected.{AreAffected, IsSubset, is_affected, affected_nodes, affected_principals, affected_uses, most_refresh_ticks, use_count}
@@ -11,25 +11,12 @@ use Rattle.kn_watch.specs.Raising.{raise_ticks}
 use Rattle.kn_watch.specs.declared.changed.Changed.{Changed}
 use Rattle.kn_watch.proofs.Sums.{sum_over-among, sum_over-linear}
 
--- with u uses, p principals, n nodes and so many levels above the lowest
-both-fit : (u p n top : ℕ) → 1 ≤ top → u * (n + 1) + p + n * (p * top + 1) ≤ 4 * (top + 1) * (u + p + 1) * (n + 1)
-both-fit u p n top l =
-    omega arith
-
-pub find-fits : (s : SystemEquations) (affected : List Bool) → find_ticks s affected ≡ affected_uses s affected * (affected_nodes affected s.rows + 1) + affected_principals affected
+find-fits : (s : SystemEquations) (affected : List Bool) → find_ticks s affected ≡ affected_uses s affected * (affected_nodes affected s.rows + 1) + affected_principals affected
 find-fits s affected = sum_over-linear (use_count s) (affected_nodes affected s.rows + 1) 0 affected
 
-pub refresh-fits : (s : SystemEquations) (affected : List Bool) → IsSystem s → find_ticks s affected + raise_ticks s affected ≤ most_refresh_ticks s affected
-refresh-fits s affected fits =
-    let u : ℕ = affected_uses s affected in
-    let p : ℕ = affected_principals affected in
-    let n : ℕ = affected_nodes affected s.rows in
-    let some : 1 ≤ s.levels - 1 = omega (arith, fits.levels_fit.0) in
-    let levels : s.levels - 1 + 1 ≡ s.levels = omega (arith, fits.levels_fit.0) in
-    let fit : u * (n + 1) + p + n * (p * (s.levels - 1) + 1) ≤ 4 * s.levels * (u + p + 1) * (n + 1) = subst (λ l. u * (n + 1) + p + n * (p * (s.levels - 1) + 1) ≤ 4 * l * (u + p + 1) * (n + 1)) levels (both-fit u p n (s.levels - 1) some) in
-    let found : find_ticks s affected ≡ u * (n + 1) + p = find-fits s affected in
-    let moved : find_ticks s affected + raise_ticks s affected ≡ u * (n + 1) + p + n * (p * (s.levels - 1) + 1) = ap (λ t. t + raise_ticks s affected) found in
-    subst (λ t. t ≤ most_refresh_ticks s affected) (sym moved) fit
+-- finding and raising are all
+refresh-fits : (s : SystemEquations) (affected : List Bool) → find_ticks s affected + raise_ticks s affected ≡ most_refresh_ticks s affected
+refresh-fits s affected = ap (λ t. t + raise_ticks s affected) (find-fits s affected)
 
 one-among : (b c : Bool) (n : ℕ) → (b ≡ true → c ≡ true) → cond b n 0 ≤ cond c n 0
 one-among true c n h = let there : cond c n 0 ≡ n = ap (λ d. cond d n 0) (h refl) in omega arith
@@ -52,13 +39,13 @@ raise-among s flags others h =
     mul-le (affected_nodes flags s.rows) (affected_principals flags * top + 1) (affected_nodes others s.rows) (affected_principals others * top + 1) nodes (omega arith)
 
 -- the steps of finding alone
-pub found-ticks : (s : SystemEquations) (affected : List Bool) (old new : ℕ) → IsSystem s → IsWithin (find_ticks s affected) old new → IsWithin (most_refresh_ticks s affected) old new
-found-ticks s affected old new fits w = let all = refresh-fits s affected fits in within-more (find_ticks s affected) (most_refresh_ticks s affected) old new (omega (arith, all)) w
+pub found-ticks : (s : SystemEquations) (affected : List Bool) (old new : ℕ) → IsWithin (find_ticks s affected) old new → IsWithin (most_refresh_ticks s affected) old new
+found-ticks s affected old new w = let all = refresh-fits s affected in within-more (find_ticks s affected) (most_refresh_ticks s affected) old new (omega (arith, all)) w
 
 -- and of raising those who were found
-pub refreshed-ticks : (s : SystemEquations) (changed : List Changed) (flags affected : List Bool) (old mid new : ℕ) → IsSystem s → AreAffected s changed flags → AreAffected s changed affected → IsWithin (find_ticks s affected) old mid
+pub refreshed-ticks : (s : SystemEquations) (changed : List Changed) (flags affected : List Bool) (old mid new : ℕ) → AreAffected s changed flags → AreAffected s changed affected → IsWithin (find_ticks s affected) old mid
     → IsWithin (raise_ticks s flags) mid new → IsWithin (most_refresh_ticks s affected) old new
-refreshed-ticks s changed flags affected old mid new fits found are w x =
-    let all = refresh-fits s affected fits in
+refreshed-ticks s changed flags affected old mid new found are w x =
+    let all = refresh-fits s affected in
     let fewer = raise-among s flags affected (found.least affected are.changed_rows are.users) in
     within-more (find_ticks s affected + raise_ticks s flags) (most_refresh_ticks s affected) old new (omega (arith, all, fewer)) (within-further (find_ticks s affected) (raise_ticks s flags) old mid new w x)

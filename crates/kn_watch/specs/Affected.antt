@@ -1,5 +1,5 @@
 -- Which principals a change may affect, and how many steps they cost (keynoted's own).
-use Rattle.std.specs.Prelude.{ℕ, suc, ◌+◌, ◌*◌, ◌≡◌, ◌<◌, Bool, true, false, Some, List, [], ◌∷◌, length, slice_get, slice_index_or, if◌then◌else◌}
+use Rattle.std.specs.Prelude.{ℕ, suc, ◌+◌, ◌-◌, ◌*◌, ◌≡◌, ◌<◌, Bool, true, false, Some, List, [], ◌∷◌, length, slice_get, slice_index_or, if◌then◌else◌}
 use Rattle.kn_system.specs.declared.rows.Piece.TheVariants.{Who}
 use Rattle.kn_system.specs.Equations.{SystemEquations, row_at}
 use Rattle.kn_system.specs.Nodes.{pieces_of, uses_of}
@@ -56,7 +56,9 @@ abbrev pub affected_nodes : List Bool → List SystemRow → ℕ
 affected_nodes affected [] = 0
 affected_nodes affected (row ∷ rows) = (if is_affected affected row.authorizer then length row.formula else 0) + affected_nodes affected rows
 
--- the most steps of a refresh
+-- The most steps of a refresh. To find the affected principals: each use, with the nodes above it, and the end of each
+-- principal's uses. To raise them: each node, as often as they may rise together, and once more.
 abbrev pub most_refresh_ticks : SystemEquations → List Bool → ℕ
 most_refresh_ticks s affected =
-    4 * s.levels * (affected_uses s affected + affected_principals affected + 1) * (affected_nodes affected s.rows + 1)
+    affected_uses s affected * (affected_nodes affected s.rows + 1) + affected_principals affected
+    + affected_nodes affected s.rows * (affected_principals affected * (s.levels - 1) + 1)

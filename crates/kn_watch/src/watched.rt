@@ -41,6 +41,7 @@ impl Watched {
     ) -> Result<Watched, NoMemory>
         ensures levels { IfOk result (λ watched. watched.levels ≡ least_levels system.now) }
         ensures of { IfOk result (λ watched. IsWatchedOf watched system.now) }
+        ensures ceilings { IfOk result (λ watched. AreCeilings system.now.rows watched.ceilings) }
         ensures ticks { IsWithin (most_ticks system.now) steps.old steps.new }
     {
         let levels = begin(alloc, system, steps)?;

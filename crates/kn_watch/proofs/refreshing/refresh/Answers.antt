@@ -9,11 +9,11 @@ use Rattle.kn_watch.proofs.refreshing.refresh.Goals as goal
 
 pub returns-in_err-affected-clause-ticks : goal.returns-in_err-affected-clause-ticks
 returns-in_err-affected-clause-ticks g c = λ affected are.
-    found-ticks c.args.system.now affected c.args.steps.now c.affected_by.new.steps c.levels-levels.ensures.well_formed (c.affected_by.ensures.ticks affected are.changed_rows are.users)
+    found-ticks c.args.system.now affected c.args.steps.now c.affected_by.new.steps (c.affected_by.ensures.ticks affected are.changed_rows are.users)
 
 pub returns-in_err-levels-clause-ticks : goal.returns-in_err-levels-clause-ticks
 returns-in_err-levels-clause-ticks g c = λ affected are.
-    found-ticks c.args.system.now affected c.args.steps.now c.affected_by.new.steps c.levels-levels.ensures.well_formed (c.affected_by.ensures.ticks affected are.changed_rows are.users)
+    found-ticks c.args.system.now affected c.args.steps.now c.affected_by.new.steps (c.affected_by.ensures.ticks affected are.changed_rows are.users)
 
 pub raise_all-requires-clause-start : goal.raise_all-requires-clause-start
 raise_all-requires-clause-start g c =
@@ -30,7 +30,7 @@ returns-in_err-values-clause-ticks g c = λ affected are.
     let s : SystemEquations = c.args.system.now in
     let changed : List Changed = c.args.changed.now in
     let found : AreAffected s changed c.as_slice-affected.result.now = subst (AreAffected s changed) (sym c.as_slice-affected.ensures.value) c.in_ok-affected.ensures.affected in
-    refreshed-ticks s changed c.as_slice-affected.result.now affected c.args.steps.now c.affected_by.new.steps c.raise_all.new.steps c.levels-levels.ensures.well_formed found are
+    refreshed-ticks s changed c.as_slice-affected.result.now affected c.args.steps.now c.affected_by.new.steps c.raise_all.new.steps found are
     (c.affected_by.ensures.ticks affected are.changed_rows are.users) c.raise_all.ensures.ticks
 
 pub returns-clause-ticks : goal.returns-clause-ticks
@@ -38,5 +38,5 @@ returns-clause-ticks g c = λ affected are.
     let s : SystemEquations = c.args.system.now in
     let changed : List Changed = c.args.changed.now in
     let found : AreAffected s changed c.as_slice-affected.result.now = subst (AreAffected s changed) (sym c.as_slice-affected.ensures.value) c.in_ok-affected.ensures.affected in
-    refreshed-ticks s changed c.as_slice-affected.result.now affected c.args.steps.now c.affected_by.new.steps c.raise_all.new.steps c.levels-levels.ensures.well_formed found are
+    refreshed-ticks s changed c.as_slice-affected.result.now affected c.args.steps.now c.affected_by.new.steps c.raise_all.new.steps found are
     (c.affected_by.ensures.ticks affected are.changed_rows are.users) c.raise_all.ensures.ticks
