@@ -1,11 +1,11 @@
 -- Every text is a key file or has a first malformed line.
-use Rattle.std.proofs.Common.{◌≡◌, ◌≢◌, ◌⊎◌, ℕ, ◌+◌, ◌≤◌, ◌<◌, ◌==◌, Bool, true, false, List, [], ◌∷◌, ◌++◌, length, codes, Option, Some, None, Result, Ok, Err, refl, sym, ap, subst, ◌∙◌, arith, inl, inr}
+use Rattle.std.proofs.Common.{◌≡◌, ◌≢◌, ◌⊎◌, ℕ, ◌+◌, ◌≤◌, ◌==◌, false, List, [], ◌∷◌, ◌++◌, length, codes, Option, Some, None, Result, Ok, Err, refl, sym, ap, subst, ◌∙◌, arith, inl, inr}
 use Rattle.std.specs.List.{list_any}
-use Rattle.std.proofs.lemmas.Bool.{cases_Bool, cases_eq, cases_lt, ne_eqb}
+use Rattle.std.proofs.lemmas.Bool.{cases_Bool, cases_lt}
 use Rattle.hex.specs.Hex.{decode_of, decode_sized}
 use Rattle.hex.specs.declared.error.FromHexError.{FromHexError}
 use Rattle.kn_principal.specs.Principals.{normal_form}
-use Rattle.kn_auth.specs.KeyLines.{is_comment, SpellsKey, SpellsDigest, NamesPrincipal, StatesKey, States, StatesNothing}
+use Rattle.kn_auth.specs.KeyLines.{is_comment, SpellsKey, SpellsDigest, NamesPrincipal, States, StatesNothing}
 use Rattle.kn_auth.specs.KeyFiles.{IsKeyFile, IsFirstMalformed}
 use Rattle.kn_auth.specs.Reading.{with_entry, IsTaken, IsLineRefused}
 use Rattle.kn_auth.specs.declared.entry.MacKey.{MacKey}

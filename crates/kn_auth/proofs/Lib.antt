@@ -6,3 +6,4 @@ pub mod FileLines
 pub mod Signatures
 pub mod Decided
 pub mod Listed
+pub mod Taking

@@ -1,6 +1,5 @@
 -- The verdict of keys, by what stands behind the algorithm of a signature.
-use Rattle.std.proofs.Common.{◌≡◌, ◌≢◌, ℕ, Bool, true, false, cond, nat_eq, List, ◌++◌, length, take, drop, Option, Some, refl, sym, ap, ◌∙◌, inl, inr, take-append-drop}
-use Rattle.std.specs.Str.{bytes_eq}
+use Rattle.std.proofs.Common.{◌≡◌, ◌≢◌, ℕ, Bool, cond, nat_eq, List, ◌++◌, length, take, drop, Option, Some, sym, ap, ◌∙◌, inl, inr, take-append-drop}
 use Rattle.std.specs.List.{starts_with}
 use Rattle.std.proofs.lemmas.Bool.{cases_Bool}
 use Rattle.std.proofs.lemmas.Slice.Eq.{bytes_eq-Decides}

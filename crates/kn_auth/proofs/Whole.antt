@@ -1,19 +1,18 @@
 -- The lines of a key file together: what the lines so far say, and that a text reads as one thing.
-use Rattle.std.proofs.Common.{◌≡◌, ◌≢◌, ◌⊎◌, ℕ, zero, suc, ◌+◌, ◌≤◌, ◌<◌, Bool, true, false, cond, List, [], ◌∷◌, ◌++◌, length, map, take, Option, Some, None, Result, Ok, Err, refl, sym, ap, subst, ◌∙◌, arith, inl, inr, append_assoc, length-append}
-use Rattle.std.specs.Prelude.{IfOk, IfErr, filter_map, is_some}
+use Rattle.std.proofs.Common.{◌≡◌, ◌⊎◌, ℕ, ◌+◌, ◌≤◌, ◌<◌, Bool, true, false, List, [], ◌∷◌, ◌++◌, length, Option, Some, None, Result, Ok, Err, refl, sym, ap, ◌∙◌, arith, inl, inr, append_assoc, length-append}
+use Rattle.std.specs.Prelude.{IfOk, IfErr, filter_map}
 use Rattle.std.specs.Bool.{MatchBool}
-use Rattle.std.specs.List.{AllZip, AllByRecursion, IsDistinct, concat, list_any}
-use Rattle.std.specs.Option.{option_map}
+use Rattle.std.specs.List.{AllZip, AllByRecursion, IsDistinct, concat}
 use Rattle.std.specs.Str.{bytes_eq}
 use Rattle.std.specs.Str.Lines.{lines}
 use Rattle.std.proofs.lemmas.Bool.{cases_Bool, cases_lt, false≢true}
-use Rattle.std.proofs.lemmas.List.{append-nil, map-append, append_cancel_left}
+use Rattle.std.proofs.lemmas.List.{append-nil, map-append}
 use Rattle.std.proofs.lemmas.List.Elements.{filter_map-append}
 use Rattle.std.proofs.lemmas.Slice.Eq.{bytes_eq-Decides}
 use Rattle.kn_auth.specs.KeyLines.{SpellsKey, States}
 use Rattle.kn_auth.specs.KeyFiles.{key_in, digest_in, secret_in, keys_in, principals_of, AreWellFormed, IsOfEntries, IsKeyFile, IsFirstMalformed}
 use Rattle.kn_auth.specs.Reading.{with_entry, with_secret, IsTaken, IsLineRefused}
-use Rattle.kn_auth.specs.Verdicts.{has_key, key_of}
+use Rattle.kn_auth.specs.Verdicts.{has_key}
 use Rattle.kn_auth.specs.Causes.{IsCause}
 use Rattle.kn_auth.specs.declared.entry.MacKey.{MacKey}
 use Rattle.kn_auth.specs.declared.entry.Entry.{Entry}

@@ -1,5 +1,5 @@
 -- The lines of a key file, and what each states by itself (keynoted's own format).
-use Rattle.std.specs.Prelude.{ℕ, ◌≡◌, ◌≤◌, ◌==◌, Bool, true, List, [], ◌∷◌, ◌++◌, length, codes, Ok}
+use Rattle.std.specs.Prelude.{ℕ, ◌≡◌, ◌≤◌, ◌==◌, ◌*◌, ◌%◌, Bool, true, List, [], ◌∷◌, ◌++◌, ◌⊎◌, length, codes, Ok}
 use Rattle.std.specs.Prelude.{Option, MatchOption}
 use Rattle.hex.specs.Hex.{decode_of, decode_sized}
 use Rattle.kn_base.specs.declared.limits.TheConstants.{PRINCIPAL_BYTES}
@@ -44,6 +44,23 @@ States line Comment = is_comment line ≡ true
 States line (Mac mac) = (text : List ℕ) × (line ≡ codes "mac " ++ text) × StatesKey text mac
 States line (Digest digest) = (digits : List ℕ) × (line ≡ codes "digest " ++ digits) × SpellsDigest digits digest
 States line (Secret secret) = (digits : List ℕ) × (line ≡ codes "secret " ++ digits) × SpellsKey digits secret
+
+-- as many digits as a key may have
+pub record HasKeySize (digits : List ℕ) : Type 0 where
+  pub even : ¬ (length digits % 2 ≡ 1)
+  pub some : 1 ≤ length digits
+  pub few : length digits ≤ 2 * KEY_BYTES
+
+-- they stand in front of a space
+pub record BeginsWithKey (text : List ℕ) : Type 0 where
+  pub digits : List ℕ
+  pub name : List ℕ
+  pub spelled : text ≡ digits ++ 32 ∷ name
+  pub size : HasKeySize digits
+
+-- the line begins with one of the three words
+abbrev pub HasWord : List ℕ → Type 0
+HasWord line = (rest : List ℕ) × ((line ≡ codes "mac " ++ rest) ⊎ ((line ≡ codes "digest " ++ rest) ⊎ (line ≡ codes "secret " ++ rest)))
 
 -- the line is of no form
 abbrev pub StatesNothing : List ℕ → Type 0

@@ -1,6 +1,8 @@
 //! What a line of a key file states.
-ghost use Rattle.std.specs.Prelude.{◌≡◌, ◌++◌, ℕ, List, codes, IfOk, MatchOption};
+ghost use Rattle.std.specs.Prelude.{◌≡◌, ◌≤◌, ◌++◌, ℕ, List, codes, length, IfOk, MatchOption, OnErr};
+ghost use Rattle.kn_base.specs.declared.limits.TheConstants.{PRINCIPAL_BYTES};
 ghost use Rattle.kn_auth.specs.KeyLines.{is_comment, SpellsKey, NamesPrincipal, ReadsAs};
+ghost use Rattle.kn_auth.specs.KeyLines.{BeginsWithKey, HasKeySize, HasWord};
 
 use hex::{FromHex, FromHexError};
 use kn_base::text::{behind, cut};
@@ -31,9 +33,11 @@ pub(crate) enum Entry {
     Secret(Octets),
 }
 
-/// What a line states by itself, without its newline; None where it is of no form.
+/// What a line states by itself, without its newline; None where it is of no form. Only a line that begins with a word
+/// takes memory.
 pub(crate) fn read_line(alloc: Global, line: &[u8]) -> Result<Option<Entry>, NoMemory>
-    ensures { IfOk result (λ read. ReadsAs line.now read) }
+    ensures read { IfOk result (λ read. ReadsAs line.now read) }
+    ensures memory { OnErr result (HasWord line.now) }
 {
     if is_comment(line) {
         return Ok(Some(Entry::Comment));
@@ -61,7 +65,8 @@ fn is_comment(line: &[u8]) -> bool
 
 /// What a line states that is `mac` and this behind a space.
 fn mac_entry(alloc: Global, text: &[u8]) -> Result<Option<Entry>, NoMemory>
-    ensures { IfOk result (λ read. ReadsAs (codes "mac " ++ text.now) read) }
+    ensures read { IfOk result (λ read. ReadsAs (codes "mac " ++ text.now) read) }
+    ensures memory { OnErr result (BeginsWithKey text.now) }
 {
     let Some((digits, name)) = cut(text, b' ') else {
         return Ok(None);
@@ -87,7 +92,8 @@ fn digest_entry(digits: &[u8]) -> Option<Entry>
 
 /// What a line states that is `secret` and this behind a space.
 fn secret_entry(alloc: Global, digits: &[u8]) -> Result<Option<Entry>, NoMemory>
-    ensures { IfOk result (λ read. ReadsAs (codes "secret " ++ digits.now) read) }
+    ensures read { IfOk result (λ read. ReadsAs (codes "secret " ++ digits.now) read) }
+    ensures memory { OnErr result (HasKeySize digits.now) }
 {
     match key(alloc, digits)? {
         Some(secret) => Ok(Some(Entry::Secret(secret))),
@@ -97,27 +103,30 @@ fn secret_entry(alloc: Global, digits: &[u8]) -> Result<Option<Entry>, NoMemory>
 
 /// The 1 to 128 bytes that digits spell.
 fn key(alloc: Global, digits: &[u8]) -> Result<Option<Octets>, NoMemory>
-    ensures { IfOk result (λ read. MatchOption read
+    ensures key { IfOk result (λ read. MatchOption read
         ((key : List ℕ) → ¬ SpellsKey digits.now key)
         (λ key. SpellsKey digits.now key)) }
+    ensures memory { OnErr result (HasKeySize digits.now) }
 {
+    if digits.is_empty() || digits.len() > 2 * KEY_BYTES {
+        return Ok(None);
+    }
     let bytes = match hex::decode(alloc, digits) {
         Ok(bytes) => bytes,
         Err(FromHexError::OutOfMemory) => return Err(NoMemory),
         Err(_) => return Ok(None),
     };
-    if bytes.is_empty() || bytes.len() > KEY_BYTES {
-        return Ok(None);
-    }
     let key = Octets::from_slice(alloc, bytes.as_slice())?;
     Ok(Some(key))
 }
 
 /// The normal form of a principal.
 fn principal(alloc: Global, name: &[u8]) -> Result<Option<Octets>, NoMemory>
-    ensures { IfOk result (λ read. MatchOption read
+    ensures principal { IfOk result (λ read. MatchOption read
         ((principal : List ℕ) → ¬ NamesPrincipal name.now principal)
         (λ principal. NamesPrincipal name.now principal)) }
+    ensures some { OnErr result (1 ≤ length name.now) }
+    ensures few { OnErr result (length name.now ≤ PRINCIPAL_BYTES) }
 {
     match normal(alloc, name) {
         Ok(principal) => Ok(Some(principal)),

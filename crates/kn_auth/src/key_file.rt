@@ -69,9 +69,10 @@ fn read(alloc: Global, bytes: &[u8]) -> Result<KeyFile, KeyFault>
 }
 
 impl KeyFile {
-    ghost use Rattle.std.specs.Prelude.{◌≡◌, [], IfOk};
+    ghost use Rattle.std.specs.Prelude.{◌≡◌, ◌≢◌, [], IfOk, OnErr};
     ghost use Rattle.std.specs.Bool.{MatchBool};
-    ghost use Rattle.kn_auth.specs.Reading.{IsAdded, IsTaken, IsLineRefused};
+    ghost use Rattle.kn_auth.specs.KeyLines.{HasWord};
+    ghost use Rattle.kn_auth.specs.Reading.{IsAdded, IsTaken, IsLineRefused, with_entry};
 
     /// What a key file without lines says: no key and no digest is known, and the secret is empty.
     pub fn empty(alloc: Global) -> KeyFile
@@ -90,9 +91,10 @@ impl KeyFile {
 
     /// Adds what a line states; false where the line is malformed at its place.
     fn take_line(&mut self, alloc: Global, line: &[u8]) -> Result<bool, NoMemory>
-        ensures { IfOk result (λ taken. MatchBool taken
+        ensures taken { IfOk result (λ taken. MatchBool taken
             (IsTaken self.old line.now self.new)
             (IsLineRefused self.old line.now)) }
+        ensures memory { OnErr result (HasWord line.now) }
     {
         match read_line(alloc, line)? {
             Some(entry) => self.add(entry),
@@ -102,7 +104,9 @@ impl KeyFile {
 
     /// Adds what a line states; false where that may not stand behind what was added before.
     fn add(&mut self, entry: Entry) -> Result<bool, NoMemory>
-        ensures { IfOk result (λ added. IsAdded self.old entry added self.new) }
+        ensures added { IfOk result (λ added. IsAdded self.old entry added self.new) }
+        ensures may_follow { OnErr result (with_entry self.old entry ≢ None) }
+        ensures worded { OnErr result (entry ≢ Entry.Comment) }
     {
         match entry {
             Entry::Comment => Ok(true),
@@ -116,7 +120,8 @@ impl KeyFile {
     }
 
     fn add_key(&mut self, mac: MacKey) -> Result<bool, NoMemory>
-        ensures { IfOk result (λ added. IsAdded self.old (Entry.Mac mac) added self.new) }
+        ensures added { IfOk result (λ added. IsAdded self.old (Entry.Mac mac) added self.new) }
+        ensures may_follow { OnErr result (with_entry self.old (Entry.Mac mac) ≢ None) }
     {
         if self.auth.keys.has(mac.principal.as_slice()) {
             return Ok(false);

@@ -1,4 +1,4 @@
-use Rattle.std.proofs.Common.{◌≡◌, ◌+◌, List, length, arith, ap, rules, ◌∙◌}
+use Rattle.std.proofs.Common.{◌≡◌, ◌+◌, length, arith, ap, rules, ◌∙◌}
 use Rattle.std.specs.Str.Lines.{lines}
 use Rattle.kn_auth.proofs.FileLines.{lines_given}
 use Rattle.kn_auth.proofs.Whole.{IsReadTo, read_none, read_more, first_refused, read_whole}
@@ -20,7 +20,7 @@ overflow_add-number c =
 pub returns-then-not-branch-clause-err : goal.returns-then-not-branch-clause-err
 returns-then-not-branch-clause-err c =
     first_refused c.args.bytes.now c.lines.number c.lines.file c.in-Some.line.now c.next.new.self (rw c.in-Some.ensures.steps at c.lines.invariant.2)
-    (rw c.if-not-branch.true at c.in_ok-take_line.ensures)
+    (rw c.if-not-branch.true at c.in_ok-take_line.ensures.taken)
 
 pub lines-preserved : goal.lines-preserved
 lines-preserved c =
@@ -28,7 +28,7 @@ lines-preserved c =
     let few = c.lines.invariant.3 in
     let more : IsReadTo c.args.bytes.now (c.lines.number + 1) c.take_line.new.self c.next.new.self =
     read_more c.args.bytes.now c.lines.number c.lines.file c.take_line.new.self c.in-Some.line.now c.next.new.self (rw c.in-Some.ensures.steps at c.lines.invariant.2)
-    (rw c.if-not-branch.false at c.in_ok-take_line.ensures) in
+    (rw c.if-not-branch.false at c.in_ok-take_line.ensures.taken) in
     ((search rules), (search rules), more, (omega arith))
 
 pub returns-clause-ok : goal.returns-clause-ok

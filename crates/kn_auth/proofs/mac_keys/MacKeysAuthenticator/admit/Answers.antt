@@ -1,5 +1,4 @@
-use Rattle.std.proofs.Common.{◌≡◌, List, Some, None, sym, ap, ◌∙◌}
-use Rattle.kn_auth.specs.Verdicts.{key_of, code_verdict}
+use Rattle.std.proofs.Common.{sym, ◌∙◌}
 use Rattle.kn_auth.proofs.Signatures.{of_another}
 use Rattle.kn_auth.proofs.mac_keys.MacKeysAuthenticator.admit.Goals as goal
 
