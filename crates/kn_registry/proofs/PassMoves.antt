@@ -11,7 +11,7 @@ use Rattle.kn_history.specs.declared.item.Item.{Item}
 use Rattle.kn_history.specs.Batches.{refusal_of_items, numbered_from, batch_by, RefusesBatch}
 use Rattle.kn_history.specs.Retained.{retained_version}
 use Rattle.kn_history.specs.History.{all_changes, additions, update_may_follow, updates_may_follow, refusal_of_text, refusal_of_id, addition_by, additions_by, removal_by, own_updates, IsFirstRefused}
-use Rattle.kn_turn.specs.Passes.{after_take, after_look, after_append, after_append_all, after_give}
+use Rattle.kn_turn.specs.Passes.{after_take, after_look, after_append, after_append_all, after_confirm, after_give}
 use Rattle.kn_registry.specs.declared.answer.Batched.{Batched}
 use Rattle.kn_registry.specs.declared.answer.PinFault.{PinFault}
 use Rattle.kn_registry.specs.declared.answer.PinFault.TheVariants as P
@@ -48,6 +48,21 @@ moves-more u v w a b p q s t m n = record {
   stops = n.stops ∙ ap (λ x. x ++ t) m.stops ∙ append_assoc u.stops s t;
   splits = n.splits ∙ m.splits;
   ended = n.ended ∙ m.ended;
+}
+
+-- a turn at which nothing was new
+pub confirmed_looks : (v w : PassSeen) → w ≡ after_confirm v → Looks v w
+confirmed_looks v w is = subst (Looks v) (sym is) record {
+  more = [];
+  moves = record {
+    number = refl;
+    seen = sym (append-nil v.seen);
+    named = refl;
+    mine = sym (append-nil v.mine);
+    stops = refl;
+    splits = refl;
+    ended = refl;
+  };
 }
 
 looks_once : (v : PassSeen) (log : List Update) → IsPrefix v.seen log → IsSoundPass v → IsSoundPass (after_look (after_take v log)) → Looks v (after_give (after_look (after_take v log)))

@@ -1,6 +1,7 @@
 //! The registry, and its calls.
 ghost use Rattle.std.specs.Prelude.{◌≡◌, ◌≢◌, ◌<◌, ◌≤◌, ◌++◌, ◌∷◌, [], ◌⊎◌, List, length, Some, None, true, false};
-ghost use Rattle.std.specs.Prelude.{All, IfOk, IfErr, OnOk, OnErr};
+ghost use Rattle.std.specs.Prelude.{All, IfOk, IfErr, OnOk, OnErr, MatchBool, take};
+ghost use Rattle.std.specs.Bool.{OnTrue};
 ghost use mathlib.Core.List.{IsPrefix};
 ghost use Rattle.std.specs.Arc.{arc_value};
 ghost use Rattle.kn_base.specs.declared.limits.TheConstants.{CHANGES};
@@ -8,7 +9,7 @@ ghost use Rattle.kn_history.specs.declared.update.Update.{Update};
 ghost use Rattle.kn_history.specs.History.{is_valid_history};
 ghost use Rattle.kn_history.specs.Retained.{retained_version};
 ghost use Rattle.kn_turn.specs.Passes.{root_of, split_of, after_give, after_look, after_append, after_append_all};
-ghost use Rattle.kn_turn.specs.Passes.{after_split, after_join, after_meet};
+ghost use Rattle.kn_turn.specs.Passes.{after_split, after_join, after_meet, after_confirm};
 ghost use Rattle.kn_registry.specs.Passes.{IsReady, IsSoundPass, Looks, Stays, Adds, AddsAll, Removes, Batches};
 ghost use Rattle.kn_registry.specs.Passes.{RefusesText, RefusesOne, RefusesId, RefusesItems, RefusesVersion};
 ghost use Rattle.kn_registry.specs.declared.answer.PinFault.TheVariants as P;
@@ -97,6 +98,48 @@ impl Registry {
             Ok(snapshot) => Ok(snapshot),
             Err(_) => Err(NoMemory),
         }
+    }
+
+    /// The version of all that the pass has then seen, as by `pin`, for who holds a version of what it saw before.
+    /// Where nothing is newer than that one it is that one again, and the turn isn't waited for.
+    pub fn pin_again<R: Wait>(
+        &self,
+        rt: &R,
+        pass: &mut Pass,
+        held: &Snapshot,
+    ) -> Result<Snapshot, NoMemory>
+        requires ready { IsReady self.now pass.old }
+        requires held { arc_value held.now ≡ take (length (arc_value held.now)) pass.old.seen }
+        ensures ready { IsReady self.now pass.new }
+        ensures sound { IsSoundPass pass.new }
+        ensures version { IfOk result (λ snapshot. arc_value snapshot ≡ pass.new.seen) }
+        ensures looked { IfOk result (λ snapshot. Looks pass.old pass.new) }
+        ensures refused { OnErr result (Stays pass.old pass.new) }
+    {
+        if !self.is_newest(pass, held) {
+            return self.pin(rt, pass);
+        }
+        let snapshot: Result<Snapshot, AllocError> = held.clone();
+        match snapshot {
+            Ok(snapshot) => Ok(snapshot),
+            Err(_) => Err(NoMemory),
+        }
+    }
+
+    /// Whether this version of what the pass has seen is the newest of all. If so, that counts as a turn.
+    fn is_newest(&self, pass: &mut Pass, held: &Snapshot) -> bool
+        requires ready { IsReady self.now pass.old }
+        requires held { arc_value held.now ≡ take (length (arc_value held.now)) pass.old.seen }
+        ensures confirmed { MatchBool result (pass.new ≡ after_confirm pass.old) (pass.new ≡ pass.old) }
+        ensures whole { OnTrue result (arc_value held.now ≡ pass.old.seen) }
+        ensures sound { IsSoundPass pass.new }
+    {
+        if held.number() != pass.seen_length() {
+            // what the number tells with it is that the pass is sound
+            let _number = pass.number();
+            return false;
+        }
+        self.turn.confirm_newest(pass)
     }
 
     /// The version of this number, out of those that are retained at the turn. Missing where none of them has it.

@@ -4,6 +4,7 @@ ghost use Rattle.kn_registry.specs.Passes.{IsReady};
 ghost use Rattle.kn_daemon.specs.Shapes.{Looks, ForNew, ForOpen, ForRetained};
 ghost use Rattle.kn_daemon.specs.Daemon.{Grounds};
 ghost use Rattle.kn_serve.specs.Handling.{moment, state_of, HasRoom, Handles};
+ghost use Rattle.kn_serve.specs.Kept.{ArePinned};
 
 use crate::connection::Connection;
 use crate::refusals::{print_refusal, refusal_of_version};
@@ -54,15 +55,16 @@ pub(crate) fn pin<R: Wait, L: Link>(
     link: &mut L,
 ) -> Result<(), Failed>
     requires ready { IsReady reg.now pass.old }
+    requires pinned { ArePinned pass.old.seen (state_of connection.old) }
     ensures ready { IsReady reg.now pass.new }
     ensures handled { (g : Grounds) → Handles g (Looks (ForOpen s)) (is_whole result)
         (moment pass.old connection.old (L.seen link.old)) (moment pass.new connection.new (L.seen link.new)) }
 {
-    match connection.sessions.view(s) {
-        Ok(_) => {}
+    let view = match connection.sessions.view(s) {
+        Ok(view) => view,
         Err(_) => return print(&Reply::No(Refusal::Session), link),
-    }
-    let snapshot = match reg.pin(rt, pass) {
+    };
+    let snapshot = match reg.pin_again(rt, pass, view.snapshot) {
         Ok(snapshot) => snapshot,
         Err(NoMemory) => return print(&Reply::NoMemory, link),
     };

@@ -15,8 +15,8 @@ use Rattle.kn_turn.specs.declared.view.Stage.{Stage}
 use Rattle.kn_turn.specs.declared.view.Stage.TheVariants.{Idle, Waits, Served, Holds}
 use Rattle.kn_turn.specs.Counts.{one_if, total}
 use Rattle.kn_turn.specs.Entries.{entries_of, AllNameUpTo}
-use Rattle.kn_turn.specs.Views.{ticket_at, value_at, ticket_if, ticket_count, value_count, count_of_ticket, live_count, ended_count, number_if, number_count, HasEnded, after_draw, after_serve, after_take, after_append, after_look, after_give}
-use Rattle.kn_turn.specs.Invariant.{IsAtStage, IsSoundView, Fits, IsHome, IsKept, draws_ticket, sees_served, takes_value, appends, looks, passes_on}
+use Rattle.kn_turn.specs.Views.{ticket_at, value_at, ticket_if, ticket_count, value_count, count_of_ticket, live_count, ended_count, number_if, number_count, HasEnded, after_draw, after_serve, after_take, after_append, after_look, after_confirm, after_give}
+use Rattle.kn_turn.specs.Invariant.{IsAtStage, IsSoundView, Fits, IsHome, IsKept, draws_ticket, sees_served, takes_value, appends, looks, confirms, passes_on}
 use Rattle.kn_turn.proofs.Sums.{one_if-same, one_if-other, other-one_if, total-set, total-at, total-two, total-zero, total-le, total-gap}
 use Rattle.kn_turn.proofs.Prefixes.{prefix_self, prefix_same, prefix_more, longer-nil}
 use Rattle.kn_turn.proofs.Named.{entries_of-append, entries_of-own, entries_of-still, has_ended-more, all_up_to-prefix, all_up_to-more}
@@ -328,6 +328,43 @@ module _ {S E : Type 0} (by : E → ℕ) (log : S → List E) where
           subst (IsPrefix v.seen) (sym whole) f.seen,
         ),
       )
+
+  -- the front is looked at, which may be the length of what was seen
+  pub confirms_at : (n id : ℕ) (me : M) → Allows Rule n id me 2 (λ x. x) (confirms (step n 2 0 0 none) me)
+  confirms_at n id me s k _ at _ =
+      let v : View E = me.0 in
+      let r : ℕ = slice_index s.words 2 in
+      let f = k.each id v at in
+      let w : View E = after_confirm v in
+      let words_are = ap (λ (ws : List ℕ). slice_set ws 2 (slice_index ws 2)) k.words in
+      let mine : Fits by k.history k.passed k.drawn k.limit w = record {
+        seen = f.seen;
+        old = f.old;
+        queue = f.queue;
+        mine = f.mine;
+        ended = f.ended;
+        splits = f.splits;
+        stage = f.stage;
+      } in
+      dite (ℕ_discrete r (length v.seen))
+      (λ whole. (
+        w,
+        keeps,
+        tt,
+        one_changes s k id v w (slice_set s.words 2 r) s.homes k.history k.drawn k.passed at refl refl refl words_are
+            (omega arith) k.inside (home_still s k id v w at refl) (apart_still s k id v w at (λ t. omega arith)) mine
+            (λ j u _ d. k.each j u d),
+        ((λ _. refl), λ miss. absurd (miss whole)),
+      ))
+      (λ miss. (
+        v,
+        keeps,
+        tt,
+        one_changes s k id v v (slice_set s.words 2 r) s.homes k.history k.drawn k.passed at refl refl refl words_are
+            (omega arith) k.inside (home_still s k id v v at refl) (apart_still s k id v v at (λ t. omega arith)) f
+            (λ j u _ d. k.each j u d),
+        ((λ whole. absurd (miss whole)), λ _. refl),
+      ))
 
   stands_passed : (history : List E) (passed drawn ticket : ℕ) (taken : List E) (st : Stage) → ticket_if passed st ticket ≡ 0 → IsAtStage history passed drawn ticket taken st → IsAtStage history (passed + 1) drawn ticket taken st
   stands_passed history passed drawn ticket taken Idle other k = tt

@@ -12,7 +12,7 @@ use Rattle.kn_turn.specs.declared.view.Stage.{Stage}
 use Rattle.kn_turn.specs.declared.view.Stage.TheVariants.{Idle, Waits, Served, Holds}
 use Rattle.kn_turn.specs.Counts.{total}
 use Rattle.kn_turn.specs.Entries.{entries_of, AllNameUpTo}
-use Rattle.kn_turn.specs.Views.{ticket_count, value_count, count_of_ticket, live_count, number_count, known_entries, HasEnded, after_draw, after_serve, after_take, after_append, after_look, after_settle, after_give}
+use Rattle.kn_turn.specs.Views.{ticket_count, value_count, count_of_ticket, live_count, number_count, known_entries, HasEnded, after_draw, after_serve, after_take, after_append, after_look, after_confirm, after_settle, after_give}
 
 module _ {E : Type 0} where
   -- what the stage tells of the tickets that were passed on and drawn, and of the history
@@ -88,6 +88,11 @@ module _ {S E : Type 0} where
   -- the history is seen, of which the front is the length
   abbrev pub looks : (E → ℕ) → Step (Option S) → Sat S E → ℕ → Sat S E → Type 0
   looks by st m r m' = (r ≡ length m.0.taken) × (m' ≡ (after_look m.0, m.1)) × IsSoundView by m'.0 × IsPrefix m.0.seen m.0.taken
+
+  -- where the front is the length of what was seen, that is the whole history
+  abbrev pub confirms : Step (Option S) → Sat S E → ℕ → Sat S E → Type 0
+  confirms st m r m' =
+      (r ≡ length m.0.seen → m' ≡ (after_confirm m.0, m.1)) × (r ≢ length m.0.seen → m' ≡ m)
 
   -- the turn goes to the next ticket, and the value home
   abbrev pub passes_on : Step (Option S) → Sat S E → ℕ → Sat S E → Type 0

@@ -69,6 +69,10 @@ module _ {E : Type 0} where
   abbrev pub after_look : PassView E → PassView E
   after_look p = record p { seen = p.taken; stops = p.stops ++ length p.taken ∷ [] }
 
+  -- after `confirm_newest` said that nothing is new
+  abbrev pub after_confirm : PassView E → PassView E
+  after_confirm p = record p { stops = p.stops ++ length p.seen ∷ [] }
+
   -- after `give`
   abbrev pub after_give : PassView E → PassView E
   after_give p = record p { is_idle = true; taken = [] }

@@ -81,6 +81,10 @@ module _ {E : Type 0} where
   abbrev pub after_look : View E → View E
   after_look v = record v { seen = v.taken; stops = v.stops ++ length v.taken ∷ [] }
 
+  -- the pass had the turn for a moment, at which nothing was new
+  abbrev pub after_confirm : View E → View E
+  after_confirm v = record v { stops = v.stops ++ length v.seen ∷ [] }
+
   abbrev pub after_give : View E → View E
   after_give v = record v { stage = Idle; taken = [] }
 

@@ -85,6 +85,17 @@ impl<S: Logged> Play<Option<S>, View<S::Entry>> for Looks<S> {
     ghost then = { looks S.by };
 }
 
+/// A look at the front, by which a pass may find that it has seen the whole history.
+pub struct Confirms<S> {
+    of: PhantomData<S>,
+}
+
+impl<S: Logged> Play<Option<S>, View<S::Entry>> for Confirms<S> {
+    ghost use Rattle.kn_turn.specs.Invariant.{confirms};
+
+    ghost then = { confirms };
+}
+
 /// The value goes home, and the turn to the next ticket.
 pub struct PassesOn<S> {
     of: PhantomData<S>,

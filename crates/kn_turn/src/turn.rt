@@ -6,15 +6,15 @@ ghost use Rattle.kn_turn.specs.declared.view.Stage.TheVariants.{Idle, Waits, Ser
 ghost use Rattle.kn_turn.specs.Invariant.{IsSoundView};
 ghost use Rattle.kn_turn.specs.Passes.{IsSoundPass, root_of, split_of};
 ghost use Rattle.kn_turn.specs.Passes.{after_take, after_append, after_append_all, after_look, after_give};
-ghost use Rattle.kn_turn.specs.Passes.{after_split, after_join, after_meet};
+ghost use Rattle.kn_turn.specs.Passes.{after_confirm, after_split, after_join, after_meet};
 ghost use Rattle.kn_turn.specs.Views.{after_serve};
 
 use crate::logged::Logged;
 use crate::parking::Parking;
 use crate::pass::Pass;
 use crate::steps::{
-    Absorbs, Addition, Appends, ByTickets, Draws, Informs, Looks, Notes, PassesOn, Sees, Settles,
-    SplitsOff, Takes,
+    Absorbs, Addition, Appends, ByTickets, Confirms, Draws, Informs, Looks, Notes, PassesOn, Sees,
+    Settles, SplitsOff, Takes,
 };
 use crate::view::View;
 use atomic_table::{Seat, Table};
@@ -214,6 +214,18 @@ impl<S: Logged> Turn<S> {
         let length = value.length();
         pass.seen_length = length;
         length
+    }
+
+    /// Whether the pass has seen the whole history. If so it counts as a look at its turn, but no ticket is drawn and
+    /// nobody is waited for.
+    pub fn confirm_newest(&self, pass: &mut Pass<S>) -> bool
+        requires turn { pass.old.turn ≡ self.now }
+        requires idle { pass.old.is_idle ≡ true }
+        ensures confirmed { MatchBool result (pass.new ≡ after_confirm pass.old) (pass.new ≡ pass.old) }
+        ensures sound { IsSoundPass S.by pass.new }
+    {
+        let front = self.table.shared.load::<Confirms<S>>(&mut pass.seat, FRONT);
+        front == u64::from(pass.seen_length)
     }
 
     /// Brings the value home, and passes the turn on.
