@@ -11,24 +11,24 @@ use Rattle.kn_transcript.specs.Laws.{OneVerdict}
 use Rattle.kn_serve.specs.Serving.{IsOrderly, IsFaultless}
 use Rattle.kn_workers.specs.Connections.{ServedSeen}
 use Rattle.kn_workers.specs.Doors.{DoorSeen}
-use Rattle.kn_endings.specs.Names.{AskNames, CheckNames, VerifyNames}
-use Rattle.kn_service.specs.Orders.{Order}
+use Rattle.kn_words.specs.Names.{AskNames, CheckNames, VerifyNames}
+use Rattle.kn_words.specs.Orders.{Order}
 use Rattle.kn_endings.specs.AskEndings.{status_of_ended, status_of_ask}
 use Rattle.kn_endings.specs.CheckEndings.{status_of_ending}
 use Rattle.kn_endings.specs.FollowEndings.{status_of_follow}
 use Rattle.kn_service.specs.ServeEndings.{status_of_serve}
 use Rattle.kn_endings.specs.VerifyEndings.{status_of_verify}
-use Rattle.kn_commands.specs.declared.generating.GenNumbers.{GenNumbers}
-use Rattle.keynoted.specs.Commands.{AskFor, CheckFor, FollowFor, GenFor, ServeFor, VerifyFor}
+use Rattle.kn_words.specs.declared.gen_words.GenNumbers.{GenNumbers}
+use Rattle.kn_words.specs.Commands.{AskFor, CheckFor, FollowFor, GenFor, ServeFor, VerifyFor}
 use Rattle.keynoted.specs.Outcomes.{OutsideSeen, Outcome, IsOutcome, IsPrintedOrCut, IsEnded, status_of, line_of}
 use Rattle.keynoted.specs.Outcomes.{NoCommand, WordsLackMemory, AskEnded, ServeEnded, CheckEnded, FollowEnded}
 use Rattle.keynoted.specs.Outcomes.{VerifyEnded, GenEnded}
 use Rattle.keynoted.specs.Calling.{AskLeads, CheckLeads, LogLeads, TranscriptLeads, IsOrderlyLink, NoReadFailed}
 use Rattle.keynoted.specs.Calling.{CallsFor, EndsWith, ByAsk, ByServe, ByCheck, ByFollow, ByVerify, ByGen}
-use Rattle.keynoted.proofs.Apart.{ask_is_no_check, gen_is_no_ask, gen_is_no_check, ask_is_no_serve}
-use Rattle.keynoted.proofs.Apart.{check_is_no_serve, follow_is_no_ask, follow_is_no_check, follow_is_no_serve}
-use Rattle.keynoted.proofs.Apart.{gen_is_no_follow, gen_is_no_serve, gen_is_no_verify, verify_is_no_ask}
-use Rattle.keynoted.proofs.Apart.{verify_is_no_check, verify_is_no_follow, verify_is_no_serve}
+use Rattle.kn_words.proofs.Apart.{ask_is_no_check, gen_is_no_ask, gen_is_no_check, ask_is_no_serve}
+use Rattle.kn_words.proofs.Apart.{check_is_no_serve, follow_is_no_ask, follow_is_no_check, follow_is_no_serve}
+use Rattle.kn_words.proofs.Apart.{gen_is_no_follow, gen_is_no_serve, gen_is_no_verify, verify_is_no_ask}
+use Rattle.kn_words.proofs.Apart.{verify_is_no_check, verify_is_no_follow, verify_is_no_serve}
 use Rattle.keynoted.proofs.Known.{told_by, same_ask, same_names, same_log, same_files}
 use Rattle.keynoted.proofs.Known.{same_transcript}
 use Rattle.keynoted.proofs.Leading.{ask_once, check_once, log_once, transcript_once}

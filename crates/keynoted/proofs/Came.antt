@@ -35,8 +35,8 @@ use Rattle.kn_serve.specs.Serving.{IsOrderly, IsFaultless}
 use Rattle.kn_workers.specs.Connections.{ServedSeen}
 use Rattle.kn_workers.specs.Doors.{DoorSeen}
 use Rattle.kn_workers.specs.Nets.{NetSeen}
-use Rattle.kn_endings.specs.declared.stop.Stop.{Stop}
-use Rattle.kn_endings.specs.declared.stop.Stop.TheVariants as S
+use Rattle.kn_inputs.specs.declared.stop.Stop.{Stop}
+use Rattle.kn_inputs.specs.declared.stop.Stop.TheVariants as S
 use Rattle.kn_endings.specs.declared.ask_ending.AskEnding.{AskEnding}
 use Rattle.kn_endings.specs.declared.ask_ending.AskEnding.TheVariants as A
 use Rattle.kn_service.specs.declared.serve_ending.ServeEnding.{ServeEnding}
@@ -45,21 +45,23 @@ use Rattle.kn_endings.specs.declared.follow_ending.FollowEnding.{FollowEnding}
 use Rattle.kn_endings.specs.declared.follow_ending.FollowEnding.TheVariants as W
 use Rattle.kn_endings.specs.declared.verify_ending.VerifyEnding.{VerifyEnding}
 use Rattle.kn_endings.specs.declared.verify_ending.VerifyEnding.TheVariants as Y
-use Rattle.kn_endings.specs.declared.ending.Source.{Source}
-use Rattle.kn_endings.specs.declared.ending.Source.TheVariants.{Policy, Script as TheScript, Reply}
+use Rattle.kn_words.specs.declared.files.Source.{Source}
+use Rattle.kn_words.specs.declared.files.Source.TheVariants.{Policy, Script as TheScript, Reply}
 use Rattle.kn_endings.specs.declared.ending.Ending.{Ending}
 use Rattle.kn_endings.specs.declared.ending.Ending.TheVariants.{Stopped, NoQuery, Faulty, Rejected, Proved}
-use Rattle.kn_endings.specs.Names.{AskNames, CheckNames, VerifyNames}
-use Rattle.kn_service.specs.Orders.{Order}
-use Rattle.kn_endings.specs.Stops.{status_of}
+use Rattle.kn_words.specs.Names.{AskNames, CheckNames, VerifyNames}
+use Rattle.kn_words.specs.Orders.{Order}
+use Rattle.kn_inputs.specs.Stops.{status_of}
 use Rattle.kn_endings.specs.AskEndings.{status_of_ended, status_of_ask}
-use Rattle.kn_endings.specs.CheckEndings.{name_of, status_of_ending}
+use Rattle.kn_words.specs.Sources.{name_of}
+use Rattle.kn_endings.specs.CheckEndings.{status_of_ending}
 use Rattle.kn_endings.specs.FollowEndings.{status_of_follow}
 use Rattle.kn_service.specs.ServeEndings.{status_of_serve}
 use Rattle.kn_endings.specs.VerifyEndings.{status_of_verify}
-use Rattle.kn_commands.specs.Held.{HasContent, IsTooLarge, IsPolicy, AreKeys}
-use Rattle.kn_commands.specs.Stopping.{IsLimitAt}
-use Rattle.kn_commands.specs.Asking.{AskCause, StopsAtPolicy, StopsAtKeys, AreKeysStopped}
+use Rattle.kn_inputs.specs.Held.{HasContent, IsTooLarge, IsPolicy, AreKeys}
+use Rattle.kn_inputs.specs.Stopping.{IsLimitAt}
+use Rattle.kn_inputs.specs.Inputs.{StopsAtPolicy, StopsAtKeys, AreKeysStopped}
+use Rattle.kn_commands.specs.Asking.{AskCause}
 use Rattle.kn_commands.specs.Checking.{HasQuery, Reached, CheckCause, IsFaultyText, IsUnprovedText}
 use Rattle.kn_commands.specs.Following.{HasLogFault, FollowCause}
 use Rattle.kn_service.specs.Serving.{ServeCause}

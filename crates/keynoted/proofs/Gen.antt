@@ -1,79 +1,18 @@
--- The words of `gen`, and what it prints.
-use Rattle.std.proofs.Common.{◌≡◌, ◌<◌, ℕ, ◌⊎◌, inl, inr, Bool, true, false, List, [], ◌∷◌, length, get_or, refl, sym}
-use Rattle.std.proofs.Common.{ap, ◌∙◌, ⊎_elim, arith, Option, Some, None, subst}
-use Rattle.std.specs.Prelude.{not, codes, slice_get, IfSome, IfNone}
-use Rattle.kn_base.specs.declared.limits.TheConstants.{GENERATED_CREDENTIALS}
-use Rattle.kn_base.specs.Decimal.{decimal_of}
-use Rattle.std.specs.Str.{bytes_eq}
+-- What `gen` prints.
+use Rattle.std.proofs.Common.{◌≡◌, ◌<◌, ℕ, inl, inr, List, [], length, get_or, refl, Some, None}
+use Rattle.std.specs.Prelude.{slice_get}
 use Rattle.std.proofs.lemmas.Option.{slice_get-get_or}
 use Rattle.kn_generate.specs.declared.query.Measured.{Measured}
 use Rattle.kn_generate.specs.Generated.{generated_query, generated_values}
 use Rattle.kn_generate.specs.Measured.{IsMeasured}
 use Rattle.kn_outside.specs.Seen.{LinkSeen}
 use Rattle.kn_endings.specs.GenLine.{gen_line}
-use Rattle.kn_commands.specs.declared.generating.GenNumbers.{GenNumbers}
+use Rattle.kn_words.specs.declared.gen_words.GenNumbers.{GenNumbers}
 use Rattle.kn_workers.specs.Connections.{ServedSeen}
 use Rattle.kn_workers.specs.Doors.{DoorSeen}
-use Rattle.keynoted.specs.Commands.{AreGenNumbers, AreNoGenNumbers, GenFor, IsNo}
+use Rattle.kn_words.specs.Commands.{GenFor}
 use Rattle.keynoted.specs.Outcomes.{OutsideSeen, IsUntouched, IsPrintedOrCut, IsEnded, GenEnded}
 use Rattle.keynoted.specs.Generating.{IsGenPrinted}
-use Rattle.keynoted.proofs.Spelled.{same_word}
-
-three_words : (words : List (List ℕ)) (first second third : List ℕ) → length words ≡ 3 → first ≡ get_or words 0 first
-    → second ≡ get_or words 1 second → third ≡ get_or words 2 third → words ≡ first ∷ second ∷ third ∷ []
-three_words [] first second third count a b c = absurd (omega arith)
-three_words (x ∷ []) first second third count a b c = absurd (omega arith)
-three_words (x ∷ y ∷ []) first second third count a b c = absurd (omega arith)
-three_words (x ∷ y ∷ z ∷ []) first second third count a b c = cc
-three_words (x ∷ y ∷ z ∷ w ∷ ws) first second third count a b c = absurd (omega arith)
-
--- the words are `gen` and two more, where the first doesn't differ from it
-pub spell_gen : (words : List (List ℕ)) (first second third given gen start count : List ℕ) (differs : Bool)
-    → length words ≡ 3 → first ≡ get_or words 0 first → second ≡ get_or words 1 second → third ≡ get_or words 2 third
-    → start ≡ second → count ≡ third → given ≡ first → gen ≡ codes "gen" → differs ≡ not (bytes_eq given gen)
-    → differs ≡ false → words ≡ codes "gen" ∷ start ∷ count ∷ []
-spell_gen words first second third given gen start count differs three a b c d e same is tested none =
-    three_words words first second third three a b c
-    ∙ ap (λ (w : List ℕ). w ∷ second ∷ third ∷ []) (same_word first given gen (codes "gen") differs same is tested none)
-    ∙ ap (λ (w : List ℕ). codes "gen" ∷ w ∷ third ∷ []) (sym d)
-    ∙ ap (λ (w : List ℕ). codes "gen" ∷ start ∷ w ∷ []) (sym e)
-
--- what two words spell is what the words of `gen` ask for
-pub gen_some : (words : List (List ℕ)) (first second : List ℕ) (found : Option GenNumbers)
-    → words ≡ codes "gen" ∷ first ∷ second ∷ [] → IfSome found (λ n. AreGenNumbers first second n)
-    → IfSome found (λ n. GenFor words n)
-gen_some words first second None spelled are = tt
-gen_some words first second (Some n) spelled are =
-    record { first = first; second = second; spelled = spelled; are = are }
-
-pub gen_none : (words : List (List ℕ)) (first second : List ℕ) (found : Option GenNumbers)
-    → words ≡ codes "gen" ∷ first ∷ second ∷ [] → IfNone found (AreNoGenNumbers first second)
-    → IfNone found (IsNo GenFor words)
-gen_none words first second None spelled none = λ numbers gen.
-    let both : codes "gen" ∷ gen.first ∷ gen.second ∷ [] ≡ codes "gen" ∷ first ∷ second ∷ [] =
-    sym gen.spelled ∙ spelled in
-    let a : gen.first ≡ first = cc in
-    let b : gen.second ≡ second = cc in
-    none numbers (subst (λ (x : List ℕ). AreGenNumbers x second numbers) a
-    (subst (λ (y : List ℕ). AreGenNumbers gen.first y numbers) b gen.are))
-gen_none words first second (Some n) spelled none = tt
-
--- words that are no numbers within their limits
-pub no_start : (first second : List ℕ) → None ≡ decimal_of first → AreNoGenNumbers first second
-no_start first second none numbers are = let both : None ≡ Some numbers.start = none ∙ are.start in absurd (cc)
-
-pub no_count : (first second : List ℕ) → None ≡ decimal_of second → AreNoGenNumbers first second
-no_count first second none numbers are = let both : None ≡ Some numbers.count = none ∙ are.count in absurd (cc)
-
-pub not_in_range : (first second : List ℕ) (count : ℕ) → Some count ≡ decimal_of second
-    → (count < 1) ⊎ (GENERATED_CREDENTIALS < count) → AreNoGenNumbers first second
-not_in_range first second count is out numbers are =
-    let both : Some count ≡ Some numbers.count = is ∙ are.count in
-    let same : count ≡ numbers.count = cc in
-    let some = are.some in
-    let most = are.most in
-    ⊎_elim (λ (low : count < 1). absurd (omega arith))
-    (λ (high : GENERATED_CREDENTIALS < count). absurd (omega arith)) out
 
 -- the line of what was measured was due
 pub gen_printed : (numbers : GenNumbers) (m : Measured) (s s' : LinkSeen) (status : ℕ)

@@ -3,10 +3,10 @@ use Rattle.std.proofs.Common.{◌≡◌, ℕ, ◌<◌, ◌≤◌, List, [], ◌�
 use Rattle.std.specs.Prelude.{codes, IfSome, IsSomeAnd, option_to_list}
 use Rattle.kn_base.specs.declared.limits.TheConstants.{FILE_BYTES}
 use Rattle.kn_outside.specs.Seen.{FilesSeen}
-use Rattle.kn_endings.specs.Names.{AskNames, ask_order, CheckNames, in_order, VerifyNames, verify_order}
-use Rattle.kn_service.specs.Orders.{Order}
-use Rattle.kn_commands.specs.Held.{HasContent, IsTooLarge}
-use Rattle.keynoted.specs.Commands.{AskFor, CheckFor, FollowFor, ServeFor, VerifyFor}
+use Rattle.kn_words.specs.Names.{AskNames, ask_order, CheckNames, in_order, VerifyNames, verify_order}
+use Rattle.kn_words.specs.Orders.{Order}
+use Rattle.kn_inputs.specs.Held.{HasContent, IsTooLarge}
+use Rattle.kn_words.specs.Commands.{AskFor, CheckFor, FollowFor, ServeFor, VerifyFor}
 use Rattle.keynoted.specs.Calling.{Holds, HoldsWithin, HoldsTooMuch, FileCallsFor, TooLarge, Failed, Passed}
 
 -- a key file that is named or isn't

@@ -13,7 +13,7 @@ use Rattle.kn_history.specs.declared.update.Update.{Update}
 use Rattle.kn_history.specs.History.{loaded_history}
 use Rattle.kn_history.specs.Loading.{IsLoadable}
 use Rattle.kn_play.specs.Meaning.{Means, OneQueryOfScript}
-use Rattle.kn_endings.specs.Names.{AskNames, CheckNames, VerifyNames}
+use Rattle.kn_words.specs.Names.{AskNames, CheckNames, VerifyNames}
 use Rattle.keynoted.specs.Calling.{Holds, HoldsWithin, HoldsTooMuch, FileCallsFor, TooLarge, Failed, Passed, KeysLead}
 use Rattle.keynoted.specs.Calling.{AskLeads, IsTextOfProof, ReplyLeads, MeansNothing, ScriptLeads, CheckLeads, LogLeads}
 use Rattle.keynoted.specs.Calling.{IsAccepted, RepliesLead, AnyScriptLeads, TranscriptLeads, EndsWith}

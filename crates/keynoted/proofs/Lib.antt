@@ -1,10 +1,6 @@
-pub mod Spelled
-pub mod Apart
 pub mod Known
 pub mod Leading
 pub mod Came
 pub mod Called
 pub mod Gen
-pub mod ClapLaws
-pub mod Texts
 pub mod Specified

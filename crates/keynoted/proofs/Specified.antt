@@ -7,7 +7,7 @@ use Rattle.kn_workers.specs.Doors.{DoorSeen}
 use Rattle.kn_follow.specs.Laws.{OneEnding}
 use Rattle.kn_play.specs.Meaning.{OneQueryOfScript}
 use Rattle.kn_transcript.specs.Laws.{OneVerdict}
-use Rattle.keynoted.specs.Commands.{IsNoCommand}
+use Rattle.kn_words.specs.Commands.{IsNoCommand}
 use Rattle.keynoted.specs.Outcomes.{OutsideSeen, Outcome, IsOutcome, IsEnded, IsPrintedOrCut, status_of, line_of}
 use Rattle.keynoted.specs.Outcomes.{NoCommand, WordsLackMemory, AskEnded, ServeEnded, CheckEnded, FollowEnded}
 use Rattle.keynoted.specs.Outcomes.{VerifyEnded, GenEnded}

@@ -19,10 +19,10 @@ use Rattle.kn_play.specs.Meaning.{Means}
 use Rattle.kn_verify.specs.Verdicts.{IsReplyTo}
 use Rattle.kn_serve.specs.Serving.{IsOrderly, IsFaultless}
 use Rattle.kn_transcript.specs.Accepted.{IsAcceptedTranscript}
-use Rattle.kn_endings.specs.Names.{AskNames, CheckNames, VerifyNames}
-use Rattle.kn_service.specs.Orders.{Order}
-use Rattle.kn_commands.specs.declared.generating.GenNumbers.{GenNumbers}
-use Rattle.keynoted.specs.Commands.{AskFor, CheckFor, FollowFor, GenFor, ServeFor, VerifyFor}
+use Rattle.kn_words.specs.Names.{AskNames, CheckNames, VerifyNames}
+use Rattle.kn_words.specs.Orders.{Order}
+use Rattle.kn_words.specs.declared.gen_words.GenNumbers.{GenNumbers}
+use Rattle.kn_words.specs.Commands.{AskFor, CheckFor, FollowFor, GenFor, ServeFor, VerifyFor}
 use Rattle.keynoted.specs.Outcomes.{OutsideSeen, AreServeTexts}
 
 -- the contents of the files are told, and the file of this name has these bytes

@@ -2,7 +2,7 @@
 use Rattle.std.specs.Prelude.{ℕ, List, codes, ◌⊎◌}
 use Rattle.kn_outside.specs.Seen.{LinkSeen}
 use Rattle.kn_commands.specs.Generating.{IsGenLine}
-use Rattle.kn_commands.specs.declared.generating.GenNumbers.{GenNumbers}
+use Rattle.kn_words.specs.declared.gen_words.GenNumbers.{GenNumbers}
 use Rattle.keynoted.specs.Outcomes.{IsPrintedOrCut}
 
 -- the line of these numbers was due with status 0, or memory ran out

@@ -6,8 +6,8 @@ use Rattle.kn_outside.specs.Printing.{Writes}
 use Rattle.kn_workers.specs.Connections.{ServedSeen}
 use Rattle.kn_workers.specs.Doors.{DoorSeen}
 use Rattle.kn_workers.specs.Nets.{NetSeen}
-use Rattle.kn_endings.specs.Names.{AskNames, CheckNames, VerifyNames}
-use Rattle.kn_service.specs.Orders.{Order}
+use Rattle.kn_words.specs.Names.{AskNames, CheckNames, VerifyNames}
+use Rattle.kn_words.specs.Orders.{Order}
 use Rattle.kn_endings.specs.AskEndings.{status_of_ask, line_of_ask}
 use Rattle.kn_endings.specs.CheckEndings.{status_of_ending, line_of_ending}
 use Rattle.kn_endings.specs.FollowEndings.{status_of_follow, line_of_follow}
@@ -24,8 +24,8 @@ use Rattle.kn_commands.specs.Following.{FollowCause}
 use Rattle.kn_commands.specs.Generating.{IsGenLine}
 use Rattle.kn_service.specs.Serving.{ServeCause}
 use Rattle.kn_commands.specs.Verifying.{VerifyCause}
-use Rattle.kn_commands.specs.declared.generating.GenNumbers.{GenNumbers}
-use Rattle.keynoted.specs.Commands.{AskFor, CheckFor, FollowFor, GenFor, ServeFor, VerifyFor, IsNoCommand}
+use Rattle.kn_words.specs.declared.gen_words.GenNumbers.{GenNumbers}
+use Rattle.kn_words.specs.Commands.{AskFor, CheckFor, FollowFor, GenFor, ServeFor, VerifyFor, IsNoCommand}
 
 -- all that is seen of what a run is given: its files, its net, the link that `ask` serves, and the output for its line
 pub record OutsideSeen (R : Type 0) : Type 0 where

@@ -4,7 +4,7 @@ use Rattle.kn_outside.specs.Seen.{LinkSeen}
 use Rattle.kn_outside.specs.Faults.{Rose}
 use Rattle.kn_workers.specs.Connections.{ServedSeen}
 use Rattle.kn_workers.specs.Doors.{DoorSeen}
-use Rattle.keynoted.specs.Commands.{IsNoCommand}
+use Rattle.kn_words.specs.Commands.{IsNoCommand}
 use Rattle.keynoted.specs.Outcomes.{OutsideSeen, IsEnded}
 use Rattle.keynoted.specs.Calling.{CallsFor, EndsWith, EndsRefused}
 

@@ -6,13 +6,12 @@ mod generating;
 mod idle;
 mod run;
 mod run_service;
-mod service_words;
 mod verifying;
 mod words;
 
 use crate::idle::{IdleFault, idle_timeout};
 use kn_base::NoMemory;
-use kn_endings::Stop;
+use kn_inputs::Stop;
 use kn_outside::Passing;
 use kn_real::{RealFiles, StdLink, StdOut};
 use kn_tcp::TcpNet;

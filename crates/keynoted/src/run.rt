@@ -1,68 +1,31 @@
 //! The program over whatever files, link and output it is given.
-ghost use Rattle.std.specs.Prelude.{◌≡◌, [], IfSome, IfNone, None, option_map, slice_get};
-ghost use Rattle.kn_endings.specs.Stops.{stop_line, status_of};
+ghost use Rattle.std.specs.Prelude.{◌≡◌, [], None};
+ghost use Rattle.kn_inputs.specs.Stops.{stop_line, status_of};
 ghost use Rattle.kn_endings.specs.AskEndings.{line_of_ask, status_of_ask};
 ghost use Rattle.kn_endings.specs.CheckEndings.{line_of_ending, status_of_ending};
-ghost use Rattle.keynoted.specs.Commands.{AskFor, CheckFor, IsNo};
 ghost use Rattle.keynoted.specs.Outcomes.{IsPrintedOrCut, IsEnded};
 ghost use Rattle.keynoted.specs.Specified.{IsRun};
 
-use crate::following::{end_follow, log_file};
-use crate::generating::{gen_numbers, run_gen};
-use crate::run_service::{asks_to_serve, run_service};
-use crate::verifying::{end_verify, verify_files};
+use crate::following::end_follow;
+use crate::generating::run_gen;
+use crate::run_service::run_service;
+use crate::verifying::end_verify;
 use kn_base::Octets;
 use kn_commands::{ask, check, follow, verify};
-use kn_endings::{
-    AskEnding, AskFiles, CheckFiles, Ending, Stop, print_ask, print_ending, print_line,
-};
+use kn_endings::{AskEnding, Ending, print_ask, print_ending, print_line};
 use kn_follow::laws::one_ending;
+use kn_inputs::Stop;
 use kn_outside::{Failed, Files, Gate, Link, Sink};
 use kn_play::laws::one_query_is_meant;
 use kn_transcript::laws::one_verdict;
+use kn_words::{
+    AskFiles, CheckFiles, ask_files, asks_to_serve, check_files, gen_numbers, log_file,
+    verify_files,
+};
 use kn_workers::{Door, Net};
 use std::alloc::Global;
 use std::sync::Wait;
 use std::thread::Threads;
-
-/// The third word, if there is one.
-fn third_word(words: &[Octets]) -> Option<&[u8]>
-    ensures { option_map (λ word. word.now) result ≡ slice_get words.now 2 }
-{
-    match words.get(2) {
-        Some(word) => Some(word.as_slice()),
-        None => None,
-    }
-}
-
-/// The files, where the words are `ask` and one or two more.
-fn ask_files(words: &[Octets]) -> Option<AskFiles<'_>>
-    ensures some { IfSome result (λ names. AskFor words.now names) }
-    ensures none { IfNone result (IsNo AskFor words.now) }
-{
-    if words.len() < 2 || words.len() > 3 || words[0].as_slice() != b"ask".as_slice() {
-        return None;
-    }
-    Some(AskFiles {
-        policy: words[1].as_slice(),
-        keys: third_word(words),
-    })
-}
-
-/// The files, where the words are `check` and three more.
-fn check_files(words: &[Octets]) -> Option<CheckFiles<'_>>
-    ensures some { IfSome result (λ names. CheckFor words.now names) }
-    ensures none { IfNone result (IsNo CheckFor words.now) }
-{
-    if words.len() != 4 || words[0].as_slice() != b"check".as_slice() {
-        return None;
-    }
-    Some(CheckFiles {
-        policy: words[1].as_slice(),
-        script: words[2].as_slice(),
-        reply: words[3].as_slice(),
-    })
-}
 
 /// Ends with the status and the line of what stopped the program, or with 9 where the line can't be written.
 pub(crate) fn end<O: Sink>(out: &mut O, stop: Stop) -> u8

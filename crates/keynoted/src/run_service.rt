@@ -1,27 +1,19 @@
 //! The program where its first word is `serve`.
-ghost use Rattle.std.specs.Prelude.{◌≡◌, ◌≢◌, [], None, Some, true, false, codes, slice_get};
+ghost use Rattle.std.specs.Prelude.{◌≡◌, [], None, Some, codes, slice_get};
 ghost use Rattle.kn_outside.specs.Seen.{LinkSeen};
 ghost use Rattle.kn_service.specs.ServeEndings.{status_of_serve, line_of_serve};
 ghost use Rattle.keynoted.specs.Outcomes.{IsPrintedOrCut, IsEnded};
 
 use crate::run::end;
-use crate::service_words::{service_of, texts_of};
 use kn_base::{NoMemory, Octets};
-use kn_endings::Stop;
+use kn_inputs::Stop;
 use kn_outside::{Failed, Files, Gate, Sink};
-use kn_service::{ServeEnding, Service, print_serve, serve};
+use kn_service::{ServeEnding, print_serve, serve};
+use kn_words::{Service, service_of, texts_of};
 use kn_workers::{Door, Net};
 use std::alloc::Global;
 use std::sync::Wait;
 use std::thread::Threads;
-
-/// Whether the first word is `serve`.
-pub(crate) fn asks_to_serve(words: &[Octets]) -> bool
-    ensures yes { result ≡ true → slice_get words.now 0 ≡ Some (codes "serve") }
-    ensures no { result ≡ false → slice_get words.now 0 ≢ Some (codes "serve") }
-{
-    !words.is_empty() && words[0].as_slice() == b"serve".as_slice()
-}
 
 /// Serves an address where the words ask for that, and tells how it ended.
 pub(crate) fn run_service<R: Threads + Wait + Sync, F: Files, N: Net, O: Sink, G: Gate>(

@@ -1,4 +1,3 @@
-pub mod Files
 pub mod GenLoads
 pub mod Reached
 pub mod Asked

@@ -12,24 +12,24 @@ use Rattle.kn_proof.specs.Reading.{HasHead, IsFirstFault, IsHeadOf, IsReplyText,
 use Rattle.kn_proof.proofs.Only.{one_reply}
 use Rattle.kn_verify.specs.Verdicts.{IsReplyTo}
 use Rattle.kn_session.specs.Sessions.{Session}
-use Rattle.kn_endings.specs.declared.stop.Stop.{Stop}
-use Rattle.kn_endings.specs.declared.stop.Stop.TheVariants.{Words, FileFailed, FileTooLarge, Limit, KeyLine, Memory}
-use Rattle.kn_endings.specs.declared.stop.Stop.TheVariants as S
-use Rattle.kn_endings.specs.declared.ending.Source.{Source}
-use Rattle.kn_endings.specs.declared.ending.Source.TheVariants.{Policy, Script as TheScript, Reply}
+use Rattle.kn_inputs.specs.declared.stop.Stop.{Stop}
+use Rattle.kn_inputs.specs.declared.stop.Stop.TheVariants.{Words, FileFailed, FileTooLarge, Limit, KeyLine, Memory}
+use Rattle.kn_inputs.specs.declared.stop.Stop.TheVariants as S
+use Rattle.kn_words.specs.declared.files.Source.{Source}
+use Rattle.kn_words.specs.declared.files.Source.TheVariants.{Policy, Script as TheScript, Reply}
 use Rattle.kn_endings.specs.declared.ending.Ending.{Ending}
 use Rattle.kn_endings.specs.declared.ending.Ending.TheVariants.{Stopped, NoQuery, Faulty, Rejected, Proved}
-use Rattle.kn_endings.specs.Names.{CheckNames, in_order}
-use Rattle.kn_endings.specs.Stops.{stop_of}
-use Rattle.kn_endings.specs.CheckEndings.{name_of}
-use Rattle.kn_commands.specs.Held.{HasContent, IsFileRead}
+use Rattle.kn_words.specs.Names.{CheckNames, in_order}
+use Rattle.kn_inputs.specs.Stops.{stop_of}
+use Rattle.kn_words.specs.Sources.{name_of}
+use Rattle.kn_inputs.specs.Held.{HasContent, IsFileRead}
 use Rattle.kn_load.specs.Loaded.{StopsLoading}
 use Rattle.kn_load.specs.declared.fault.LoadFault.{LoadFault}
 use Rattle.kn_load.specs.declared.fault.LoadFault.TheVariants as L
 use Rattle.kn_history.specs.declared.fault.StoreFault.TheVariants as F
-use Rattle.kn_commands.specs.Stopping.{IsUnread}
+use Rattle.kn_inputs.specs.Stopping.{IsUnread}
 use Rattle.kn_commands.specs.Checking.{count_before, count_to, Reached, LacksAt, StopsCheckAt, ReplyShows, ReadShows, IsTried, CheckCause, ending_of_fault}
-use Rattle.kn_commands.proofs.Files.{too_large_there, keeps_content, asked_both, failed_behind}
+use Rattle.kn_inputs.proofs.Files.{too_large_there, keeps_content, asked_both, failed_behind}
 
 -- the files behind one more
 pub one_more : (names : CheckNames) (source : Source) → take (count_before source) (in_order names) ++ name_of names source ∷ [] ≡ take (count_to source) (in_order names)

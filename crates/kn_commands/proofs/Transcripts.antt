@@ -5,14 +5,14 @@ use Rattle.kn_outside.specs.Asked.{HasAsked}
 use Rattle.kn_files.specs.Pieces.{pieces_of}
 use Rattle.kn_history.specs.declared.update.Update.{Update}
 use Rattle.kn_history.specs.History.{loaded_history}
-use Rattle.kn_endings.specs.declared.stop.Stop.{Stop}
-use Rattle.kn_endings.specs.declared.stop.Stop.TheVariants.{Words, FileFailed, FileTooLarge, Policy, Limit, KeyLine}
-use Rattle.kn_endings.specs.declared.stop.Stop.TheVariants.{Memory}
-use Rattle.kn_endings.specs.Names.{VerifyNames}
-use Rattle.kn_commands.specs.Held.{HasContent, IsPolicy}
-use Rattle.kn_commands.specs.Stopping.{IsUnread}
+use Rattle.kn_inputs.specs.declared.stop.Stop.{Stop}
+use Rattle.kn_inputs.specs.declared.stop.Stop.TheVariants.{Words, FileFailed, FileTooLarge, Policy, Limit, KeyLine}
+use Rattle.kn_inputs.specs.declared.stop.Stop.TheVariants.{Memory}
+use Rattle.kn_words.specs.Names.{VerifyNames}
+use Rattle.kn_inputs.specs.Held.{HasContent, IsPolicy}
+use Rattle.kn_inputs.specs.Stopping.{IsUnread}
 use Rattle.kn_commands.specs.Verifying.{StopsAtFile, IsTranscriptRead}
-use Rattle.kn_commands.proofs.Files.{content_there, too_large_there, keeps_content, asked_both, failed_behind}
+use Rattle.kn_inputs.proofs.Files.{content_there, too_large_there, keeps_content, asked_both, failed_behind}
 
 -- a file that isn't read stops the command, behind files that were
 pub unread_behind : (front : List (List ℕ)) (f mid f' : FilesSeen) (name : List ℕ) (stop : Stop) → HasAsked front f mid

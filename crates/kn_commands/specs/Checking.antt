@@ -14,17 +14,17 @@ use Rattle.kn_proof.specs.declared.fault.ProofFault.{ProofFault}
 use Rattle.kn_proof.specs.declared.fault.ProofFault.TheVariants as F
 use Rattle.kn_proof.specs.Reading.{IsReplyText, IsFirstFault, fault_number, fault_line}
 use Rattle.kn_verify.specs.Verdicts.{IsReplyTo, IsProved, IsUnproved}
-use Rattle.kn_endings.specs.declared.stop.Stop.{Stop}
-use Rattle.kn_endings.specs.declared.stop.Stop.TheVariants.{Words, FileFailed, FileTooLarge, Limit, KeyLine, Memory}
-use Rattle.kn_endings.specs.declared.stop.Stop.TheVariants as S
-use Rattle.kn_endings.specs.declared.ending.Source.{Source}
-use Rattle.kn_endings.specs.declared.ending.Source.TheVariants.{Policy, Script as TheScript, Reply}
+use Rattle.kn_inputs.specs.declared.stop.Stop.{Stop}
+use Rattle.kn_inputs.specs.declared.stop.Stop.TheVariants.{Words, FileFailed, FileTooLarge, Limit, KeyLine, Memory}
+use Rattle.kn_inputs.specs.declared.stop.Stop.TheVariants as S
+use Rattle.kn_words.specs.declared.files.Source.{Source}
+use Rattle.kn_words.specs.declared.files.Source.TheVariants.{Policy, Script as TheScript, Reply}
 use Rattle.kn_endings.specs.declared.ending.Ending.{Ending}
 use Rattle.kn_endings.specs.declared.ending.Ending.TheVariants.{Stopped, NoQuery, Faulty, Rejected, Proved}
-use Rattle.kn_endings.specs.Names.{CheckNames, in_order}
-use Rattle.kn_endings.specs.CheckEndings.{name_of}
-use Rattle.kn_commands.specs.Held.{HasContent, IsTooLarge, IsPolicy, IsFileRead}
-use Rattle.kn_commands.specs.Stopping.{IsLimitAt}
+use Rattle.kn_words.specs.Names.{CheckNames, in_order}
+use Rattle.kn_words.specs.Sources.{name_of}
+use Rattle.kn_inputs.specs.Held.{HasContent, IsTooLarge, IsPolicy, IsFileRead}
+use Rattle.kn_inputs.specs.Stopping.{IsLimitAt}
 
 -- the files hold a policy, and a script that means this query over it
 pub record HasQuery (f : FilesSeen) (names : CheckNames) (session : Session) (values : List (List ℕ)) : Type 0 where

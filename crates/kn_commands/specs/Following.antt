@@ -10,7 +10,7 @@ use Rattle.kn_follow.specs.Files.{IsLogFile, IsLogFault}
 use Rattle.kn_endings.specs.declared.follow_ending.FollowEnding.{FollowEnding}
 use Rattle.kn_endings.specs.declared.follow_ending.FollowEnding.TheVariants.{FileFailed, FileTooLarge, Memory}
 use Rattle.kn_endings.specs.declared.follow_ending.FollowEnding.TheVariants.{Line, Gap, Refused, Followed}
-use Rattle.kn_commands.specs.Held.{IsTooLarge, IsFileRead}
+use Rattle.kn_inputs.specs.Held.{IsTooLarge, IsFileRead}
 
 -- The file was read, and its replies, applied one after the other to a replica that holds no update, make one of so
 -- many updates, with so many live credentials.

@@ -4,7 +4,7 @@ use Rattle.kn_generate.specs.declared.query.Measured.{Measured}
 use Rattle.kn_generate.specs.Generated.{generated_query, generated_values}
 use Rattle.kn_generate.specs.Measured.{IsMeasured}
 use Rattle.kn_endings.specs.GenLine.{gen_line}
-use Rattle.kn_commands.specs.declared.generating.GenNumbers.{GenNumbers}
+use Rattle.kn_words.specs.declared.gen_words.GenNumbers.{GenNumbers}
 
 -- The line is that of what was measured of the query that these numbers give: the level is the policy's in the least fixed point
 -- over the generated credentials, and the name is that level's.

@@ -1,5 +1,3 @@
-pub mod Held
-pub mod Stopping
 pub mod Asking
 pub mod Checking
 pub mod Following

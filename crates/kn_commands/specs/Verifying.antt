@@ -9,14 +9,14 @@ use Rattle.kn_transcript.specs.declared.fault.TranscriptFault.{TranscriptFault}
 use Rattle.kn_transcript.specs.declared.fault.TranscriptFault.TheVariants as F
 use Rattle.kn_transcript.specs.Accepted.{IsAcceptedTranscript}
 use Rattle.kn_transcript.specs.Faulty.{IsFaultyTranscript}
-use Rattle.kn_endings.specs.Names.{VerifyNames, verify_order}
-use Rattle.kn_endings.specs.declared.stop.Stop.{Stop}
-use Rattle.kn_endings.specs.declared.stop.Stop.TheVariants.{FileFailed, FileTooLarge, Memory}
+use Rattle.kn_words.specs.Names.{VerifyNames, verify_order}
+use Rattle.kn_inputs.specs.declared.stop.Stop.{Stop}
+use Rattle.kn_inputs.specs.declared.stop.Stop.TheVariants.{FileFailed, FileTooLarge, Memory}
 use Rattle.kn_endings.specs.declared.verify_ending.VerifyEnding.{VerifyEnding}
 use Rattle.kn_endings.specs.declared.verify_ending.VerifyEnding.TheVariants.{PolicyStopped, ScriptStopped}
 use Rattle.kn_endings.specs.declared.verify_ending.VerifyEnding.TheVariants.{RepliesStopped, Faulty, Verified}
-use Rattle.kn_commands.specs.Asking.{StopsAtPolicy}
-use Rattle.kn_commands.specs.Held.{HasContent, IsTooLarge, IsPolicy}
+use Rattle.kn_inputs.specs.Inputs.{StopsAtPolicy}
+use Rattle.kn_inputs.specs.Held.{HasContent, IsTooLarge, IsPolicy}
 
 -- why reading a file stops a command, behind files of these names
 abbrev pub StopsAtFile : FilesSeen → FilesSeen → List (List ℕ) → List ℕ → Stop → Type 0

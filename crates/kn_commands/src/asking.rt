@@ -1,22 +1,23 @@
 //! Serving a link over the policy in a file, with the keys in another.
-ghost use Rattle.std.specs.Prelude.{◌≡◌, ◌∷◌, [], ℕ, List, Some, IsSomeAnd, OnOk, IfOk, IfErr};
-ghost use Rattle.std.specs.Prelude.{option_map, option_to_list};
+ghost use Rattle.std.specs.Prelude.{◌∷◌, [], ℕ, List};
 ghost use Rattle.kn_files.specs.Pieces.{pieces_of};
 ghost use Rattle.kn_outside.specs.Seen.{FilesSeen};
 ghost use Rattle.kn_outside.specs.Asked.{HasAsked};
 ghost use Rattle.kn_history.specs.History.{loaded_history};
-ghost use Rattle.kn_commands.specs.Held.{IsPolicy, AreKeys};
+ghost use Rattle.kn_inputs.specs.Held.{IsPolicy};
 ghost use Rattle.kn_load.specs.Loaded.{IsLoaded};
-ghost use Rattle.kn_commands.specs.Asking.{AskCause, IsLinkServed, StopsAtKeys, grounds_of};
+ghost use Rattle.kn_inputs.specs.Inputs.{grounds_of};
+ghost use Rattle.kn_commands.specs.Asking.{AskCause, IsLinkServed};
 
-use crate::content::read_file;
-use kn_auth::{KeyFault, KeyFile, read_keys};
+use kn_auth::KeyFile;
 use kn_daemon::laws::served_alone;
-use kn_endings::{AskEnding, AskFiles, Stop};
+use kn_endings::AskEnding;
+use kn_inputs::{Stop, keys_of, read_file};
 use kn_load::load_file;
 use kn_outside::{Files, Gate, Link};
 use kn_registry::{Pass, Registry};
 use kn_serve::{Ended, serve_connection};
+use kn_words::AskFiles;
 use std::alloc::Global;
 use std::mem;
 use std::sync::Wait;
@@ -70,36 +71,6 @@ fn ask_loaded<R: Wait, F: Files, L: Link, G: Gate>(
     match keys_of(alloc, names.keys, files) {
         Ok(keys) => AskEnding::Served(serve(rt, alloc, registry, root, &keys, own, gate)),
         Err(stop) => AskEnding::KeysStopped(stop),
-    }
-}
-
-/// What the key file of this name says; where none is named, no key and no digest is known, and the secret is empty.
-/// The `Stop` says why there is none: the file can't be read or is too large, a line of it is malformed, or memory ran
-/// out.
-pub fn keys_of<F: Files>(alloc: Global, name: Option<&[u8]>, files: &mut F) -> Result<KeyFile, Stop>
-    ensures known { IfOk result (λ keys. AreKeys (F.seen files.old) (option_map (λ n. n.now) name.entry) keys) }
-    ensures asked { OnOk result (HasAsked (option_to_list (option_map (λ n. n.now) name.entry))
-        (F.seen files.old) (F.seen files.new)) }
-    ensures err { IfErr result (λ stop. IsSomeAnd (option_map (λ n. n.now) name.entry)
-        (λ n. StopsAtKeys (F.seen files.old) (F.seen files.new) [] n stop)) }
-{
-    match name {
-        Some(name) => read_key_file(alloc, name, files),
-        None => Ok(KeyFile::empty(alloc)),
-    }
-}
-
-/// What the key file of this name says.
-fn read_key_file<F: Files>(alloc: Global, name: &[u8], files: &mut F) -> Result<KeyFile, Stop>
-    ensures known { IfOk result (λ keys. AreKeys (F.seen files.old) (Some name.now) keys) }
-    ensures asked { OnOk result (HasAsked (name.now ∷ []) (F.seen files.old) (F.seen files.new)) }
-    ensures err { IfErr result (λ stop. StopsAtKeys (F.seen files.old) (F.seen files.new) [] name.now stop) }
-{
-    let text = read_file(files, name)?;
-    match read_keys(alloc, text.as_slice()) {
-        Ok(keys) => Ok(keys),
-        Err(KeyFault::Line { line }) => Err(Stop::KeyLine { line }),
-        Err(KeyFault::NoMemory) => Err(Stop::Memory),
     }
 }
 

@@ -9,17 +9,9 @@ use kn_generate::laws::generated_texts_load;
 use kn_generate::{Measured, generate_texts, measure};
 use kn_history::laws::loading_ends;
 use kn_load::{LoadFault, load_texts};
+use kn_words::GenNumbers;
 use std::alloc::Global;
 use std::sync::Wait;
-
-/// What credentials are made by.
-#[derive(Clone, Copy, PartialEq, Eq)]
-pub struct GenNumbers {
-    /// Where the draws start.
-    pub start: u32,
-    /// How many credentials there are.
-    pub count: u32,
-}
 
 /// Settles the generator's query over its credentials, which the root pass of a new registry has added.
 ///

@@ -6,14 +6,12 @@
 
 mod asking;
 mod checking;
-mod content;
 mod following;
 mod generating;
 mod verifying;
 
-pub use asking::{ask, keys_of};
+pub use asking::ask;
 pub use checking::check;
-pub use content::read_file;
 pub use following::follow;
-pub use generating::{GenNumbers, generate};
+pub use generating::generate;
 pub use verifying::verify;

@@ -4,14 +4,15 @@ ghost use Rattle.kn_files.specs.Pieces.{pieces_of};
 ghost use Rattle.kn_load.specs.Loaded.{IsLoaded};
 ghost use Rattle.kn_outside.specs.Seen.{FilesSeen};
 ghost use Rattle.kn_outside.specs.Asked.{HasAsked};
-ghost use Rattle.kn_commands.specs.Held.{IsPolicy};
+ghost use Rattle.kn_inputs.specs.Held.{IsPolicy};
 ghost use Rattle.kn_commands.specs.Verifying.{VerifyCause};
 
-use crate::content::read_file;
-use kn_endings::{Stop, VerifyEnding, VerifyFiles};
+use kn_endings::VerifyEnding;
+use kn_inputs::{Stop, read_file};
 use kn_load::load_file;
 use kn_outside::Files;
 use kn_registry::{Pass, Registry};
+use kn_words::VerifyFiles;
 use std::alloc::Global;
 use std::sync::Wait;
 use std::thread::Threads;

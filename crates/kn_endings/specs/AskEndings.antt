@@ -3,8 +3,8 @@ use Rattle.std.specs.Prelude.{ℕ, List, [], ◌++◌, codes, decimal}
 use Rattle.std.specs.Option.{unwrap_or}
 use Rattle.kn_daemon.specs.declared.ended.Ended.{Ended}
 use Rattle.kn_daemon.specs.declared.ended.Ended.TheVariants as E
-use Rattle.kn_endings.specs.Names.{AskNames}
-use Rattle.kn_endings.specs.Stops.{status_of, stop_line}
+use Rattle.kn_words.specs.Names.{AskNames}
+use Rattle.kn_inputs.specs.Stops.{status_of, stop_line}
 use Rattle.kn_endings.specs.declared.ask_ending.AskEnding.{AskEnding}
 use Rattle.kn_endings.specs.declared.ask_ending.AskEnding.TheVariants.{PolicyStopped, KeysStopped, Served}
 

@@ -2,18 +2,11 @@
 use Rattle.std.specs.Prelude.{ℕ, List, ◌++◌, codes, decimal}
 use Rattle.kn_check.specs.declared.reject.Reject.{Reject}
 use Rattle.kn_check.specs.Rejects.{reason_numbers}
-use Rattle.kn_endings.specs.declared.ending.Source.{Source}
-use Rattle.kn_endings.specs.declared.ending.Source.TheVariants.{Policy, Script as TheScript, Reply}
 use Rattle.kn_endings.specs.declared.ending.Ending.{Ending}
 use Rattle.kn_endings.specs.declared.ending.Ending.TheVariants.{Stopped, NoQuery, Faulty, Rejected, Proved}
-use Rattle.kn_endings.specs.Names.{CheckNames}
-use Rattle.kn_endings.specs.Stops.{stop_line, status_of}
-
--- the name of a file
-abbrev pub name_of : CheckNames → Source → List ℕ
-name_of names Policy = names.policy
-name_of names TheScript = names.script
-name_of names Reply = names.reply
+use Rattle.kn_words.specs.Names.{CheckNames}
+use Rattle.kn_words.specs.Sources.{name_of}
+use Rattle.kn_inputs.specs.Stops.{stop_line, status_of}
 
 abbrev pub status_of_ending : Ending → ℕ
 status_of_ending (Stopped source stop) = status_of stop

@@ -1,7 +1,7 @@
 -- How following the log in a file ended: its status, and the line that tells it (keynoted's own).
 use Rattle.std.specs.Prelude.{ℕ, List, ◌++◌, codes, decimal}
-use Rattle.kn_endings.specs.Stops.{stop_line}
-use Rattle.kn_endings.specs.declared.stop.Stop.TheVariants as S
+use Rattle.kn_inputs.specs.Stops.{stop_line}
+use Rattle.kn_inputs.specs.declared.stop.Stop.TheVariants as S
 use Rattle.kn_endings.specs.declared.follow_ending.FollowEnding.{FollowEnding}
 use Rattle.kn_endings.specs.declared.follow_ending.FollowEnding.TheVariants.{FileFailed, FileTooLarge, Memory}
 use Rattle.kn_endings.specs.declared.follow_ending.FollowEnding.TheVariants.{Line, Gap, Refused, Followed}

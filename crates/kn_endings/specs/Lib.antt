@@ -1,5 +1,3 @@
-pub mod Names
-pub mod Stops
 pub mod AskEndings
 pub mod CheckEndings
 pub mod VerifyEndings

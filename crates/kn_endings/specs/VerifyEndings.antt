@@ -2,8 +2,8 @@
 use Rattle.std.specs.Prelude.{ℕ, List, ◌++◌, codes, decimal}
 use Rattle.kn_transcript.specs.declared.fault.TranscriptFault.{TranscriptFault}
 use Rattle.kn_transcript.specs.declared.fault.TranscriptFault.TheVariants as F
-use Rattle.kn_endings.specs.Names.{VerifyNames}
-use Rattle.kn_endings.specs.Stops.{status_of, stop_line}
+use Rattle.kn_words.specs.Names.{VerifyNames}
+use Rattle.kn_inputs.specs.Stops.{status_of, stop_line}
 use Rattle.kn_endings.specs.declared.verify_ending.VerifyEnding.{VerifyEnding}
 use Rattle.kn_endings.specs.declared.verify_ending.VerifyEnding.TheVariants.{PolicyStopped, ScriptStopped}
 use Rattle.kn_endings.specs.declared.verify_ending.VerifyEnding.TheVariants.{RepliesStopped, Faulty, Verified}

@@ -2,7 +2,7 @@
 ghost use Rattle.std.specs.Prelude.{◌≡◌};
 ghost use Rattle.kn_endings.specs.AskEndings.{status_of_ended};
 
-use crate::stop::Stop;
+use kn_inputs::Stop;
 use kn_daemon::ended::Ended;
 
 /// Why `ask` ends.

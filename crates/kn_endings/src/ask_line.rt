@@ -3,11 +3,11 @@ ghost use Rattle.kn_outside.specs.Printing.{Prints, is_whole};
 ghost use Rattle.kn_endings.specs.AskEndings.{line_of_ask, line_of_ended, cut_line, block_line};
 
 use crate::ask_ending::AskEnding;
-use crate::files::AskFiles;
 use crate::line::{print_all, print_line};
 use itoa::Buffer;
 use kn_daemon::ended::Ended;
 use kn_outside::{Failed, Sink, write_all};
+use kn_words::AskFiles;
 
 /// Prints the line of an input that ended while so many bytes of an unfinished request were held.
 fn print_cut<O: Sink>(out: &mut O, held: u32) -> Result<(), Failed>

@@ -1,17 +1,10 @@
 //! How checking a reply ends.
 ghost use Rattle.std.specs.Prelude.{◌≡◌};
 
-use crate::stop::Stop;
+use kn_inputs::Stop;
 use kn_base::Octets;
 use kn_check::Reject;
-
-/// Which file of the command.
-#[derive(Clone, Copy, PartialEq, Eq)]
-pub enum Source {
-    Policy,
-    Script,
-    Reply,
-}
+use kn_words::Source;
 
 /// Why checking a reply ends.
 #[derive(Drop)]

@@ -3,11 +3,11 @@ ghost use Rattle.kn_outside.specs.Printing.{Prints, is_whole};
 ghost use Rattle.kn_endings.specs.CheckEndings.{line_of_ending, text_line, reject_line, proved_line};
 
 use crate::ending::Ending;
-use crate::files::CheckFiles;
 use crate::line::{print_all, print_line};
 use itoa::Buffer;
 use kn_check::Reject;
 use kn_outside::{Failed, Sink, write_all};
+use kn_words::CheckFiles;
 
 /// Prints the line of a fault in the text of a reply.
 fn print_text_fault<O: Sink>(out: &mut O, fault: u8, line: usize) -> Result<(), Failed>

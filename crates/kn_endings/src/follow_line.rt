@@ -4,7 +4,7 @@ ghost use Rattle.kn_endings.specs.FollowEndings.{line_of_follow, followed_line, 
 
 use crate::follow_ending::FollowEnding;
 use crate::line::{print_all, print_line};
-use crate::stop::Stop;
+use kn_inputs::Stop;
 use itoa::Buffer;
 use kn_outside::{Failed, Sink, write_all};
 

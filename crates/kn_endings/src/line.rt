@@ -1,9 +1,9 @@
 //! The line that tells what stopped a command.
 ghost use Rattle.std.specs.Prelude.{◌≡◌, ◌++◌, [], true, codes, flat_map};
 ghost use Rattle.kn_outside.specs.Printing.{Prints, is_whole};
-ghost use Rattle.kn_endings.specs.Stops.{stop_line, policy_fault_line, limit_line, keys_line};
+ghost use Rattle.kn_inputs.specs.Stops.{stop_line, policy_fault_line, limit_line, keys_line};
 
-use crate::stop::Stop;
+use kn_inputs::Stop;
 use arrayvec::ArrayVec;
 use itoa::Buffer;
 use kn_fields::ReadFault;

@@ -2,7 +2,7 @@
 ghost use Rattle.std.specs.Prelude.{◌≡◌};
 ghost use Rattle.kn_endings.specs.VerifyEndings.{status_of_transcript};
 
-use crate::stop::Stop;
+use kn_inputs::Stop;
 use kn_transcript::TranscriptFault;
 
 /// Why `verify` ends.

@@ -2,12 +2,12 @@
 ghost use Rattle.kn_outside.specs.Printing.{Prints, is_whole};
 ghost use Rattle.kn_endings.specs.VerifyEndings.{line_of_verify, line_of_transcript, verified_line, transcript_line};
 
-use crate::files::VerifyFiles;
 use crate::line::{print_all, print_line};
 use crate::verify_ending::VerifyEnding;
 use itoa::Buffer;
 use kn_outside::{Failed, Sink, write_all};
 use kn_transcript::TranscriptFault;
+use kn_words::VerifyFiles;
 
 /// Prints the line of a transcript of which so many replies give a value, and behind which there are so many updates.
 fn print_verified<O: Sink>(out: &mut O, answers: u32, version: u32) -> Result<(), Failed>

@@ -19,14 +19,14 @@ use Rattle.kn_workers.specs.Doors.{DoorSeen, HasGiven}
 use Rattle.kn_workers.specs.Nets.{NetSeen, AreBound, with_faults}
 use Rattle.kn_workers.specs.Workers.{Work, EachWorked, AllServed, all_quotas, gave_less}
 use Rattle.kn_workers.proofs.ShareLaws.{shares_add_up}
-use Rattle.kn_service.specs.Orders.{Order}
+use Rattle.kn_words.specs.Orders.{Order}
 use Rattle.kn_service.specs.declared.serve_ending.ServeEnding.{ServeEnding}
 use Rattle.kn_service.specs.declared.serve_ending.ServeEnding.TheVariants.{PolicyStopped, KeysStopped, BindMemory, Unbound, WorkMemory, DoorFailed, Served}
-use Rattle.kn_commands.specs.Held.{IsPolicy, AreKeys}
-use Rattle.kn_commands.specs.Asking.{grounds_of}
-use Rattle.kn_service.specs.Serving.{AreServed, ServesOver, IsServiceRun, ServeCause}
-use Rattle.kn_commands.proofs.Asked.{keys_there}
-use Rattle.kn_commands.proofs.Files.{asked_both}
+use Rattle.kn_inputs.specs.Held.{IsPolicy, AreKeys}
+use Rattle.kn_inputs.specs.Inputs.{grounds_of}
+use Rattle.kn_service.specs.Serving.{AreServed, ServesOver, IsServiceRun, ServeCause, binding_of}
+use Rattle.kn_inputs.proofs.Stopped.{keys_there}
+use Rattle.kn_inputs.proofs.Files.{asked_both}
 
 module _ {C R : Type 0} (door : R → DoorSeen (ServedSeen C)) where
   -- a count that is as large as it can be stays so
@@ -102,7 +102,7 @@ module _ {C R : Type 0} (door : R → DoorSeen (ServedSeen C)) where
   -- what an address came to over files that were read behind one that was read
   module _ (link : C → LinkSeen) (f mid f' : FilesSeen) (n n' : NetSeen R) (order : Order) (bytes : List ℕ) (keys : KeyFile) (policy : IsPolicy f order.files.policy bytes)
       (before : HasAsked (order.files.policy ∷ []) f mid) (asked : HasAsked (option_to_list order.files.keys) mid f') (known : AreKeys mid order.files.keys keys) where
-    run_there : (ending : ServeEnding) → ServesOver door link (grounds_of keys) (loaded_history (pieces_of bytes)) n n' order.binding ending → IsServiceRun door link f f' n n' order ending
+    run_there : (ending : ServeEnding) → ServesOver door link (grounds_of keys) (loaded_history (pieces_of bytes)) n n' (binding_of order) ending → IsServiceRun door link f f' n n' order ending
     run_there ending serves = record {
       asked = asked_both (order.files.policy ∷ []) (option_to_list order.files.keys) f mid f' before asked;
       bytes = bytes;
@@ -112,7 +112,7 @@ module _ {C R : Type 0} (door : R → DoorSeen (ServedSeen C)) where
       runs = serves;
     }
 
-    pub served_there : (ending : ServeEnding) → ServesOver door link (grounds_of keys) (loaded_history (pieces_of bytes)) n n' order.binding ending → ServeCause door link f f' n n' order ending
+    pub served_there : (ending : ServeEnding) → ServesOver door link (grounds_of keys) (loaded_history (pieces_of bytes)) n n' (binding_of order) ending → ServeCause door link f f' n n' order ending
     served_there (PolicyStopped stop) serves = absurd serves
     served_there (KeysStopped stop) serves = absurd serves
     served_there BindMemory serves = run_there BindMemory serves

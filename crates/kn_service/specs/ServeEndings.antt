@@ -1,7 +1,7 @@
 -- How serving the connections of an address ended: its status, and the line that tells it (keynoted's own).
 use Rattle.std.specs.Prelude.{ℕ, List, [], ◌++◌, codes, decimal, unwrap_or}
-use Rattle.kn_service.specs.Orders.{Order}
-use Rattle.kn_endings.specs.Stops.{status_of, stop_line}
+use Rattle.kn_words.specs.Orders.{Order}
+use Rattle.kn_inputs.specs.Stops.{status_of, stop_line}
 use Rattle.kn_service.specs.declared.serve_ending.ServeEnding.{ServeEnding}
 use Rattle.kn_service.specs.declared.serve_ending.ServeEnding.TheVariants.{PolicyStopped, KeysStopped, BindMemory, Unbound, WorkMemory, DoorFailed, Served}
 

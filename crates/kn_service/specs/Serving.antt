@@ -11,10 +11,14 @@ use Rattle.kn_workers.specs.Connections.{ServedSeen}
 use Rattle.kn_workers.specs.Doors.{DoorSeen}
 use Rattle.kn_workers.specs.Nets.{NetSeen, AreBound, with_faults}
 use Rattle.kn_workers.specs.Workers.{AllServed}
-use Rattle.kn_service.specs.Orders.{Order}
+use Rattle.kn_words.specs.Orders.{Order}
 use Rattle.kn_service.specs.declared.serve_ending.ServeEnding.{ServeEnding}
 use Rattle.kn_service.specs.declared.serve_ending.ServeEnding.TheVariants.{PolicyStopped, KeysStopped, BindMemory, Unbound, WorkMemory, DoorFailed, Served}
-use Rattle.kn_commands.specs.Asking.{RunsOver, StopsAtPolicy, AreKeysStopped}
+use Rattle.kn_inputs.specs.Inputs.{RunsOver, StopsAtPolicy, AreKeysStopped}
+
+-- what a net is asked to bind for it: a door for each worker, and they share the connections
+abbrev pub binding_of : Order → Binding
+binding_of order = record { address = order.address; doors = order.workers; quota = order.connections }
 
 module _ {C R : Type 0} (door : R → DoorSeen (ServedSeen C)) (link : C → LinkSeen) where
   -- The address was bound, which gave these doors, and as many came back. The net's count is then its own and theirs.
@@ -52,7 +56,7 @@ module _ {C R : Type 0} (door : R → DoorSeen (ServedSeen C)) (link : C → Lin
 
   -- the files were read, and over them the address was served
   abbrev pub IsServiceRun : FilesSeen → FilesSeen → NetSeen R → NetSeen R → Order → ServeEnding → Type 0
-  IsServiceRun f f' n n' order ending = RunsOver f f' order.files (λ g past. ServesOver g past n n' order.binding ending)
+  IsServiceRun f f' n n' order ending = RunsOver f f' order.files (λ g past. ServesOver g past n n' (binding_of order) ending)
 
   -- Why `serve` ends so, and what it leaves of the files and of the net. Before both files are tried the net is untouched.
   abbrev pub ServeCause : FilesSeen → FilesSeen → NetSeen R → NetSeen R → Order → ServeEnding → Type 0

@@ -4,10 +4,8 @@
 
 mod serve_ending;
 mod serve_line;
-mod service;
 mod serving;
 
 pub use serve_ending::ServeEnding;
 pub use serve_line::print_serve;
-pub use service::Service;
 pub use serving::serve;

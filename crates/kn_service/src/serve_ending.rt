@@ -1,7 +1,7 @@
 //! How a service ends.
 ghost use Rattle.std.specs.Prelude.{◌≡◌};
 
-use kn_endings::Stop;
+use kn_inputs::Stop;
 
 /// Why `serve` ends.
 #[derive(Clone, Copy, PartialEq, Eq)]

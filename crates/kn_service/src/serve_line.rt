@@ -3,10 +3,10 @@ ghost use Rattle.kn_outside.specs.Printing.{Prints, is_whole};
 ghost use Rattle.kn_service.specs.ServeEndings.{line_of_serve, served_line};
 
 use crate::serve_ending::ServeEnding;
-use crate::service::Service;
 use itoa::Buffer;
 use kn_endings::{print_all, print_line};
 use kn_outside::{Failed, Sink, write_all};
+use kn_words::Service;
 
 /// Prints the line of so many connections that were served, over a history of so many updates.
 fn print_served<O: Sink>(out: &mut O, finished: u32, version: u32) -> Result<(), Failed>

@@ -1,23 +1,22 @@
 //! Serving the connections of an address over the policy in a file, with the keys in another.
-ghost use Rattle.std.specs.Prelude.{◌≡◌, ◌≤◌, ◌∷◌, ◌++◌, [], None, ℕ, List, option_to_list};
+ghost use Rattle.std.specs.Prelude.{◌≡◌, ◌≤◌, ◌∷◌, [], None, ℕ, List};
 ghost use Rattle.kn_base.specs.declared.limits.TheConstants.{WORKERS, CONNECTIONS};
 ghost use Rattle.kn_files.specs.Pieces.{pieces_of};
 ghost use Rattle.kn_outside.specs.Seen.{FilesSeen};
 ghost use Rattle.kn_outside.specs.Asked.{HasAsked};
 ghost use Rattle.kn_history.specs.History.{loaded_history};
-ghost use Rattle.kn_commands.specs.Held.{IsPolicy};
+ghost use Rattle.kn_inputs.specs.Held.{IsPolicy};
 ghost use Rattle.kn_load.specs.Loaded.{IsLoaded};
-ghost use Rattle.kn_commands.specs.Asking.{grounds_of};
-ghost use Rattle.kn_service.specs.Serving.{ServeCause, ServesOver};
+ghost use Rattle.kn_inputs.specs.Inputs.{grounds_of};
+ghost use Rattle.kn_service.specs.Serving.{ServeCause, ServesOver, binding_of};
 
 use crate::serve_ending::ServeEnding;
-use crate::service::Service;
 use kn_auth::KeyFile;
-use kn_commands::{keys_of, read_file};
-use kn_endings::Stop;
+use kn_inputs::{Stop, keys_of, read_file};
 use kn_load::load_file;
 use kn_outside::{Files, Gate};
 use kn_registry::{Pass, Registry};
+use kn_words::Service;
 use kn_workers::{BindFault, Door, Net, serve_all};
 use std::alloc::Global;
 use std::sync::Wait;
@@ -38,8 +37,8 @@ pub fn serve<R: Threads + Wait + Sync, F: Files, N: Net, G: Gate>(
 ) -> ServeEnding
 where
     <N::Room as Door>::Conn: Send,
-    requires workers { (1 ≤ service.now.binding.doors) × (service.now.binding.doors ≤ WORKERS) }
-    requires connections { service.now.binding.quota ≤ CONNECTIONS }
+    requires workers { (1 ≤ service.now.workers) × (service.now.workers ≤ WORKERS) }
+    requires connections { service.now.connections ≤ CONNECTIONS }
     requires unbound { (N.seen net.old).bound ≡ None }
     requires none { (N.seen net.old).rooms ≡ [] }
     ensures { ServeCause N.Room.seen N.Room.Conn.seen (F.seen files.old) (F.seen files.new)
@@ -71,8 +70,8 @@ fn serve_loaded<R: Threads + Wait + Sync, F: Files, N: Net, G: Gate>(
 where
     <N::Room as Door>::Conn: Send,
     requires loaded { (texts : List (List ℕ)) × IsLoaded texts registry.now root }
-    requires workers { (1 ≤ service.now.binding.doors) × (service.now.binding.doors ≤ WORKERS) }
-    requires connections { service.now.binding.quota ≤ CONNECTIONS }
+    requires workers { (1 ≤ service.now.workers) × (service.now.workers ≤ WORKERS) }
+    requires connections { service.now.connections ≤ CONNECTIONS }
     requires unbound { (N.seen net.old).bound ≡ None }
     requires none { (N.seen net.old).rooms ≡ [] }
     ensures { (f : FilesSeen) (bytes : List ℕ) → IsPolicy f service.now.files.policy bytes
@@ -101,13 +100,13 @@ fn serve_address<R: Threads + Wait + Sync, N: Net, G: Gate>(
 where
     <N::Room as Door>::Conn: Send,
     requires loaded { (texts : List (List ℕ)) × IsLoaded texts registry.now root }
-    requires workers { (1 ≤ service.now.binding.doors) × (service.now.binding.doors ≤ WORKERS) }
-    requires connections { service.now.binding.quota ≤ CONNECTIONS }
+    requires workers { (1 ≤ service.now.workers) × (service.now.workers ≤ WORKERS) }
+    requires connections { service.now.connections ≤ CONNECTIONS }
     requires unbound { (N.seen net.old).bound ≡ None }
     requires none { (N.seen net.old).rooms ≡ [] }
     ensures { (texts : List (List ℕ)) → IsLoaded texts registry.now root
         → ServesOver N.Room.seen N.Room.Conn.seen (grounds_of keys.now) (loaded_history texts)
-        (N.seen net.old) (N.seen net.new) service.now.binding result }
+        (N.seen net.old) (N.seen net.new) (binding_of service.now) result }
 {
     let bound = net.bind(
         rt,

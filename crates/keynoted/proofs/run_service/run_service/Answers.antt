@@ -1,10 +1,10 @@
 use Rattle.std.proofs.Common.{◌≡◌, List, ℕ, map, refl, sym, ap, ◌∙◌, subst}
 use Rattle.std.specs.Prelude.{All}
 use Rattle.std.specs.Str.{IsUtf8}
-use Rattle.keynoted.specs.Commands.{ServeFor, IsNo}
+use Rattle.kn_words.specs.Commands.{ServeFor, IsNo}
 use Rattle.keynoted.specs.Outcomes.{NoCommand, WordsLackMemory, ServeEnded}
-use Rattle.keynoted.proofs.Apart.{no_command, no_serve_text}
-use Rattle.keynoted.proofs.ClapLaws.{some_value, no_value}
+use Rattle.kn_words.proofs.Apart.{no_command, no_serve_text}
+use Rattle.kn_words.proofs.ClapLaws.{some_value, no_value}
 use Rattle.keynoted.proofs.run_service.run_service.Goals as goal
 
 pub service_of-requires-clause-texts : goal.service_of-requires-clause-texts

@@ -2,9 +2,10 @@ use Rattle.std.proofs.Common.{◌≡◌, [], refl}
 use Rattle.std.specs.Prelude.{IsSomeAnd, option_map, option_to_list}
 use Rattle.kn_outside.specs.Asked.{HasAsked}
 use Rattle.kn_files.specs.Pieces.{pieces_of}
-use Rattle.kn_commands.specs.Held.{AreKeys}
-use Rattle.kn_commands.specs.Asking.{StopsAtKeys}
-use Rattle.kn_commands.proofs.Asked.{keys_stopped, answered_there}
+use Rattle.kn_inputs.specs.Held.{AreKeys}
+use Rattle.kn_inputs.specs.Inputs.{StopsAtKeys}
+use Rattle.kn_inputs.proofs.Stopped.{keys_stopped}
+use Rattle.kn_commands.proofs.Asked.{answered_there}
 use Rattle.kn_commands.proofs.asking.ask_loaded.Goals as goal
 
 pub returns-in-Ok : goal.returns-in-Ok

@@ -1,7 +1,8 @@
 use Rattle.std.proofs.Common.{List, subst}
 use Rattle.kn_history.specs.declared.update.Update.{Update}
 use Rattle.kn_serve.specs.Serving.{Serves}
-use Rattle.kn_commands.specs.Asking.{IsLinkServed, grounds_of}
+use Rattle.kn_inputs.specs.Inputs.{grounds_of}
+use Rattle.kn_commands.specs.Asking.{IsLinkServed}
 use Rattle.kn_commands.proofs.Asked.{link_served}
 use Rattle.kn_commands.proofs.asking.serve.Goals as goal
 

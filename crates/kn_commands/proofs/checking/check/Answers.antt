@@ -2,7 +2,7 @@ use Rattle.std.proofs.Common.{◌∷◌, []}
 use Rattle.kn_files.specs.Pieces.{pieces_of}
 use Rattle.kn_outside.specs.Asked.{HasAsked}
 use Rattle.kn_load.specs.Loaded.{StopsLoading}
-use Rattle.kn_commands.specs.Held.{HasContent}
+use Rattle.kn_inputs.specs.Held.{HasContent}
 use Rattle.kn_commands.proofs.Reached.{load_stops}
 use Rattle.kn_commands.proofs.checking.check.Goals as goal
 

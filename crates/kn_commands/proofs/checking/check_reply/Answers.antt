@@ -2,11 +2,11 @@ use Rattle.std.proofs.Common.{◌≡◌, ◌∙◌, ◌∷◌, [], Some, sym, su
 use Rattle.kn_outside.specs.Asked.{HasAsked}
 use Rattle.kn_session.specs.Sessions.{Session}
 use Rattle.kn_session.specs.Views.{session_of_view}
-use Rattle.kn_endings.specs.Names.{in_order}
-use Rattle.kn_endings.specs.declared.ending.Source.TheVariants.{Reply}
-use Rattle.kn_commands.specs.Held.{HasContent}
+use Rattle.kn_words.specs.Names.{in_order}
+use Rattle.kn_words.specs.declared.files.Source.TheVariants.{Reply}
+use Rattle.kn_inputs.specs.Held.{HasContent}
 use Rattle.kn_commands.specs.Checking.{IsTried, ReplyShows}
-use Rattle.kn_commands.proofs.Files.{content_there, keeps_content}
+use Rattle.kn_inputs.proofs.Files.{content_there, keeps_content}
 use Rattle.kn_commands.proofs.Reached.{read_more, shown_cause}
 use Rattle.kn_commands.proofs.checking.check_reply.Goals as goal
 

@@ -5,12 +5,12 @@ use Rattle.kn_session.specs.Sessions.{Session}
 use Rattle.kn_history.specs.declared.update.Update.{Update}
 use Rattle.kn_history.specs.History.{loaded_history}
 use Rattle.kn_play.specs.Meaning.{Means, IsMeantQuery}
-use Rattle.kn_endings.specs.Names.{in_order}
-use Rattle.kn_endings.specs.declared.ending.Source.TheVariants.{Script as TheScript}
-use Rattle.kn_commands.specs.Held.{HasContent}
+use Rattle.kn_words.specs.Names.{in_order}
+use Rattle.kn_words.specs.declared.files.Source.TheVariants.{Script as TheScript}
+use Rattle.kn_inputs.specs.Held.{HasContent}
 use Rattle.kn_commands.specs.Checking.{HasQuery}
 use Rattle.kn_load.proofs.Alone.{looks_alone}
-use Rattle.kn_commands.proofs.Files.{content_there, keeps_content}
+use Rattle.kn_inputs.proofs.Files.{content_there, keeps_content}
 use Rattle.kn_commands.proofs.Reached.{read_more}
 use Rattle.kn_commands.proofs.checking.check_script.Goals as goal
 

@@ -2,9 +2,9 @@ use Rattle.std.proofs.Common.{◌≡◌, ◌∷◌, [], ap}
 use Rattle.kn_files.specs.Pieces.{pieces_of}
 use Rattle.kn_outside.specs.Asked.{HasAsked}
 use Rattle.kn_load.specs.Loaded.{StopsLoading}
-use Rattle.kn_endings.specs.Names.{VerifyNames}
-use Rattle.kn_commands.specs.Held.{HasContent}
-use Rattle.kn_commands.proofs.Asked.{unloaded_policy}
+use Rattle.kn_words.specs.Names.{VerifyNames}
+use Rattle.kn_inputs.specs.Held.{HasContent}
+use Rattle.kn_inputs.proofs.Stopped.{unloaded_policy}
 use Rattle.kn_commands.proofs.verifying.verify.Goals as goal
 
 pub returns : goal.returns

@@ -5,8 +5,8 @@ use Rattle.kn_history.specs.declared.update.Update.{Update}
 use Rattle.kn_history.specs.History.{loaded_history}
 use Rattle.kn_load.proofs.Alone.{looks_alone}
 use Rattle.kn_transcript.specs.Accepted.{IsAcceptedTranscript}
-use Rattle.kn_endings.specs.Names.{VerifyNames}
-use Rattle.kn_commands.specs.Held.{HasContent}
+use Rattle.kn_words.specs.Names.{VerifyNames}
+use Rattle.kn_inputs.specs.Held.{HasContent}
 use Rattle.kn_commands.specs.Verifying.{IsRefused}
 use Rattle.kn_commands.proofs.Transcripts.{transcript_read}
 use Rattle.kn_commands.proofs.verifying.verify_loaded.Goals as goal

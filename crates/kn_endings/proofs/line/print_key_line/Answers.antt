@@ -1,6 +1,6 @@
 use Rattle.std.proofs.Common.{◌≡◌, ◌∙◌, [], ◌++◌, codes}
 use Rattle.std.specs.Prelude.{decimal}
-use Rattle.kn_endings.specs.Stops.{keys_line}
+use Rattle.kn_inputs.specs.Stops.{keys_line}
 use Rattle.kn_endings.proofs.Told.{keys_parts, told}
 use Rattle.kn_endings.proofs.line.print_key_line.Goals as goal
 

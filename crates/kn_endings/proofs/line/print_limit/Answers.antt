@@ -1,6 +1,6 @@
 use Rattle.std.proofs.Common.{◌≡◌, ◌∙◌, codes}
 use Rattle.std.specs.Prelude.{decimal}
-use Rattle.kn_endings.specs.Stops.{limit_line}
+use Rattle.kn_inputs.specs.Stops.{limit_line}
 use Rattle.kn_endings.proofs.Told.{parts_of, limit_parts, told}
 use Rattle.kn_endings.proofs.line.print_limit.Goals as goal
 

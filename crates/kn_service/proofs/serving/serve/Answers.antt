@@ -2,10 +2,10 @@ use Rattle.std.proofs.Common.{◌≡◌, ◌∷◌, ◌∙◌, [], ap, refl}
 use Rattle.kn_files.specs.Pieces.{pieces_of}
 use Rattle.kn_outside.specs.Asked.{HasAsked}
 use Rattle.kn_load.specs.Loaded.{StopsLoading}
-use Rattle.kn_service.specs.declared.service.Service.TheInside.{Inside}
-use Rattle.kn_service.specs.Orders.{Order}
-use Rattle.kn_commands.specs.Held.{HasContent}
-use Rattle.kn_commands.proofs.Asked.{unloaded_policy}
+use Rattle.kn_words.specs.declared.service.Service.TheInside.{Inside}
+use Rattle.kn_words.specs.Orders.{Order}
+use Rattle.kn_inputs.specs.Held.{HasContent}
+use Rattle.kn_inputs.proofs.Stopped.{unloaded_policy}
 use Rattle.kn_service.proofs.serving.serve.Goals as goal
 
 pub returns : goal.returns

@@ -2,11 +2,11 @@ use Rattle.std.proofs.Common.{◌≡◌, ◌∙◌, ap, [], refl}
 use Rattle.std.specs.Prelude.{IsSomeAnd, option_map, option_to_list}
 use Rattle.kn_outside.specs.Asked.{HasAsked}
 use Rattle.kn_files.specs.Pieces.{pieces_of}
-use Rattle.kn_service.specs.declared.service.Service.TheInside.{Inside}
-use Rattle.kn_service.specs.Orders.{Order}
-use Rattle.kn_commands.specs.Held.{AreKeys}
-use Rattle.kn_commands.specs.Asking.{StopsAtKeys}
-use Rattle.kn_commands.proofs.Asked.{keys_stopped}
+use Rattle.kn_words.specs.declared.service.Service.TheInside.{Inside}
+use Rattle.kn_words.specs.Orders.{Order}
+use Rattle.kn_inputs.specs.Held.{AreKeys}
+use Rattle.kn_inputs.specs.Inputs.{StopsAtKeys}
+use Rattle.kn_inputs.proofs.Stopped.{keys_stopped}
 use Rattle.kn_service.proofs.ServingLaws.{served_there}
 use Rattle.kn_service.proofs.serving.serve_loaded.Goals as goal
 

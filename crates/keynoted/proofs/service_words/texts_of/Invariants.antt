@@ -1,6 +1,0 @@
-use Rattle.std.proofs.Common.{take}
-use Rattle.keynoted.proofs.Texts.{AreTexts}
-use Rattle.keynoted.proofs.service_words.texts_of.Given as goal
-
-abbrev pub invariant-loop-word : goal.invariant-loop-word
-invariant-loop-word l = AreTexts l.texts.items (take l.word-index l.words)

@@ -1,0 +1,4 @@
+pub mod Stops
+pub mod Held
+pub mod Stopping
+pub mod Inputs

@@ -1,0 +1,5 @@
+pub mod Spelled
+pub mod Apart
+pub mod GenWords
+pub mod ClapLaws
+pub mod Texts

@@ -1,0 +1,4 @@
+pub mod Names
+pub mod Sources
+pub mod Orders
+pub mod Commands
