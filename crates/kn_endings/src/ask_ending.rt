@@ -2,8 +2,8 @@
 ghost use Rattle.std.specs.Prelude.{◌≡◌};
 ghost use Rattle.kn_endings.specs.AskEndings.{status_of_ended};
 
-use kn_inputs::Stop;
 use kn_daemon::ended::Ended;
+use kn_inputs::Stop;
 
 /// Why `ask` ends.
 #[derive(Clone, Copy, PartialEq, Eq)]

@@ -1,9 +1,9 @@
 //! How checking a reply ends.
 ghost use Rattle.std.specs.Prelude.{◌≡◌};
 
-use kn_inputs::Stop;
 use kn_base::Octets;
 use kn_check::Reject;
+use kn_inputs::Stop;
 use kn_words::Source;
 
 /// Why checking a reply ends.

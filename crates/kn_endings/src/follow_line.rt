@@ -4,8 +4,8 @@ ghost use Rattle.kn_endings.specs.FollowEndings.{line_of_follow, followed_line, 
 
 use crate::follow_ending::FollowEnding;
 use crate::line::{print_all, print_line};
-use kn_inputs::Stop;
 use itoa::Buffer;
+use kn_inputs::Stop;
 use kn_outside::{Failed, Sink, write_all};
 
 /// Prints the line of a replica of so many updates, of which so many credentials are live.

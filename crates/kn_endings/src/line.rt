@@ -3,10 +3,10 @@ ghost use Rattle.std.specs.Prelude.{◌≡◌, ◌++◌, [], true, codes, flat_m
 ghost use Rattle.kn_outside.specs.Printing.{Prints, is_whole};
 ghost use Rattle.kn_inputs.specs.Stops.{stop_line, policy_fault_line, limit_line, keys_line};
 
-use kn_inputs::Stop;
 use arrayvec::ArrayVec;
 use itoa::Buffer;
 use kn_fields::ReadFault;
+use kn_inputs::Stop;
 use kn_outside::{Failed, Sink, write_all};
 use kn_reply::LimitWord;
 
