@@ -13,6 +13,7 @@ from serving.batches import Batches
 from serving.clients import Clients
 from serving.daemon import Fault
 from serving.doors import Doors
+from serving.recency import Recency
 from serving.talk import Daemon
 from serving.waiting import Waiting
 
@@ -114,7 +115,7 @@ def built_program():
 def read_words():
     parser = argparse.ArgumentParser(prog="tests/serve", description="Tries keynoted serve over TCP on the loopback.")
     parser.add_argument("--seconds", type=float, default=20, help="of the long run; the shorter ones take a tenth (20)")
-    parser.add_argument("--only", choices=["checker", "doors", "waiting", "batches", "clients"], help="the self-test of the checker, which wants no program; what is at fault and how connections end; slow and idle clients, and want of descriptors; ten thousand batches; the long run")
+    parser.add_argument("--only", choices=["checker", "doors", "waiting", "batches", "recency", "clients"], help="the self-test of the checker, which wants no program; what is at fault and how connections end; slow and idle clients, and want of descriptors; ten thousand batches; pins behind updates; the long run")
     return parser.parse_args()
 
 
@@ -133,6 +134,10 @@ def try_batches(tally, program, room):
     tally.attempt("each sees all of a batch or nothing", lambda: Batches(program, room).try_all())
 
 
+def try_recency(tally, program, room):
+    tally.attempt("each PIN sees what was answered before", lambda: Recency(program, room).try_all())
+
+
 def try_clients(tally, program, room, seconds):
     long, short = Long(tally, program, room, seconds), Long(tally, program, room, seconds / 10)
     tally.attempt("16 workers", lambda: long.try_run("16 workers", 16, 1600))
@@ -146,7 +151,7 @@ def main():
             tally.note(f"checker: {name}", why)
     if words.only != "checker":
         program = built_program()
-        parts = {"doors": try_doors, "waiting": try_waiting, "batches": try_batches}
+        parts = {"doors": try_doors, "waiting": try_waiting, "batches": try_batches, "recency": try_recency}
         parts["clients"] = lambda *to: try_clients(*to, words.seconds)
         for name, part in parts.items():
             if words.only in (None, name):
