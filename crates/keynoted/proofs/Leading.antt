@@ -43,7 +43,8 @@ module _ (f : FilesSeen) (name : List ℕ) (Fails : List ℕ → Type 0) (failed
     (apart' : (bytes : List ℕ) → Fails bytes → Next bytes other → ⊥)
     (once : (bytes : List ℕ) → On bytes status → Next bytes other → EndsWith status other) where
   -- a file that is tried leads to one status
-  pub leads_once : FileCallsFor f name Fails failed On status → FileCallsFor f name Fails failed Next other → EndsWith status other
+  pub leads_once : FileCallsFor f name Fails failed On status → FileCallsFor f name Fails failed Next other
+      → EndsWith status other
   leads_once (TooLarge a h e) (TooLarge b h' e') = inl (e' ∙ sym e)
   leads_once (TooLarge a h e) (Failed b h' fails e') = absurd (not_both f name a b h h')
   leads_once (TooLarge a h e) (Passed b h' on) = absurd (not_both f name a b h h')

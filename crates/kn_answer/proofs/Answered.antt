@@ -1,6 +1,7 @@
--- A query that is answered from a base: the base is its system, and what is found there holds of the assertions that are
--- still there.
-use Rattle.std.proofs.Common.{◌≡◌, ℕ, ◌-◌, ◌<◌, ◌≤◌, Bool, false, All, List, length, map, slice_index, sym, ◌∙◌, subst, arith}
+-- A query that is answered from a base: the base is its system, and what is found there holds of the assertions that
+-- are still there.
+use Rattle.std.proofs.Common.{◌≡◌, ℕ, ◌-◌, ◌<◌, ◌≤◌, Bool, false, All, List, length, map, slice_index, sym, ◌∙◌, subst}
+use Rattle.std.proofs.Common.{arith}
 use Rattle.std.specs.List.{list_any}
 use Rattle.std.specs.Str.{bytes_eq}
 use Rattle.kn_principal.specs.Principals.{policy}
@@ -29,7 +30,8 @@ use Rattle.kn_answer.proofs.Removing.{removed}
 use Rattle.kn_answer.proofs.Rowed.{IsStated}
 
 -- what is known where the requesters have been looked up
-pub record IsAnswering (asked : Asked) (parts : List Part) (live : List Bool) (names : List (List ℕ)) (base : SystemEquations) (numbers : List ℕ) (levels : ℕ) : Type 0 where
+pub record IsAnswering (asked : Asked) (parts : List Part) (live : List Bool) (names : List (List ℕ))
+    (base : SystemEquations) (numbers : List ℕ) (levels : ℕ) : Type 0 where
   pub count : levels ≡ length asked.values
   pub several : 2 ≤ levels
   pub few : levels ≤ 64
@@ -40,7 +42,8 @@ pub record IsAnswering (asked : Asked) (parts : List Part) (live : List Bool) (n
   pub are : AreNumbersOf names asked.requesters numbers
   pub others : list_any (bytes_eq policy) asked.requesters ≡ false
 
-module _ (asked : Asked) (parts : List Part) (live : List Bool) (names : List (List ℕ)) (base : SystemEquations) (numbers : List ℕ) (levels : ℕ) (a : IsAnswering asked parts live names base numbers levels) where
+module _ (asked : Asked) (parts : List Part) (live : List Bool) (names : List (List ℕ)) (base : SystemEquations)
+    (numbers : List ℕ) (levels : ℕ) (a : IsAnswering asked parts live names base numbers levels) where
   abbrev found : SystemEquations
   found = query_system base levels numbers (ceilings_of asked parts live)
 
@@ -54,7 +57,8 @@ module _ (asked : Asked) (parts : List Part) (live : List Bool) (names : List (L
   size = a.flags ∙ sym (length-base names parts base.rows a.is.rows)
 
   pub answering-others : All (IsOther (length base.requesters)) numbers
-  answering-others = others-numbered names (length base.requesters) a.one_each a.is.first asked.requesters numbers a.are a.others
+  answering-others = others-numbered names (length base.requesters) a.one_each a.is.first asked.requesters numbers a.are
+      a.others
 
   pub answering-each : length (ceilings_of asked parts live) ≡ length base.rows
   answering-each = length-ceilings asked parts live size ∙ length-base names parts base.rows a.is.rows
@@ -65,11 +69,13 @@ module _ (asked : Asked) (parts : List Part) (live : List Bool) (names : List (L
   of : IsSystemOf all names found
   of =
       let some : 1 ≤ length asked.values = omega (arith, a.count, a.several) in
-      subst (λ n. IsSystemOf all names (query_system base n numbers (ceilings_of asked parts live))) (sym a.count) (bases-state parts names base a.is a.one_each asked live numbers some size a.are)
+      subst (λ n. IsSystemOf all names (query_system base n numbers (ceilings_of asked parts live))) (sym a.count)
+      (bases-state parts names base a.is a.one_each asked live numbers some size a.are)
 
   stated : IsStated all built
   stated = record {
-    well_formed = query_system-system base levels numbers (ceilings_of asked parts live) a.well_formed a.several a.few answering-others answering-low;
+    well_formed = query_system-system base levels numbers (ceilings_of asked parts live) a.well_formed a.several a.few
+        answering-others answering-low;
     of = of;
     ids = sym (ids-kept asked parts live size);
   }
@@ -83,17 +89,25 @@ module _ (asked : Asked) (parts : List Part) (live : List Bool) (names : List (L
         by = omega (arith, is.by, length-capped (ceilings_of asked parts live) 0 base.rows);
       }
 
-  pub answering-proof : (named : List NamedRow) (rows : List Row) (value : ℕ) → AreLocated built named rows → IsProof found rows value → proof.IsProof (equations_over asked (live_parts parts live)) named value
+  pub answering-proof : (named : List NamedRow) (rows : List Row) (value : ℕ) → AreLocated built named rows
+      → IsProof found rows value → proof.IsProof (equations_over asked (live_parts parts live)) named value
   answering-proof named rows value are proves =
-      subst (λ (ss : List Statement). proof.IsProof (query_equations (length asked.values - 1) asked.requesters ss) named value) (live-kept asked parts live)
-      ((removed (length asked.values - 1) asked.requesters (kept_of asked parts live)).proof named value (proof-named all built stated named rows are value proves))
+      subst (λ (ss : List Statement). proof.IsProof (query_equations (length asked.values - 1) asked.requesters ss)
+      named value) (live-kept asked parts live)
+      ((removed (length asked.values - 1) asked.requesters (kept_of asked parts live)).proof named value
+      (proof-named all built stated named rows are value proves))
 
-  pub answering-least : IsLeast found (least_levels found) → IsPolicyLevel (equations_over asked (live_parts parts live)) (slice_index (least_levels found) 0)
+  pub answering-least : IsLeast found (least_levels found)
+      → IsPolicyLevel (equations_over asked (live_parts parts live)) (slice_index (least_levels found) 0)
   answering-least least =
-      subst (λ (ss : List Statement). IsPolicyLevel (query_equations (length asked.values - 1) asked.requesters ss) (slice_index (least_levels found) 0)) (live-kept asked parts live)
-      ((removed (length asked.values - 1) asked.requesters (kept_of asked parts live)).level (slice_index (least_levels found) 0) (IsPolicyLevel-by_name all names found of (least_levels found) least))
+      subst (λ (ss : List Statement). IsPolicyLevel (query_equations (length asked.values - 1) asked.requesters ss)
+      (slice_index (least_levels found) 0)) (live-kept asked parts live)
+      ((removed (length asked.values - 1) asked.requesters (kept_of asked parts live)).level
+      (slice_index (least_levels found) 0) (IsPolicyLevel-by_name all names found of (least_levels found) least))
 
-  pub answering-below : (named : List NamedRow) (value : ℕ) → proof.IsProof (equations_over asked (live_parts parts live)) named value → value < length asked.values
+  pub answering-below : (named : List NamedRow) (value : ℕ)
+      → proof.IsProof (equations_over asked (live_parts parts live)) named value → value < length asked.values
   answering-below named value proves =
-      let most : value ≤ length asked.values - 1 = level-most (equations_over asked (live_parts parts live)) named value proves in
+      let most : value ≤ length asked.values - 1 =
+      level-most (equations_over asked (live_parts parts live)) named value proves in
       omega (arith, most, a.count, a.several)

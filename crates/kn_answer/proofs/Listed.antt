@@ -1,5 +1,6 @@
 -- Lists of rows by names and by numbers, row by row.
-use Rattle.std.proofs.Common.{◌≡◌, ℕ, suc, zero, ◌+◌, ◌<◌, ◌≤◌, Bool, true, false, cond, List, [], ◌∷◌, ◌++◌, get_or, take, slice_set, length, sym, ap, ◌∙◌, subst, arith}
+use Rattle.std.proofs.Common.{◌≡◌, ℕ, suc, zero, ◌+◌, ◌<◌, ◌≤◌, Bool, true, false, cond, List, [], ◌∷◌, ◌++◌, get_or}
+use Rattle.std.proofs.Common.{take, slice_set, length, sym, ap, ◌∙◌, subst, arith}
 use Rattle.std.specs.Str.{bytes_eq}
 use Rattle.std.proofs.lemmas.List.{take_more}
 use Rattle.kn_principal.specs.Principals.{policy}
@@ -13,34 +14,45 @@ use Rattle.kn_system.specs.Proofs.{AreSteps}
 use Rattle.kn_answer.specs.Built.{Interned}
 use Rattle.kn_answer.specs.Located.{IsLocated, AreLocated, AreOfSystem}
 
-AreLocated-push : (built : Interned) (rows : List NamedRow) (located : List Row) → AreLocated built rows located → (named : NamedRow) (row : Row) → IsLocated built named row → AreLocated built (rows ++ named ∷ []) (located ++ row ∷ [])
+AreLocated-push : (built : Interned) (rows : List NamedRow) (located : List Row) → AreLocated built rows located
+    → (named : NamedRow) (row : Row) → IsLocated built named row
+    → AreLocated built (rows ++ named ∷ []) (located ++ row ∷ [])
 AreLocated-push built [] [] are named row is = (is, tt)
 AreLocated-push built [] (r ∷ located) are named row is = absurd are
 AreLocated-push built (n ∷ rows) [] are named row is = absurd are
-AreLocated-push built (n ∷ rows) (r ∷ located) are named row is = (are.0, AreLocated-push built rows located are.1 named row is)
+AreLocated-push built (n ∷ rows) (r ∷ located) are named row is =
+    (are.0, AreLocated-push built rows located are.1 named row is)
 
 -- one more row by names has been located
-pub located-more : (built : Interned) (rows : List NamedRow) (located : List Row) (i : ℕ) (named : NamedRow) (row : Row) → i < length rows → named ≡ get_or rows i named → AreLocated built (take i rows) located → IsLocated built named row
+pub located-more : (built : Interned) (rows : List NamedRow) (located : List Row) (i : ℕ) (named : NamedRow) (row : Row)
+    → i < length rows → named ≡ get_or rows i named → AreLocated built (take i rows) located → IsLocated built named row
     → AreLocated built (take (i + 1) rows) (located ++ row ∷ [])
 located-more built rows located i named row within here are is =
-    subst (λ xs. AreLocated built xs (located ++ row ∷ [])) (ap (λ n. take i rows ++ n ∷ []) here ∙ sym (take_more rows i named within)) (AreLocated-push built (take i rows) located are named row is)
+    subst (λ xs. AreLocated built xs (located ++ row ∷ [])) (ap (λ n. take i rows ++ n ∷ []) here
+    ∙ sym (take_more rows i named within)) (AreLocated-push built (take i rows) located are named row is)
 
 -- one more row by numbers has been named
-pub named-more : (built : Interned) (rows : List NamedRow) (located : List Row) (i : ℕ) (named : NamedRow) (d : Row) → i < length located → AreLocated built rows (take i located) → IsLocated built named (get_or located i d)
+pub named-more : (built : Interned) (rows : List NamedRow) (located : List Row) (i : ℕ) (named : NamedRow) (d : Row)
+    → i < length located → AreLocated built rows (take i located) → IsLocated built named (get_or located i d)
     → AreLocated built (rows ++ named ∷ []) (take (i + 1) located)
 named-more built rows located i named d within are is =
-    subst (λ xs. AreLocated built (rows ++ named ∷ []) xs) (sym (take_more located i d within)) (AreLocated-push built rows (take i located) are named (get_or located i d) is)
+    subst (λ xs. AreLocated built (rows ++ named ∷ []) xs) (sym (take_more located i d within))
+    (AreLocated-push built rows (take i located) are named (get_or located i d) is)
 
 -- the numbers of steps are in range
-pub AreOfSystem-steps : (s : SystemEquations) (levels : List ℕ) (rows : List Row) → AreSteps s levels rows → AreOfSystem s rows
+pub AreOfSystem-steps : (s : SystemEquations) (levels : List ℕ) (rows : List Row) → AreSteps s levels rows
+    → AreOfSystem s rows
 AreOfSystem-steps s levels [] steps i d l = absurd (omega arith)
 AreOfSystem-steps s levels (row ∷ rows) steps zero d l = record { principal = steps.0.principal; by = steps.0.named }
-AreOfSystem-steps s levels (row ∷ rows) steps (suc i) d l = AreOfSystem-steps s (slice_set levels row.principal row.value) rows steps.1 i d (omega arith)
+AreOfSystem-steps s levels (row ∷ rows) steps (suc i) d l =
+    AreOfSystem-steps s (slice_set levels row.principal row.value) rows steps.1 i d (omega arith)
 
 -- no row gives a level above the top
-row_level-most : (e : Equations) (before rows : List NamedRow) → AreRows e before rows → (name : List ℕ) → row_level rows name ≤ e.top
+row_level-most : (e : Equations) (before rows : List NamedRow) → AreRows e before rows → (name : List ℕ)
+    → row_level rows name ≤ e.top
 row_level-most e before [] are name = omega arith
-row_level-most e before (row ∷ rows) are name = by (bytes_eq row.principal name) are.0.within (row_level-most e (before ++ row ∷ []) rows are.1 name)
+row_level-most e before (row ∷ rows) are name =
+    by (bytes_eq row.principal name) are.0.within (row_level-most e (before ++ row ∷ []) rows are.1 name)
   where
     by : (b : Bool) → row.value ≤ e.top → row_level rows name ≤ e.top → cond b row.value (row_level rows name) ≤ e.top
     by true first rest = first
@@ -48,7 +60,8 @@ row_level-most e before (row ∷ rows) are name = by (bytes_eq row.principal nam
 
 -- nor does a proof
 pub level-most : (e : Equations) (rows : List NamedRow) (level : ℕ) → proof.IsProof e rows level → level ≤ e.top
-level-most e rows level proves = subst (λ l. l ≤ e.top) proves.claim (by (is_requester e policy) (row_level-most e [] rows proves.in_order policy))
+level-most e rows level proves =
+    subst (λ l. l ≤ e.top) proves.claim (by (is_requester e policy) (row_level-most e [] rows proves.in_order policy))
   where
     by : (b : Bool) → row_level rows policy ≤ e.top → cond b e.top (row_level rows policy) ≤ e.top
     by true most = omega arith

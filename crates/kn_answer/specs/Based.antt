@@ -12,7 +12,8 @@ use Rattle.kn_settle.specs.QuerySystem.{query_system}
 use Rattle.kn_answer.specs.Numbering.{AreDistinct, ArePiecesOf, IsNumber, IsSystemOf, SpellLicensees, licensees_pieces}
 use Rattle.kn_answer.specs.Removed.{capped_statement, capped_statements, kept_of, query_equations}
 
--- the names of a base's principals, each at its number, its system, and for each row whether its assertion is still there
+-- the names of a base's principals, each at its number, its system, and for each row whether its assertion is still
+-- there
 pub record BaseView : Type 0 where
   pub names : List (List ℕ)
   pub system : SystemEquations
@@ -66,9 +67,12 @@ capped_values (value ∷ values) (flag ∷ live) = (if flag then value else 0) �
 -- a base is the system of each query over its assertions
 abbrev pub BasesStateQueries : Type 0
 BasesStateQueries =
-    (parts : List Part) (names : List (List ℕ)) (base : SystemEquations) → IsBaseOf parts names base → length names ≡ length base.requesters
-    → (asked : Asked) (live : List Bool) (numbers : List ℕ) → 1 ≤ length asked.values → length live ≡ length parts → AreNumbersOf names asked.requesters numbers
-    → IsSystemOf (query_equations (length asked.values - 1) asked.requesters (capped_statements (kept_of asked parts live))) names
+    (parts : List Part) (names : List (List ℕ)) (base : SystemEquations) → IsBaseOf parts names base
+    → length names ≡ length base.requesters
+    → (asked : Asked) (live : List Bool) (numbers : List ℕ) → 1 ≤ length asked.values → length live ≡ length parts
+    → AreNumbersOf names asked.requesters numbers
+    → IsSystemOf (query_equations (length asked.values - 1) asked.requesters
+    (capped_statements (kept_of asked parts live))) names
     (query_system base (length asked.values) numbers (ceilings_of asked parts live))
 
 -- and has the nodes of their formulas, whatever is asked

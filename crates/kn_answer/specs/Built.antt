@@ -12,8 +12,8 @@ pub record Interned : Type 0 where
   pub system : SystemEquations
   pub ids : List Id
 
--- The system is that of the query: its principals are those that occur in the query, and no others, and each row has the
--- id of its statement.
+-- The system is that of the query: its principals are those that occur in the query, and no others, and each row has
+-- the id of its statement.
 pub record IsBuilt (e : Equations) (built : Interned) : Type 0 where
   pub well_formed : IsSystem built.system
   pub of : IsSystemOf e built.names built.system

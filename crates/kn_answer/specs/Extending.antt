@@ -17,7 +17,8 @@ Keeps old new = (p : ℕ) (name : List ℕ) → IsNumber old name p → IsNumber
 
 -- a name that has a number had one before, or is one of these
 abbrev pub AddsOnly : List (List ℕ) → List (List ℕ) → List (List ℕ) → Type 0
-AddsOnly added old new = (p : ℕ) (name : List ℕ) → IsNumber new name p → ((q : ℕ) × IsNumber old name q) ⊎ (list_any (bytes_eq name) added ≡ true)
+AddsOnly added old new = (p : ℕ) (name : List ℕ) → IsNumber new name p → ((q : ℕ) × IsNumber old name q)
+    ⊎ (list_any (bytes_eq name) added ≡ true)
 
 -- names keep their numbers, these have numbers, and no others have got any
 pub record AddsNames (added old new : List (List ℕ)) : Type 0 where
@@ -29,8 +30,8 @@ pub record AddsNames (added old new : List (List ℕ)) : Type 0 where
 abbrev pub with_statement : Equations → Statement → Equations
 with_statement e statement = record e { statements = e.statements ++ statement ∷ [] }
 
--- These principals have numbers, of which at most n, that are no requesters, got theirs here, and the system states what the
--- same queries do.
+-- These principals have numbers, of which at most n, that are no requesters, got theirs here, and the system states
+-- what the same queries do.
 pub record Extends (n : ℕ) (added : List (List ℕ)) (old new : Numbered) : Type 0 where
   pub names : AddsNames added old.names new.names
   pub few : length new.names ≤ length old.names + n
@@ -62,4 +63,5 @@ pub record AddsRow (assertion : Assertion) (ceiling : ℕ) (old new : Numbered) 
   pub short : length row.formula ≤ 1 + field_nodes assertion.licensees
   pub capped : row.ceiling ≡ ceiling
   pub is : IsBaseRow new.names assertion row
-  pub same : (e : Equations) → IsSystemOf e old.names old.system → IsSystemOf e new.names (record new.system { rows = old.system.rows })
+  pub same : (e : Equations) → IsSystemOf e old.names old.system
+      → IsSystemOf e new.names (record new.system { rows = old.system.rows })

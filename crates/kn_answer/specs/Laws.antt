@@ -9,7 +9,8 @@ use Rattle.kn_answer.specs.Numbering.{AreDistinct}
 use Rattle.kn_answer.specs.Built.{Interned, IsBuilt}
 use Rattle.kn_answer.specs.Located.{AreLocated}
 
--- where the ids differ, located rows prove a level in the system of a query exactly where the rows by names prove it of the query
+-- where the ids differ, located rows prove a level in the system of a query exactly where the rows by names prove it of
+-- the query
 abbrev pub LocatedProofs : Type 0
 LocatedProofs =
     (e : Equations) (built : Interned) → IsBuilt e built → AreDistinct built.ids

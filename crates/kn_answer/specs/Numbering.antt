@@ -1,6 +1,7 @@
--- What a system over numbers is for a query over named principals: the number of a principal is its place among the names
--- (keynoted's own).
-use Rattle.std.specs.Prelude.{ℕ, ◌≡◌, ◌+◌, Bool, true, List, [], ◌∷◌, ◌++◌, length, map, flat_map, slice_get, slice_index, Option, Some, None, if◌then◌else◌}
+-- What a system over numbers is for a query over named principals: the number of a principal is its place among the
+-- names (keynoted's own).
+use Rattle.std.specs.Prelude.{ℕ, ◌≡◌, ◌+◌, Bool, true, List, [], ◌∷◌, ◌++◌, length, map, flat_map, slice_get}
+use Rattle.std.specs.Prelude.{slice_index, Option, Some, None, if◌then◌else◌}
 use Rattle.std.specs.List.{list_any}
 use Rattle.std.specs.Str.{bytes_eq}
 use Rattle.kn_principal.specs.Principals.{policy}
@@ -44,7 +45,8 @@ HaveLevels names at levels = (p : ℕ) (name : List ℕ) → IsNumber names name
 -- pieces have the level of a Licensees field wherever the principals have the same levels
 abbrev pub SpellLicensees : ℕ → List (List ℕ) → Option Formula → List Piece → Type 0
 SpellLicensees top names licensees pieces =
-    (at : Levels) (levels : List ℕ) → HaveLevels names at levels → form_level top levels pieces ≡ licensees_level top at licensees
+    (at : Levels) (levels : List ℕ) → HaveLevels names at levels
+    → form_level top levels pieces ≡ licensees_level top at licensees
 
 -- a piece of a formula over named principals: a principal, or a gate, which stands before its parts
 pub data NamedPiece : Type 0 where
@@ -103,7 +105,8 @@ pub record AreNumbered (requesters names : List (List ℕ)) (flags : List Bool) 
 
 -- each of these principals has a number
 abbrev pub HaveNumbers : List (List ℕ) → List (List ℕ) → Type 0
-HaveNumbers principals names = (name : List ℕ) → list_any (bytes_eq name) principals ≡ true → (p : ℕ) × IsNumber names name p
+HaveNumbers principals names = (name : List ℕ) → list_any (bytes_eq name) principals ≡ true → (p : ℕ)
+    × IsNumber names name p
 
 -- each name that has a number is one of these principals
 abbrev pub AreAmong : List (List ℕ) → List (List ℕ) → Type 0
@@ -114,8 +117,8 @@ pub record AreNamesOf (principals names : List (List ℕ)) : Type 0 where
   pub all : HaveNumbers principals names
   pub only : AreAmong principals names
 
--- The system states what the query does: the requesters have numbers and flags, and there is a row for each statement. Which
--- other principals have numbers is said by `IsBuilt`.
+-- The system states what the query does: the requesters have numbers and flags, and there is a row for each statement.
+-- Which other principals have numbers is said by `IsBuilt`.
 pub record IsSystemOf (e : Equations) (names : List (List ℕ)) (s : SystemEquations) : Type 0 where
   pub numbered : AreNumbered e.requesters names s.requesters
   pub all : HaveNumbers e.requesters names

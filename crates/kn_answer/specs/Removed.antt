@@ -52,4 +52,5 @@ live_parts (part ∷ parts) (flag ∷ flags) = if flag then part ∷ live_parts 
 abbrev pub kept_of : Asked → List Part → List Bool → List Kept
 kept_of asked [] flags = []
 kept_of asked (part ∷ parts) [] = []
-kept_of asked (part ∷ parts) (flag ∷ flags) = (record { statement = statement_of asked part; is_live = flag }) ∷ kept_of asked parts flags
+kept_of asked (part ∷ parts) (flag ∷ flags) = (record { statement = statement_of asked part; is_live = flag })
+    ∷ kept_of asked parts flags

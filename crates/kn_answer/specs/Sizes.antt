@@ -15,7 +15,8 @@ pub record HaveTexts (parts : List Part) : Type 0 where
 abbrev pub IsReadablePart : Part → Type 0
 IsReadablePart part = IfSome part.assertion.licensees (λ formula. (bytes : ℕ) × IsReadable bytes formula)
 
--- An assertion adds at most so many principals and nodes: its authorizer, the nodes of its formula, and a gate where it has none.
+-- An assertion adds at most so many principals and nodes: its authorizer, the nodes of its formula, and a gate where it
+-- has none.
 abbrev pub size_of : Part → ℕ
 size_of part = 2 + field_nodes part.assertion.licensees
 

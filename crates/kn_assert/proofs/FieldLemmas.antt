@@ -1,5 +1,6 @@
 -- The one token of a field, and what is stated heading by heading.
-use Rattle.std.proofs.Common.{◌≡◌, ℕ, ◌+◌, ◌≤◌, ◌⊎◌, inl, inr, None, Result, Ok, Err, List, [], ◌∷◌, length, drop, arith, refl, ◌∙◌, ap}
+use Rattle.std.proofs.Common.{◌≡◌, ℕ, ◌+◌, ◌≤◌, ◌⊎◌, inl, inr, None, Result, Ok, Err, List, [], ◌∷◌, length, drop}
+use Rattle.std.proofs.Common.{arith, refl, ◌∙◌, ap}
 use Rattle.std.specs.Prelude.{slice_get}
 use Rattle.std.proofs.lemmas.Option.{slice_get_cases}
 use Rattle.std.proofs.lemmas.List.{drop_all}
@@ -22,7 +23,8 @@ not_one [] h = refl
 not_one (t ∷ []) h = absurd (h refl)
 not_one (t ∷ u ∷ ts) h = refl
 
-pub only_none : (xs : List Seen) (i to : ℕ) → i ≤ to → to ≤ length xs → (to ≡ i + 1 → ⊥) → None ≡ only_of (between i to xs)
+pub only_none : (xs : List Seen) (i to : ℕ) → i ≤ to → to ≤ length xs → (to ≡ i + 1 → ⊥)
+    → None ≡ only_of (between i to xs)
 only_none xs i to le fits h =
     not_one (between i to xs) (λ e. h (omega (arith, between_length xs i to le fits, e, le)))
 
@@ -46,27 +48,36 @@ stated_here constants xs s h = with_field constants s h.number (between (h.part.
 
 -- the field of the heading here comes first of those that are left
 stated_next : (constants : List Set) (s : Stated) (xs : List Seen) (h : Heading) (i : ℕ) → Told xs (fields_of xs) h i
-    → stated_by constants s (drop i (fields_of xs)) ≡ and_then (stated_here constants xs s h) (λ next. stated_by constants next (drop (i + 1) (fields_of xs)))
+    → stated_by constants s (drop i (fields_of xs))
+    ≡ and_then (stated_here constants xs s h) (λ next. stated_by constants next (drop (i + 1) (fields_of xs)))
 unfolding stated_by
 stated_next constants s xs h i t = rw (drop_here (fields_of xs) i t.field t.there, t.told.number, t.told.part.own) refl
 
-pub left_next : (constants : List Set) (xs : List Seen) (s next : Stated) (h : Heading) (i : ℕ) → IsLeft constants xs s i → Told xs (fields_of xs) h i
+pub left_next : (constants : List Set) (xs : List Seen) (s next : Stated) (h : Heading) (i : ℕ)
+    → IsLeft constants xs s i → Told xs (fields_of xs) h i
     → stated_here constants xs s h ≡ Ok next → IsLeft constants xs next (i + 1)
 left_next constants xs s next h i so t read =
-    so ∙ stated_next constants s xs h i t ∙ ap (λ (r : Result Stated ReadFault). and_then r (λ next. stated_by constants next (drop (i + 1) (fields_of xs)))) read
+    so ∙ stated_next constants s xs h i t
+    ∙ ap (λ (r : Result Stated ReadFault).
+    and_then r (λ next. stated_by constants next (drop (i + 1) (fields_of xs)))) read
 
 -- the fault of a first step is that of the whole
-pub fault_passed : {X Y : Type 0} (fault : ReadFault) (read : Result X ReadFault) (go : X → Result Y ReadFault) (whole : Result Y ReadFault) → whole ≡ and_then read go
+pub fault_passed : {X Y : Type 0} (fault : ReadFault) (read : Result X ReadFault) (go : X
+    → Result Y ReadFault) (whole : Result Y ReadFault) → whole ≡ and_then read go
     → (fault ≡ NoMemory) ⊎ (read ≡ Err fault) → (fault ≡ NoMemory) ⊎ (whole ≡ Err fault)
 fault_passed fault read go whole is (inl none) = inl none
 fault_passed fault read go whole is (inr e) = inr (is ∙ ap (λ r. and_then r go) e)
 
-pub left_fault : (constants : List Set) (xs : List Seen) (s : Stated) (fault : ReadFault) (h : Heading) (i : ℕ) → IsLeft constants xs s i → Told xs (fields_of xs) h i
-    → (fault ≡ NoMemory) ⊎ (stated_here constants xs s h ≡ Err fault) → (fault ≡ NoMemory) ⊎ (stated_by constants nothing (fields_of xs) ≡ Err fault)
+pub left_fault : (constants : List Set) (xs : List Seen) (s : Stated) (fault : ReadFault) (h : Heading) (i : ℕ)
+    → IsLeft constants xs s i → Told xs (fields_of xs) h i
+    → (fault ≡ NoMemory) ⊎ (stated_here constants xs s h ≡ Err fault) → (fault ≡ NoMemory)
+    ⊎ (stated_by constants nothing (fields_of xs) ≡ Err fault)
 left_fault constants xs s fault h i so t here = fault_passed fault _ _ _ (so ∙ stated_next constants s xs h i t) here
 
-pub left_last : (constants : List Set) (xs : List Seen) (hs : List Heading) (s : Stated) (i : ℕ) → AreHeadings xs (fields_of xs) hs → IsLeft constants xs s i → length hs ≤ i
+pub left_last : (constants : List Set) (xs : List Seen) (hs : List Heading) (s : Stated) (i : ℕ)
+    → AreHeadings xs (fields_of xs) hs → IsLeft constants xs s i → length hs ≤ i
     → stated_by constants nothing (fields_of xs) ≡ Ok s
 unfolding stated_by
 left_last constants xs hs s i all so over =
-    so ∙ ap (stated_by constants s) (drop_all i (fields_of xs) (omega (arith, over, headings_length xs (fields_of xs) hs all)))
+    so ∙ ap (stated_by constants s)
+    (drop_all i (fields_of xs) (omega (arith, over, headings_length xs (fields_of xs) hs all)))

@@ -1,7 +1,8 @@
 -- What the fields of an assertion state, each by its own tokens (RFC 2704, section 4). What isn't said there is
 -- keynoted's own choice: that an Authorizer is one principal and a Signature one literal, which principals there
 -- are, and the faults.
-use Rattle.std.specs.Prelude.{ℕ, ◌≡◌, ◌⊎◌, Bool, ◌||◌, List, [], ◌∷◌, Option, Some, None, Result, Ok, Err, ok_or, if◌then◌else◌}
+use Rattle.std.specs.Prelude.{ℕ, ◌≡◌, ◌⊎◌, Bool, ◌||◌, List, [], ◌∷◌, Option, Some, None, Result, Ok, Err, ok_or}
+use Rattle.std.specs.Prelude.{if◌then◌else◌}
 use Rattle.kn_env.specs.declared.constant.Constant.{Constant}
 use Rattle.kn_lex.specs.Cutting.{Seen}
 use Rattle.kn_lex.specs.Literal.{literal_value}
@@ -13,9 +14,11 @@ use Rattle.kn_trees.specs.declared.program.Program.{Program}
 use Rattle.kn_formula.specs.Trees.{principal_text, is_bad_text, normal_text}
 use Rattle.kn_formula.specs.declared.written.Principal.TheVariants.{Literal as Quoted, Name as Unquoted}
 use Rattle.kn_formula.specs.declared.fault.FormulaFault.{FormulaFault}
-use Rattle.kn_formula.specs.declared.fault.FormulaFault.TheVariants.{Syntax as NoFormula, Threshold as WrongThreshold, Name as NoName, NoMemory as NoFormulaMemory}
+use Rattle.kn_formula.specs.declared.fault.FormulaFault.TheVariants.{Syntax as NoFormula, Threshold as WrongThreshold}
+use Rattle.kn_formula.specs.declared.fault.FormulaFault.TheVariants.{Name as NoName, NoMemory as NoFormulaMemory}
 use Rattle.kn_program.specs.declared.fault.ProgramFault.{ProgramFault}
-use Rattle.kn_program.specs.declared.fault.ProgramFault.TheVariants.{Syntax as NoProgram, Kind as WrongKind, NoMemory as NoProgramMemory}
+use Rattle.kn_program.specs.declared.fault.ProgramFault.TheVariants.{Syntax as NoProgram, Kind as WrongKind}
+use Rattle.kn_program.specs.declared.fault.ProgramFault.TheVariants.{NoMemory as NoProgramMemory}
 use Rattle.kn_fields.specs.declared.fault.ReadFault.{ReadFault}
 use Rattle.kn_fields.specs.declared.fault.ReadFault.TheVariants.{Syntax, Kind, Threshold, Name, NoMemory}
 

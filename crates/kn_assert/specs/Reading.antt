@@ -1,5 +1,6 @@
 -- The assertion of a text, or its first fault, computed. Laws say that they are those of the relations.
-use Rattle.std.specs.Prelude.{ℕ, ◌+◌, ◌≡◌, ◌<◌, ◌≤◌, ◌==◌, true, List, [], ◌∷◌, length, Option, Some, None, Result, Ok, Err, IfSome, if◌then◌else◌}
+use Rattle.std.specs.Prelude.{ℕ, ◌+◌, ◌≡◌, ◌<◌, ◌≤◌, ◌==◌, true, List, [], ◌∷◌, length, Option, Some, None, Result, Ok}
+use Rattle.std.specs.Prelude.{Err, IfSome, if◌then◌else◌}
 use Rattle.std.specs.Result.{result_ok, result_err}
 use Rattle.kn_base.specs.declared.limits.TheConstants.{PRINCIPAL_BYTES}
 use Rattle.kn_env.specs.declared.constant.Constant.{Constant as Set}
@@ -48,13 +49,41 @@ abbrev pub with_field : List Set → Stated → Option ℕ → List Seen → Res
 with_field constants s None tokens = Ok s
 with_field constants s (Some number) tokens =
     if number == 1 then
-    and_then (authorizer_in constants tokens) (λ x. Ok (record { authorizer = Some x; licensees = s.licensees; conditions = s.conditions; signature = s.signature }))
+    and_then (authorizer_in constants tokens)
+    (λ x. Ok (record {
+      authorizer = Some x;
+      licensees = s.licensees;
+      conditions = s.conditions;
+      signature =
+          s.signature;
+    }))
     else if number == 3 then
-    and_then (conditions_in tokens) (λ x. Ok (record { authorizer = s.authorizer; licensees = s.licensees; conditions = x; signature = s.signature }))
+    and_then (conditions_in tokens)
+    (λ x. Ok (record {
+      authorizer = s.authorizer;
+      licensees = s.licensees;
+      conditions = x;
+      signature =
+          s.signature;
+    }))
     else if number == 5 then
-    and_then (licensees_in constants tokens) (λ x. Ok (record { authorizer = s.authorizer; licensees = x; conditions = s.conditions; signature = s.signature }))
+    and_then (licensees_in constants tokens)
+    (λ x. Ok (record {
+      authorizer = s.authorizer;
+      licensees = x;
+      conditions = s.conditions;
+      signature =
+          s.signature;
+    }))
     else if number == 7 then
-    and_then (signature_in tokens) (λ x. Ok (record { authorizer = s.authorizer; licensees = s.licensees; conditions = s.conditions; signature = x }))
+    and_then (signature_in tokens)
+    (λ x. Ok (record {
+      authorizer = s.authorizer;
+      licensees = s.licensees;
+      conditions = s.conditions;
+      signature =
+          x;
+    }))
     else Ok s
 
 -- what is stated with these fields, or the fault of the first one that has one
@@ -93,8 +122,8 @@ assertion_of text = result_ok (reading_of text)
 abbrev pub fault_of : List ℕ → Option ReadFault
 fault_of text = result_err (reading_of text)
 
--- An assertion of a text of so many bytes: its authorizer is as long as a principal may be, its formula is readable, with
--- so much fewer nodes than bytes, and its program is well kinded.
+-- An assertion of a text of so many bytes: its authorizer is as long as a principal may be, its formula is readable,
+-- with so much fewer nodes than bytes, and its program is well kinded.
 pub record IsSound (bytes : ℕ) (assertion : Assertion) : Type 0 where
   pub some : 0 < length assertion.authorizer
   pub short : length assertion.authorizer ≤ PRINCIPAL_BYTES

@@ -25,7 +25,8 @@ IsShallow field = IsTooDeep field.tokens → ⊥
 -- the assertion that these tokens of a text spell, field by field
 pub record Spells (text : List ℕ) (tokens : List Seen) (assertion : Assertion) : Type 0 where
   pub authorizer : HasField 1 tokens (λ field. IsShallow field
-      × IsOne field.tokens (λ token. principal_of (constants_in (field_with 6 tokens)) token ≡ Some assertion.authorizer))
+      × IsOne field.tokens (λ token. principal_of (constants_in (field_with 6 tokens)) token
+      ≡ Some assertion.authorizer))
   pub constants : assertion.constants ≡ constants_in (field_with 6 tokens)
   pub licensees : MatchOption (field_with 5 tokens) (assertion.licensees ≡ None) (λ field. IsShallow field
       × AreLicensees (constants_in (field_with 6 tokens)) field.tokens assertion.licensees)
@@ -45,7 +46,8 @@ pub record IsReading (text : List ℕ) (assertion : Assertion) : Type 0 where
 -- the tokens of an Authorizer field show this fault
 abbrev pub AuthorizerShows : List Set → List Seen → ReadFault → Type 0
 AuthorizerShows constants tokens (TooDeep number) = (number ≡ 1) × IsTooDeep tokens
-AuthorizerShows constants tokens (Syntax number) = (number ≡ 1) × (IsOne tokens (λ token. is_principal_token token ≡ true) → ⊥)
+AuthorizerShows constants tokens (Syntax number) = (number ≡ 1)
+    × (IsOne tokens (λ token. is_principal_token token ≡ true) → ⊥)
 AuthorizerShows constants tokens (Name number) =
     (number ≡ 1) × IsOne tokens (λ token. (is_principal_token token ≡ true) × (principal_of constants token ≡ None))
 AuthorizerShows constants tokens _ = ⊥
@@ -87,7 +89,8 @@ pub record IsFirstShown (constants : List Set) (fields : List Field) (fault : Re
   pub behind : List Field
   pub split : fields ≡ before ++ field ∷ behind
   pub shown : FieldShows constants field fault
-  pub least : (other : ReadFault) → FieldShows constants field other → (fault_order fault < fault_order other) ⊎ (fault ≡ other)
+  pub least : (other : ReadFault) → FieldShows constants field other → (fault_order fault < fault_order other)
+      ⊎ (fault ≡ other)
   pub first : (front : List Field) (earlier : Field) (rest : List Field) → before ≡ front ++ earlier ∷ rest
       → (other : ReadFault) → FieldShows constants earlier other → ⊥
 

@@ -1,5 +1,6 @@
 -- A block that is combined with a pad byte by byte.
-use Rattle.std.proofs.Common.{◌≡◌, ℕ, ◌+◌, ◌<◌, List, [], ◌∷◌, ◌++◌, length, take, drop, get_or, set, sym, ap, ◌∙◌, arith, append_assoc}
+use Rattle.std.proofs.Common.{◌≡◌, ℕ, ◌+◌, ◌<◌, List, [], ◌∷◌, ◌++◌, length, take, drop, get_or, set, sym, ap, ◌∙◌}
+use Rattle.std.proofs.Common.{arith, append_assoc}
 use Rattle.std.specs.Prelude.{bit_xor}
 use Rattle.std.proofs.Math.Seq.{set-append_seam, get_or-append_seam}
 use Rattle.std.proofs.lemmas.List.{drop_more, take_more, length-take-le, length-map, map-append}
@@ -14,7 +15,8 @@ combined_at pad front byte rest i size =
 
 -- one byte more is combined
 pub xor_more : (pad : ℕ) (xs : List ℕ) (i : ℕ) → i < length xs
-    → set (xor_with pad (take i xs) ++ drop i xs) i (bit_xor (get_or (xor_with pad (take i xs) ++ drop i xs) i 0) pad) ≡ xor_with pad (take (i + 1) xs) ++ drop (i + 1) xs
+    → set (xor_with pad (take i xs) ++ drop i xs) i (bit_xor (get_or (xor_with pad (take i xs) ++ drop i xs) i 0) pad)
+    ≡ xor_with pad (take (i + 1) xs) ++ drop (i + 1) xs
 xor_more pad xs i within =
     let size : length (xor_with pad (take i xs)) ≡ i = simp (length-map) (length-take-le i xs (omega arith)) in
     let rest : drop i xs ≡ get_or xs i 0 ∷ drop (i + 1) xs = drop_more xs i 0 within in

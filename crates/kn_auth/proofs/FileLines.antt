@@ -1,5 +1,7 @@
 -- The lines that `bstr` gives are the lines of the text.
-use Rattle.std.proofs.Common.{◌≡◌, ◌⊎◌, ℕ, zero, suc, ◌+◌, ◌-◌, ◌≤◌, ◌==◌, ◌&&◌, Bool, true, false, cond, nat_lt, List, [], ◌∷◌, ◌++◌, length, map, take, drop, refl, sym, ap, ◌∙◌, arith, inl, inr, length-append}
+use Rattle.std.proofs.Common.{◌≡◌, ◌⊎◌, ℕ, zero, suc, ◌+◌, ◌-◌, ◌≤◌, ◌==◌, ◌&&◌, Bool, true, false, cond, nat_lt, List}
+use Rattle.std.proofs.Common.{[], ◌∷◌, ◌++◌, length, map, take, drop, refl, sym, ap, ◌∙◌, arith, inl, inr}
+use Rattle.std.proofs.Common.{length-append}
 use Rattle.std.specs.Prelude.{All, slice_index}
 use Rattle.std.specs.List.{slice_split, onto_first}
 use Rattle.std.specs.Str.Lines.{lines, lines_of_parts, strip_carriage_return}
@@ -25,11 +27,25 @@ cut_or_clean : (text : List ℕ) → IsCut text ⊎ IsClean text
 cut_or_clean [] = inr (All-nil (λ (b : ℕ). (b == 10) ≡ false))
 cut_or_clean (b ∷ text) =
     elim (cases_eq b 10) [
-      | inl here ↦ inl (record { line = []; rest = text; spelled = ap (λ (c : ℕ). c ∷ text) here; clean = All-nil (λ (b : ℕ). (b == 10) ≡ false) })
+      | inl here ↦ inl
+          (record {
+            line = [];
+            rest = text;
+            spelled = ap (λ (c : ℕ). c ∷ text) here;
+            clean =
+                All-nil (λ (b : ℕ). (b == 10) ≡ false);
+          })
       | inr other ↦
           let first : (b == 10) ≡ false = ne_eqb b 10 other in
           elim (cut_or_clean text) [
-            | inl cut ↦ inl (record { line = b ∷ cut.line; rest = cut.rest; spelled = ap (λ (l : List ℕ). b ∷ l) cut.spelled; clean = All-cons (λ (b : ℕ). (b == 10) ≡ false) b cut.line first cut.clean })
+            | inl cut ↦ inl (record {
+              line = b ∷ cut.line;
+              rest = cut.rest;
+              spelled =
+                  ap (λ (l : List ℕ). b ∷ l) cut.spelled;
+              clean =
+                  All-cons (λ (b : ℕ). (b == 10) ≡ false) b cut.line first cut.clean;
+            })
             | inr clean ↦ inr (All-cons (λ (b : ℕ). (b == 10) ≡ false) b text first clean)
           ]
     ]
@@ -54,9 +70,11 @@ positive n = grind (arith, nat_tests)
 no_cr-strip : (line : List ℕ) → no_cr line ≡ strip_carriage_return line
 no_cr-strip [] = refl
 no_cr-strip (b ∷ line) =
-    ap (λ (t : Bool). cond (t && (slice_index (b ∷ line) (length (b ∷ line) - 1) == 13)) (take (length (b ∷ line) - 1) (b ∷ line)) (b ∷ line)) (positive (length line))
+    ap (λ (t : Bool). cond (t && (slice_index (b ∷ line) (length (b ∷ line) - 1) == 13))
+    (take (length (b ∷ line) - 1) (b ∷ line)) (b ∷ line)) (positive (length line))
 
-ended : (bytes : List ℕ) (n : ℕ) → length bytes ≡ suc n → (slice_index bytes n == 10) ≡ true → without_terminator bytes ≡ no_cr (take n bytes)
+ended : (bytes : List ℕ) (n : ℕ) → length bytes ≡ suc n → (slice_index bytes n == 10) ≡ true
+    → without_terminator bytes ≡ no_cr (take n bytes)
 ended bytes n size last =
     let some : nat_lt 0 (length bytes) ≡ true = ap (nat_lt 0) size ∙ positive n in
     let at : length bytes - 1 ≡ n = omega arith in
@@ -67,7 +85,8 @@ ended bytes n size last =
 -- a line without its newline
 line_ended : (line : List ℕ) → without_terminator (line ++ 10 ∷ []) ≡ strip_carriage_return line
 line_ended line =
-    ended (line ++ 10 ∷ []) (length line) (omega (arith, length-append line (10 ∷ []))) (eq-eqb _ 10 (get_or-append_seam line 10 [] 0))
+    ended (line ++ 10 ∷ []) (length line) (omega (arith, length-append line (10 ∷ [])))
+    (eq-eqb _ 10 (get_or-append_seam line 10 [] 0))
     ∙ ap no_cr (take-append_seam line (10 ∷ []))
     ∙ no_cr-strip line
 
@@ -78,8 +97,10 @@ neither false x y = refl
 -- the last line, where it has no newline
 line_whole : (b : ℕ) (text : List ℕ) → IsClean (b ∷ text) → without_terminator (b ∷ text) ≡ b ∷ text
 line_whole b text clean =
-    let last : (slice_index (b ∷ text) (length (b ∷ text) - 1) == 10) ≡ false = clean (length (b ∷ text) - 1) 0 (omega arith) in
-    ap (λ (t : Bool). cond (nat_lt 0 (length (b ∷ text)) && t) (no_cr (take (length (b ∷ text) - 1) (b ∷ text))) (b ∷ text)) last
+    let last : (slice_index (b ∷ text) (length (b ∷ text) - 1) == 10) ≡ false =
+    clean (length (b ∷ text) - 1) 0 (omega arith) in
+    ap (λ (t : Bool). cond (nat_lt 0 (length (b ∷ text)) && t) (no_cr (take (length (b ∷ text) - 1) (b ∷ text)))
+    (b ∷ text)) last
     ∙ neither (nat_lt 0 (length (b ∷ text))) (no_cr (take (length (b ∷ text) - 1) (b ∷ text))) (b ∷ text)
 
 abbrev parts : List ℕ → List (List ℕ)
@@ -99,24 +120,31 @@ some_part (b ∷ text) = by (b == 10) (some_part text)
     by true h = record { first = []; more = parts text; are = refl }
     by false h = record { first = b ∷ h.first; more = h.more; are = ap (onto_first b) h.are }
 
-parts_more : (line : List ℕ) (text : List ℕ) → lines_of_parts (line ∷ parts text) ≡ strip_carriage_return line ∷ lines_of_parts (parts text)
+parts_more : (line : List ℕ) (text : List ℕ) → lines_of_parts (line ∷ parts text) ≡ strip_carriage_return line
+    ∷ lines_of_parts (parts text)
 parts_more line text =
     let h = some_part text in
-    ap (λ (ps : List (List ℕ)). lines_of_parts (line ∷ ps)) h.are ∙ ap (λ (ps : List (List ℕ)). strip_carriage_return line ∷ lines_of_parts ps) (sym h.are)
+    ap (λ (ps : List (List ℕ)). lines_of_parts (line ∷ ps)) h.are
+    ∙ ap (λ (ps : List (List ℕ)). strip_carriage_return line ∷ lines_of_parts ps) (sym h.are)
 
 -- a line that ends is the first, and the others are those of the rest
-first_cut : (fuel : ℕ) (text : List ℕ) (cut : IsCut text) → map without_terminator (lines_from fuel cut.rest) ≡ lines_of_parts (parts cut.rest)
-    → without_terminator (take (line_len text) text) ∷ map without_terminator (lines_from fuel (drop (line_len text) text)) ≡ lines_of_parts (parts text)
+first_cut : (fuel : ℕ) (text : List ℕ) (cut : IsCut text)
+    → map without_terminator (lines_from fuel cut.rest) ≡ lines_of_parts (parts cut.rest)
+    → without_terminator (take (line_len text) text)
+    ∷ map without_terminator (lines_from fuel (drop (line_len text) text)) ≡ lines_of_parts (parts text)
 first_cut fuel text cut rest =
     let line : List ℕ = cut.line in
     let whole : text ≡ (line ++ 10 ∷ []) ++ cut.rest = cut.spelled ∙ sym (append_assoc line (10 ∷ []) cut.rest) in
     let len : line_len text ≡ length line + 1 = ap line_len cut.spelled ∙ line_len-cut line cut.rest cut.clean in
     let size : length (line ++ 10 ∷ []) ≡ length line + 1 = length-append line (10 ∷ []) in
     let front : take (line_len text) text ≡ line ++ 10 ∷ [] =
-    ap (λ (n : ℕ). take n text) len ∙ ap (take (length line + 1)) whole ∙ take_at (line ++ 10 ∷ []) cut.rest (length line + 1) size in
+    ap (λ (n : ℕ). take n text) len ∙ ap (take (length line + 1)) whole
+    ∙ take_at (line ++ 10 ∷ []) cut.rest (length line + 1) size in
     let behind : drop (line_len text) text ≡ cut.rest =
-    ap (λ (n : ℕ). drop n text) len ∙ ap (drop (length line + 1)) whole ∙ drop_at (line ++ 10 ∷ []) cut.rest (length line + 1) size in
-    ap (λ (l : List ℕ). l ∷ map without_terminator (lines_from fuel (drop (line_len text) text))) (ap without_terminator front ∙ line_ended line)
+    ap (λ (n : ℕ). drop n text) len ∙ ap (drop (length line + 1)) whole
+    ∙ drop_at (line ++ 10 ∷ []) cut.rest (length line + 1) size in
+    ap (λ (l : List ℕ). l ∷ map without_terminator (lines_from fuel (drop (line_len text) text)))
+    (ap without_terminator front ∙ line_ended line)
     ∙ ap (λ (l : List ℕ). strip_carriage_return line ∷ map without_terminator (lines_from fuel l)) behind
     ∙ ap (λ (ls : List (List ℕ)). strip_carriage_return line ∷ ls) rest
     ∙ sym (parts_more line cut.rest)
@@ -130,19 +158,25 @@ none_left (suc fuel) = refl
 
 -- a line that doesn't end is the only one
 only_whole : (fuel : ℕ) (b : ℕ) (text : List ℕ) → IsClean (b ∷ text)
-    → without_terminator (take (line_len (b ∷ text)) (b ∷ text)) ∷ map without_terminator (lines_from fuel (drop (line_len (b ∷ text)) (b ∷ text))) ≡ lines_of_parts (parts (b ∷ text))
+    → without_terminator (take (line_len (b ∷ text)) (b ∷ text))
+    ∷ map without_terminator (lines_from fuel (drop (line_len (b ∷ text)) (b ∷ text)))
+    ≡ lines_of_parts (parts (b ∷ text))
 only_whole fuel b text clean =
     let all : List ℕ = b ∷ text in
     let len : line_len all ≡ length all = line_len-clean all clean in
     ap (λ (n : ℕ). without_terminator (take n all) ∷ map without_terminator (lines_from fuel (drop n all))) len
-    ∙ ap (λ (l : List ℕ). without_terminator l ∷ map without_terminator (lines_from fuel (drop (length all) all))) (take_all (length all) all (omega arith))
-    ∙ ap (λ (l : List ℕ). l ∷ map without_terminator (lines_from fuel (drop (length all) all))) (line_whole b text clean)
+    ∙ ap (λ (l : List ℕ). without_terminator l ∷ map without_terminator (lines_from fuel (drop (length all) all)))
+    (take_all (length all) all (omega arith))
+    ∙ ap (λ (l : List ℕ). l ∷ map without_terminator (lines_from fuel (drop (length all) all)))
+    (line_whole b text clean)
     ∙ ap (λ (l : List ℕ). all ∷ map without_terminator (lines_from fuel l)) (drop_all (length all) all (omega arith))
     ∙ ap (λ (ls : List (List ℕ)). all ∷ map without_terminator ls) (none_left fuel)
-    ∙ sym (ap (λ (t : Bool). cond {A = List (List ℕ)} t [] (all ∷ [])) (ne_eqb (length all) 0 (λ e. absurd (omega arith))))
+    ∙ sym (ap (λ (t : Bool). cond {A = List (List ℕ)} t [] (all ∷ []))
+    (ne_eqb (length all) 0 (λ e. absurd (omega arith))))
     ∙ ap lines_of_parts (sym (slice_split_none (λ b. b == 10) all clean))
 
-lines_from-parts : (fuel : ℕ) (text : List ℕ) → length text ≤ fuel → map without_terminator (lines_from fuel text) ≡ lines_of_parts (parts text)
+lines_from-parts : (fuel : ℕ) (text : List ℕ) → length text ≤ fuel
+    → map without_terminator (lines_from fuel text) ≡ lines_of_parts (parts text)
 unfolding lines_from
 lines_from-parts zero [] few = refl
 lines_from-parts zero (b ∷ text) few = absurd (omega arith)

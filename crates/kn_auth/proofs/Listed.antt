@@ -8,4 +8,5 @@ use Rattle.kn_auth.specs.Listing.{HasDigests}
 
 pub digest_added : {S : Type 0} (key : List ℕ) (old new : HashSet (List ℕ) S) (digests : List (List ℕ))
     → UpdatesBy bytes_eq (bytes_eq key) old new true → HasDigests old digests → HasDigests new (digests ++ key ∷ [])
-digest_added key old new digests updates has = λ digest. grind (arith, list_any-append, has digest, updates.0 digest, nat_list_eq_equiv.symm key digest)
+digest_added key old new digests updates has =
+    λ digest. grind (arith, list_any-append, has digest, updates.0 digest, nat_list_eq_equiv.symm key digest)

@@ -19,7 +19,8 @@ key_digits digits key s =
     (omega (arith, twice, some), omega (arith, twice, few))
 
 -- and others do, where they are digits
-pub spelled_key : (digits key : List ℕ) → decode_of digits ≡ Ok key → 1 ≤ length digits → length digits ≤ 256 → SpellsKey digits key
+pub spelled_key : (digits key : List ℕ) → decode_of digits ≡ Ok key → 1 ≤ length digits → length digits ≤ 256
+    → SpellsKey digits key
 spelled_key digits key decoded some few =
     let twice = (decode_of-ok digits key decoded).2 in
     record { decoded = decoded; some = omega (arith, twice, some); few = omega (arith, twice, few) }

@@ -1,5 +1,6 @@
 -- The lines of a key file together: what the lines so far say, and that a text reads as one thing.
-use Rattle.std.proofs.Common.{◌≡◌, ◌⊎◌, ℕ, ◌+◌, ◌≤◌, ◌<◌, Bool, true, false, List, [], ◌∷◌, ◌++◌, length, Option, Some, None, Result, Ok, Err, refl, sym, ap, ◌∙◌, arith, inl, inr, append_assoc, length-append}
+use Rattle.std.proofs.Common.{◌≡◌, ◌⊎◌, ℕ, ◌+◌, ◌≤◌, ◌<◌, Bool, true, false, List, [], ◌∷◌, ◌++◌, length, Option, Some}
+use Rattle.std.proofs.Common.{None, Result, Ok, Err, refl, sym, ap, ◌∙◌, arith, inl, inr, append_assoc, length-append}
 use Rattle.std.specs.Prelude.{IfOk, IfErr, filter_map}
 use Rattle.std.specs.Bool.{MatchBool}
 use Rattle.std.specs.List.{AllZip, AllByRecursion, IsDistinct, concat}
@@ -10,7 +11,8 @@ use Rattle.std.proofs.lemmas.List.{append-nil, map-append}
 use Rattle.std.proofs.lemmas.List.Elements.{filter_map-append}
 use Rattle.std.proofs.lemmas.Slice.Eq.{bytes_eq-Decides}
 use Rattle.kn_auth.specs.KeyLines.{SpellsKey, States}
-use Rattle.kn_auth.specs.KeyFiles.{key_in, digest_in, secret_in, keys_in, principals_of, AreWellFormed, IsOfEntries, IsKeyFile, IsFirstMalformed}
+use Rattle.kn_auth.specs.KeyFiles.{key_in, digest_in, secret_in, keys_in, principals_of, AreWellFormed, IsOfEntries}
+use Rattle.kn_auth.specs.KeyFiles.{IsKeyFile, IsFirstMalformed}
 use Rattle.kn_auth.specs.Reading.{with_entry, with_secret, IsTaken, IsLineRefused}
 use Rattle.kn_auth.specs.Verdicts.{has_key}
 use Rattle.kn_auth.specs.Causes.{IsCause}
@@ -23,17 +25,20 @@ use Rattle.kn_auth.specs.declared.key_file.KeyFile.{KeyFile}
 use Rattle.kn_auth.proofs.Stated.{states_once}
 
 -- a line whose entry is known is taken, or it is refused whatever it states
-pub taken_or_refused : {E : Type 0} (old new : KeyFile) (line : List ℕ) (entry : Entry) (r : Result Bool E) → States line entry
+pub taken_or_refused : {E : Type 0} (old new : KeyFile) (line : List ℕ) (entry : Entry) (r : Result Bool E)
+    → States line entry
     → IfOk r (λ added. MatchBool added (with_entry old entry ≡ Some new) (with_entry old entry ≡ None))
     → IfOk r (λ taken. MatchBool taken (IsTaken old line new) (IsLineRefused old line))
 taken_or_refused old new line entry (Ok true) s added = record { entry = entry; stated = s; added = added }
-taken_or_refused old new line entry (Ok false) s refused = λ other t. ap (with_entry old) (states_once line other entry t s) ∙ refused
+taken_or_refused old new line entry (Ok false) s refused =
+    λ other t. ap (with_entry old) (states_once line other entry t s) ∙ refused
 taken_or_refused old new line entry (Err e) s h = tt
 
 -- ---- two lists side by side
 
 module _ {A B : Type 0} (R : A → B → Type 0) where
-  zip_push : (xs : List A) (ys : List B) (x : A) (y : B) → AllZip R xs ys → R x y → AllZip R (xs ++ x ∷ []) (ys ++ y ∷ [])
+  zip_push : (xs : List A) (ys : List B) (x : A) (y : B) → AllZip R xs ys → R x y
+      → AllZip R (xs ++ x ∷ []) (ys ++ y ∷ [])
   zip_push [] [] x y s h = (h, tt)
   zip_push [] (b ∷ ys) x y s h = absurd s
   zip_push (a ∷ xs) [] x y s h = absurd s
@@ -52,9 +57,17 @@ module _ {A B : Type 0} (R : A → B → Type 0) where
   zip_split (a ∷ xs) rest [] s = absurd s
   zip_split (a ∷ xs) rest (b ∷ ys) s =
       let more = zip_split xs rest ys s.1 in
-      record { front = b ∷ more.front; behind = more.behind; split = ap (λ (l : List B). b ∷ l) more.split; stands = (s.0, more.stands); rests = more.rests }
+      record {
+        front = b ∷ more.front;
+        behind = more.behind;
+        split = ap (λ (l : List B). b ∷ l) more.split;
+        stands =
+            (s.0, more.stands);
+        rests = more.rests;
+      }
 
-  zip_once : ((a : A) (x y : B) → R a x → R a y → x ≡ y) → (xs : List A) (ys zs : List B) → AllZip R xs ys → AllZip R xs zs → ys ≡ zs
+  zip_once : ((a : A) (x y : B) → R a x → R a y → x ≡ y) → (xs : List A) (ys zs : List B) → AllZip R xs ys
+      → AllZip R xs zs → ys ≡ zs
   zip_once once [] [] [] s t = refl
   zip_once once [] [] (c ∷ zs) s t = absurd t
   zip_once once [] (b ∷ ys) zs s t = absurd s
@@ -76,7 +89,8 @@ flips x y h =
       | inr e ↦ e
     ]
 
-all_push : {A : Type 0} (P : A → Type 0) (xs : List A) (x : A) → AllByRecursion P xs → P x → AllByRecursion P (xs ++ x ∷ [])
+all_push : {A : Type 0} (P : A → Type 0) (xs : List A) (x : A) → AllByRecursion P xs → P x
+    → AllByRecursion P (xs ++ x ∷ [])
 all_push P [] x h p = (p, tt)
 all_push P (a ∷ xs) x h p = (h.0, all_push P xs x h.1 p)
 
@@ -93,21 +107,24 @@ unfolding IsDistinct
 distinct_front [] ys h = tt
 distinct_front (x ∷ xs) ys h = (all_front _ xs ys h.0, distinct_front xs ys h.1)
 
-has_name_cons : (x : List ℕ) (mac : MacKey) (keys : List MacKey) → has_key x (mac ∷ keys) ≡ false → (bytes_eq x mac.principal ≡ false) × (has_key x keys ≡ false)
+has_name_cons : (x : List ℕ) (mac : MacKey) (keys : List MacKey) → has_key x (mac ∷ keys) ≡ false
+    → (bytes_eq x mac.principal ≡ false) × (has_key x keys ≡ false)
 has_name_cons x mac keys h = by (bytes_eq x mac.principal) refl
   where
     by : (b : Bool) → bytes_eq x mac.principal ≡ b → (bytes_eq x mac.principal ≡ false) × (has_key x keys ≡ false)
     by true e = let at : true ≡ false = rw e at h in cc
     by false e = (e, rw e at h)
 
-distinct_push : (keys : List MacKey) (x : List ℕ) → IsDistinct bytes_eq (principals_of keys) → has_key x keys ≡ false → IsDistinct bytes_eq (principals_of keys ++ x ∷ [])
+distinct_push : (keys : List MacKey) (x : List ℕ) → IsDistinct bytes_eq (principals_of keys) → has_key x keys ≡ false
+    → IsDistinct bytes_eq (principals_of keys ++ x ∷ [])
 unfolding IsDistinct
 distinct_push [] x h new = (tt, tt)
 distinct_push (mac ∷ keys) x h new =
     let parts = has_name_cons x mac keys new in
     (all_push _ (principals_of keys) x h.0 (flips x mac.principal parts.0), distinct_push keys x h.1 parts.1)
 
-distinct_new : (keys : List MacKey) (x : List ℕ) → IsDistinct bytes_eq (principals_of keys ++ x ∷ []) → has_key x keys ≡ false
+distinct_new : (keys : List MacKey) (x : List ℕ) → IsDistinct bytes_eq (principals_of keys ++ x ∷ [])
+    → has_key x keys ≡ false
 unfolding IsDistinct
 distinct_new [] x h = refl
 distinct_new (mac ∷ keys) x h =
@@ -124,7 +141,8 @@ module _ {X : Type 0} (h : Entry → Option X) (entries : List Entry) (entry : E
   pushed_some x some = filter_map-append h entries (entry ∷ []) ∙ rw some refl
 
 -- the secrets that lines state have bytes
-secrets_none : (texts : List (List ℕ)) (entries : List Entry) → AllZip States texts entries → concat (filter_map secret_in entries) ≡ [] → filter_map secret_in entries ≡ []
+secrets_none : (texts : List (List ℕ)) (entries : List Entry) → AllZip States texts entries
+    → concat (filter_map secret_in entries) ≡ [] → filter_map secret_in entries ≡ []
 secrets_none [] [] s h = refl
 secrets_none [] (entry ∷ entries) s h = absurd s
 secrets_none (text ∷ texts) [] s h = absurd s
@@ -147,7 +165,8 @@ MayFollow entries (Mac mac) = has_key mac.principal (keys_in entries) ≡ false
 MayFollow entries (Digest digest) = Unit {0}
 MayFollow entries (Secret secret) = filter_map secret_in entries ≡ []
 
-well_formed_push : (texts : List (List ℕ)) (entries : List Entry) (line : List ℕ) (entry : Entry) → AreWellFormed texts entries → States line entry → MayFollow entries entry
+well_formed_push : (texts : List (List ℕ)) (entries : List Entry) (line : List ℕ) (entry : Entry)
+    → AreWellFormed texts entries → States line entry → MayFollow entries entry
     → AreWellFormed (texts ++ line ∷ []) (entries ++ entry ∷ [])
 well_formed_push texts entries line Comment w s may = record {
   stated = zip_push States texts entries line Comment w.stated s;
@@ -158,7 +177,8 @@ well_formed_push texts entries line (Mac mac) w s may = record {
   stated = zip_push States texts entries line (Mac mac) w.stated s;
   one_key_each =
       rw (pushed_some key_in entries (Mac mac) mac refl)
-      (rw (map-append (λ (m : MacKey). m.principal) (keys_in entries) (mac ∷ [])) (distinct_push (keys_in entries) mac.principal w.one_key_each may));
+      (rw (map-append (λ (m : MacKey). m.principal) (keys_in entries) (mac ∷ []))
+      (distinct_push (keys_in entries) mac.principal w.one_key_each may));
   one_secret = rw (pushed_none secret_in entries (Mac mac) refl) w.one_secret;
 }
 well_formed_push texts entries line (Digest digest) w s may = record {
@@ -173,13 +193,18 @@ well_formed_push texts entries line (Secret secret) w s may = record {
 }
 
 -- the last of well-formed entries may follow the others
-follows : (texts : List (List ℕ)) (entries : List Entry) (entry : Entry) → AreWellFormed texts (entries ++ entry ∷ []) → MayFollow entries entry
+follows : (texts : List (List ℕ)) (entries : List Entry) (entry : Entry) → AreWellFormed texts (entries ++ entry ∷ [])
+    → MayFollow entries entry
 follows texts entries Comment w = tt
 follows texts entries (Mac mac) w =
     distinct_new (keys_in entries) mac.principal
-    (rw (pushed_some key_in entries (Mac mac) mac refl, map-append (λ (m : MacKey). m.principal) (keys_in entries) (mac ∷ [])) at w.one_key_each)
+    (rw (
+      pushed_some key_in entries (Mac mac) mac refl,
+      map-append (λ (m : MacKey). m.principal) (keys_in entries) (mac ∷ []),
+    ) at w.one_key_each)
 follows texts entries (Digest digest) w = tt
-follows texts entries (Secret secret) w = few (filter_map secret_in entries) (rw (pushed_some secret_in entries (Secret secret) secret refl) at w.one_secret)
+follows texts entries (Secret secret) w =
+    few (filter_map secret_in entries) (rw (pushed_some secret_in entries (Secret secret) secret refl) at w.one_secret)
   where
     few : (secrets : List (List ℕ)) → length (secrets ++ secret ∷ []) ≤ 1 → secrets ≡ []
     few [] h = refl
@@ -193,14 +218,17 @@ record HasFront (texts rest : List (List ℕ)) (entries : List Entry) : Type 0 w
   well_formed : AreWellFormed texts front
   rests : AllZip States rest behind
 
-well_formed_front : (texts rest : List (List ℕ)) (entries : List Entry) → AreWellFormed (texts ++ rest) entries → HasFront texts rest entries
+well_formed_front : (texts rest : List (List ℕ)) (entries : List Entry) → AreWellFormed (texts ++ rest) entries
+    → HasFront texts rest entries
 well_formed_front texts rest entries w =
     let beside = zip_split States texts rest entries w.stated in
-    let keys : principals_of (keys_in entries) ≡ principals_of (keys_in beside.front) ++ principals_of (keys_in beside.behind) =
+    let keys : principals_of (keys_in entries) ≡ principals_of (keys_in beside.front)
+    ++ principals_of (keys_in beside.behind) =
     ap (λ (l : List Entry). principals_of (keys_in l)) beside.split
     ∙ ap principals_of (filter_map-append key_in beside.front beside.behind)
     ∙ map-append (λ (m : MacKey). m.principal) (keys_in beside.front) (keys_in beside.behind) in
-    let secrets : length (filter_map secret_in entries) ≡ length (filter_map secret_in beside.front) + length (filter_map secret_in beside.behind) =
+    let secrets : length (filter_map secret_in entries) ≡ length (filter_map secret_in beside.front)
+    + length (filter_map secret_in beside.behind) =
     ap (λ (l : List Entry). length (filter_map secret_in l)) beside.split
     ∙ ap length (filter_map-append secret_in beside.front beside.behind)
     ∙ length-append (filter_map secret_in beside.front) (filter_map secret_in beside.behind) in
@@ -211,7 +239,8 @@ well_formed_front texts rest entries w =
       split = beside.split;
       well_formed = record {
         stated = beside.stands;
-        one_key_each = distinct_front (principals_of (keys_in beside.front)) (principals_of (keys_in beside.behind)) (rw keys at w.one_key_each);
+        one_key_each = distinct_front (principals_of (keys_in beside.front)) (principals_of (keys_in beside.behind))
+            (rw keys at w.one_key_each);
         one_secret = omega (arith, secrets, one);
       };
       rests = beside.rests;
@@ -220,7 +249,8 @@ well_formed_front texts rest entries w =
 -- ---- the file so far
 
 -- an entry that the file takes may follow those of the file
-may_follow : (texts : List (List ℕ)) (entries : List Entry) (old new : KeyFile) (entry : Entry) → AreWellFormed texts entries → IsOfEntries entries old
+may_follow : (texts : List (List ℕ)) (entries : List Entry) (old new : KeyFile) (entry : Entry)
+    → AreWellFormed texts entries → IsOfEntries entries old
     → with_entry old entry ≡ Some new → MayFollow entries entry
 may_follow texts entries old new Comment w is added = tt
 may_follow texts entries old new (Mac mac) w is added = by (has_key mac.principal old.auth.keys) refl
@@ -229,14 +259,16 @@ may_follow texts entries old new (Mac mac) w is added = by (has_key mac.principa
     by true e = let at : None ≡ Some new = rw e at added in cc
     by false e = rw is.keys at e
 may_follow texts entries old new (Digest digest) w is added = tt
-may_follow texts entries old new (Secret secret) w is added = secrets_none texts entries w.stated (sym is.secret ∙ by old.secret added)
+may_follow texts entries old new (Secret secret) w is added =
+    secrets_none texts entries w.stated (sym is.secret ∙ by old.secret added)
   where
     by : (kept : List ℕ) → with_secret old kept secret ≡ Some new → kept ≡ []
     by [] e = refl
     by (b ∷ bytes) e = cc
 
 -- an entry that the file refuses may not follow those of the file
-may_not_follow : (entries : List Entry) (old : KeyFile) (entry : Entry) → IsOfEntries entries old → with_entry old entry ≡ None → ¬ MayFollow entries entry
+may_not_follow : (entries : List Entry) (old : KeyFile) (entry : Entry) → IsOfEntries entries old
+    → with_entry old entry ≡ None → ¬ MayFollow entries entry
 may_not_follow entries old Comment is refused may = cc refused
 may_not_follow entries old (Mac mac) is refused may =
     let new : has_key mac.principal old.auth.keys ≡ false = rw is.keys may in
@@ -249,7 +281,8 @@ may_not_follow entries old (Secret secret) is refused may =
     cc at
 
 -- the file with an entry more
-of_entries_push : (entries : List Entry) (old new : KeyFile) (entry : Entry) → IsOfEntries entries old → MayFollow entries entry → with_entry old entry ≡ Some new
+of_entries_push : (entries : List Entry) (old new : KeyFile) (entry : Entry) → IsOfEntries entries old
+    → MayFollow entries entry → with_entry old entry ≡ Some new
     → IsOfEntries (entries ++ entry ∷ []) new
 of_entries_push entries old new Comment is may added =
     let same : old ≡ new = cc in
@@ -271,7 +304,8 @@ of_entries_push entries old new (Digest digest) is may added =
     let same : record old { auth = record old.auth { digests = old.auth.digests ++ digest ∷ [] } } ≡ new = cc in
     rw (← same) record {
       keys = is.keys ∙ sym (pushed_none key_in entries (Digest digest) refl);
-      digests = ap (λ (l : List (List ℕ)). l ++ digest ∷ []) is.digests ∙ sym (pushed_some digest_in entries (Digest digest) digest refl);
+      digests = ap (λ (l : List (List ℕ)). l ++ digest ∷ []) is.digests
+          ∙ sym (pushed_some digest_in entries (Digest digest) digest refl);
       secret = is.secret ∙ ap concat (sym (pushed_none secret_in entries (Digest digest) refl));
     }
 of_entries_push entries old new (Secret secret) is may added =
@@ -281,7 +315,8 @@ of_entries_push entries old new (Secret secret) is may added =
     rw (← same) record {
       keys = is.keys ∙ sym (pushed_none key_in entries (Secret secret) refl);
       digests = is.digests ∙ sym (pushed_none digest_in entries (Secret secret) refl);
-      secret = sym (ap concat (pushed_some secret_in entries (Secret secret) secret refl) ∙ concat_push (filter_map secret_in entries) secret may);
+      secret = sym (ap concat (pushed_some secret_in entries (Secret secret) secret refl)
+          ∙ concat_push (filter_map secret_in entries) secret may);
     }
 
 -- what the lines so far say, and the lines that are left
@@ -293,7 +328,8 @@ pub record IsReadTo (text : List ℕ) (number : ℕ) (file : KeyFile) (rest : Li
   pub well_formed : AreWellFormed front entries
   pub stated : IsOfEntries entries file
 
-pub read_none : (text : List ℕ) (file : KeyFile) → file.auth.keys ≡ [] → file.auth.digests ≡ [] → file.secret ≡ [] → IsReadTo text 0 file (lines text)
+pub read_none : (text : List ℕ) (file : KeyFile) → file.auth.keys ≡ [] → file.auth.digests ≡ [] → file.secret ≡ []
+    → IsReadTo text 0 file (lines text)
 unfolding IsDistinct
 read_none text file keys digests secret = record {
   front = [];
@@ -305,7 +341,8 @@ read_none text file keys digests secret = record {
 }
 
 -- one line more is read
-pub read_more : (text : List ℕ) (number : ℕ) (old new : KeyFile) (line : List ℕ) (rest : List (List ℕ)) → IsReadTo text number old (line ∷ rest) → IsTaken old line new
+pub read_more : (text : List ℕ) (number : ℕ) (old new : KeyFile) (line : List ℕ) (rest : List (List ℕ))
+    → IsReadTo text number old (line ∷ rest) → IsTaken old line new
     → IsReadTo text (number + 1) new rest
 read_more text number old new line rest r taken =
     let may = may_follow r.front r.entries old new taken.entry r.well_formed r.stated taken.added in
@@ -320,7 +357,8 @@ read_more text number old new line rest r taken =
     }
 
 -- a line that is refused is the first malformed one
-pub first_refused : (text : List ℕ) (number : ℕ) (old : KeyFile) (line : List ℕ) (rest : List (List ℕ)) → IsReadTo text number old (line ∷ rest) → IsLineRefused old line
+pub first_refused : (text : List ℕ) (number : ℕ) (old : KeyFile) (line : List ℕ) (rest : List (List ℕ))
+    → IsReadTo text number old (line ∷ rest) → IsLineRefused old line
     → IsFirstMalformed text (number + 1)
 first_refused text number old line rest r refused =
     let count = r.count in
@@ -335,7 +373,8 @@ first_refused text number old line rest r refused =
       ill_formed = λ more w. ill more (well_formed_front r.front (line ∷ []) more w) w;
     }
   where
-    last : (behind : List Entry) → AllZip States (line ∷ []) behind → (entry : Entry) × (behind ≡ entry ∷ []) × States line entry
+    last : (behind : List Entry) → AllZip States (line ∷ []) behind → (entry : Entry) × (behind ≡ entry ∷ [])
+        × States line entry
     last [] s = absurd s
     last (entry ∷ []) s = (entry, refl, s.0)
     last (entry ∷ other ∷ more) s = absurd s.1
@@ -343,9 +382,12 @@ first_refused text number old line rest r refused =
     ill : (more : List Entry) → HasFront r.front (line ∷ []) more → AreWellFormed (r.front ++ line ∷ []) more → ⊥
     ill more has w =
         let end = last has.behind has.rests in
-        let same : has.front ≡ r.entries = zip_once States states_once r.front has.front r.entries has.well_formed.stated r.well_formed.stated in
-        let whole : more ≡ r.entries ++ end.0 ∷ [] = has.split ∙ ap (λ (l : List Entry). l ++ has.behind) same ∙ ap (λ (l : List Entry). r.entries ++ l) end.1 in
-        may_not_follow r.entries old end.0 r.stated (refused end.0 end.2) (follows (r.front ++ line ∷ []) r.entries end.0 (rw whole at w))
+        let same : has.front ≡ r.entries =
+        zip_once States states_once r.front has.front r.entries has.well_formed.stated r.well_formed.stated in
+        let whole : more ≡ r.entries ++ end.0 ∷ [] = has.split ∙ ap (λ (l : List Entry). l ++ has.behind) same
+        ∙ ap (λ (l : List Entry). r.entries ++ l) end.1 in
+        may_not_follow r.entries old end.0 r.stated (refused end.0 end.2)
+        (follows (r.front ++ line ∷ []) r.entries end.0 (rw whole at w))
 
 -- where no line is left the file is read
 pub read_whole : (text : List ℕ) (number : ℕ) (file : KeyFile) → IsReadTo text number file [] → IsKeyFile text file
@@ -364,18 +406,22 @@ pub one_file : (text : List ℕ) (file other : KeyFile) → IsKeyFile text file 
 one_file text file other f g =
     let same : f.entries ≡ g.entries = entries_once (lines text) f.entries g.entries f.well_formed g.well_formed in
     let keys : file.auth.keys ≡ other.auth.keys = f.stated.keys ∙ ap keys_in same ∙ sym g.stated.keys in
-    let digests : file.auth.digests ≡ other.auth.digests = f.stated.digests ∙ ap (filter_map digest_in) same ∙ sym g.stated.digests in
-    let secret : file.secret ≡ other.secret = f.stated.secret ∙ ap (λ (l : List Entry). concat (filter_map secret_in l)) same ∙ sym g.stated.secret in
+    let digests : file.auth.digests ≡ other.auth.digests = f.stated.digests ∙ ap (filter_map digest_in) same
+    ∙ sym g.stated.digests in
+    let secret : file.secret ≡ other.secret = f.stated.secret
+    ∙ ap (λ (l : List Entry). concat (filter_map secret_in l)) same ∙ sym g.stated.secret in
     λ i. record { auth = record { keys = keys i; digests = digests i }; secret = secret i }
 
 pub file_or_line : (text : List ℕ) (file : KeyFile) (number : ℕ) → IsKeyFile text file → ¬ IsFirstMalformed text number
 file_or_line text file number f m =
-    let split : lines text ≡ (m.before ++ m.malformed ∷ []) ++ m.behind = m.split ∙ sym (append_assoc m.before (m.malformed ∷ []) m.behind) in
+    let split : lines text ≡ (m.before ++ m.malformed ∷ []) ++ m.behind = m.split
+    ∙ sym (append_assoc m.before (m.malformed ∷ []) m.behind) in
     let has = well_formed_front (m.before ++ m.malformed ∷ []) m.behind f.entries (rw split at f.well_formed) in
     m.ill_formed has.front has.well_formed
 
 -- of two texts with one whole, the longer front goes on behind the other
-goes_on : (xs ys : List (List ℕ)) (x y : List ℕ) (r s : List (List ℕ)) → xs ++ x ∷ r ≡ ys ++ y ∷ s → length xs < length ys → (more : List (List ℕ)) × (ys ≡ xs ++ x ∷ more)
+goes_on : (xs ys : List (List ℕ)) (x y : List ℕ) (r s : List (List ℕ)) → xs ++ x ∷ r ≡ ys ++ y ∷ s
+    → length xs < length ys → (more : List (List ℕ)) × (ys ≡ xs ++ x ∷ more)
 goes_on [] [] x y r s e less = absurd (omega arith)
 goes_on [] (b ∷ ys) x y r s e less = let first : x ≡ b = cc in (ys, ap (λ (a : List ℕ). a ∷ ys) (sym first))
 goes_on (a ∷ xs) [] x y r s e less = absurd (omega arith)
@@ -386,14 +432,17 @@ goes_on (a ∷ xs) (b ∷ ys) x y r s e less =
     let tail : ys ≡ xs ++ x ∷ more.0 = more.1 in
     (more.0, cc)
 
-not_before : (text : List ℕ) (number other : ℕ) (m : IsFirstMalformed text number) (n : IsFirstMalformed text other) → ¬ (length m.before < length n.before)
+not_before : (text : List ℕ) (number other : ℕ) (m : IsFirstMalformed text number) (n : IsFirstMalformed text other)
+    → ¬ (length m.before < length n.before)
 not_before text number other m n less =
     let more = goes_on m.before n.before m.malformed n.malformed m.behind n.behind (sym m.split ∙ n.split) less in
-    let split : n.before ≡ (m.before ++ m.malformed ∷ []) ++ more.0 = more.1 ∙ sym (append_assoc m.before (m.malformed ∷ []) more.0) in
+    let split : n.before ≡ (m.before ++ m.malformed ∷ []) ++ more.0 = more.1
+    ∙ sym (append_assoc m.before (m.malformed ∷ []) more.0) in
     let has = well_formed_front (m.before ++ m.malformed ∷ []) more.0 n.entries (rw split at n.well_formed) in
     m.ill_formed has.front has.well_formed
 
-pub one_line : (text : List ℕ) (number other : ℕ) → IsFirstMalformed text number → IsFirstMalformed text other → number ≡ other
+pub one_line : (text : List ℕ) (number other : ℕ) → IsFirstMalformed text number → IsFirstMalformed text other
+    → number ≡ other
 one_line text number other m n =
     let place = m.place in
     let elsewhere = n.place in
@@ -406,15 +455,18 @@ one_line text number other m n =
     ]
 
 -- what is answered for a key file
-pub only_file : (text : List ℕ) (file : KeyFile) (r : Result KeyFile KeyFault) → IfOk r (λ read. IsKeyFile text read) → IfErr r (λ fault. IsCause text fault) → IsKeyFile text file
+pub only_file : (text : List ℕ) (file : KeyFile) (r : Result KeyFile KeyFault) → IfOk r (λ read. IsKeyFile text read)
+    → IfErr r (λ fault. IsCause text fault) → IsKeyFile text file
     → (r ≡ Ok file) ⊎ (r ≡ Err NoMemory)
 only_file text file (Ok read) ok err is = inl (ap Ok (one_file text read file ok is))
 only_file text file (Err (Line number)) ok err is = absurd (file_or_line text file number is err)
 only_file text file (Err NoMemory) ok err is = inr refl
 
 -- what is answered for a text with a malformed line
-pub only_line : (text : List ℕ) (number : ℕ) (r : Result KeyFile KeyFault) → IfOk r (λ read. IsKeyFile text read) → IfErr r (λ fault. IsCause text fault) → IsFirstMalformed text number
+pub only_line : (text : List ℕ) (number : ℕ) (r : Result KeyFile KeyFault) → IfOk r (λ read. IsKeyFile text read)
+    → IfErr r (λ fault. IsCause text fault) → IsFirstMalformed text number
     → (r ≡ Err (Line number)) ⊎ (r ≡ Err NoMemory)
 only_line text number (Ok read) ok err is = absurd (file_or_line text read number ok is)
-only_line text number (Err (Line told)) ok err is = inl (ap (λ (n : ℕ). Err (Line n)) (one_line text told number err is))
+only_line text number (Err (Line told)) ok err is =
+    inl (ap (λ (n : ℕ). Err (Line n)) (one_line text told number err is))
 only_line text number (Err NoMemory) ok err is = inr refl

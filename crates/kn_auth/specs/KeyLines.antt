@@ -60,7 +60,8 @@ pub record BeginsWithKey (text : List ℕ) : Type 0 where
 
 -- the line begins with one of the three words
 abbrev pub HasWord : List ℕ → Type 0
-HasWord line = (rest : List ℕ) × ((line ≡ codes "mac " ++ rest) ⊎ ((line ≡ codes "digest " ++ rest) ⊎ (line ≡ codes "secret " ++ rest)))
+HasWord line = (rest : List ℕ)
+    × ((line ≡ codes "mac " ++ rest) ⊎ ((line ≡ codes "digest " ++ rest) ⊎ (line ≡ codes "secret " ++ rest)))
 
 -- the line is of no form
 abbrev pub StatesNothing : List ℕ → Type 0

@@ -18,7 +18,8 @@ with_entry file (Mac mac) =
     if has_key mac.principal file.auth.keys
     then None
     else Some (record file { auth = record file.auth { keys = file.auth.keys ++ mac ∷ [] } })
-with_entry file (Digest digest) = Some (record file { auth = record file.auth { digests = file.auth.digests ++ digest ∷ [] } })
+with_entry file (Digest digest) =
+    Some (record file { auth = record file.auth { digests = file.auth.digests ++ digest ∷ [] } })
 with_entry file (Secret secret) = with_secret file file.secret secret
 
 -- the file with an entry more is this, or the entry may not stand behind those before

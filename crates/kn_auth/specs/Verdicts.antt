@@ -1,6 +1,7 @@
 -- What authenticators answer for a text with its reading: the number of the fault, and 0 where the text is admitted
 -- (keynoted's own; the signature covers what RFC 2704, section 4, the Signature field, says).
-use Rattle.std.specs.Prelude.{ℕ, ◌==◌, Bool, false, ◌||◌, nat_eq, List, length, take, drop, codes, find, Option, Some, None, is_some, if◌then◌else◌}
+use Rattle.std.specs.Prelude.{ℕ, ◌==◌, Bool, false, ◌||◌, nat_eq, List, length, take, drop, codes, find, Option, Some}
+use Rattle.std.specs.Prelude.{None, is_some, if◌then◌else◌}
 use Rattle.std.specs.List.{list_any, starts_with}
 use Rattle.std.specs.Option.{option_map, option_map_or}
 use Rattle.std.specs.Result.{result_ok}
@@ -38,11 +39,13 @@ code_verdict (Some key) digits body = if spells_code digits (mac_of key body mac
 abbrev pub signature_verdict : Option (List ℕ) → Option (List ℕ) → List ℕ → ℕ
 signature_verdict None key body = 1
 signature_verdict (Some signature) key body =
-    if starts_with nat_eq signature mac_algorithm then code_verdict key (drop (length mac_algorithm) signature) body else 2
+    if starts_with nat_eq signature mac_algorithm then code_verdict key (drop (length mac_algorithm) signature) body
+    else 2
 
 -- The verdict of keys: the code is that of the text up to the label of the signature, followed by the algorithm's name.
 abbrev pub mac_verdict : List MacKey → List ℕ → Assertion → ℕ
-mac_verdict keys text assertion = signature_verdict assertion.signature (key_of assertion.authorizer keys) (take assertion.signed_to text)
+mac_verdict keys text assertion =
+    signature_verdict assertion.signature (key_of assertion.authorizer keys) (take assertion.signed_to text)
 
 -- the verdict of a list of digests
 abbrev pub digest_verdict : List (List ℕ) → List ℕ → Assertion → ℕ
@@ -53,4 +56,5 @@ abbrev pub first_verdict : ℕ → ℕ → ℕ
 first_verdict by_keys by_digests = if by_keys == 0 || by_digests == 0 then 0 else by_keys
 
 abbrev pub verdict_of : Either → List ℕ → Assertion → ℕ
-verdict_of either text assertion = first_verdict (mac_verdict either.keys text assertion) (digest_verdict either.digests text assertion)
+verdict_of either text assertion =
+    first_verdict (mac_verdict either.keys text assertion) (digest_verdict either.digests text assertion)

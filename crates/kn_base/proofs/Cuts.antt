@@ -8,13 +8,17 @@ pub heads_apart : (x y : ℕ) (xs ys : List ℕ) → x ≢ y → x ∷ xs ≢ y 
 heads_apart x y xs ys apart e = apart (cc)
 
 -- there is one way to cut
-pub cut_once : (at : ℕ) (x y r s : List ℕ) → list_any (λ b. b == at) x ≡ false → list_any (λ b. b == at) y ≡ false → x ++ at ∷ r ≡ y ++ at ∷ s → (x ≡ y) × (r ≡ s)
+pub cut_once : (at : ℕ) (x y r s : List ℕ) → list_any (λ b. b == at) x ≡ false → list_any (λ b. b == at) y ≡ false
+    → x ++ at ∷ r ≡ y ++ at ∷ s → (x ≡ y) × (r ≡ s)
 cut_once at [] [] r s h k e = (refl, cc)
-cut_once at [] (b ∷ y) r s h k e = let first : at ≡ b = cc in absurd (eqb-false b at (or_parts (b == at) (list_any (λ b. b == at) y) k).0 (sym first))
-cut_once at (a ∷ x) [] r s h k e = let first : a ≡ at = cc in absurd (eqb-false a at (or_parts (a == at) (list_any (λ b. b == at) x) h).0 first)
+cut_once at [] (b ∷ y) r s h k e = let first : at ≡ b = cc in
+    absurd (eqb-false b at (or_parts (b == at) (list_any (λ b. b == at) y) k).0 (sym first))
+cut_once at (a ∷ x) [] r s h k e = let first : a ≡ at = cc in
+    absurd (eqb-false a at (or_parts (a == at) (list_any (λ b. b == at) x) h).0 first)
 cut_once at (a ∷ x) (b ∷ y) r s h k e =
     let rest : x ++ at ∷ r ≡ y ++ at ∷ s = cc in
-    let p = cut_once at x y r s (or_parts (a == at) (list_any (λ b. b == at) x) h).1 (or_parts (b == at) (list_any (λ b. b == at) y) k).1 rest in
+    let p = cut_once at x y r s (or_parts (a == at) (list_any (λ b. b == at) x) h).1
+    (or_parts (b == at) (list_any (λ b. b == at) y) k).1 rest in
     let front : x ≡ y = p.0 in
     let first : a ≡ b = cc in
     (cc, p.1)
@@ -40,7 +44,13 @@ cut_or_none at (b ∷ text) =
       | inr other ↦
           let first : (b == at) ≡ false = ne_eqb b at other in
           elim (cut_or_none at text) [
-            | inl cut ↦ inl (record { word = b ∷ cut.word; rest = cut.rest; spelled = ap (λ (l : List ℕ). b ∷ l) cut.spelled; clean = rw (first, cut.clean) refl })
+            | inl cut ↦ inl (record {
+              word = b ∷ cut.word;
+              rest = cut.rest;
+              spelled =
+                  ap (λ (l : List ℕ). b ∷ l) cut.spelled;
+              clean = rw (first, cut.clean) refl;
+            })
             | inr none ↦ inr (rw (first, none) refl)
           ]
     ]
@@ -57,7 +67,8 @@ front_or_none (a ∷ front) [] = inr (λ rest e. absurd (cc))
 front_or_none (a ∷ front) (b ∷ text) =
     elim (cases_eq b a) [
       | inl same ↦ elim (front_or_none front text) [
-        | inl has ↦ let behind : text ≡ front ++ has.rest = has.spelled in inl (record { rest = has.rest; spelled = cc })
+        | inl has ↦ let behind : text ≡ front ++ has.rest = has.spelled in
+            inl (record { rest = has.rest; spelled = cc })
         | inr none ↦ inr (λ rest e. none rest (cc))
       ]
       | inr other ↦ inr (λ rest e. heads_apart b a text (front ++ rest) other e)

@@ -10,4 +10,5 @@ pub record ListWithRoom (T : Type 0) : Type 0 where
 -- it is stored as the pair of its fields
 abbrev pub coded_list_with_room : {T : Type 0} → Coded T → Coded (ListWithRoom T)
 coded_list_with_room {T} code =
-    code_by (List T × ℕ) (coded× (coded_list code) coded_ℕ) (λ r. (r.items, r.spare)) (λ p. record { items = p.0; spare = p.1 }) (λ _. refl)
+    code_by (List T × ℕ) (coded× (coded_list code) coded_ℕ) (λ r. (r.items, r.spare))
+    (λ p. record { items = p.0; spare = p.1 }) (λ _. refl)

@@ -1,4 +1,5 @@
--- The greatest level that so many of some levels reach (RFC 2704, section 5; said by counting, which is keynoted's own).
+-- The greatest level that so many of some levels reach (RFC 2704, section 5; said by counting, which is keynoted's
+-- own).
 use Rattle.std.specs.Prelude.{ℕ, suc, zero, Bool, List, [], ◌∷◌, ◌+◌, nat_le, if◌then◌else◌}
 
 -- the greatest number up to n that passes, and 0 where there is none

@@ -5,7 +5,8 @@ use Rattle.kn_system.specs.Equations.{SystemEquations, row_at}
 use Rattle.kn_system.specs.Least.{worth, at_first}
 use Rattle.kn_system.specs.Proofs.{levels_after, AreSteps, IsClosed}
 use Rattle.kn_check.specs.declared.reject.Reject.{Reject}
-use Rattle.kn_check.specs.declared.reject.Reject.TheVariants.{Range, Requester, Again, Zero, Foreign, Unsupported, Unclosed, Claim}
+use Rattle.kn_check.specs.declared.reject.Reject.TheVariants.{Range, Requester, Again, Zero, Foreign, Unsupported}
+use Rattle.kn_check.specs.declared.reject.Reject.TheVariants.{Unclosed, Claim}
 
 -- the principal, the row of the system and the level that a row of a proof names are there
 pub record IsInRange (s : SystemEquations) (row : ProofRow) : Type 0 where
@@ -40,11 +41,14 @@ worth_at s levels i = worth (s.levels - 1) levels (row_at s.rows i)
 -- why row k of a proof may not stand where the levels are these: the first test that it fails
 abbrev pub IsRowReject : SystemEquations → List ℕ → ℕ → ProofRow → Reject → Type 0
 IsRowReject s levels k row (Range j) = (j ≡ k) × ¬ IsInRange s row
-IsRowReject s levels k row (Requester j) = (j ≡ k) × IsInRange s row × (slice_index_or s.requesters row.principal true ≡ true)
+IsRowReject s levels k row (Requester j) = (j ≡ k) × IsInRange s row
+    × (slice_index_or s.requesters row.principal true ≡ true)
 IsRowReject s levels k row (Again j) = (j ≡ k) × IsOther s row × (0 < slice_index levels row.principal)
 IsRowReject s levels k row (Zero j) = (j ≡ k) × IsFresh s levels row × (row.value ≡ 0)
-IsRowReject s levels k row (Foreign j) = (j ≡ k) × IsRaising s levels row × ((row_at s.rows row.by).authorizer ≢ row.principal)
-IsRowReject s levels k row (Unsupported j found) = (j ≡ k) × IsOwn s levels row × (found ≡ worth_at s levels row.by) × (found < row.value)
+IsRowReject s levels k row (Foreign j) = (j ≡ k) × IsRaising s levels row
+    × ((row_at s.rows row.by).authorizer ≢ row.principal)
+IsRowReject s levels k row (Unsupported j found) = (j ≡ k) × IsOwn s levels row × (found ≡ worth_at s levels row.by)
+    × (found < row.value)
 IsRowReject s levels k row (Unclosed i found) = ⊥
 IsRowReject s levels k row (Claim found) = ⊥
 
@@ -73,8 +77,10 @@ pub record IsOtherClaim (s : SystemEquations) (levels : List ℕ) (claimed found
 
 -- the first item that fails: the rows of the proof in order, then the rows of the system in order, then the claim
 abbrev pub IsReject : SystemEquations → List ProofRow → ℕ → Reject → Type 0
-IsReject s rows claimed (Unclosed i found) = AreSteps s (at_first s) rows × IsUnclosed s (levels_after (at_first s) rows) i found
-IsReject s rows claimed (Claim found) = AreSteps s (at_first s) rows × IsOtherClaim s (levels_after (at_first s) rows) claimed found
+IsReject s rows claimed (Unclosed i found) = AreSteps s (at_first s) rows
+    × IsUnclosed s (levels_after (at_first s) rows) i found
+IsReject s rows claimed (Claim found) = AreSteps s (at_first s) rows
+    × IsOtherClaim s (levels_after (at_first s) rows) claimed found
 IsReject s rows claimed reject = (k : ℕ) × IsRowFault s rows reject k
 
 -- what is told of a reason: its number, the row that it names, of the proof or of the system, or 0, and the level, or 0

@@ -40,7 +40,8 @@ pub record HasNoQuery (f : FilesSeen) (names : CheckNames) : Type 0 where
   pub policy : IsPolicy f names.policy bytes
   pub script : List ℕ
   pub content : HasContent f names.script script
-  pub none : (session : Session) (values : List (List ℕ)) → ¬ Means (loaded_history (pieces_of bytes)) script session values
+  pub none : (session : Session) (values : List (List ℕ))
+      → ¬ Means (loaded_history (pieces_of bytes)) script session values
 
 -- how many files were asked for before this one
 abbrev pub count_before : Source → ℕ
@@ -70,19 +71,25 @@ pub record IsTextTo (session : Session) (values : List (List ℕ)) (text : List 
 abbrev pub HoldsWhereMemoryLacks : FilesSeen → CheckNames → Source → Type 0
 HoldsWhereMemoryLacks f names Policy = Unit {0}
 HoldsWhereMemoryLacks f names TheScript = Unit {0}
-HoldsWhereMemoryLacks f names Reply = (session : Session) × (values : List (List ℕ)) × (text : List ℕ) × HasQuery f names session values × HasContent f names.reply text × IsTextTo session values text
+HoldsWhereMemoryLacks f names Reply = (session : Session) × (values : List (List ℕ)) × (text : List ℕ)
+    × HasQuery f names session values × HasContent f names.reply text × IsTextTo session values text
 
 -- memory ran out where a file was about to be asked for, or was, and nothing else changed
 abbrev pub LacksAt : FilesSeen → FilesSeen → CheckNames → Source → Type 0
 LacksAt f f' names source =
-    HasAsked (take (count_before source) (in_order names)) f f' ⊎ (HasAsked (take (count_to source) (in_order names)) f f' × HoldsWhereMemoryLacks f names source)
+    HasAsked (take (count_before source) (in_order names)) f f'
+    ⊎ (HasAsked (take (count_to source) (in_order names)) f f' × HoldsWhereMemoryLacks f names source)
 
 -- why reading a file, or loading the policy, stops a run
 abbrev pub StopsCheckAt : FilesSeen → FilesSeen → CheckNames → Source → Stop → Type 0
-StopsCheckAt f f' names source FileFailed = Reached f names source × HasFailed (take (count_to source) (in_order names)) f f'
-StopsCheckAt f f' names source FileTooLarge = Reached f names source × HasAsked (take (count_to source) (in_order names)) f f' × IsTooLarge f (name_of names source)
-StopsCheckAt f f' names source (S.Policy n fault) = (source ≡ Policy) × (bytes : List ℕ) × IsFileRead names.policy f f' bytes × IsFaultyAt (pieces_of bytes) n fault
-StopsCheckAt f f' names source (Limit n word count) = (source ≡ Policy) × (bytes : List ℕ) × IsFileRead names.policy f f' bytes × IsLimitAt (pieces_of bytes) n word count
+StopsCheckAt f f' names source FileFailed = Reached f names source
+    × HasFailed (take (count_to source) (in_order names)) f f'
+StopsCheckAt f f' names source FileTooLarge = Reached f names source
+    × HasAsked (take (count_to source) (in_order names)) f f' × IsTooLarge f (name_of names source)
+StopsCheckAt f f' names source (S.Policy n fault) = (source ≡ Policy) × (bytes : List ℕ)
+    × IsFileRead names.policy f f' bytes × IsFaultyAt (pieces_of bytes) n fault
+StopsCheckAt f f' names source (Limit n word count) = (source ≡ Policy) × (bytes : List ℕ)
+    × IsFileRead names.policy f f' bytes × IsLimitAt (pieces_of bytes) n word count
 StopsCheckAt f f' names source Memory = Reached f names source × LacksAt f f' names source
 StopsCheckAt f f' names source Words = ⊥
 StopsCheckAt f f' names source (KeyLine n) = ⊥
@@ -94,11 +101,13 @@ ending_of_fault (F.Number n) = Faulty 2 n
 ending_of_fault (F.Count n) = Faulty 3 n
 ending_of_fault F.NoMemory = Stopped Reply Memory
 
--- what is wrong with the text of a reply: its first fault, or that it is the reply to another query, which is a fault of line 1
+-- what is wrong with the text of a reply: its first fault, or that it is the reply to another query, which is a fault
+-- of line 1
 abbrev pub IsFaultyText : Session → List (List ℕ) → List ℕ → ℕ → ℕ → Type 0
 IsFaultyText session values text fault line =
     ((own : ProofFault) × IsFirstFault text own × (fault_number own ≡ Some fault) × (fault_line own ≡ Some line))
-    ⊎ ((fault ≡ 1) × (line ≡ 1) × ((reply : ReadReply) × IsReplyText text reply × ¬ IsReplyTo (length session.pinned) values reply))
+    ⊎ ((fault ≡ 1) × (line ≡ 1)
+    × ((reply : ReadReply) × IsReplyText text reply × ¬ IsReplyTo (length session.pinned) values reply))
 
 -- the text is that of a reply to the query whose rows don't prove its value: this is the first item that fails
 pub record IsUnprovedText (session : Session) (values : List (List ℕ)) (text : List ℕ) (reject : Reject) : Type 0 where
@@ -107,7 +116,8 @@ pub record IsUnprovedText (session : Session) (values : List (List ℕ)) (text :
   pub unproved : IsUnproved (equations_of session values) (length session.pinned) values reply reject
 
 -- the text is that of a reply to the query whose rows prove this value of this name
-pub record IsProvedText (session : Session) (values : List (List ℕ)) (text : List ℕ) (value : ℕ) (name : List ℕ) : Type 0 where
+pub record IsProvedText (session : Session) (values : List (List ℕ)) (text : List ℕ) (value : ℕ) (name : List ℕ) :
+    Type 0 where
   pub reply : ReadReply
   pub read : IsReplyText text reply
   pub value_told : reply.value ≡ value
@@ -124,14 +134,19 @@ ReplyShows session values text (Proved value name) = IsProvedText session values
 
 -- what a reply to a query shows that was read
 abbrev pub ReadShows : Session → List (List ℕ) → ReadReply → Ending → Type 0
-ReadShows session values reply (Stopped source stop) = (source ≡ Reply) × (stop ≡ Memory) × IsReplyTo (length session.pinned) values reply
+ReadShows session values reply (Stopped source stop) = (source ≡ Reply) × (stop ≡ Memory)
+    × IsReplyTo (length session.pinned) values reply
 ReadShows session values reply NoQuery = ⊥
-ReadShows session values reply (Faulty fault line) = (fault ≡ 1) × (line ≡ 1) × ¬ IsReplyTo (length session.pinned) values reply
-ReadShows session values reply (Rejected reject) = IsUnproved (equations_of session values) (length session.pinned) values reply reject
-ReadShows session values reply (Proved value name) = (reply.value ≡ value) × (reply.name ≡ name) × IsProved (equations_of session values) (length session.pinned) values reply
+ReadShows session values reply (Faulty fault line) = (fault ≡ 1) × (line ≡ 1)
+    × ¬ IsReplyTo (length session.pinned) values reply
+ReadShows session values reply (Rejected reject) =
+    IsUnproved (equations_of session values) (length session.pinned) values reply reject
+ReadShows session values reply (Proved value name) = (reply.value ≡ value) × (reply.name ≡ name)
+    × IsProved (equations_of session values) (length session.pinned) values reply
 
 -- the files were read; the first two hold this query, and the third this text
-pub record IsTried (f f' : FilesSeen) (names : CheckNames) (session : Session) (values : List (List ℕ)) (text : List ℕ) : Type 0 where
+pub record IsTried (f f' : FilesSeen) (names : CheckNames) (session : Session) (values : List (List ℕ))
+    (text : List ℕ) : Type 0 where
   pub asked : HasAsked (in_order names) f f'
   pub query : HasQuery f names session values
   pub content : HasContent f names.reply text

@@ -6,8 +6,8 @@ use Rattle.kn_generate.specs.Measured.{IsMeasured}
 use Rattle.kn_endings.specs.GenLine.{gen_line}
 use Rattle.kn_words.specs.declared.gen_words.GenNumbers.{GenNumbers}
 
--- The line is that of what was measured of the query that these numbers give: the level is the policy's in the least fixed point
--- over the generated credentials, and the name is that level's.
+-- The line is that of what was measured of the query that these numbers give: the level is the policy's in the least
+-- fixed point over the generated credentials, and the name is that level's.
 pub record IsGenLine (numbers : GenNumbers) (line : List ℕ) : Type 0 where
   pub measured : Measured
   pub is_measured : IsMeasured (generated_query numbers.start numbers.count) measured

@@ -1,5 +1,7 @@
 -- The digits that a text begins with, and their number.
-use Rattle.std.proofs.Common.{◌≡◌, ℕ, pos, negsuc, neg_ℤ, suc, zero, ◌+◌, ◌-◌, ◌*◌, ◌^◌, ◌<◌, ◌≤◌, ◌⊎◌, inl, inr, min, Bool, true, false, ◌&&◌, cond, List, [], ◌∷◌, length, take, drop, get_or, refl, sym, ap, ◌∙◌, arith, lit<, if◌then◌else◌}
+use Rattle.std.proofs.Common.{◌≡◌, ℕ, pos, negsuc, neg_ℤ, suc, zero, ◌+◌, ◌-◌, ◌*◌, ◌^◌, ◌<◌, ◌≤◌, ◌⊎◌, inl, inr, min}
+use Rattle.std.proofs.Common.{Bool, true, false, ◌&&◌, cond, List, [], ◌∷◌, length, take, drop, get_or, refl, sym, ap}
+use Rattle.std.proofs.Common.{◌∙◌, arith, lit<, if◌then◌else◌}
 use Rattle.std.specs.Prelude.{nat_le}
 use Rattle.std.proofs.Math.Nat.{pow-le-pow_right, mul-le-mul_left}
 use Rattle.std.proofs.lemmas.Bool.{cases_lt, lt-leb, leb-true, and_parts}
@@ -13,21 +15,25 @@ above_range v beyond = ap (λ b. if b then whole (pos v) else fault) (lt-leb v 2
 
 below_range : (v : ℕ) → 2147483648 < v → whole_in_range (neg_ℤ (pos v)) ≡ fault
 below_range zero beyond = absurd (omega arith)
-below_range (suc m) beyond = let past : 2147483647 < m = omega arith in ap (λ b. if b && true then whole (negsuc m) else fault) (lt-leb m 2147483647 past)
+below_range (suc m) beyond = let past : 2147483647 < m = omega arith in
+    ap (λ b. if b && true then whole (negsuc m) else fault) (lt-leb m 2147483647 past)
 
 -- a number that lies beyond stands for each other one
 pub whole_capped : (v : ℕ) → whole_in_range (pos (min v 2147483649)) ≡ whole_in_range (pos v)
 whole_capped v = by (cases_lt 2147483649 v)
   where
     by : (2147483649 < v) ⊎ (v ≤ 2147483649) → whole_in_range (pos (min v 2147483649)) ≡ whole_in_range (pos v)
-    by (inl beyond) = let e : min v 2147483649 ≡ 2147483649 = omega arith in ap (λ n. whole_in_range (pos n)) e ∙ sym (above_range v (omega arith))
+    by (inl beyond) = let e : min v 2147483649 ≡ 2147483649 = omega arith in ap (λ n. whole_in_range (pos n)) e
+        ∙ sym (above_range v (omega arith))
     by (inr within) = let e : min v 2147483649 ≡ v = omega arith in ap (λ n. whole_in_range (pos n)) e
 
 pub whole_capped_below : (v : ℕ) → whole_in_range (neg_ℤ (pos (min v 2147483649))) ≡ whole_in_range (neg_ℤ (pos v))
 whole_capped_below v = by (cases_lt 2147483649 v)
   where
-    by : (2147483649 < v) ⊎ (v ≤ 2147483649) → whole_in_range (neg_ℤ (pos (min v 2147483649))) ≡ whole_in_range (neg_ℤ (pos v))
-    by (inl beyond) = let e : min v 2147483649 ≡ 2147483649 = omega arith in ap (λ n. whole_in_range (neg_ℤ (pos n))) e ∙ sym (below_range v (omega arith))
+    by : (2147483649 < v) ⊎ (v ≤ 2147483649)
+        → whole_in_range (neg_ℤ (pos (min v 2147483649))) ≡ whole_in_range (neg_ℤ (pos v))
+    by (inl beyond) = let e : min v 2147483649 ≡ 2147483649 = omega arith in ap (λ n. whole_in_range (neg_ℤ (pos n))) e
+        ∙ sym (below_range v (omega arith))
     by (inr within) = let e : min v 2147483649 ≡ v = omega arith in ap (λ n. whole_in_range (neg_ℤ (pos n))) e
 
 suc_front : (n byte : ℕ) (bytes : List ℕ) → take (1 + n) (byte ∷ bytes) ≡ byte ∷ take n bytes
@@ -37,21 +43,26 @@ pub all_digits : (text : List ℕ) → list_all is_digit (front_digits text) ≡
 all_digits [] = refl
 all_digits (byte ∷ bytes) = by (is_digit byte) refl (all_digits bytes)
   where
-    by : (b : Bool) → is_digit byte ≡ b → list_all is_digit (front_digits bytes) ≡ true → list_all is_digit (take (cond b (1 + prefix_len is_digit bytes) 0) (byte ∷ bytes)) ≡ true
+    by : (b : Bool) → is_digit byte ≡ b → list_all is_digit (front_digits bytes) ≡ true
+        → list_all is_digit (take (cond b (1 + prefix_len is_digit bytes) 0) (byte ∷ bytes)) ≡ true
     by true told rest = simp (suc_front (prefix_len is_digit bytes) byte bytes, told) rest
     by false told rest = refl
 
 -- what is read of digits is at most their number
-pub read_within : (digits : List ℕ) (i number : ℕ) → number * 10 ^ length (drop i digits) + digits_value (drop i digits) ≡ digits_value digits → number ≤ digits_value digits
+pub read_within : (digits : List ℕ) (i number : ℕ) → number * 10 ^ length (drop i digits) + digits_value (drop i digits)
+    ≡ digits_value digits → number ≤ digits_value digits
 read_within digits i number e =
     let none : 0 ≤ length (drop i digits) = omega arith in
     let least : 1 ≤ 10 ^ length (drop i digits) = pow-le-pow_right {n = 10} (lit< tt) none in
     let times : number * 1 ≤ number * 10 ^ length (drop i digits) = mul-le-mul_left number least in
     omega arith
 
-pub digit_here : (digits : List ℕ) (i : ℕ) → i < length digits → list_all is_digit (drop i digits) ≡ true → is_digit (get_or digits i 0) ≡ true
+pub digit_here : (digits : List ℕ) (i : ℕ) → i < length digits → list_all is_digit (drop i digits) ≡ true
+    → is_digit (get_or digits i 0) ≡ true
 digit_here digits i within all =
-    (and_parts (is_digit (get_or digits i 0)) (list_all is_digit (drop (i + 1) digits)) (ap (list_all is_digit) (sym (rest_at digits i within)) ∙ all)).0
+    (and_parts (is_digit (get_or digits i 0)) (list_all is_digit (drop (i + 1) digits))
+    (ap (list_all is_digit) (sym (rest_at digits i within)) ∙ all)).0
 
 pub digit_small : (byte : ℕ) → is_digit byte ≡ true → byte - 48 ≤ 9
-digit_small byte told = let least : byte ≤ 57 = leb-true byte 57 (and_parts (nat_le 48 byte) (nat_le byte 57) told).1 in omega arith
+digit_small byte told = let least : byte ≤ 57 = leb-true byte 57 (and_parts (nat_le 48 byte) (nat_le byte 57) told).1 in
+    omega arith

@@ -5,10 +5,14 @@ use Rattle.kn_trees.specs.declared.program.Expr.{Expr}
 use Rattle.kn_trees.specs.declared.program.Link2.{Link2}
 use Rattle.kn_trees.specs.declared.program.Operation.{Operation}
 use Rattle.kn_trees.specs.declared.program.Comparison.{Comparison}
-use Rattle.kn_trees.specs.declared.program.Expr.TheVariants.{Truth, Whole, Text, Name, Not, Minus, Number, Deref, And, Or, Compare, Chain}
+use Rattle.kn_trees.specs.declared.program.Expr.TheVariants.{Truth, Whole, Text, Name, Not, Minus, Number, Deref, And}
+use Rattle.kn_trees.specs.declared.program.Expr.TheVariants.{Or, Compare, Chain}
 use Rattle.kn_trees.specs.declared.program.Expr.TheFolds.{fold-Link2}
-use Rattle.kn_trees.proofs.Folds.{fold-Truth, fold-Whole, fold-Text, fold-Name, fold-Not, fold-Minus, fold-Number, fold-Deref, fold-And, fold-Or, fold-Compare, fold-Link, fold-Chain}
-use Rattle.kn_cond.specs.Meaning.{Meaning, truth, whole, text, text_in_range, negated, minus, number_of, value_named, conjunction, disjunction, comparison, chained, meaning_step, link_step, meaning_of, links_of}
+use Rattle.kn_trees.proofs.Folds.{fold-Truth, fold-Whole, fold-Text, fold-Name, fold-Not, fold-Minus, fold-Number}
+use Rattle.kn_trees.proofs.Folds.{fold-Deref, fold-And, fold-Or, fold-Compare, fold-Link, fold-Chain}
+use Rattle.kn_cond.specs.Meaning.{Meaning, truth, whole, text, text_in_range, negated, minus, number_of, value_named}
+use Rattle.kn_cond.specs.Meaning.{conjunction, disjunction, comparison, chained, meaning_step, link_step, meaning_of}
+use Rattle.kn_cond.specs.Meaning.{links_of}
 
 abbrev Linked : Type 0
 Linked = Operation × Meaning
@@ -45,27 +49,48 @@ pub meaning_of-Deref : (e : Environment) (part : Expr) → meaning_of e (Deref p
 unfolding meaning_of
 meaning_of-Deref e part = fold-Deref Meaning Linked (meaning_step e) link_step part
 
-pub meaning_of-And : (e : Environment) (parts : List Expr) → meaning_of e (And parts) ≡ conjunction (map (meaning_of e) parts)
+pub meaning_of-And : (e : Environment) (parts : List Expr)
+    → meaning_of e (And parts) ≡ conjunction (map (meaning_of e) parts)
 unfolding meaning_of
 meaning_of-And e parts = fold-And Meaning Linked (meaning_step e) link_step parts
 
-pub meaning_of-Or : (e : Environment) (parts : List Expr) → meaning_of e (Or parts) ≡ disjunction (map (meaning_of e) parts)
+pub meaning_of-Or : (e : Environment) (parts : List Expr)
+    → meaning_of e (Or parts) ≡ disjunction (map (meaning_of e) parts)
 unfolding meaning_of
 meaning_of-Or e parts = fold-Or Meaning Linked (meaning_step e) link_step parts
 
-pub meaning_of-Compare : (e : Environment) (sign : Comparison) (left right : Expr) → meaning_of e (Compare sign left right) ≡ comparison sign (meaning_of e left) (meaning_of e right)
+pub meaning_of-Compare : (e : Environment) (sign : Comparison) (left right : Expr)
+    → meaning_of e (Compare sign left right) ≡ comparison sign (meaning_of e left) (meaning_of e right)
 unfolding meaning_of
 meaning_of-Compare e sign left right = fold-Compare Meaning Linked (meaning_step e) link_step sign left right
 
-links_of-folds : (e : Environment) (links : List Link2) → map (fold-Link2 Meaning Linked (meaning_step e) link_step) links ≡ links_of e links
+links_of-folds : (e : Environment) (links : List Link2)
+    → map (fold-Link2 Meaning Linked (meaning_step e) link_step) links ≡ links_of e links
 unfolding meaning_of
 links_of-folds e [] = refl
 links_of-folds e (link ∷ links) =
-    let one : fold-Link2 Meaning Linked (meaning_step e) link_step link ≡ (link.sign, meaning_of e link.right) = fold-Link Meaning Linked (meaning_step e) link_step link in
-    ap (λ l. l ∷ map (fold-Link2 Meaning Linked (meaning_step e) link_step) links) one ∙ ap (λ others. (link.sign, meaning_of e link.right) ∷ others) (links_of-folds e links)
+    let one : fold-Link2 Meaning Linked (meaning_step e) link_step link ≡ (link.sign, meaning_of e link.right) =
+    fold-Link Meaning Linked (meaning_step e) link_step link in
+    ap (λ l. l ∷ map (fold-Link2 Meaning Linked (meaning_step e) link_step) links) one
+    ∙ ap (λ others. (link.sign, meaning_of e link.right) ∷ others) (links_of-folds e links)
 
-pub meaning_of-Chain : (e : Environment) (first : Expr) (links : List Link2) → meaning_of e (Chain first links) ≡ chained (meaning_of e first) (links_of e links)
+pub meaning_of-Chain : (e : Environment) (first : Expr) (links : List Link2)
+    → meaning_of e (Chain first links) ≡ chained (meaning_of e first) (links_of e links)
 unfolding meaning_of
-meaning_of-Chain e first links = fold-Chain Meaning Linked (meaning_step e) link_step first links ∙ ap (chained (meaning_of e first)) (links_of-folds e links)
+meaning_of-Chain e first links = fold-Chain Meaning Linked (meaning_step e) link_step first links
+    ∙ ap (chained (meaning_of e first)) (links_of-folds e links)
 
-pub ruleset meanings = (meaning_of-Truth, meaning_of-Whole, meaning_of-Text, meaning_of-Name, meaning_of-Not, meaning_of-Minus, meaning_of-Number, meaning_of-Deref, meaning_of-And, meaning_of-Or, meaning_of-Compare, meaning_of-Chain)
+pub ruleset meanings = (
+  meaning_of-Truth,
+  meaning_of-Whole,
+  meaning_of-Text,
+  meaning_of-Name,
+  meaning_of-Not,
+  meaning_of-Minus,
+  meaning_of-Number,
+  meaning_of-Deref,
+  meaning_of-And,
+  meaning_of-Or,
+  meaning_of-Compare,
+  meaning_of-Chain,
+)

@@ -1,7 +1,9 @@
 -- The meaning of an expression (RFC 2704, section 4, the Conditions field): a truth, a whole number, a text or a fault.
--- Numbers are unbounded and then tested for the range of 32 bits. That `@` out of range is a fault, the bound on texts and
--- the grouping to the left are keynoted's own choices.
-use Rattle.std.specs.Prelude.{ℕ, ℤ, pos, negsuc, neg_ℤ, ◌+ℤ◌, ◌-ℤ◌, ◌*ℤ◌, int_lt, int_le, int_div, int_rem, Bool, true, false, not, ◌&&◌, ◌||◌, nat_lt, ◌==◌, List, [], ◌∷◌, ◌++◌, length, take, map, if◌then◌else◌}
+-- Numbers are unbounded and then tested for the range of 32 bits. That `@` out of range is a fault, the bound on texts
+-- and the grouping to the left are keynoted's own choices.
+use Rattle.std.specs.Prelude.{ℕ, ℤ, pos, negsuc, neg_ℤ, ◌+ℤ◌, ◌-ℤ◌, ◌*ℤ◌, int_lt, int_le, int_div, int_rem, Bool, true}
+use Rattle.std.specs.Prelude.{false, not, ◌&&◌, ◌||◌, nat_lt, ◌==◌, List, [], ◌∷◌, ◌++◌, length, take, map}
+use Rattle.std.specs.Prelude.{if◌then◌else◌}
 use Rattle.std.specs.List.{prefix_len}
 use Rattle.std.specs.Str.{bytes_eq}
 use Rattle.std.specs.Int.{int_pow}
@@ -16,7 +18,8 @@ use Rattle.kn_trees.specs.declared.program.Operation.TheVariants.{Plus, Less, Jo
 use Rattle.kn_trees.specs.declared.program.Link2.{Link2}
 use Rattle.kn_trees.specs.declared.program.Expr.{Expr}
 use Rattle.kn_trees.specs.declared.program.Expr.TheOpen.{Expr-F, Link2-F}
-use Rattle.kn_trees.specs.declared.program.Expr.TheOpen.Expr-F.{Truth, Whole, Text, Name, Not, Minus, Number, Deref, And, Or, Compare, Chain}
+use Rattle.kn_trees.specs.declared.program.Expr.TheOpen.Expr-F.{Truth, Whole, Text, Name, Not, Minus, Number, Deref}
+use Rattle.kn_trees.specs.declared.program.Expr.TheOpen.Expr-F.{And, Or, Compare, Chain}
 use Rattle.kn_trees.specs.declared.program.Expr.TheFolds.{fold-Expr}
 
 pub data Meaning : Type 0 where
@@ -44,7 +47,8 @@ front_digits bytes = take (prefix_len is_digit bytes) bytes
 abbrev pub front_number : List ℕ → ℤ
 front_number [] = pos 0
 front_number (byte ∷ bytes) =
-    if byte == 45 then neg_ℤ (pos (digits_value (front_digits bytes))) else pos (digits_value (front_digits (byte ∷ bytes)))
+    if byte == 45 then neg_ℤ (pos (digits_value (front_digits bytes))) else pos
+    (digits_value (front_digits (byte ∷ bytes)))
 
 abbrev pub negated : Meaning → Meaning
 negated (truth b) = truth (not b)

@@ -1,5 +1,6 @@
 -- Where more assertions are taken out, the policy's level is no higher.
-use Rattle.std.proofs.Common.{◌≡◌, ℕ, zero, suc, ◌<◌, ◌≤◌, Bool, true, false, cond, not, List, [], ◌∷◌, length, map, max, replicate, slice_set, refl, sym, ap, ◌∙◌, subst, arith, le_refl}
+use Rattle.std.proofs.Common.{◌≡◌, ℕ, zero, suc, ◌<◌, ◌≤◌, Bool, true, false, cond, not, List, [], ◌∷◌, length, map}
+use Rattle.std.proofs.Common.{max, replicate, slice_set, refl, sym, ap, ◌∙◌, subst, arith, le_refl}
 use Rattle.std.specs.Str.{bytes_eq}
 use Rattle.kn_env.specs.Environment.{Asked}
 use Rattle.kn_principal.specs.Principals.{policy}
@@ -7,7 +8,8 @@ use Rattle.kn_proof.specs.declared.named.Id.{Id}
 use Rattle.kn_proof.specs.declared.named.NamedRow.{NamedRow}
 use Rattle.kn_meaning.specs.Formulas.{Levels}
 use Rattle.kn_meaning.specs.Critical.{is_row_by}
-use Rattle.kn_meaning.specs.Equations.{Part, statement_of, equations_over, worth, highest_worth, is_requester, round, IsLeast, IsPolicyLevel}
+use Rattle.kn_meaning.specs.Equations.{Part, statement_of, equations_over, worth, highest_worth, is_requester, round}
+use Rattle.kn_meaning.specs.Equations.{IsLeast, IsPolicyLevel}
 use Rattle.kn_answer.specs.Removed.{live_parts}
 use Rattle.kn_critical.specs.Searching.{HasRow, flags_without}
 
@@ -30,17 +32,21 @@ module _ (asked : Asked) (top : ℕ) (at : Levels) (name : List ℕ) where
   abbrev own : Part → ℕ
   own part = cond (bytes_eq (statement_of asked part).authorizer name) (worth top at (statement_of asked part)) 0
 
-  highest-fewer : (parts : List Part) (fewer more : List Bool) → AreBelow fewer more → highest (live_parts parts fewer) ≤ highest (live_parts parts more)
+  highest-fewer : (parts : List Part) (fewer more : List Bool) → AreBelow fewer more
+      → highest (live_parts parts fewer) ≤ highest (live_parts parts more)
   highest-fewer [] fewer more below = omega arith
   highest-fewer (part ∷ parts) [] more below = omega arith
   highest-fewer (part ∷ parts) (f ∷ fewer) [] below = absurd below
   highest-fewer (part ∷ parts) (f ∷ fewer) (m ∷ more) below = by f m below.0 (highest-fewer parts fewer more below.1)
     where
       by : (f m : Bool) → (f ≡ true → m ≡ true) → highest (live_parts parts fewer) ≤ highest (live_parts parts more)
-          → highest (cond f (part ∷ live_parts parts fewer) (live_parts parts fewer)) ≤ highest (cond m (part ∷ live_parts parts more) (live_parts parts more))
-      by true true set rest = max-more (own part) (highest (live_parts parts fewer)) (highest (live_parts parts more)) rest
+          → highest (cond f (part ∷ live_parts parts fewer) (live_parts parts fewer))
+          ≤ highest (cond m (part ∷ live_parts parts more) (live_parts parts more))
+      by true true set rest =
+          max-more (own part) (highest (live_parts parts fewer)) (highest (live_parts parts more)) rest
       by true false set rest = let both : false ≡ true = set refl in absurd (cc)
-      by false true set rest = max-other (own part) (highest (live_parts parts fewer)) (highest (live_parts parts more)) rest
+      by false true set rest = max-other (own part) (highest (live_parts parts fewer)) (highest (live_parts parts more))
+          rest
       by false false set rest = rest
 
   round-fewer : (b : Bool) (parts : List Part) (fewer more : List Bool) → AreBelow fewer more
@@ -56,7 +62,8 @@ module _ (asked : Asked) (parts : List Part) (fewer more : List Bool) (below : A
       raised : (other : List ℕ) → round (equations_over asked (live_parts parts fewer)) at other ≤ at other
       raised other =
           subst (λ n. round (equations_over asked (live_parts parts fewer)) at other ≤ n) (all.solves other)
-          (round-fewer asked (equations_over asked parts).top at other (is_requester (equations_over asked parts) other) parts fewer more below)
+          (round-fewer asked (equations_over asked parts).top at other (is_requester (equations_over asked parts) other)
+          parts fewer more below)
 
   pub fewer-never_raise : (level lower : ℕ) → IsPolicyLevel (equations_over asked (live_parts parts more)) level
       → IsPolicyLevel (equations_over asked (live_parts parts fewer)) lower → lower ≤ level
@@ -67,7 +74,8 @@ module _ (asked : Asked) (parts : List Part) (fewer more : List Bool) (below : A
       omega (arith, below, here, there)
 
 module _ (rows : List NamedRow) where
-  all-below : (parts : List Part) (start end : ℕ) → AreBelow (flags_without rows parts start end) (replicate (length parts) true)
+  all-below : (parts : List Part) (start end : ℕ)
+      → AreBelow (flags_without rows parts start end) (replicate (length parts) true)
   all-below [] start end = tt
   all-below (p ∷ parts) zero zero = (λ set. refl, all-below parts zero zero)
   all-below (p ∷ parts) zero (suc end) = (λ set. refl, all-below parts zero end)
@@ -75,7 +83,8 @@ module _ (rows : List NamedRow) where
   all-below (p ∷ parts) (suc start) (suc end) = (λ set. refl, all-below parts start end)
 
   -- a run is no more than without one of its assertions that a proof names
-  pub run-below : (parts : List Part) (start end row : ℕ) (id : Id) → start ≤ row → row < end → HasRow parts id row → is_row_by rows id ≡ true
+  pub run-below : (parts : List Part) (start end row : ℕ) (id : Id) → start ≤ row → row < end → HasRow parts id row
+      → is_row_by rows id ≡ true
       → AreBelow (flags_without rows parts start end) (slice_set (replicate (length parts) true) row false)
   run-below [] start end row id from to here is = absurd (cc)
   run-below (p ∷ parts) zero zero row id from to here is = absurd (omega (arith, to))

@@ -1,5 +1,6 @@
 -- The flags of a base from which a run of rows is taken out and put back.
-use Rattle.std.proofs.Common.{◌≡◌, ℕ, zero, suc, ◌<◌, ◌≤◌, Bool, true, false, not, List, [], ◌∷◌, length, replicate, slice_set, refl, sym, ap, ◌∙◌, arith}
+use Rattle.std.proofs.Common.{◌≡◌, ℕ, zero, suc, ◌<◌, ◌≤◌, Bool, true, false, not, List, [], ◌∷◌, length, replicate}
+use Rattle.std.proofs.Common.{slice_set, refl, sym, ap, ◌∙◌, arith}
 use Rattle.kn_proof.specs.declared.named.Id.{Id}
 use Rattle.kn_proof.specs.declared.named.NamedRow.{NamedRow}
 use Rattle.kn_meaning.specs.Critical.{is_row_by}
@@ -17,7 +18,8 @@ module _ (rows : List NamedRow) where
   none-out (p ∷ parts) (suc row) = ap (λ flags. true ∷ flags) (none-out parts row)
 
   -- a run grows by a row whose assertion a proof names
-  pub one-out : (parts : List Part) (start end : ℕ) (id : Id) → start ≤ end → HasRow parts id end → is_row_by rows id ≡ true
+  pub one-out : (parts : List Part) (start end : ℕ) (id : Id) → start ≤ end → HasRow parts id end
+      → is_row_by rows id ≡ true
       → slice_set (flags_without rows parts start end) end false ≡ flags_without rows parts start (suc end)
   one-out [] start end id ordered here is = absurd (cc)
   one-out (p ∷ parts) zero zero id ordered here is =
@@ -30,7 +32,8 @@ module _ (rows : List NamedRow) where
       ap (λ flags. true ∷ flags) (one-out parts start end id (omega (arith, ordered)) here is)
 
   -- and by another one
-  pub one-stays : (parts : List Part) (start end : ℕ) (id : Id) → start ≤ end → HasRow parts id end → is_row_by rows id ≡ false
+  pub one-stays : (parts : List Part) (start end : ℕ) (id : Id) → start ≤ end → HasRow parts id end
+      → is_row_by rows id ≡ false
       → flags_without rows parts start end ≡ flags_without rows parts start (suc end)
   one-stays [] start end id ordered here is = refl
   one-stays (p ∷ parts) zero zero id ordered here is =
@@ -51,7 +54,8 @@ module _ (rows : List NamedRow) where
   length-without (p ∷ parts) (suc start) (suc end) = ap suc (length-without parts start end)
 
   -- what was taken out is put back
-  pub all-back : (parts : List Part) (start end : ℕ) → flags_with (flags_without rows parts start end) start end ≡ replicate (length parts) true
+  pub all-back : (parts : List Part) (start end : ℕ) → flags_with (flags_without rows parts start end) start end
+      ≡ replicate (length parts) true
   all-back [] start end = refl
   all-back (p ∷ parts) zero zero = ap (λ flags. true ∷ flags) (all-back parts zero zero)
   all-back (p ∷ parts) zero (suc end) = ap (λ flags. true ∷ flags) (all-back parts zero end)
@@ -62,7 +66,8 @@ module _ (rows : List NamedRow) where
   pub alone-out : (parts : List Part) (row : ℕ) (id : Id) → HasRow parts id row → is_row_by rows id ≡ true
       → flags_without rows parts row (suc row) ≡ slice_set (replicate (length parts) true) row false
   alone-out parts row id here is =
-      sym (one-out parts row row id (omega arith) here is) ∙ ap (λ flags. slice_set flags row false) (none-out parts row)
+      sym (one-out parts row row id (omega arith) here is)
+      ∙ ap (λ flags. slice_set flags row false) (none-out parts row)
 
 -- putting back a run of no rows
 pub none-back : (flags : List Bool) (row : ℕ) → flags_with flags row row ≡ flags
@@ -75,7 +80,8 @@ pub one-back : (flags : List Bool) (start end : ℕ) → start ≤ end → end <
     → slice_set (flags_with flags start end) end true ≡ flags_with flags start (suc end)
 one-back [] start end ordered within = absurd (omega (arith, within))
 one-back (f ∷ flags) zero zero ordered within = refl
-one-back (f ∷ flags) zero (suc end) ordered within = ap (λ fs. true ∷ fs) (one-back flags zero end (omega arith) (omega (arith, within)))
+one-back (f ∷ flags) zero (suc end) ordered within =
+    ap (λ fs. true ∷ fs) (one-back flags zero end (omega arith) (omega (arith, within)))
 one-back (f ∷ flags) (suc start) zero ordered within = absurd (omega (arith, ordered))
 one-back (f ∷ flags) (suc start) (suc end) ordered within =
     ap (λ fs. f ∷ fs) (one-back flags start end (omega (arith, ordered)) (omega (arith, within)))

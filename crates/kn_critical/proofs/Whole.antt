@@ -9,7 +9,8 @@ use Rattle.kn_answer.specs.Removed.{live_parts}
 use Rattle.kn_critical.specs.Searching.{IsLevelWithoutRun, IsWhole, flags_with, flags_without}
 use Rattle.kn_critical.proofs.Flags.{all-back, length-without}
 
-module _ (asked : Asked) (rows : List NamedRow) (parts : List Part) (start end : ℕ) (old out : BaseView) (whole : IsWhole asked parts old)
+module _ (asked : Asked) (rows : List NamedRow) (parts : List Part) (start end : ℕ) (old out : BaseView)
+    (whole : IsWhole asked parts old)
     (taken : out ≡ record old { live = flags_without rows parts start end }) where
   flags : out.live ≡ flags_without rows parts start end
   flags = ap (λ (b : BaseView). b.live) taken
@@ -33,6 +34,7 @@ module _ (asked : Asked) (rows : List NamedRow) (parts : List Part) (start end :
       ∙ ap (λ (b : BaseView). with_names b.names asked.requesters) taken in
       record {
         of = subst (λ (b : BaseView). IsBaseOf parts b.names b.system) (sym put) is;
-        live = ap (λ (b : BaseView). b.live) put ∙ ap (λ fs. flags_with fs start end) (live ∙ flags) ∙ all-back rows parts start end;
+        live = ap (λ (b : BaseView). b.live) put ∙ ap (λ fs. flags_with fs start end) (live ∙ flags)
+            ∙ all-back rows parts start end;
         room = subst (λ ns. length ns ≤ 2 ^ 24) (sym names) whole.room;
       }

@@ -1,5 +1,6 @@
 -- Sessions that begin and end, and what stands behind BYE.
-use Rattle.std.proofs.Common.{◌≡◌, ◌≤◌, ◌<◌, ℕ, zero, suc, ◌+◌, ◌-◌, Bool, true, false, cond, not, ◌==◌, ◌||◌, List, [], ◌∷◌}
+use Rattle.std.proofs.Common.{◌≡◌, ◌≤◌, ◌<◌, ℕ, zero, suc, ◌+◌, ◌-◌, Bool, true, false, cond, not, ◌==◌, ◌||◌, List, []}
+use Rattle.std.proofs.Common.{◌∷◌}
 use Rattle.std.proofs.Common.{◌++◌, length, take, map, Option, Some, None, option_map, refl, sym, ap, ◌∙◌, subst, arith}
 use Rattle.std.proofs.Common.{length-append, ltb-true}
 use Rattle.std.specs.Prelude.{IsSome, IsSomeAnd, is_none, nat_lt}
@@ -17,7 +18,8 @@ use Rattle.kn_reply.specs.declared.refusal.Refusal.TheVariants as R
 use Rattle.kn_reply.specs.Replies.{Reply, Done, Started, No, NoMemory, Log, PinnedAt}
 use Rattle.kn_daemon.specs.declared.ended.Ended.{Ended}
 use Rattle.kn_daemon.specs.Shapes.{Look, ForNew, ForOpen, ForRetained, ForStanding, ForLog, Question, WithProof}
-use Rattle.kn_daemon.specs.Shapes.{WithCritical, ToKeep, ShowSecret, Leave, Shape, Calls, Updates, Looks, Asks, Controls}
+use Rattle.kn_daemon.specs.Shapes.{WithCritical, ToKeep, ShowSecret, Leave, Shape, Calls, Updates, Looks, Asks}
+use Rattle.kn_daemon.specs.Shapes.{Controls}
 use Rattle.kn_daemon.specs.Shapes.{AtFault}
 use Rattle.kn_daemon.specs.Daemon.{Grounds, State, session_of, refuse_if, placed_refusal, pinned_to, looked, kept}
 use Rattle.kn_daemon.specs.Daemon.{questioned, reply_of_call, IsLooked, Does, Permits}

@@ -21,8 +21,8 @@ use Rattle.kn_daemon.specs.Daemon.{Permits}
 use Rattle.kn_daemon.specs.Linearized.{requests_in}
 use Rattle.kn_daemon.specs.Served.{IsServed}
 
--- A reply to PIN that tells a version tells that of its place, and the session is then pinned to it. Nothing else of the
--- session changes.
+-- A reply to PIN that tells a version tells that of its place, and the session is then pinned to it. Nothing else of
+-- the session changes.
 abbrev pub PinIsTold : Type 0
 PinIsTold = (g : Grounds) (caller : ℕ) (past : List Update) (old : State) (s version : ℕ) (new : State)
     → Permits g caller past old (Looks (ForOpen s)) (Number version) new
@@ -95,8 +95,8 @@ abbrev pub RefusedLookIsNotTold : Type 0
 RefusedLookIsNotTold = (past : List Update) (old : State) (look : Look) (refusal : Refusal) (reply : Reply)
     → placed_refusal past (Looks look) ≡ Some refusal → IsLooked past old look reply → ⊥
 
--- The history ends with an update of so many additions. The first of them has this id, which is the next one behind what
--- is before the update, or would have it.
+-- The history ends with an update of so many additions. The first of them has this id, which is the next one behind
+-- what is before the update, or would have it.
 pub record EndsWithBatch (past : List Update) (first added : ℕ) : Type 0 where
   pub before : List Update
   pub update : Update
@@ -114,6 +114,7 @@ BatchTellsIds = (g : Grounds) (caller : ℕ) (past : List Update) (old : State) 
 -- What stands behind BYE isn't answered.
 abbrev pub NothingBehindBye : Type 0
 NothingBehindBye = (g : Grounds) (taken written : List ℕ) (ended : Ended) (is_over : Bool) (history : List Update)
-    (start end caller : ℕ) (stops : List ℕ) (served : IsServed g taken written ended is_over history start end caller stops)
+    (start end caller : ℕ) (stops : List ℕ)
+    (served : IsServed g taken written ended is_over history start end caller stops)
     (front behind : List Request)
     → requests_in served.exchanges ≡ front ++ Bye ∷ behind → behind ≡ []

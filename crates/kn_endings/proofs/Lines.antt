@@ -12,8 +12,10 @@ pub text_parts : (a b : List ℕ) (fault line : ℕ) → a ≡ decimal fault →
 unfolding text_line
 text_parts a b fault line first second = rw (first, second) (simp append_assoc)
 
-pub reject_parts : (a b p : List ℕ) (reject : Reject) → a ≡ decimal (reason_number reject) → b ≡ decimal (reason_row reject) → p ≡ decimal (reason_found reject) →
-    codes "error proof reject " ++ (a ++ (codes " " ++ (b ++ (codes " " ++ (p ++ (codes "\n" ++ [])))))) ≡ reject_line reject
+pub reject_parts : (a b p : List ℕ) (reject : Reject) → a ≡ decimal (reason_number reject)
+    → b ≡ decimal (reason_row reject) → p ≡ decimal (reason_found reject) →
+    codes "error proof reject " ++ (a ++ (codes " " ++ (b ++ (codes " " ++ (p ++ (codes "\n" ++ []))))))
+    ≡ reject_line reject
 unfolding reject_line
 reject_parts a b p reject first second third = rw (first, second, third) (simp append_assoc)
 

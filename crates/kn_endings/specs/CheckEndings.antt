@@ -22,7 +22,8 @@ text_line fault line = codes "error proof text " ++ decimal fault ++ codes " " +
 -- the line that tells why rows are no proof
 unfoldable pub reject_line : Reject → List ℕ
 reject_line reject =
-    codes "error proof reject " ++ decimal (reason_numbers reject).0 ++ codes " " ++ decimal (reason_numbers reject).1 ++ codes " " ++ decimal (reason_numbers reject).2 ++ codes "\n"
+    codes "error proof reject " ++ decimal (reason_numbers reject).0 ++ codes " " ++ decimal (reason_numbers reject).1
+    ++ codes " " ++ decimal (reason_numbers reject).2 ++ codes "\n"
 
 unfoldable pub proved_line : ℕ → List ℕ → List ℕ
 proved_line value name = codes "PROVED " ++ decimal value ++ codes " " ++ name ++ codes "\n"

@@ -13,8 +13,8 @@ use kn_reply::LimitWord;
 /// The bytes of a line that is written at once.
 const GATHERED_BYTES: usize = 512;
 
-/// Prints texts one after the other: at once, unless they are long together. `Failed` says that a write failed, and that
-/// a front of the texts was written.
+/// Prints texts one after the other: at once, unless they are long together. `Failed` says that a write failed, and
+/// that a front of the texts was written.
 pub fn print_all<O: Sink>(out: &mut O, texts: &[&[u8]]) -> Result<(), Failed>
     ensures { Prints (is_whole result) (flat_map (λ t. t.now) texts.now) (O.seen out.old) (O.seen out.new) }
 {

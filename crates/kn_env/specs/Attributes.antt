@@ -1,5 +1,6 @@
 -- Action attributes (RFC 2704, section 3; their limits are keynoted's own), in the order in which they were entered.
-use Rattle.std.specs.Prelude.{ℕ, Bool, false, ◌==◌, ◌&&◌, ◌||◌, not, nat_le, nat_lt, List, [], ◌∷◌, length, filter, find, map, Option, Some, None, if◌then◌else◌}
+use Rattle.std.specs.Prelude.{ℕ, Bool, false, ◌==◌, ◌&&◌, ◌||◌, not, nat_le, nat_lt, List, [], ◌∷◌, length, filter}
+use Rattle.std.specs.Prelude.{find, map, Option, Some, None, if◌then◌else◌}
 use Rattle.std.specs.List.{list_all, list_any}
 use Rattle.std.specs.Option.{option_map}
 use Rattle.std.specs.Str.{bytes_eq}
@@ -61,5 +62,6 @@ abbrev pub attribute_fault : List ℕ → List ℕ → List Attribute → Option
 attribute_fault name value attributes =
     if not (is_settable name) then Some BadName
     else if nat_lt VALUE_BYTES (length value) then Some BadValue
-    else if not (has_attribute name attributes) && nat_le ATTRIBUTES (length attributes) then Some (Full (length attributes))
+    else if not (has_attribute name attributes)
+    && nat_le ATTRIBUTES (length attributes) then Some (Full (length attributes))
     else None

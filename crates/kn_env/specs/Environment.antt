@@ -1,5 +1,7 @@
--- What a query asks, and the value of a name in it (RFC 2704, sections 4 and 5; which row is tried first is keynoted's own).
-use Rattle.std.specs.Prelude.{ℕ, ◌≡◌, ◌≤◌, ◌-◌, false, List, [], length, find, slice_index_or, codes, Option, if◌then◌else◌}
+-- What a query asks, and the value of a name in it (RFC 2704, sections 4 and 5; which row is tried first is keynoted's
+-- own).
+use Rattle.std.specs.Prelude.{ℕ, ◌≡◌, ◌≤◌, ◌-◌, false, List, [], length, find, slice_index_or, codes, Option}
+use Rattle.std.specs.Prelude.{if◌then◌else◌}
 use Rattle.std.specs.List.{join_with_byte, list_any, AllByRecursion}
 use Rattle.std.specs.Option.{option_map, option_map_or}
 use Rattle.std.specs.Str.{bytes_eq}

@@ -1,8 +1,10 @@
 -- The compliance values of a query by their names (RFC 2704, section 5; their text is keynoted's own).
-use Rattle.std.specs.Prelude.{ℕ, ◌≡◌, ◌≤◌, Bool, true, ◌==◌, ◌&&◌, ◌||◌, not, nat_le, nat_lt, List, [], length, take, slice_index_or, Option, Some, None, if◌then◌else◌}
+use Rattle.std.specs.Prelude.{ℕ, ◌≡◌, ◌≤◌, Bool, true, ◌==◌, ◌&&◌, ◌||◌, not, nat_le, nat_lt, List, [], length, take}
+use Rattle.std.specs.Prelude.{slice_index_or, Option, Some, None, if◌then◌else◌}
 use Rattle.std.specs.List.{list_all, list_any, slice_split, position, range_with_len, AllByRecursion, IsDistinct}
 use Rattle.std.specs.Str.{bytes_eq}
-use Rattle.kn_base.specs.declared.limits.TheConstants.{COMPLIANCE_VALUE_BYTES, FEWEST_COMPLIANCE_VALUES, MOST_COMPLIANCE_VALUES}
+use Rattle.kn_base.specs.declared.limits.TheConstants.{COMPLIANCE_VALUE_BYTES, FEWEST_COMPLIANCE_VALUES}
+use Rattle.kn_base.specs.declared.limits.TheConstants.{MOST_COMPLIANCE_VALUES}
 use Rattle.kn_env.specs.declared.values.ValuesFault.{ValuesFault}
 use Rattle.kn_env.specs.declared.values.ValuesFault.TheVariants.{Count, BadName, Twice}
 
@@ -12,7 +14,8 @@ between_commas text = slice_split (λ byte. byte == 44) text
 
 -- a name of one byte or more that isn't too long, each byte a printing character of ASCII but the space
 abbrev pub is_value_name : List ℕ → Bool
-is_value_name name = (nat_le 1 (length name) && nat_le (length name) COMPLIANCE_VALUE_BYTES) && list_all (λ byte. nat_le 33 byte && nat_le byte 126) name
+is_value_name name = (nat_le 1 (length name) && nat_le (length name) COMPLIANCE_VALUE_BYTES)
+    && list_all (λ byte. nat_le 33 byte && nat_le byte 126) name
 
 -- the name at this place stood before
 abbrev pub stood_before : List (List ℕ) → ℕ → Bool
@@ -37,7 +40,9 @@ name_fault (Some at) names = Some (BadName at)
 -- why names are no compliance values, the first that applies: too few or too many, a name that is none, a name twice
 abbrev pub names_fault : List (List ℕ) → Option ValuesFault
 names_fault names =
-    if nat_lt (length names) FEWEST_COMPLIANCE_VALUES || nat_lt MOST_COMPLIANCE_VALUES (length names) then Some (Count (length names)) else name_fault (bad_place names) names
+    if nat_lt (length names) FEWEST_COMPLIANCE_VALUES
+    || nat_lt MOST_COMPLIANCE_VALUES (length names) then Some (Count (length names)) else name_fault
+    (bad_place names) names
 
 -- the fault of a text of names
 abbrev pub values_fault : List ℕ → Option ValuesFault

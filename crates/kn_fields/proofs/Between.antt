@@ -1,5 +1,6 @@
 -- The tokens from one place up to another, token by token.
-use Rattle.std.proofs.Common.{◌≡◌, ℕ, ◌+◌, ◌-◌, ◌<◌, ◌≤◌, Option, Some, None, List, [], ◌∷◌, ◌++◌, length, drop, arith, append-nil}
+use Rattle.std.proofs.Common.{◌≡◌, ℕ, ◌+◌, ◌-◌, ◌<◌, ◌≤◌, Option, Some, None, List, [], ◌∷◌, ◌++◌, length, drop, arith}
+use Rattle.std.proofs.Common.{append-nil}
 use Rattle.std.specs.Prelude.{slice_get}
 use Rattle.std.proofs.lemmas.Option.{gets, slice_get_cases, slice_get_past}
 use Rattle.std.proofs.lemmas.List.{take_all, length-drop, length-take-le, drop_all, drop_more}
@@ -19,14 +20,17 @@ drop_here xs i t is = grind (arith, gets, drop_more)
 pub drop_step : (xs : List Seen) (i : ℕ) → i < length xs → drop i xs ≡ first_then (slice_get xs i) (drop (i + 1) xs)
 drop_step xs i below = grind (arith, gets, drop_more)
 
-pub between_step : (xs : List Seen) (i to : ℕ) → i < to → between i to xs ≡ first_then (slice_get xs i) (between (i + 1) to xs)
+pub between_step : (xs : List Seen) (i to : ℕ) → i < to
+    → between i to xs ≡ first_then (slice_get xs i) (between (i + 1) to xs)
 unfolding between
 between_step xs i to below = grind (arith, gets, drop_more, drop_all)
 
-pub between_here : (xs : List Seen) (i to : ℕ) (t : Seen) → slice_get xs i ≡ Some t → i < to → between i to xs ≡ t ∷ between (i + 1) to xs
+pub between_here : (xs : List Seen) (i to : ℕ) (t : Seen) → slice_get xs i ≡ Some t → i < to
+    → between i to xs ≡ t ∷ between (i + 1) to xs
 between_here xs i to t is below = grind (arith, between_step)
 
-pub between_more : (xs : List Seen) (from i : ℕ) → from ≤ i → between from (i + 1) xs ≡ between from i xs ++ first_then (slice_get xs i) []
+pub between_more : (xs : List Seen) (from i : ℕ) → from ≤ i
+    → between from (i + 1) xs ≡ between from i xs ++ first_then (slice_get xs i) []
 unfolding between
 between_more xs from i le = grind (arith, gets, slice_get_past, between_pushed, take_all, length-drop, append-nil)
 
@@ -52,7 +56,8 @@ pub record HasThree (xs : List Seen) (i to : ℕ) : Type 0 where
   pub all : between i to xs ≡ name ∷ equals ∷ value ∷ between (i + 3) to xs
 
 pub three_here : (xs : List Seen) (i to : ℕ) → i + 2 < to → to ≤ length xs → HasThree xs i to
-three_here xs i to below within = grind (arith, between_step, slice_get_cases xs i, slice_get_cases xs (i + 1), slice_get_cases xs (i + 2))
+three_here xs i to below within =
+    grind (arith, between_step, slice_get_cases xs i, slice_get_cases xs (i + 1), slice_get_cases xs (i + 2))
 
 -- a step of a loop up to the next label
 pub ruleset stretch_steps = (drop_step, between_more, between_none, list_any-append, gets)

@@ -5,10 +5,12 @@ use Rattle.kn_lex.specs.Cutting.{Seen}
 use Rattle.kn_fields.specs.Fields.{Field, field_with}
 use Rattle.kn_fields.specs.Faults.{is_bad_field, is_second}
 use Rattle.kn_fields.specs.Turns.{turn_behind, departs}
-use Rattle.kn_fields.specs.Scanning.{first_place, order_place, version_place, end_place, departure, constant_place, fault_at, fault_without, fault_in}
+use Rattle.kn_fields.specs.Scanning.{first_place, order_place, version_place, end_place, departure, constant_place}
+use Rattle.kn_fields.specs.Scanning.{fault_at, fault_without, fault_in}
 use Rattle.kn_fields.specs.declared.constants.Turn.TheVariants.{Setting}
 use Rattle.kn_fields.specs.declared.fault.ReadFault.{ReadFault}
-use Rattle.kn_fields.specs.declared.fault.ReadFault.TheVariants.{BadField, FieldTwice, FieldOrder, NoAuthorizer, Version, Constant}
+use Rattle.kn_fields.specs.declared.fault.ReadFault.TheVariants.{BadField, FieldTwice, FieldOrder, NoAuthorizer}
+use Rattle.kn_fields.specs.declared.fault.ReadFault.TheVariants.{Version, Constant}
 use Rattle.kn_fields.proofs.Lists.{turns}
 
 pub place_over : (is_bad : List Seen → Seen → Bool) (before : List Seen) → first_place is_bad before [] ≡ None
@@ -16,23 +18,30 @@ unfolding first_place
 place_over is_bad before = refl
 
 pub place_here : (is_bad : List Seen → Seen → Bool) (before : List Seen) (token : Seen) (tokens : List Seen)
-    → first_place is_bad before (token ∷ tokens) ≡ (if is_bad before token then Some token.span.start else first_place is_bad (before ++ token ∷ []) tokens)
+    → first_place is_bad before (token ∷ tokens)
+    ≡ (if is_bad before token then Some token.span.start else first_place is_bad (before ++ token ∷ []) tokens)
 unfolding first_place
 place_here is_bad before token tokens = refl
 
-pub departure_by : (tokens : List Seen) (label : Option ℕ) → departure tokens label ≡ option_or (first_place departs [] tokens) (end_place label (turn_behind Setting tokens))
+pub departure_by : (tokens : List Seen) (label : Option ℕ)
+    → departure tokens label ≡ option_or (first_place departs [] tokens) (end_place label (turn_behind Setting tokens))
 unfolding departure
 departure_by tokens label = refl
 
 -- a step of the loop that looks for a departure
 pub ruleset departure_steps = (turns, place_over, place_here, departure_by)
 
-pub fault_in_order : (tokens : List Seen) → fault_in tokens ≡ fault_at BadField (first_place is_bad_field [] tokens) (fault_at FieldTwice (first_place is_second [] tokens)
-    (fault_at FieldOrder (order_place tokens) (fault_without NoAuthorizer (field_with 1 tokens) (fault_at Version (version_place tokens) (fault_at Constant (constant_place tokens) None)))))
+pub fault_in_order : (tokens : List Seen)
+    → fault_in tokens
+    ≡ fault_at BadField (first_place is_bad_field [] tokens) (fault_at FieldTwice (first_place is_second [] tokens)
+    (fault_at FieldOrder (order_place tokens)
+    (fault_without NoAuthorizer (field_with 1 tokens)
+    (fault_at Version (version_place tokens) (fault_at Constant (constant_place tokens) None)))))
 unfolding fault_in
 fault_in_order tokens = refl
 
-pub fault_here : (fault : ℕ → ReadFault) (at : ℕ) (others : Option ReadFault) → fault_at fault (Some at) others ≡ Some (fault at)
+pub fault_here : (fault : ℕ → ReadFault) (at : ℕ) (others : Option ReadFault)
+    → fault_at fault (Some at) others ≡ Some (fault at)
 unfolding fault_at
 fault_here fault at others = refl
 
@@ -44,7 +53,8 @@ pub fault_lacking : (fault : ReadFault) (others : Option ReadFault) → fault_wi
 unfolding fault_without
 fault_lacking fault others = refl
 
-pub fault_there : (fault : ReadFault) (field : Field) (others : Option ReadFault) → fault_without fault (Some field) others ≡ others
+pub fault_there : (fault : ReadFault) (field : Field) (others : Option ReadFault)
+    → fault_without fault (Some field) others ≡ others
 unfolding fault_without
 fault_there fault field others = refl
 

@@ -15,7 +15,8 @@ pub no_names : (names : BTreeSet (Bor (List ℕ))) → names.keys ≡ [] → Are
 no_names names none = λ name. grind arith
 
 -- a token that is no name adds none
-pub names_same : (names : BTreeSet (Bor (List ℕ))) (before : List Seen) (token : Seen) → is_name_sort token.sort ≡ false → AreNames names before → AreNames names (before ++ token ∷ [])
+pub names_same : (names : BTreeSet (Bor (List ℕ))) (before : List Seen) (token : Seen) → is_name_sort token.sort ≡ false
+    → AreNames names before → AreNames names (before ++ token ∷ [])
 names_same names before token other are = λ name. grind (arith, list_any-append, are name)
 
 -- a name is added

@@ -1,5 +1,6 @@
 -- What the words of a derivation open and how many prefix signs stand in a row there, at each place.
-use Rattle.std.proofs.Common.{◌≡◌, ℕ, ◌+◌, ◌-◌, ◌≤◌, true, false, ◌||◌, if◌then◌else◌, List, [], ◌∷◌, ◌++◌, codes, refl, arith}
+use Rattle.std.proofs.Common.{◌≡◌, ℕ, ◌+◌, ◌-◌, ◌≤◌, true, false, ◌||◌, if◌then◌else◌, List, [], ◌∷◌, ◌++◌, codes, refl}
+use Rattle.std.proofs.Common.{arith}
 use Rattle.std.specs.Str.{bytes_eq}
 use Rattle.std.proofs.lemmas.Bool.Decides.{nat_tests}
 use Rattle.kn_lex.specs.Cutting.{Seen}
@@ -22,7 +23,8 @@ word_depth depth word = depth
 
 -- the prefix signs that stand in a row up to a word
 abbrev sign_run : ℕ → List ℕ → ℕ
-sign_run run text = if bytes_eq text (codes "!") || bytes_eq text (codes "-") || bytes_eq text (codes "@") || bytes_eq text (codes "$") then run + 1 else 0
+sign_run run text = if bytes_eq text (codes "!") || bytes_eq text (codes "-") || bytes_eq text (codes "@")
+    || bytes_eq text (codes "$") then run + 1 else 0
 
 abbrev pub word_run : ℕ → Word → ℕ
 word_run run (sign_word text) = sign_run run text
@@ -41,13 +43,16 @@ unfoldable pub Fits : ℕ → ℕ → List Word → Type 0
 Fits depth run [] = (depth ≤ 64) × (run ≤ 8)
 Fits depth run (word ∷ words) = (depth ≤ 64) × (run ≤ 8) × Fits (word_depth depth word) (word_run run word) words
 
-fits_tokens : (depth run : ℕ) (tokens : List Seen) → (is_past depth run || goes_deep depth run tokens) ≡ false → Fits depth run (words_of tokens)
+fits_tokens : (depth run : ℕ) (tokens : List Seen) → (is_past depth run || goes_deep depth run tokens) ≡ false
+    → Fits depth run (words_of tokens)
 unfolding Fits words_of goes_deep
 fits_tokens depth run [] shallow = grind (arith, nat_tests)
-fits_tokens depth run (token ∷ tokens) shallow = grind (arith, nat_tests, depth_of, run_of, fits_tokens (depth_behind depth token) (run_behind run token) tokens)
+fits_tokens depth run (token ∷ tokens) shallow =
+    grind (arith, nat_tests, depth_of, run_of, fits_tokens (depth_behind depth token) (run_behind run token) tokens)
 
 pub shallow_fits : (tokens : List Seen) → (IsTooDeep tokens → ⊥) → Fits 0 0 (words_of tokens)
-shallow_fits tokens shallow = fits_tokens 0 0 tokens (grind (arith, λ (deep : true ≡ goes_deep 0 0 tokens). shallow (deep_shown tokens deep)))
+shallow_fits tokens shallow =
+    fits_tokens 0 0 tokens (grind (arith, λ (deep : true ≡ goes_deep 0 0 tokens). shallow (deep_shown tokens deep)))
 
 pub fits_here : (depth run : ℕ) (words : List Word) → Fits depth run words → (depth ≤ 64) × (run ≤ 8)
 unfolding Fits
@@ -57,7 +62,8 @@ fits_here depth run (word ∷ words) fits = (fits.0, fits.1)
 pub fits_front : (depth run : ℕ) (front rest : List Word) → Fits depth run (front ++ rest) → Fits depth run front
 unfolding Fits
 fits_front depth run [] rest fits = fits_here depth run rest fits
-fits_front depth run (word ∷ front) rest fits = (fits.0, fits.1, fits_front (word_depth depth word) (word_run run word) front rest fits.2)
+fits_front depth run (word ∷ front) rest fits =
+    (fits.0, fits.1, fits_front (word_depth depth word) (word_run run word) front rest fits.2)
 
 -- a shorter run before the words gives no longer one
 run_low : (run less : ℕ) (word : Word) → less ≤ run → word_run less word ≤ word_run run word
@@ -66,8 +72,12 @@ run_low run less word low = grind arith
 fits_low : (depth run less : ℕ) (words : List Word) → less ≤ run → Fits depth run words → Fits depth less words
 unfolding Fits
 fits_low depth run less [] low fits = omega (arith, fits)
-fits_low depth run less (word ∷ words) low fits =
-    (fits.0, omega (arith, fits.1), fits_low (word_depth depth word) (word_run run word) (word_run less word) words (run_low run less word low) fits.2)
+fits_low depth run less (word ∷ words) low fits = (
+  fits.0,
+  omega (arith, fits.1),
+  fits_low (word_depth depth word) (word_run run word) (word_run less word) words (run_low run less word low)
+      fits.2,
+)
 
 -- the brackets that are open behind all the words
 unfoldable pub after : ℕ → List Word → ℕ
@@ -93,25 +103,31 @@ abbrev pub IsPlain : Word → Type 0
 IsPlain word = (depth : ℕ) → word_depth depth word ≡ depth
 
 -- what stands behind a part with its brackets closed
-pub fits_between : (depth run : ℕ) (front rest : List Word) (word : Word) → Closes front → IsPlain word → Fits depth run (front ++ word ∷ rest) → Fits depth 0 rest
+pub fits_between : (depth run : ℕ) (front rest : List Word) (word : Word) → Closes front → IsPlain word
+    → Fits depth run (front ++ word ∷ rest) → Fits depth 0 rest
 unfolding Fits
 fits_between depth run front rest word closes plain fits =
     let behind = (fits_rest depth run front (word ∷ rest) fits).2 in
     rw (closes depth, plain depth) at (fits_low _ (word_run 0 word) 0 rest (omega arith) behind)
 
-pub closes_between : (front rest : List Word) (word : Word) → Closes front → IsPlain word → Closes rest → Closes (front ++ word ∷ rest)
+pub closes_between : (front rest : List Word) (word : Word) → Closes front → IsPlain word → Closes rest
+    → Closes (front ++ word ∷ rest)
 unfolding after
-closes_between front rest word first plain second depth = cc (after_append depth front (word ∷ rest), first depth, plain depth, second depth)
+closes_between front rest word first plain second depth =
+    cc (after_append depth front (word ∷ rest), first depth, plain depth, second depth)
 
-pub closes_group : (depth : ℕ) (inner : List Word) (word : Word) → Closes inner → word_depth (depth + 1) word ≡ depth → after (depth + 1) (inner ++ word ∷ []) ≡ depth
+pub closes_group : (depth : ℕ) (inner : List Word) (word : Word) → Closes inner → word_depth (depth + 1) word ≡ depth
+    → after (depth + 1) (inner ++ word ∷ []) ≡ depth
 unfolding after
 closes_group depth inner word closes closing = cc (after_append (depth + 1) inner (word ∷ []), closes (depth + 1))
 
 -- in brackets one more is open
-pub fits_group : (depth run : ℕ) (inner : List Word) → Fits depth run (sign_word (codes "(") ∷ inner ++ sign_word (codes ")") ∷ []) → Fits (depth + 1) 0 inner
+pub fits_group : (depth run : ℕ) (inner : List Word)
+    → Fits depth run (sign_word (codes "(") ∷ inner ++ sign_word (codes ")") ∷ []) → Fits (depth + 1) 0 inner
 unfolding Fits
 fits_group depth run inner fits = fits_front (depth + 1) 0 inner (sign_word (codes ")") ∷ []) fits.2
 
-pub fits_block : (depth run : ℕ) (inner : List Word) → Fits depth run (sign_word (codes "{") ∷ (inner ++ sign_word (codes "}") ∷ [])) → Fits (depth + 1) 0 inner
+pub fits_block : (depth run : ℕ) (inner : List Word)
+    → Fits depth run (sign_word (codes "{") ∷ (inner ++ sign_word (codes "}") ∷ [])) → Fits (depth + 1) 0 inner
 unfolding Fits
 fits_block depth run inner fits = fits_front (depth + 1) 0 inner (sign_word (codes "}") ∷ []) fits.2

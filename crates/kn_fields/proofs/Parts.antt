@@ -12,12 +12,14 @@ abbrev pub goes_on : Seen → Bool
 goes_on token = not (is_label token)
 
 -- up to the next label go the tokens of a field
-pub own_tokens : (xs : List Seen) (from end : ℕ) → end ≡ from + prefix_len goes_on (drop from xs) → take_while goes_on (drop from xs) ≡ between from end xs
+pub own_tokens : (xs : List Seen) (from end : ℕ) → end ≡ from + prefix_len goes_on (drop from xs)
+    → take_while goes_on (drop from xs) ≡ between from end xs
 unfolding between
 own_tokens xs from end last = grind arith
 
 -- a list of another length than one is no version
-pub no_version : (xs : List Seen) (from to : ℕ) → from ≤ to → to ≤ length xs → (to ≡ from + 1 → ⊥) → false ≡ is_version (between from to xs)
+pub no_version : (xs : List Seen) (from to : ℕ) → from ≤ to → to ≤ length xs → (to ≡ from + 1 → ⊥)
+    → false ≡ is_version (between from to xs)
 no_version xs from to le within other = grind (arith, between_length xs from to le within)
 
 pub ruleset version_steps = (steps, no_version)

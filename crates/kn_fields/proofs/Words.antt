@@ -1,5 +1,6 @@
 -- The words of a field, word by word, and the signs and names among them, forwards and backwards.
-use Rattle.std.proofs.Common.{◌≡◌, ℕ, ◌-◌, ◌≤◌, Bool, true, false, List, [], ◌∷◌, length, Option, Some, None, refl, arith}
+use Rattle.std.proofs.Common.{◌≡◌, ℕ, ◌-◌, ◌≤◌, Bool, true, false, List, [], ◌∷◌, length, Option, Some, None, refl}
+use Rattle.std.proofs.Common.{arith}
 use Rattle.std.specs.Str.{bytes_eq}
 use Rattle.std.proofs.lemmas.Option.{some_pair_parts}
 use Rattle.std.proofs.lemmas.Slice.Eq.{bytes_eq-Decides}
@@ -16,7 +17,8 @@ length_words [] = refl
 length_words (token ∷ tokens) = grind (arith, length_words tokens)
 
 -- as many words as places
-pub words_length : (tokens : List Seen) (at end : ℕ) → at ≤ end → end ≤ length tokens → end - at ≡ length (words_of (between at end tokens))
+pub words_length : (tokens : List Seen) (at end : ℕ) → at ≤ end → end ≤ length tokens
+    → end - at ≡ length (words_of (between at end tokens))
 words_length tokens at end ordered within = grind (arith, length_words, between_length)
 
 -- a step of a cursor
@@ -26,17 +28,20 @@ pub same_bytes : (xs ys : List ℕ) → bytes_eq xs ys ≡ true → xs ≡ ys
 same_bytes xs ys = (bytes_eq-Decides xs ys).0
 
 -- no sign stands at the front
-pub none_taken : {S : Type 0} (which : List ℕ → Option S) (words : List Word) → None ≡ first_sign words → None ≡ taken which words
+pub none_taken : {S : Type 0} (which : List ℕ → Option S) (words : List Word) → None ≡ first_sign words
+    → None ≡ taken which words
 unfolding taken
 none_taken which words none = grind arith
 
 -- the sign at the front stands for this, or for nothing
-pub sign_taken : {S : Type 0} (which : List ℕ → Option S) (words rest : List Word) (text : List ℕ) (found : Option S) → Some text ≡ first_sign words → found ≡ which text → rest ≡ rest_of words
+pub sign_taken : {S : Type 0} (which : List ℕ → Option S) (words rest : List Word) (text : List ℕ) (found : Option S)
+    → Some text ≡ first_sign words → found ≡ which text → rest ≡ rest_of words
     → with_rest found rest ≡ taken which words
 unfolding taken
 sign_taken which words rest text found there stands is = grind arith
 
-pub sign_left : {S : Type 0} (which : List ℕ → Option S) (words : List Word) (text : List ℕ) → Some text ≡ first_sign words → None ≡ which text → None ≡ taken which words
+pub sign_left : {S : Type 0} (which : List ℕ → Option S) (words : List Word) (text : List ℕ)
+    → Some text ≡ first_sign words → None ≡ which text → None ≡ taken which words
 sign_left which words text there stands = sign_taken which words (rest_of words) text None there stands refl
 
 pub is_itself : (wanted text : List ℕ) → bytes_eq text wanted ≡ true → Some tt ≡ itself wanted text
@@ -48,10 +53,12 @@ unfolding itself
 not_itself wanted text differs = grind arith
 
 -- a sign that was there, and one that was not
-pub took : (there : Bool) (text written : List ℕ) (words rest : List Word) → there ≡ true → mark_if there rest ≡ marked text words → text ≡ written → marked written words ≡ Some (tt, rest)
+pub took : (there : Bool) (text written : List ℕ) (words rest : List Word) → there ≡ true
+    → mark_if there rest ≡ marked text words → text ≡ written → marked written words ≡ Some (tt, rest)
 took there text written words rest came is same = grind arith
 
-pub passed : (there : Bool) (text written : List ℕ) (words rest : List Word) → there ≡ false → mark_if there rest ≡ marked text words → text ≡ written → marked written words ≡ None
+pub passed : (there : Bool) (text written : List ℕ) (words rest : List Word) → there ≡ false
+    → mark_if there rest ≡ marked text words → text ≡ written → marked written words ≡ None
 passed there text written words rest came is same = grind arith
 
 -- a sign is taken from the front
@@ -61,19 +68,23 @@ pub record Taken {S : Type 0} (which : List ℕ → Option S) (words rest : List
   pub stands_for : which text ≡ Some found
 
 -- the parts of what is read
-pub read_parts : {X Y : Type 0} (a c : X) (b d : Y) → ◌≡◌ {A = Option (X × Y)} (Some (a, b)) (Some (c, d)) → (a ≡ c) × (b ≡ d)
+pub read_parts : {X Y : Type 0} (a c : X) (b d : Y) → ◌≡◌ {A = Option (X × Y)} (Some (a, b)) (Some (c, d)) → (a ≡ c)
+    × (b ≡ d)
 read_parts a c b d e = some_pair_parts a c b d e
 
-pub taken_before : {S : Type 0} (which : List ℕ → Option S) (words rest : List Word) (found : S) → taken which words ≡ Some (found, rest) → Taken which words rest found
+pub taken_before : {S : Type 0} (which : List ℕ → Option S) (words rest : List Word) (found : S)
+    → taken which words ≡ Some (found, rest) → Taken which words rest found
 unfolding taken
 taken_before which words rest found e = grind arith
 
-pub taken_there : {S : Type 0} (which : List ℕ → Option S) (text : List ℕ) (rest : List Word) (found : S) → which text ≡ Some found → taken which (sign text ∷ rest) ≡ Some (found, rest)
+pub taken_there : {S : Type 0} (which : List ℕ → Option S) (text : List ℕ) (rest : List Word) (found : S)
+    → which text ≡ Some found → taken which (sign text ∷ rest) ≡ Some (found, rest)
 unfolding taken
 taken_there which text rest found e = grind arith
 
 -- so is a sign that stands for itself
-pub marked_before : (text : List ℕ) (words rest : List Word) (mark : Mark) → marked text words ≡ Some (mark, rest) → words ≡ sign text ∷ rest
+pub marked_before : (text : List ℕ) (words rest : List Word) (mark : Mark) → marked text words ≡ Some (mark, rest)
+    → words ≡ sign text ∷ rest
 unfolding taken itself
 marked_before text words rest mark e = grind (arith, bytes_eq-Decides)
 
@@ -82,6 +93,7 @@ unfolding taken itself
 marked_there text rest = grind (arith, bytes_eq-Decides)
 
 -- and a name
-pub named_before : (text : List ℕ) (words rest : List Word) (mark : Mark) → named text words ≡ Some (mark, rest) → words ≡ name text ∷ rest
+pub named_before : (text : List ℕ) (words rest : List Word) (mark : Mark) → named text words ≡ Some (mark, rest)
+    → words ≡ name text ∷ rest
 unfolding named itself
 named_before text words rest mark e = grind (arith, bytes_eq-Decides)

@@ -20,4 +20,5 @@ tokens_behind (Err fault) = Err (of_lexical fault)
 
 -- the tokens of a text whose fields are right, or its first fault
 unfoldable pub fields_or_fault : List ℕ → Result (List Seen) ReadFault
-fields_or_fault text = if nat_lt ASSERTION_BYTES (length text) then Err (TooLong (length text)) else tokens_behind (tokens_or_fault text)
+fields_or_fault text = if nat_lt ASSERTION_BYTES (length text) then Err (TooLong (length text)) else tokens_behind
+    (tokens_or_fault text)

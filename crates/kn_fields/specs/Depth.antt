@@ -1,5 +1,6 @@
 -- How deep the tokens of a field go. Both bounds are keynoted's own.
-use Rattle.std.specs.Prelude.{◌≡◌, ℕ, ◌+◌, ◌-◌, ◌<◌, ◌⊎◌, ◌==◌, Bool, true, false, ◌&&◌, ◌||◌, List, [], ◌∷◌, ◌++◌, All, fold, length, codes, if◌then◌else◌}
+use Rattle.std.specs.Prelude.{◌≡◌, ℕ, ◌+◌, ◌-◌, ◌<◌, ◌⊎◌, ◌==◌, Bool, true, false, ◌&&◌, ◌||◌, List, [], ◌∷◌, ◌++◌, All}
+use Rattle.std.specs.Prelude.{fold, length, codes, if◌then◌else◌}
 use Rattle.std.specs.List.{filter}
 use Rattle.std.specs.Str.{bytes_eq}
 use Rattle.kn_base.specs.declared.limits.TheConstants.{OPEN_BRACKETS, PREFIX_SIGNS}
@@ -25,7 +26,8 @@ abbrev pub is_closing : Seen → Bool
 is_closing token = is_sign (codes ")") token || is_sign (codes "}") token
 
 abbrev pub is_prefix : Seen → Bool
-is_prefix token = is_sign (codes "!") token || is_sign (codes "-") token || is_sign (codes "@") token || is_sign (codes "$") token
+is_prefix token = is_sign (codes "!") token || is_sign (codes "-") token || is_sign (codes "@") token
+    || is_sign (codes "$") token
 
 -- the brackets that are open behind a token; a closing one lowers the count, not below 0
 unfoldable pub depth_behind : ℕ → Seen → ℕ

@@ -1,6 +1,7 @@
 -- The faults of a text by its fields, each with its place, in the one order in which they are answered. The
 -- faults and their order are keynoted's own.
-use Rattle.std.specs.Prelude.{◌≡◌, ℕ, ◌<◌, ◌==◌, ◌⊎◌, Bool, true, false, ◌&&◌, ◌||◌, is_none, List, [], ◌∷◌, ◌++◌, length, codes, Option, Some, None, unwrap_or}
+use Rattle.std.specs.Prelude.{◌≡◌, ℕ, ◌<◌, ◌==◌, ◌⊎◌, Bool, true, false, ◌&&◌, ◌||◌, is_none, List, [], ◌∷◌, ◌++◌}
+use Rattle.std.specs.Prelude.{length, codes, Option, Some, None, unwrap_or}
 use Rattle.std.specs.List.{list_any}
 use Rattle.std.specs.Str.{bytes_eq}
 use Rattle.kn_base.specs.declared.limits.TheConstants.{ASSERTION_BYTES}
@@ -16,12 +17,15 @@ use Rattle.kn_fields.specs.Fields.{is_label, field_of, is_label_of, Field, field
 use Rattle.kn_fields.specs.Constants.{constants_of, IsConstantList, BeginsConstantList, HasDeparture}
 use Rattle.kn_fields.specs.Numbers.{fault_number}
 use Rattle.kn_fields.specs.declared.fault.ReadFault.{ReadFault}
-use Rattle.kn_fields.specs.declared.fault.ReadFault.TheVariants.{NotText, BadString, BadToken, Float, Regex, Number, Blank, TooLong, BadField, FieldTwice, FieldOrder, NoAuthorizer, Version, Constant, NoMemory}
+use Rattle.kn_fields.specs.declared.fault.ReadFault.TheVariants.{NotText, BadString, BadToken, Float, Regex, Number}
+use Rattle.kn_fields.specs.declared.fault.ReadFault.TheVariants.{Blank, TooLong, BadField, FieldTwice, FieldOrder}
+use Rattle.kn_fields.specs.declared.fault.ReadFault.TheVariants.{NoAuthorizer, Version, Constant, NoMemory}
 
 -- no token is bad behind those before it
 abbrev pub HasNone : (List Seen → Seen → Bool) → List Seen → Type 0
 HasNone is_bad tokens =
-    (before : List Seen) (token : Seen) (behind : List Seen) → tokens ≡ before ++ token ∷ behind → is_bad before token ≡ false
+    (before : List Seen) (token : Seen) (behind : List Seen) → tokens ≡ before ++ token ∷ behind
+    → is_bad before token ≡ false
 
 -- the first token that is bad behind those before it stands at this place
 pub record HasFirst (is_bad : List Seen → Seen → Bool) (tokens : List Seen) (at : ℕ) : Type 0 where
@@ -85,7 +89,8 @@ Shows tokens (FieldTwice at) = HasFirst is_second tokens at
 Shows tokens (FieldOrder at) =
     HasFirst is_late_version tokens at ⊎ (HasNone is_late_version tokens × HasFirst is_behind_signature tokens at)
 Shows tokens NoAuthorizer = field_with 1 tokens ≡ None
-Shows tokens (Version at) = HasField 4 tokens (λ field. (is_version field.tokens ≡ false) × (at ≡ field.label.span.start))
+Shows tokens (Version at) = HasField 4 tokens (λ field. (is_version field.tokens ≡ false)
+    × (at ≡ field.label.span.start))
 Shows tokens (Constant at) = HasField 6 tokens (λ field. DepartsAt field at)
 Shows tokens _ = ⊥
 

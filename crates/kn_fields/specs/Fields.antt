@@ -1,6 +1,7 @@
 -- The fields of an assertion (RFC 2704, section 4). Their numbers are keynoted's own: the order of their
 -- names.
-use Rattle.std.specs.Prelude.{◌≡◌, ℕ, ◌+◌, ◌-◌, ◌<◌, ◌≤◌, ◌==◌, Bool, false, not, List, [], ◌∷◌, length, take, drop, slice_get, take_while, find, codes, Option, Some, None, if◌then◌else◌}
+use Rattle.std.specs.Prelude.{◌≡◌, ℕ, ◌+◌, ◌-◌, ◌<◌, ◌≤◌, ◌==◌, Bool, false, not, List, [], ◌∷◌, length, take, drop}
+use Rattle.std.specs.Prelude.{slice_get, take_while, find, codes, Option, Some, None, if◌then◌else◌}
 use Rattle.std.specs.Str.{str_eq_ignore_ascii_case}
 use Rattle.kn_lex.specs.Cutting.{Seen}
 use Rattle.kn_lex.specs.Seeing.{is_label_sort}
@@ -83,5 +84,6 @@ pub record IsHeading (tokens : List Seen) (field : Field) (heading : Heading) : 
 -- each of these tells of the field at its place in the list
 abbrev pub AreHeadings : List Seen → List Field → List Heading → Type 0
 AreHeadings tokens [] [] = Unit {0}
-AreHeadings tokens (field ∷ fields) (heading ∷ headings) = IsHeading tokens field heading × AreHeadings tokens fields headings
+AreHeadings tokens (field ∷ fields) (heading ∷ headings) = IsHeading tokens field heading
+    × AreHeadings tokens fields headings
 AreHeadings tokens fields headings = ⊥

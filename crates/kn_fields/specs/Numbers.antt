@@ -2,7 +2,10 @@
 use Rattle.std.specs.Prelude.{ℕ, Option, Some, None, option_map}
 use Rattle.std.specs.Option.{option_map_or}
 use Rattle.kn_fields.specs.declared.fault.ReadFault.{ReadFault}
-use Rattle.kn_fields.specs.declared.fault.ReadFault.TheVariants.{NotText, BadString, BadToken, Float, Regex, Number, Blank, TooLong, BadField, FieldTwice, FieldOrder, NoAuthorizer, Version, Constant, TooDeep, Syntax, Kind, Threshold, Name, NoMemory}
+use Rattle.kn_fields.specs.declared.fault.ReadFault.TheVariants.{NotText, BadString, BadToken, Float, Regex, Number}
+use Rattle.kn_fields.specs.declared.fault.ReadFault.TheVariants.{Blank, TooLong, BadField, FieldTwice, FieldOrder}
+use Rattle.kn_fields.specs.declared.fault.ReadFault.TheVariants.{NoAuthorizer, Version, Constant, TooDeep, Syntax, Kind}
+use Rattle.kn_fields.specs.declared.fault.ReadFault.TheVariants.{Threshold, Name, NoMemory}
 
 -- the number of a fault, and the place that is told with it
 abbrev pub fault_code : ReadFault → Option (ℕ × ℕ)

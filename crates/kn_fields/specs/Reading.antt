@@ -51,16 +51,19 @@ with_front front (Some read) = Some (front ++ read.0, read.1)
 
 -- an item behind a sign, and what follows it in a list; each item gives a piece of the list
 abbrev pub more_at : {S X E : Type 0} → (S → X → List E) → Reader X → Reader (List E) → S → Reader (List E)
-more_at piece item tail found words = then_read (item words) (λ read behind. with_front (piece found read) (tail behind))
+more_at piece item tail found words =
+    then_read (item words) (λ read behind. with_front (piece found read) (tail behind))
 
 -- signs with an item behind each, of which there are fewer than so many
 unfoldable pub tail_at : {S X E : Type 0} → Reader S → (S → X → List E) → Reader X → ℕ → Reader (List E)
 tail_at which piece item zero words = None
-tail_at which piece item (suc n) words = behind_sign (which words) (Some ([], words)) (more_at piece item (tail_at which piece item n))
+tail_at which piece item (suc n) words =
+    behind_sign (which words) (Some ([], words)) (more_at piece item (tail_at which piece item n))
 
 -- an item, and signs with an item behind each
 unfoldable pub list_at : {S X E Y : Type 0} → Reader S → (S → X → List E) → (X → List E → Y) → Reader X → ℕ → Reader Y
-list_at which piece finish item n words = then_read (item words) (λ first rest. map_read (finish first) (tail_at which piece item n rest))
+list_at which piece finish item n words =
+    then_read (item words) (λ first rest. map_read (finish first) (tail_at which piece item n rest))
 
 -- a part of a list that is the piece of its own
 abbrev pub one_part : {X : Type 0} → Mark → X → List X

@@ -1,5 +1,6 @@
 -- What a walk over tokens gives: where a field stands, the first fault, and whether they go too deep.
-use Rattle.std.specs.Prelude.{◌≡◌, ℕ, Bool, List, [], ◌∷◌, ◌++◌, Option, Some, None, if◌then◌else◌, ◌&&◌, ◌||◌, not, nat_lt, true, false, map}
+use Rattle.std.specs.Prelude.{◌≡◌, ℕ, Bool, List, [], ◌∷◌, ◌++◌, Option, Some, None, if◌then◌else◌, ◌&&◌, ◌||◌, not}
+use Rattle.std.specs.Prelude.{nat_lt, true, false, map}
 use Rattle.std.specs.List.{list_all}
 use Rattle.std.specs.Option.{option_or}
 use Rattle.kn_base.specs.declared.limits.TheConstants.{OPEN_BRACKETS, PREFIX_SIGNS}
@@ -15,7 +16,8 @@ use Rattle.kn_fields.specs.declared.part.Part.{Part}
 use Rattle.kn_fields.specs.declared.labels.Wrong.{Wrong}
 use Rattle.kn_fields.specs.declared.labels.Wrong.TheVariants.{Second, LateVersion, BehindSignature}
 use Rattle.kn_fields.specs.declared.fault.ReadFault.{ReadFault}
-use Rattle.kn_fields.specs.declared.fault.ReadFault.TheVariants.{BadField, FieldTwice, FieldOrder, NoAuthorizer, Version, Constant}
+use Rattle.kn_fields.specs.declared.fault.ReadFault.TheVariants.{BadField, FieldTwice, FieldOrder, NoAuthorizer}
+use Rattle.kn_fields.specs.declared.fault.ReadFault.TheVariants.{Version, Constant}
 
 -- it tells where the first field of this number stands, or that there is none
 abbrev pub PartIs : ℕ → List Seen → Option Part → Type 0
@@ -39,7 +41,8 @@ is_wrong BehindSignature = is_behind_signature
 
 -- these labels, in their order, are those of fields of these numbers
 abbrev pub AreNumbered : List Seen → List Heading → Type 0
-AreNumbered labels headings = (list_all is_label labels ≡ true) × (map field_of labels ≡ map (λ heading. heading.number) headings)
+AreNumbered labels headings = (list_all is_label labels ≡ true)
+    × (map field_of labels ≡ map (λ heading. heading.number) headings)
 
 abbrev pub order_place : List Seen → Option ℕ
 order_place tokens = option_or (first_place is_late_version [] tokens) (first_place is_behind_signature [] tokens)
@@ -97,4 +100,5 @@ is_past depth run = nat_lt OPEN_BRACKETS depth || nat_lt PREFIX_SIGNS run
 unfoldable pub goes_deep : ℕ → ℕ → List Seen → Bool
 goes_deep depth run [] = false
 goes_deep depth run (token ∷ tokens) =
-    is_past (depth_behind depth token) (run_behind run token) || goes_deep (depth_behind depth token) (run_behind run token) tokens
+    is_past (depth_behind depth token) (run_behind run token)
+    || goes_deep (depth_behind depth token) (run_behind run token) tokens

@@ -17,7 +17,8 @@ is_name name token = is_name_sort token.sort && bytes_eq token.text name
 
 -- the set has the names among these tokens, and nothing else
 abbrev pub AreNames : BTreeSet (Bor (List ℕ)) → List Seen → Type 0
-AreNames names tokens = (name : List ℕ) → contains_by (λ key. slice_cmp nat_cmp name key.now) names ≡ list_any (is_name name) tokens
+AreNames names tokens = (name : List ℕ) → contains_by (λ key. slice_cmp nat_cmp name key.now) names
+    ≡ list_any (is_name name) tokens
 
 abbrev pub next_turn : Turn → Turn
 next_turn Setting = Equals

@@ -6,7 +6,8 @@ use Rattle.kn_lex.specs.Literal.{literal_value}
 use Rattle.kn_lex.specs.declared.token.Sort.{Sort}
 use Rattle.kn_lex.specs.declared.token.Sort.TheVariants.{Name, Number, Text, Sign}
 
--- a token of a field: a literal by its value, a name, a number by its digits, or a sign; no other token stands in a grammar
+-- a token of a field: a literal by its value, a name, a number by its digits, or a sign; no other token stands in a
+-- grammar
 pub data Word : Type 0 where
   literal : List ℕ → Word
   name : List ℕ → Word

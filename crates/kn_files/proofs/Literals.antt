@@ -1,5 +1,6 @@
 -- What the bytes of a line lead to: through literals as their items do, and to no open literal behind a bare end.
-use Rattle.std.proofs.Common.{◌≡◌, ℕ, true, false, Bool, ◌⊎◌, List, [], ◌∷◌, ◌++◌, arith, refl, ap, suc, ◌-◌, ◌<◌, ◌≤◌, length, get_or, sym}
+use Rattle.std.proofs.Common.{◌≡◌, ℕ, true, false, Bool, ◌⊎◌, List, [], ◌∷◌, ◌++◌, arith, refl, ap, suc, ◌-◌, ◌<◌, ◌≤◌}
+use Rattle.std.proofs.Common.{length, get_or, sym}
 use Rattle.std.specs.Prelude.{not, ◌||◌, ◌==◌, fold, ◌&&◌}
 use Rattle.std.specs.List.{list_all}
 use Rattle.std.proofs.lemmas.Bool.{false≢true}
@@ -19,7 +20,8 @@ abbrev quote_of : Bool → Quote
 quote_of true = Joined
 quote_of false = Inside
 
-white_stands : (white : List ℕ) → list_all is_white white ≡ true → fold after_byte (Literal Joined) white ≡ Literal Joined
+white_stands : (white : List ℕ) → list_all is_white white ≡ true
+    → fold after_byte (Literal Joined) white ≡ Literal Joined
 white_stands [] e = refl
 white_stands (c ∷ cs) e = grind (arith, nat_tests, white_stands cs)
 
@@ -36,7 +38,8 @@ abbrev behind : Bool → List Item → Within
 behind b items = Literal (quote_of (fold leaves_out b items))
 
 -- items lead from within a literal to within it
-items_stand : (items : List Item) (b : Bool) → list_all is_item items ≡ true → fold after_byte (Literal (quote_of b)) (items_bytes items) ≡ behind b items
+items_stand : (items : List Item) (b : Bool) → list_all is_item items ≡ true
+    → fold after_byte (Literal (quote_of b)) (items_bytes items) ≡ behind b items
 items_stand [] b e = refl
 items_stand (plain c ∷ items) true e = grind (arith, plain_joined c, items_stand items (is_white c))
 items_stand (plain c ∷ items) false e = grind (arith, plain_inside c, items_stand items false)
@@ -44,20 +47,24 @@ items_stand (escaped c ∷ items) true e = grind (arith, escaped_inside c, items
 items_stand (escaped c ∷ items) false e = grind (arith, escaped_inside c, items_stand items false)
 items_stand (joined false white ∷ items) true e = grind (arith, fold-append, white_stands white, items_stand items true)
 items_stand (joined true white ∷ items) true e = grind (arith, fold-append, white_stands white, items_stand items true)
-items_stand (joined returned white ∷ items) false e = grind (arith, fold-append, white_stands white, items_stand items true)
+items_stand (joined returned white ∷ items) false e =
+    grind (arith, fold-append, white_stands white, items_stand items true)
 
 -- what stands behind the opening quote and items
 along : (items : List Item) (more : List ℕ) → list_all is_item items ≡ true
     → fold after_byte Plain (34 ∷ items_bytes items ++ more) ≡ fold after_byte (behind false items) more
-along items more e = grind (arith, fold-append after_byte (Literal Inside) (items_bytes items) more, items_stand items false)
+along items more e =
+    grind (arith, fold-append after_byte (Literal Inside) (items_bytes items) more, items_stand items false)
 
 pub literal_whole : (bytes : List ℕ) → IsLiteral bytes → fold after_byte Plain bytes ≡ Plain
 literal_whole bytes h = grind (arith, along)
 
-pub literal_open : (items : List Item) → list_all is_item items ≡ true → is_literal (fold after_byte Plain (34 ∷ items_bytes items)) ≡ true
+pub literal_open : (items : List Item) → list_all is_item items ≡ true
+    → is_literal (fold after_byte Plain (34 ∷ items_bytes items)) ≡ true
 literal_open items e = ap is_literal (items_stand items false e)
 
-pub literal_bare : (items : List Item) (end : ℕ) → list_all is_item items ≡ true → fold leaves_out false items ≡ false → (end ≡ 10) ⊎ (end ≡ 13)
+pub literal_bare : (items : List Item) (end : ℕ) → list_all is_item items ≡ true → fold leaves_out false items ≡ false
+    → (end ≡ 10) ⊎ (end ≡ 13)
     → fold after_byte Plain (34 ∷ items_bytes items ++ end ∷ []) ≡ Plain
 literal_bare items end e none line = grind (arith, along)
 
@@ -65,7 +72,8 @@ pub literal_returned : (items : List Item) (next : ℕ) → list_all is_item ite
     → fold after_byte Plain (34 ∷ items_bytes items ++ 92 ∷ 13 ∷ next ∷ []) ≡ after_byte Plain next
 literal_returned items next e other = grind (arith, along)
 
-pub plain_bytes : (bytes : List ℕ) → list_all (λ byte. not (byte == 34 || byte == 35)) bytes ≡ true → fold after_byte Plain bytes ≡ Plain
+pub plain_bytes : (bytes : List ℕ) → list_all (λ byte. not (byte == 34 || byte == 35)) bytes ≡ true
+    → fold after_byte Plain bytes ≡ Plain
 plain_bytes [] e = refl
 plain_bytes (c ∷ cs) e = grind (arith, nat_tests, plain_bytes cs)
 
@@ -100,7 +108,8 @@ no_body : (within : Within) (c : ℕ) → is_body within ≡ false → is_body (
 no_body within c e = grind (arith, nat_tests)
 
 -- the last two bytes decide
-bare_line : (line : List ℕ) (within : Within) → is_body within ≡ false → ends_bare line ≡ true → settled (fold after_byte within line) ≡ Plain
+bare_line : (line : List ℕ) (within : Within) → is_body within ≡ false → ends_bare line ≡ true
+    → settled (fold after_byte within line) ≡ Plain
 bare_line [] within e bare = absurd (false≢true bare)
 bare_line (a ∷ []) within e bare = absurd (false≢true bare)
 bare_line (a ∷ b ∷ []) within e bare = grind (arith, nat_tests)

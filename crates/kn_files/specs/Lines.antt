@@ -1,5 +1,6 @@
 -- The lines of a policy file, and what each begins in (keynoted's own, on the words of RFC 2704, section 4).
-use Rattle.std.specs.Prelude.{ℕ, ◌+◌, Bool, true, false, not, ◌&&◌, ◌||◌, ◌==◌, List, [], ◌∷◌, ◌++◌, length, take, fold, if◌then◌else◌}
+use Rattle.std.specs.Prelude.{ℕ, ◌+◌, Bool, true, false, not, ◌&&◌, ◌||◌, ◌==◌, List, [], ◌∷◌, ◌++◌, length, take, fold}
+use Rattle.std.specs.Prelude.{if◌then◌else◌}
 use Rattle.std.specs.List.{onto_first}
 use Rattle.kn_lex.specs.Spelling.{is_blank, is_continuation}
 use Rattle.kn_lex.specs.Cutting.{ends_line, is_comment_label}

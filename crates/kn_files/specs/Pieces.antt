@@ -1,5 +1,6 @@
 -- The pieces of a policy file, which are the texts of its assertions (keynoted's own).
-use Rattle.std.specs.Prelude.{◌≡◌, ◌⊎◌, ℕ, ◌+◌, ◌-◌, ◌≤◌, ◌<◌, Bool, true, false, ◌||◌, ◌==◌, List, [], ◌∷◌, length, map, filter, flat_map, take, drop}
+use Rattle.std.specs.Prelude.{◌≡◌, ◌⊎◌, ℕ, ◌+◌, ◌-◌, ◌≤◌, ◌<◌, Bool, true, false, ◌||◌, ◌==◌, List, [], ◌∷◌, length}
+use Rattle.std.specs.Prelude.{map, filter, flat_map, take, drop}
 use Rattle.std.specs.List.{slice_split, list_any}
 use Rattle.kn_base.specs.declared.span.Span.{Span}
 use Rattle.kn_lex.specs.Cutting.{ends_line}

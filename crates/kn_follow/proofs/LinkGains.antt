@@ -15,7 +15,8 @@ gains-nothing l = record {
   later = omega arith;
 }
 
-pub gains-more : (l m l' : LinkSeen) (taken written piece text : List ℕ) → Gains l m taken written → Gains m l' piece text → Gains l l' (taken ++ piece) (written ++ text)
+pub gains-more : (l m l' : LinkSeen) (taken written piece text : List ℕ) → Gains l m taken written
+    → Gains m l' piece text → Gains l l' (taken ++ piece) (written ++ text)
 gains-more l m l' taken written piece text g h =
     let first = g.later in
     let then = h.later in

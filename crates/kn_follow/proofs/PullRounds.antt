@@ -1,5 +1,6 @@
 -- The rounds of a pull, and the pull as a whole.
-use Rattle.std.proofs.Common.{◌≡◌, ℕ, ◌+◌, ◌<◌, List, [], ◌∷◌, ◌++◌, length, refl, sym, ap, ◌∙◌, subst, arith, append_assoc, append-nil}
+use Rattle.std.proofs.Common.{◌≡◌, ℕ, ◌+◌, ◌<◌, List, [], ◌∷◌, ◌++◌, length, refl, sym, ap, ◌∙◌, subst, arith}
+use Rattle.std.proofs.Common.{append_assoc, append-nil}
 use Rattle.std.proofs.lemmas.List.{length-append}
 use Rattle.kn_outside.specs.Seen.{LinkSeen}
 use Rattle.kn_history.specs.declared.update.Update.{Update}
@@ -15,20 +16,23 @@ use Rattle.kn_follow.proofs.PullSteps.{stops-later}
 
 -- Replies that are applied.
 
-takes-length : (old : List Update) (updates : List ToldUpdate) (new : List Update) → Takes old updates new → length new ≡ length old + length updates
+takes-length : (old : List Update) (updates : List ToldUpdate) (new : List Update) → Takes old updates new
+    → length new ≡ length old + length updates
 takes-length old [] new takes = let same = ap length takes in omega (arith, same)
 takes-length old (u ∷ updates) new takes =
     let rest = takes-length (old ++ update_behind old u ∷ []) updates new takes.1 in
     let size = length-append old (update_behind old u ∷ []) in
     omega (arith, rest, size)
 
-pub applied-length : (old : List Update) (text : List ℕ) (count : ℕ) (new : List Update) → IsApplied old text count new → length new ≡ length old + count
+pub applied-length : (old : List Update) (text : List ℕ) (count : ℕ) (new : List Update) → IsApplied old text count new
+    → length new ≡ length old + count
 applied-length old text count new a =
     let size = takes-length old a.reply.updates new a.taken.takes in
     let number = a.taken.number in
     omega (arith, size, number)
 
-none-taken : (old : List Update) (updates : List ToldUpdate) (new : List Update) → 0 ≡ length updates → Takes old updates new → new ≡ old
+none-taken : (old : List Update) (updates : List ToldUpdate) (new : List Update) → 0 ≡ length updates
+    → Takes old updates new → new ≡ old
 none-taken old [] new none takes = takes
 none-taken old (u ∷ updates) new none takes = absurd (omega (arith, none))
 
@@ -37,7 +41,10 @@ applied-none old text new a = none-taken old a.reply.updates new a.taken.number 
 
 -- Rounds.
 
-rounds-more : (old : List Update) (lines texts : List ℕ) (mid : List Update) (replies : List (List ℕ)) (answer : List ℕ) (count : ℕ) (new : List Update) → Rounds old lines texts mid replies → IsAnswer Log answer → 0 < count → IsApplied mid answer count new → Rounds old (lines ++ log_line (length mid)) (texts ++ answer) new (replies ++ answer ∷ [])
+rounds-more : (old : List Update) (lines texts : List ℕ) (mid : List Update) (replies : List (List ℕ)) (answer : List ℕ)
+    (count : ℕ) (new : List Update) → Rounds old lines texts mid replies → IsAnswer Log answer → 0 < count
+    → IsApplied mid answer count new
+    → Rounds old (lines ++ log_line (length mid)) (texts ++ answer) new (replies ++ answer ∷ [])
 rounds-more old lines texts mid [] answer count new rounds whole some applied =
     let here : mid ≡ old = rounds.2 in (
       count,
@@ -48,10 +55,22 @@ rounds-more old lines texts mid [] answer count new rounds whole some applied =
       some,
       subst (λ (us : List Update). IsApplied us answer count new) here applied,
       (refl, refl, refl),
-      ap (λ t. t ++ log_line (length mid)) rounds.0 ∙ ap (λ (us : List Update). log_line (length us)) here ∙ sym (append-nil (log_line (length old))),
+      ap (λ t. t ++ log_line (length mid)) rounds.0 ∙ ap (λ (us : List Update). log_line (length us)) here
+          ∙ sym (append-nil (log_line (length old))),
       ap (λ t. t ++ answer) rounds.1 ∙ sym (append-nil answer),
     )
-rounds-more old lines texts mid (reply ∷ replies) answer count new (n, next, others, behind, first, many, is, rest, asked, answered) whole some applied = (
+rounds-more old lines texts mid (reply ∷ replies) answer count new (
+  n,
+  next,
+  others,
+  behind,
+  first,
+  many,
+  is,
+  rest,
+  asked,
+  answered,
+) whole some applied = (
   n,
   next,
   others ++ log_line (length mid),
@@ -88,12 +107,14 @@ following-first old held l = record {
 }
 
 -- two stretches of what came, one behind the other
-pieces-join : (held piece texts mid next answer new : List ℕ) → held ++ piece ≡ texts ++ mid → mid ++ next ≡ answer ++ new → held ++ (piece ++ next) ≡ (texts ++ answer) ++ new
+pieces-join : (held piece texts mid next answer new : List ℕ) → held ++ piece ≡ texts ++ mid
+    → mid ++ next ≡ answer ++ new → held ++ (piece ++ next) ≡ (texts ++ answer) ++ new
 pieces-join held piece texts mid next answer new first second =
     sym (append_assoc held piece next) ∙ ap (λ t. t ++ next) first ∙ append_assoc texts mid next
     ∙ ap (λ t. texts ++ t) second ∙ sym (append_assoc texts answer new)
 
-pub following-more : (old mid new : List Update) (h h' h'' : List ℕ) (l m l' : LinkSeen) (count : ℕ) → IsFollowing old mid h h' l m → IsRound mid new h' h'' m l' count → 0 < count → IsFollowing old new h h'' l l'
+pub following-more : (old mid new : List Update) (h h' h'' : List ℕ) (l m l' : LinkSeen) (count : ℕ)
+    → IsFollowing old mid h h' l m → IsRound mid new h' h'' m l' count → 0 < count → IsFollowing old new h h'' l l'
 following-more old mid new h h' h'' l m l' count f r some =
     let p = r.passes in
     record {
@@ -107,11 +128,17 @@ following-more old mid new h h' h'' l m l' count f r some =
       calm = p.calm ∙ f.calm;
     }
 
-pub followed : (old mid new : List Update) (h h' h'' : List ℕ) (l m l' : LinkSeen) → IsFollowing old mid h h' l m → IsRound mid new h' h'' m l' 0 → IsFollowed old new h h'' l l'
+pub followed : (old mid new : List Update) (h h' h'' : List ℕ) (l m l' : LinkSeen) → IsFollowing old mid h h' l m
+    → IsRound mid new h' h'' m l' 0 → IsFollowed old new h h'' l l'
 followed old mid new h h' h'' l m l' f r =
     let p = r.passes in
     let same : new ≡ mid = applied-none mid r.answer new r.applied in
-    let last : IsLastReply mid r.answer = record { answer = p.whole; applied = subst (λ (us : List Update). IsApplied mid r.answer 0 us) same r.applied } in
+    let last : IsLastReply mid r.answer =
+    record {
+      answer = p.whole;
+      applied =
+          subst (λ (us : List Update). IsApplied mid r.answer 0 us) same r.applied;
+    } in
     let done : IsFollowed old mid h h'' l l' = record {
       piece = f.piece ++ p.piece;
       lines = f.lines;
@@ -126,7 +153,9 @@ followed old mid new h h' h'' l m l' f r =
     } in
     subst (λ (us : List Update). IsFollowed old us h h'' l l') (sym same) done
 
-pub unfollowed : (old mid new : List Update) (h h' : List ℕ) (l m l' : LinkSeen) (fault : PullFault) → IsFollowing old mid h h' l m → IsStopped Log (log_line (length mid)) h' m l' mid new fault → IsUnfollowed old new h l l' fault
+pub unfollowed : (old mid new : List Update) (h h' : List ℕ) (l m l' : LinkSeen) (fault : PullFault)
+    → IsFollowing old mid h h' l m → IsStopped Log (log_line (length mid)) h' m l' mid new fault
+    → IsUnfollowed old new h l l' fault
 unfollowed old mid new h h' l m l' fault f s = record {
   lines = f.lines;
   texts = f.texts;
@@ -146,7 +175,8 @@ unfollowed old mid new h h' l m l' fault f s = record {
 
 module _ (secret : List ℕ) (old : List Update) (l : LinkSeen) where
   -- ADMIN wasn't granted
-  pub pull-refused : (l' : LinkSeen) (fault : PullFault) → IsStopped Admin (admin_line secret) [] l l' old old fault → IsPullFault secret old old l l' fault
+  pub pull-refused : (l' : LinkSeen) (fault : PullFault) → IsStopped Admin (admin_line secret) [] l l' old old fault
+      → IsPullFault secret old old l l' fault
   pull-refused l' fault s = record {
     request = Admin;
     asked = [];
@@ -161,7 +191,8 @@ module _ (secret : List ℕ) (old : List Update) (l : LinkSeen) where
 
   module _ (m : LinkSeen) (held : List ℕ) (granted : Passes Admin (admin_line secret) ok_line [] held l m) where
     -- a request for updates stopped it
-    pub pull-unfollowed : (new : List Update) (l' : LinkSeen) (fault : PullFault) → IsUnfollowed old new held m l' fault → IsPullFault secret old new l l' fault
+    pub pull-unfollowed : (new : List Update) (l' : LinkSeen) (fault : PullFault) → IsUnfollowed old new held m l' fault
+        → IsPullFault secret old new l l' fault
     pull-unfollowed new l' fault u =
         let gains : Gains l l' (granted.piece ++ u.piece) (admin_line secret ++ (u.lines ++ u.written)) =
         gains-more l m l' granted.piece (admin_line secret) u.piece (u.lines ++ u.written) granted.gains u.gains in
@@ -172,32 +203,51 @@ module _ (secret : List ℕ) (old : List Update) (l : LinkSeen) where
           asked = admin_line secret ++ u.lines;
           answered = ok_line ++ u.texts;
           mid = u.mid;
-          underway = record { lines = u.lines; texts = u.texts; replies = u.replies; rounds = u.rounds; asks = refl; answers = refl };
+          underway = record {
+            lines = u.lines;
+            texts = u.texts;
+            replies = u.replies;
+            rounds = u.rounds;
+            asks = refl;
+            answers = refl;
+          };
           written = u.written;
           held = u.rest;
           gains =
               subst (λ t. Gains l l' t ((admin_line secret ++ u.lines) ++ u.written)) taken
-              (subst (Gains l l' (granted.piece ++ u.piece)) (sym (append_assoc (admin_line secret) u.lines u.written)) gains);
-          stops = stops-later Log (log_line (length u.mid)) u.written u.rest l m l' u.mid new fault granted.calm u.stops;
+              (subst (Gains l l' (granted.piece ++ u.piece)) (sym (append_assoc (admin_line secret) u.lines u.written))
+              gains);
+          stops = stops-later Log (log_line (length u.mid)) u.written u.rest l m l' u.mid new fault granted.calm
+              u.stops;
         }
 
     module _ (new : List Update) (n : LinkSeen) (held' : List ℕ) (f : IsFollowed old new held held' m n) where
       -- what was taken and written up to BYE
       before-bye : Gains l n (granted.piece ++ f.piece) ((admin_line secret ++ f.lines) ++ log_line (length new))
       before-bye =
-          subst (Gains l n (granted.piece ++ f.piece)) (sym (append_assoc (admin_line secret) f.lines (log_line (length new))))
-          (gains-more l m n granted.piece (admin_line secret) f.piece (f.lines ++ log_line (length new)) granted.gains f.gains)
+          subst (Gains l n (granted.piece ++ f.piece))
+          (sym (append_assoc (admin_line secret) f.lines (log_line (length new))))
+          (gains-more l m n granted.piece (admin_line secret) f.piece (f.lines ++ log_line (length new)) granted.gains
+          f.gains)
 
       came-before : granted.piece ++ f.piece ≡ ((ok_line ++ f.texts) ++ f.reply) ++ held'
       came-before =
           pieces-join [] granted.piece ok_line held f.piece (f.texts ++ f.reply) held' granted.came f.came
           ∙ ap (λ t. t ++ held') (sym (append_assoc ok_line f.texts f.reply))
 
-      served : IsServed secret old ((admin_line secret ++ f.lines) ++ log_line (length new)) ((ok_line ++ f.texts) ++ f.reply) new
+      served : IsServed secret old ((admin_line secret ++ f.lines) ++ log_line (length new))
+          ((ok_line ++ f.texts) ++ f.reply) new
       served = record {
         lines = admin_line secret ++ f.lines;
         texts = ok_line ++ f.texts;
-        granted = record { lines = f.lines; texts = f.texts; replies = f.replies; rounds = f.rounds; asks = refl; answers = refl };
+        granted = record {
+          lines = f.lines;
+          texts = f.texts;
+          replies = f.replies;
+          rounds = f.rounds;
+          asks = refl;
+          answers = refl;
+        };
         reply = f.reply;
         last = f.last;
         asks = refl;
@@ -205,7 +255,8 @@ module _ (secret : List ℕ) (old : List Update) (l : LinkSeen) where
       }
 
       -- BYE stopped it
-      pub pull-unfinished : (l' : LinkSeen) (fault : PullFault) → IsStopped Bye bye_line held' n l' new new fault → IsPullFault secret old new l l' fault
+      pub pull-unfinished : (l' : LinkSeen) (fault : PullFault) → IsStopped Bye bye_line held' n l' new new fault
+          → IsPullFault secret old new l l' fault
       pull-unfinished l' fault s =
           let asked = (admin_line secret ++ f.lines) ++ log_line (length new) in
           let answered = (ok_line ++ f.texts) ++ f.reply in
@@ -222,11 +273,13 @@ module _ (secret : List ℕ) (old : List Update) (l : LinkSeen) where
             gains =
                 subst (λ t. Gains l l' t (asked ++ s.written))
                 (ap (λ t. t ++ s.piece) came-before ∙ append_assoc answered held' s.piece) gains;
-            stops = stops-later Bye bye_line s.written (held' ++ s.piece) l n l' new new fault (f.calm ∙ granted.calm) s.stops;
+            stops = stops-later Bye bye_line s.written (held' ++ s.piece) l n l' new new fault (f.calm
+                ∙ granted.calm) s.stops;
           }
 
       -- BYE was answered
-      pub pull-done : (l' : LinkSeen) (rest : List ℕ) (number : ℕ) → Passes Bye bye_line ok_line held' rest n l' → number ≡ length new → IsPulled secret old new l l' number
+      pub pull-done : (l' : LinkSeen) (rest : List ℕ) (number : ℕ) → Passes Bye bye_line ok_line held' rest n l'
+          → number ≡ length new → IsPulled secret old new l l' number
       pull-done l' rest number p is =
           let asked = (admin_line secret ++ f.lines) ++ log_line (length new) in
           let answered = (ok_line ++ f.texts) ++ f.reply in

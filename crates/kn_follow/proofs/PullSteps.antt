@@ -1,5 +1,6 @@
 -- One request of a pull and its answer.
-use Rattle.std.proofs.Common.{◌≡◌, ◌≢◌, ℕ, ◌<◌, ◌≤◌, true, false, List, [], ◌∷◌, ◌++◌, length, take, drop, Result, Ok, Err, IfOk, IfErr, refl, sym, ap, ◌∙◌, subst, arith, append_assoc, append-nil, inl, inr}
+use Rattle.std.proofs.Common.{◌≡◌, ◌≢◌, ℕ, ◌<◌, ◌≤◌, true, false, List, [], ◌∷◌, ◌++◌, length, take, drop, Result, Ok}
+use Rattle.std.proofs.Common.{Err, IfOk, IfErr, refl, sym, ap, ◌∙◌, subst, arith, append_assoc, append-nil, inl, inr}
 use Rattle.std.proofs.lemmas.List.{take-append-drop}
 use Rattle.kn_outside.specs.Seen.{LinkSeen}
 use Rattle.kn_outside.specs.Faults.{Rose}
@@ -7,7 +8,8 @@ use Rattle.kn_outside.specs.Printing.{Prints}
 use Rattle.kn_history.specs.declared.update.Update.{Update}
 use Rattle.kn_follow.specs.declared.fault.FollowFault.TheVariants as F
 use Rattle.kn_follow.specs.declared.pull_fault.PullFault.{PullFault}
-use Rattle.kn_follow.specs.declared.pull_fault.PullFault.TheVariants.{Read, Write, Denied, Ended, Long, Follow, Unserved, NoMemory}
+use Rattle.kn_follow.specs.declared.pull_fault.PullFault.TheVariants.{Read, Write, Denied, Ended, Long, Follow}
+use Rattle.kn_follow.specs.declared.pull_fault.PullFault.TheVariants.{Unserved, NoMemory}
 use Rattle.kn_follow.specs.declared.request.Request.{Request}
 use Rattle.kn_follow.specs.declared.request.Request.TheVariants.{Admin, Log, Bye}
 use Rattle.kn_follow.specs.Answers.{IsAnswer, Awaits, ok_line}
@@ -17,9 +19,13 @@ use Rattle.kn_follow.proofs.LinkGains.{gains-nothing, gains-more, gains-written,
 
 -- Causes over two stretches of calls, of which the first had no fault.
 
-unanswered-later : (request : Request) (line written held : List ℕ) (l m l' : LinkSeen) (fault : PullFault) → m.faults ≡ l.faults → IsUnanswered request line written held m l' fault → IsUnanswered request line written held l l' fault
-unanswered-later request line written held l m l' Read calm (a, b, c, d) = (a, b, c, subst (λ n. Rose n l'.faults) calm d)
-unanswered-later request line written held l m l' Write calm (n, a, b, d) = (n, a, b, subst (λ k. Rose k l'.faults) calm d)
+unanswered-later : (request : Request) (line written held : List ℕ) (l m l' : LinkSeen) (fault : PullFault)
+    → m.faults ≡ l.faults → IsUnanswered request line written held m l' fault
+    → IsUnanswered request line written held l l' fault
+unanswered-later request line written held l m l' Read calm (a, b, c, d) =
+    (a, b, c, subst (λ n. Rose n l'.faults) calm d)
+unanswered-later request line written held l m l' Write calm (n, a, b, d) =
+    (n, a, b, subst (λ k. Rose k l'.faults) calm d)
 unanswered-later request line written held l m l' (Ended n) calm (a, b, c, d, e, f) = (a, b, c, d, e, f ∙ calm)
 unanswered-later request line written held l m l' (Long n) calm (a, b, c, d, e) = (a, b, c, d, e ∙ calm)
 unanswered-later request line written held l m l' NoMemory calm (a, b) = (a, b ∙ calm)
@@ -27,7 +33,9 @@ unanswered-later request line written held l m l' (Denied code) calm h = h
 unanswered-later request line written held l m l' (Follow fault) calm h = h
 unanswered-later request line written held l m l' Unserved calm h = h
 
-pub stops-later : (request : Request) (line written held : List ℕ) (l m l' : LinkSeen) (old new : List Update) (fault : PullFault) → m.faults ≡ l.faults → Stops request line written held m l' old new fault → Stops request line written held l l' old new fault
+pub stops-later : (request : Request) (line written held : List ℕ) (l m l' : LinkSeen) (old new : List Update)
+    (fault : PullFault) → m.faults ≡ l.faults → Stops request line written held m l' old new fault
+    → Stops request line written held l l' old new fault
 stops-later request line written held l m l' old new fault calm (inl cut) =
     inl (record { cause = unanswered-later request line written held l m l' fault calm cut.cause; kept = cut.kept })
 stops-later request line written held l m l' old new fault calm (inr ended) =
@@ -44,7 +52,8 @@ stops-later request line written held l m l' old new fault calm (inr ended) =
 -- Waiting.
 
 -- the cause of a fault where nothing is to be written is that behind a line that was written
-unanswered-behind : (request : Request) (line written held : List ℕ) (l l' : LinkSeen) (fault : PullFault) → IsUnanswered request [] written held l l' fault → (written ≡ []) × IsUnanswered request line line held l l' fault
+unanswered-behind : (request : Request) (line written held : List ℕ) (l l' : LinkSeen) (fault : PullFault)
+    → IsUnanswered request [] written held l l' fault → (written ≡ []) × IsUnanswered request line line held l l' fault
 unanswered-behind request line written held l l' Read (a, b, c, d) = (a, (refl, b, c, d))
 unanswered-behind request line written held l l' Write (n, a, b, d) = absurd (omega (arith, a))
 unanswered-behind request line written held l l' (Ended n) (a, b, c, d, e, f) = (a, (refl, b, c, d, e, f))
@@ -56,10 +65,12 @@ unanswered-behind request line written held l l' (Follow fault) h = absurd h
 unanswered-behind request line written held l l' Unserved h = absurd h
 
 -- a line was written, and then nothing came
-pub asked-in_vain : (request : Request) (line held : List ℕ) (l m l' : LinkSeen) (fault : PullFault) → Prints true line l m → IsNotAnswered request [] held m l' fault → IsNotAnswered request line held l l' fault
+pub asked-in_vain : (request : Request) (line held : List ℕ) (l m l' : LinkSeen) (fault : PullFault)
+    → Prints true line l m → IsNotAnswered request [] held m l' fault → IsNotAnswered request line held l l' fault
 asked-in_vain request line held l m l' fault p n =
     let behind = unanswered-behind request line n.written (held ++ n.piece) m l' fault n.cause in
-    let gains : Gains l l' n.piece (line ++ n.written) = gains-more l m l' [] line n.piece n.written (gains-written line l m p) n.gains in
+    let gains : Gains l l' n.piece (line ++ n.written) =
+    gains-more l m l' [] line n.piece n.written (gains-written line l m p) n.gains in
     record {
       piece = n.piece;
       written = line;
@@ -68,9 +79,11 @@ asked-in_vain request line held l m l' fault p n =
     }
 
 -- a line was written, and then its answer came
-pub asked-well : (request : Request) (line old new : List ℕ) (l m l' : LinkSeen) (count : ℕ) → Prints true line l m → IsAnswered request [] old new m l' count → IsAnswered request line old new l l' count
+pub asked-well : (request : Request) (line old new : List ℕ) (l m l' : LinkSeen) (count : ℕ) → Prints true line l m
+    → IsAnswered request [] old new m l' count → IsAnswered request line old new l l' count
 asked-well request line old new l m l' count p a =
-    let gains : Gains l l' a.piece (line ++ []) = gains-more l m l' [] line a.piece [] (gains-written line l m p) a.gains in
+    let gains : Gains l l' a.piece (line ++ []) =
+    gains-more l m l' [] line a.piece [] (gains-written line l m p) a.gains in
     record {
       piece = a.piece;
       gains = subst (Gains l l' a.piece) (append-nil line) gains;
@@ -81,7 +94,8 @@ asked-well request line old new l m l' count p a =
     }
 
 -- the line wasn't written whole
-pub not-written : (request : Request) (line held : List ℕ) (l l' : LinkSeen) → Prints false line l l' → IsNotAnswered request line held l l' Write
+pub not-written : (request : Request) (line held : List ℕ) (l l' : LinkSeen) → Prints false line l l'
+    → IsNotAnswered request line held l l' Write
 not-written request line held l l' p =
     let cut = p.writes in
     record {
@@ -101,7 +115,8 @@ pub record IsHeld (old new : List ℕ) (l l' : LinkSeen) : Type 0 where
 pub held-first : (old : List ℕ) (l : LinkSeen) → IsHeld old old l l
 held-first old l = record { piece = []; gains = gains-nothing l; came = sym (append-nil old); calm = refl }
 
-pub held-more : (old mid new : List ℕ) (l m l' : LinkSeen) (count : ℕ) → IsHeld old mid l m → Grows mid new m l' count → IsHeld old new l l'
+pub held-more : (old mid new : List ℕ) (l m l' : LinkSeen) (count : ℕ) → IsHeld old mid l m → Grows mid new m l' count
+    → IsHeld old new l l'
 held-more old mid new l m l' count h g = record {
   piece = h.piece ++ g.piece;
   gains = gains-more l m l' h.piece [] g.piece [] h.gains g.gains;
@@ -109,14 +124,18 @@ held-more old mid new l m l' count h g = record {
   calm = g.calm ∙ h.calm;
 }
 
-pub waited-well : (request : Request) (old new : List ℕ) (l l' : LinkSeen) (count : ℕ) → IsHeld old new l l' → count ≤ length new → IsAnswer request (take count new) → IsAnswered request [] old new l l' count
+pub waited-well : (request : Request) (old new : List ℕ) (l l' : LinkSeen) (count : ℕ) → IsHeld old new l l'
+    → count ≤ length new → IsAnswer request (take count new) → IsAnswered request [] old new l l' count
 waited-well request old new l l' count h within answer =
     record { piece = h.piece; gains = h.gains; came = h.came; within = within; answer = answer; calm = h.calm }
 
-pub waited-memory : (request : Request) (old new : List ℕ) (l l' : LinkSeen) → IsHeld old new l l' → IsNotAnswered request [] old l l' NoMemory
-waited-memory request old new l l' h = record { piece = h.piece; written = []; gains = h.gains; cause = (inl refl, h.calm) }
+pub waited-memory : (request : Request) (old new : List ℕ) (l l' : LinkSeen) → IsHeld old new l l'
+    → IsNotAnswered request [] old l l' NoMemory
+waited-memory request old new l l' h =
+    record { piece = h.piece; written = []; gains = h.gains; cause = (inl refl, h.calm) }
 
-pub waited-long : (request : Request) (old new : List ℕ) (l l' : LinkSeen) (bytes : ℕ) → IsHeld old new l l' → Awaits request new → 300000 < length new → bytes ≡ 300001 → IsNotAnswered request [] old l l' (Long bytes)
+pub waited-long : (request : Request) (old new : List ℕ) (l l' : LinkSeen) (bytes : ℕ) → IsHeld old new l l'
+    → Awaits request new → 300000 < length new → bytes ≡ 300001 → IsNotAnswered request [] old l l' (Long bytes)
 waited-long request old new l l' bytes h waits long is = record {
   piece = h.piece;
   written = [];
@@ -124,7 +143,9 @@ waited-long request old new l l' bytes h waits long is = record {
   cause = (refl, subst (Awaits request) h.came waits, subst (λ t. 300000 < length t) h.came long, is, h.calm);
 }
 
-pub waited-end : (request : Request) (old mid new : List ℕ) (l m l' : LinkSeen) (bytes : ℕ) → IsHeld old mid l m → Awaits request mid → length mid ≤ 300000 → Grows mid new m l' 0 → bytes ≡ length new → IsNotAnswered request [] old l l' (Ended bytes)
+pub waited-end : (request : Request) (old mid new : List ℕ) (l m l' : LinkSeen) (bytes : ℕ) → IsHeld old mid l m
+    → Awaits request mid → length mid ≤ 300000 → Grows mid new m l' 0 → bytes ≡ length new
+    → IsNotAnswered request [] old l l' (Ended bytes)
 waited-end request old mid new l m l' bytes h waits short g is =
     let next = held-more old mid new l m l' 0 h g in
     let size = g.size in
@@ -134,19 +155,33 @@ waited-end request old mid new l m l' bytes h waits short g is =
       piece = next.piece;
       written = [];
       gains = next.gains;
-      cause = (refl, subst (Awaits request) (sym at) waits, subst (λ t. length t ≤ 300000) (sym at) short, is ∙ ap length next.came, g.over refl, next.calm);
+      cause = (
+        refl,
+        subst (Awaits request) (sym at) waits,
+        subst (λ t. length t ≤ 300000) (sym at) short,
+        is
+            ∙ ap length next.came,
+        g.over refl,
+        next.calm,
+      );
     }
   where
     no-bytes : (t : List ℕ) → length t ≡ 0 → t ≡ []
     no-bytes [] e = refl
     no-bytes (b ∷ t) e = absurd (omega (arith, e))
 
-pub waited-not : (request : Request) (old mid : List ℕ) (l m l' : LinkSeen) (fault : PullFault) → IsHeld old mid l m → Awaits request mid → length mid ≤ 300000 → IsNotRead m l' fault → IsNotAnswered request [] old l l' fault
+pub waited-not : (request : Request) (old mid : List ℕ) (l m l' : LinkSeen) (fault : PullFault) → IsHeld old mid l m
+    → Awaits request mid → length mid ≤ 300000 → IsNotRead m l' fault → IsNotAnswered request [] old l l' fault
 waited-not request old mid l m l' Read h waits short (g, rose) = record {
   piece = h.piece;
   written = [];
   gains = subst (λ t. Gains l l' t []) (append-nil h.piece) (gains-more l m l' h.piece [] [] [] h.gains g);
-  cause = (refl, subst (Awaits request) h.came waits, subst (λ t. length t ≤ 300000) h.came short, subst (λ n. Rose n l'.faults) h.calm rose);
+  cause = (
+    refl,
+    subst (Awaits request) h.came waits,
+    subst (λ t. length t ≤ 300000) h.came short,
+    subst (λ n. Rose n l'.faults) h.calm rose,
+  );
 }
 waited-not request old mid l m l' NoMemory h waits short (piece, g, calm) = record {
   piece = h.piece ++ piece;
@@ -163,21 +198,45 @@ waited-not request old mid l m l' Unserved h waits short n = absurd n
 
 -- Stopping, or going on behind an answer.
 
-pub stopped-unanswered : (request : Request) (line held : List ℕ) (l l' : LinkSeen) (holds : List Update) (fault : PullFault) → IsNotAnswered request line held l l' fault → IsStopped request line held l l' holds holds fault
+pub stopped-unanswered : (request : Request) (line held : List ℕ) (l l' : LinkSeen) (holds : List Update)
+    (fault : PullFault) → IsNotAnswered request line held l l' fault
+    → IsStopped request line held l l' holds holds fault
 stopped-unanswered request line held l l' holds fault n =
-    record { piece = n.piece; written = n.written; gains = n.gains; stops = inl (record { cause = n.cause; kept = refl }) }
+    record {
+      piece = n.piece;
+      written = n.written;
+      gains = n.gains;
+      stops =
+          inl (record { cause = n.cause; kept = refl });
+    }
 
 -- out of memory for the line
-pub stopped-before : (request : Request) (line held : List ℕ) (l : LinkSeen) (holds : List Update) → IsStopped request line held l l holds holds NoMemory
+pub stopped-before : (request : Request) (line held : List ℕ) (l : LinkSeen) (holds : List Update)
+    → IsStopped request line held l l holds holds NoMemory
 stopped-before request line held l holds =
-    record { piece = []; written = []; gains = gains-nothing l; stops = inl (record { cause = (inl refl, refl); kept = refl }) }
+    record {
+      piece = [];
+      written = [];
+      gains = gains-nothing l;
+      stops =
+          inl (record { cause = (inl refl, refl); kept = refl });
+    }
 
 -- out of memory for what is held behind the answer
-pub stopped-behind : (request : Request) (line old mid : List ℕ) (l l' : LinkSeen) (count : ℕ) (holds : List Update) → IsAnswered request line old mid l l' count → IsStopped request line old l l' holds holds NoMemory
+pub stopped-behind : (request : Request) (line old mid : List ℕ) (l l' : LinkSeen) (count : ℕ) (holds : List Update)
+    → IsAnswered request line old mid l l' count → IsStopped request line old l l' holds holds NoMemory
 stopped-behind request line old mid l l' count holds a =
-    record { piece = a.piece; written = line; gains = a.gains; stops = inl (record { cause = (inr refl, a.calm); kept = refl }) }
+    record {
+      piece = a.piece;
+      written = line;
+      gains = a.gains;
+      stops =
+          inl (record { cause = (inr refl, a.calm); kept = refl });
+    }
 
-pub stopped-by : (request : Request) (line old mid answer : List ℕ) (l l' : LinkSeen) (count : ℕ) (holds new : List Update) (fault : PullFault) → IsAnswered request line old mid l l' count → answer ≡ take count mid → IsCause request holds answer fault new → IsStopped request line old l l' holds new fault
+pub stopped-by : (request : Request) (line old mid answer : List ℕ) (l l' : LinkSeen) (count : ℕ)
+    (holds new : List Update) (fault : PullFault) → IsAnswered request line old mid l l' count → answer ≡ take count mid
+    → IsCause request holds answer fault new → IsStopped request line old l l' holds new fault
 stopped-by request line old mid answer l l' count holds new fault a is cause = record {
   piece = a.piece;
   written = line;
@@ -193,28 +252,36 @@ stopped-by request line old mid answer l l' count holds new fault a is cause = r
   });
 }
 
-pub passed : (request : Request) (line old mid new answer : List ℕ) (l l' : LinkSeen) (count : ℕ) → IsAnswered request line old mid l l' count → answer ≡ take count mid → new ≡ drop count mid → Passes request line answer old new l l'
+pub passed : (request : Request) (line old mid new answer : List ℕ) (l l' : LinkSeen) (count : ℕ)
+    → IsAnswered request line old mid l l' count → answer ≡ take count mid → new ≡ drop count mid
+    → Passes request line answer old new l l'
 passed request line old mid new answer l l' count a is left = record {
   piece = a.piece;
   gains = a.gains;
-  came = sym a.came ∙ sym (take-append-drop count mid) ∙ ap (λ t. t ++ drop count mid) (sym is) ∙ ap (λ t. answer ++ t) (sym left);
+  came = sym a.came ∙ sym (take-append-drop count mid) ∙ ap (λ t. t ++ drop count mid) (sym is)
+      ∙ ap (λ t. answer ++ t) (sym left);
   whole = subst (IsAnswer request) (sym is) a.answer;
   calm = a.calm;
 }
 
 -- What is answered, where a line was written whole.
-pub ask-answers : (request : Request) (line old new : List ℕ) (l m l' : LinkSeen) (r : Result ℕ PullFault) → Prints true line l m → IfOk r (λ count. IsAnswered request [] old new m l' count) → IfOk r (λ count. IsAnswered request line old new l l' count)
+pub ask-answers : (request : Request) (line old new : List ℕ) (l m l' : LinkSeen) (r : Result ℕ PullFault)
+    → Prints true line l m → IfOk r (λ count. IsAnswered request [] old new m l' count)
+    → IfOk r (λ count. IsAnswered request line old new l l' count)
 ask-answers request line old new l m l' (Ok count) p a = asked-well request line old new l m l' count p a
 ask-answers request line old new l m l' (Err fault) p a = tt
 
-pub ask-faults : (request : Request) (line old : List ℕ) (l m l' : LinkSeen) (r : Result ℕ PullFault) → Prints true line l m → IfErr r (λ fault. IsNotAnswered request [] old m l' fault) → IfErr r (λ fault. IsNotAnswered request line old l l' fault)
+pub ask-faults : (request : Request) (line old : List ℕ) (l m l' : LinkSeen) (r : Result ℕ PullFault)
+    → Prints true line l m → IfErr r (λ fault. IsNotAnswered request [] old m l' fault)
+    → IfErr r (λ fault. IsNotAnswered request line old l l' fault)
 ask-faults request line old l m l' (Ok count) p n = tt
 ask-faults request line old l m l' (Err fault) p n = asked-in_vain request line old l m l' fault p n
 
 -- Causes.
 
 -- ADMIN or BYE is answered by a line that is neither `OK` nor a `NO` line
-pub plain-unfit : (request : Request) (old : List Update) (answer : List ℕ) → request ≢ Log → answer ≢ ok_line → IsNoRefusal answer → IsCause request old answer (Follow (F.Line 0)) old
+pub plain-unfit : (request : Request) (old : List Update) (answer : List ℕ) → request ≢ Log → answer ≢ ok_line
+    → IsNoRefusal answer → IsCause request old answer (Follow (F.Line 0)) old
 plain-unfit Admin old answer plain other none = (none, (other, refl, refl))
 plain-unfit Log old answer plain other none = absurd (plain refl)
 plain-unfit Bye old answer plain other none = (none, (other, refl, refl))

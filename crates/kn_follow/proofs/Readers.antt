@@ -1,10 +1,13 @@
 -- Readers of a form, and those that are made of others.
-use Rattle.std.proofs.Common.{◌≡◌, ◌⊎◌, ℕ, zero, suc, ◌-◌, ◌<◌, ◌≤◌, Bool, true, false, cond, ltb, List, [], ◌∷◌, ◌++◌, length, take, drop, Result, Ok, Err, refl, sym, ap, ◌∙◌, subst, arith, append_assoc, inl, inr}
+use Rattle.std.proofs.Common.{◌≡◌, ◌⊎◌, ℕ, zero, suc, ◌-◌, ◌<◌, ◌≤◌, Bool, true, false, cond, ltb, List, [], ◌∷◌, ◌++◌}
+use Rattle.std.proofs.Common.{length, take, drop, Result, Ok, Err, refl, sym, ap, ◌∙◌, subst, arith, append_assoc, inl}
+use Rattle.std.proofs.Common.{inr}
 use Rattle.std.specs.Prelude.{◌==◌, flat_map}
 use Rattle.std.specs.List.{AllByRecursion}
 use Rattle.std.proofs.lemmas.Bool.{ltb-false, ltb-true, le-ltb}
 use Rattle.std.proofs.lemmas.Bool.Decides.{Decides-eqb}
-use Rattle.std.proofs.lemmas.List.{append-nil, append_cancel_right, length-append, length-take, length-replicate, take-append-drop, take_at, drop_at}
+use Rattle.std.proofs.lemmas.List.{append-nil, append_cancel_right, length-append, length-take, length-replicate}
+use Rattle.std.proofs.lemmas.List.{take-append-drop, take_at, drop_at}
 use lib.ListN.{replicate}
 use Rattle.kn_follow.specs.Reading.{Read, ◌>>=◌, both, mapped, times, literal_at, bytes_at}
 
@@ -32,11 +35,13 @@ got_is {A} a b rest left e =
 pub stopped_is : {A : Type 0} (rest left : List ℕ) → stopped {A = A} rest ≡ stopped left → rest ≡ left
 stopped_is rest left e = cc
 
-pub bind_ok : {A B : Type 0} (r : Result A (List ℕ)) (f : A → Result B (List ℕ)) (y : B) → (r >>= f) ≡ Ok y → (x : A) × (r ≡ Ok x) × (f x ≡ Ok y)
+pub bind_ok : {A B : Type 0} (r : Result A (List ℕ)) (f : A → Result B (List ℕ)) (y : B) → (r >>= f) ≡ Ok y → (x : A)
+    × (r ≡ Ok x) × (f x ≡ Ok y)
 bind_ok (Ok x) f y e = (x, refl, e)
 bind_ok (Err rest) f y e = absurd cc
 
-pub bind_err : {A B : Type 0} (r : Result A (List ℕ)) (f : A → Result B (List ℕ)) (rest : List ℕ) → (r >>= f) ≡ Err rest → (r ≡ Err rest) ⊎ ((x : A) × (r ≡ Ok x) × (f x ≡ Err rest))
+pub bind_err : {A B : Type 0} (r : Result A (List ℕ)) (f : A → Result B (List ℕ)) (rest : List ℕ) → (r >>= f) ≡ Err rest
+    → (r ≡ Err rest) ⊎ ((x : A) × (r ≡ Ok x) × (f x ≡ Err rest))
 bind_err (Ok x) f rest e = inr (x, refl, e)
 bind_err (Err left) f rest e = inl cc
 
@@ -68,19 +73,22 @@ pub record Fronts {A : Type 0} (Fits : A → Type 0) (spelling : A → List ℕ)
   pub cut : text ≡ front ++ rest
   pub begins : spelling value ≡ front ++ behind
 
--- It reads the spellings of these values: what is read is spelled, what is spelled is read, and where it stops, the bytes in
--- front begin some spelling, and it stops there whatever follows the byte.
+-- It reads the spellings of these values: what is read is spelled, what is spelled is read, and where it stops, the
+-- bytes in front begin some spelling, and it stops there whatever follows the byte.
 pub record IsReader {A : Type 0} (Fits : A → Type 0) (spelling : A → List ℕ) (read : List ℕ → Read A) : Type 0 where
   pub sound : (text : List ℕ) (a : A) (rest : List ℕ) → read text ≡ got a rest → Fits a × (text ≡ spelling a ++ rest)
   pub whole : (a : A) (rest : List ℕ) → Fits a → read (spelling a ++ rest) ≡ got a rest
   pub fronts : (text rest : List ℕ) → read text ≡ stopped rest → Fronts Fits spelling text rest
-  pub local : (front : List ℕ) (b : ℕ) (more other : List ℕ) → read (front ++ b ∷ more) ≡ stopped (b ∷ more) → read (front ++ b ∷ other) ≡ stopped (b ∷ other)
+  pub local : (front : List ℕ) (b : ℕ) (more other : List ℕ) → read (front ++ b ∷ more) ≡ stopped (b ∷ more)
+      → read (front ++ b ∷ other) ≡ stopped (b ∷ other)
 
 -- Where nothing is read, no spelling begins with the bytes in front and the one that follows them.
 pub record Unspelled {A : Type 0} (Fits : A → Type 0) (spelling : A → List ℕ) (front : List ℕ) (b : ℕ) : Type 0 where
   pub none : (a : A) (behind : List ℕ) → Fits a → spelling a ≡ (front ++ b ∷ []) ++ behind → ⊥
 
-pub stops-unspelled : {A : Type 0} (Fits : A → Type 0) (spelling : A → List ℕ) (read : List ℕ → Read A) → IsReader Fits spelling read → (front : List ℕ) (b : ℕ) (more : List ℕ) → read (front ++ b ∷ more) ≡ stopped (b ∷ more) → Unspelled Fits spelling front b
+pub stops-unspelled : {A : Type 0} (Fits : A → Type 0) (spelling : A → List ℕ) (read : List ℕ → Read A)
+    → IsReader Fits spelling read → (front : List ℕ) (b : ℕ) (more : List ℕ)
+    → read (front ++ b ∷ more) ≡ stopped (b ∷ more) → Unspelled Fits spelling front b
 stops-unspelled {A} Fits spelling read reader front b more e = record {
   none = λ a behind fits begins.
       let there : read (front ++ b ∷ behind) ≡ stopped (b ∷ behind) = reader.local front b more behind e in
@@ -92,7 +100,9 @@ stops-unspelled {A} Fits spelling read reader front b more e = record {
 
 -- Both.
 
-pub both-reader : {A B : Type 0} (F : A → Type 0) (s : A → List ℕ) (r : List ℕ → Read A) (G : A → B → Type 0) (u : A → B → List ℕ) (q : A → List ℕ → Read B) → IsReader F s r → ((a : A) → F a → IsReader (G a) (u a) (q a)) → ((a : A) → F a → (b : B) × G a b)
+pub both-reader : {A B : Type 0} (F : A → Type 0) (s : A → List ℕ) (r : List ℕ → Read A) (G : A → B → Type 0) (u : A → B
+    → List ℕ) (q : A → List ℕ → Read B) → IsReader F s r → ((a : A) → F a → IsReader (G a) (u a) (q a))
+    → ((a : A) → F a → (b : B) × G a b)
     → IsReader (λ (p : A × B). F p.0 × G p.0 p.1) (λ (p : A × B). s p.0 ++ u p.0 p.1) (both r q)
 both-reader {A} {B} F s r G u q R Q some = record {
   sound = λ text p rest e.
@@ -101,8 +111,11 @@ both-reader {A} {B} F s r G u q R Q some = record {
       let first = R.sound text a.0.0 a.0.1 a.1 in
       let second = (Q a.0.0 first.0).sound a.0.1 b.0.0 b.0.1 b.1 in
       let same = got_is (a.0.0, b.0.0) p b.0.1 rest b.2 in
-      let made : (F a.0.0 × G a.0.0 b.0.0) × (text ≡ (s a.0.0 ++ u a.0.0 b.0.0) ++ b.0.1) =
-      ((first.0, second.0), first.1 ∙ ap (λ l. s a.0.0 ++ l) second.1 ∙ sym (append_assoc (s a.0.0) (u a.0.0 b.0.0) b.0.1)) in
+      let made : (F a.0.0 × G a.0.0 b.0.0) × (text ≡ (s a.0.0 ++ u a.0.0 b.0.0) ++ b.0.1) = (
+        (first.0, second.0),
+        first.1 ∙ ap (λ l. s a.0.0 ++ l) second.1
+            ∙ sym (append_assoc (s a.0.0) (u a.0.0 b.0.0) b.0.1),
+      ) in
       subst (λ (l : List ℕ). (F p.0 × G p.0 p.1) × (text ≡ (s p.0 ++ u p.0 p.1) ++ l)) same.1
       (subst (λ (y : A × B). (F y.0 × G y.0 y.1) × (text ≡ (s y.0 ++ u y.0 y.1) ++ b.0.1)) same.0 made);
   whole = λ p rest fits.
@@ -137,20 +150,21 @@ both-reader {A} {B} F s r G u q R Q some = record {
               | inr y ↦ absurd (cc (y.2))
             ]
       ];
-  local = λ front b more other e.
-      elim (bind_err (r (front ++ b ∷ more)) (λ (a : A × List ℕ). q a.0 a.1 >>= λ b. Ok ((a.0, b.0), b.1)) (b ∷ more) e) [
-        | inl h ↦ rw (R.local front b more other h) refl
+  local = λ front b ys other e.
+      elim (bind_err (r (front ++ b ∷ ys)) (λ (a : A × List ℕ). q a.0 a.1 >>= λ b. Ok ((a.0, b.0), b.1)) (b ∷ ys) e) [
+        | inl h ↦ rw (R.local front b ys other h) refl
         | inr x ↦
-            let first = R.sound (front ++ b ∷ more) x.0.0 x.0.1 x.1 in
-            elim (bind_err (q x.0.0 x.0.1) (λ (b : B × List ℕ). Ok ((x.0.0, b.0), b.1)) (b ∷ more) x.2) [
+            let first = R.sound (front ++ b ∷ ys) x.0.0 x.0.1 x.1 in
+            elim (bind_err (q x.0.0 x.0.1) (λ (b : B × List ℕ). Ok ((x.0.0, b.0), b.1)) (b ∷ ys) x.2) [
               | inl h ↦
-                  let f = (Q x.0.0 first.0).fronts x.0.1 (b ∷ more) h in
-                  let cut : front ≡ s x.0.0 ++ f.front = append_cancel_right front (s x.0.0 ++ f.front) (b ∷ more)
-                  (first.1 ∙ ap (λ l. s x.0.0 ++ l) f.cut ∙ sym (append_assoc (s x.0.0) f.front (b ∷ more))) in
+                  let f = (Q x.0.0 first.0).fronts x.0.1 (b ∷ ys) h in
+                  let cut : front ≡ s x.0.0 ++ f.front = append_cancel_right front (s x.0.0 ++ f.front) (b ∷ ys)
+                  (first.1 ∙ ap (λ l. s x.0.0 ++ l) f.cut ∙ sym (append_assoc (s x.0.0) f.front (b ∷ ys))) in
                   let one : r (front ++ b ∷ other) ≡ got x.0.0 (f.front ++ b ∷ other) =
-                  ap (λ l. r (l ++ b ∷ other)) cut ∙ ap r (append_assoc (s x.0.0) f.front (b ∷ other)) ∙ R.whole x.0.0 (f.front ++ b ∷ other) first.0 in
+                  ap (λ l. r (l ++ b ∷ other)) cut ∙ ap r (append_assoc (s x.0.0) f.front (b ∷ other))
+                  ∙ R.whole x.0.0 (f.front ++ b ∷ other) first.0 in
                   let two : q x.0.0 (f.front ++ b ∷ other) ≡ stopped (b ∷ other) =
-                  (Q x.0.0 first.0).local f.front b more other (ap (q x.0.0) (sym f.cut) ∙ h) in
+                  (Q x.0.0 first.0).local f.front b ys other (ap (q x.0.0) (sym f.cut) ∙ h) in
                   rw (one, two) refl
               | inr y ↦ absurd (cc (y.2))
             ]
@@ -159,11 +173,13 @@ both-reader {A} {B} F s r G u q R Q some = record {
 
 -- What a value stands for.
 
-pub record Stands {A B : Type 0} (F : A → Type 0) (s : A → List ℕ) (G : B → Type 0) (u : B → List ℕ) (f : A → B) : Type 0 where
+pub record Stands {A B : Type 0} (F : A → Type 0) (s : A → List ℕ) (G : B → Type 0) (u : B → List ℕ) (f : A → B) :
+    Type 0 where
   pub fits : (a : A) → F a → G (f a) × (u (f a) ≡ s a)
   pub each : (b : B) → G b → (a : A) × F a × (f a ≡ b)
 
-pub mapped-reader : {A B : Type 0} (F : A → Type 0) (s : A → List ℕ) (r : List ℕ → Read A) (G : B → Type 0) (u : B → List ℕ) (f : A → B) → IsReader F s r → Stands F s G u f → IsReader G u (mapped f r)
+pub mapped-reader : {A B : Type 0} (F : A → Type 0) (s : A → List ℕ) (r : List ℕ → Read A) (G : B → Type 0) (u : B
+    → List ℕ) (f : A → B) → IsReader F s r → Stands F s G u f → IsReader G u (mapped f r)
 mapped-reader {A} {B} F s r G u f R stands = record {
   sound = λ text b rest e.
       let a = bind_ok (r text) (λ (a : A × List ℕ). Ok (f a.0, a.1)) (b, rest) e in
@@ -171,7 +187,8 @@ mapped-reader {A} {B} F s r G u f R stands = record {
       let to = stands.fits a.0.0 first.0 in
       let same = got_is (f a.0.0) b a.0.1 rest a.2 in
       let made : G (f a.0.0) × (text ≡ u (f a.0.0) ++ a.0.1) = (to.0, first.1 ∙ ap (λ l. l ++ a.0.1) (sym to.1)) in
-      subst (λ (l : List ℕ). G b × (text ≡ u b ++ l)) same.1 (subst (λ (y : B). G y × (text ≡ u y ++ a.0.1)) same.0 made);
+      subst (λ (l : List ℕ). G b
+      × (text ≡ u b ++ l)) same.1 (subst (λ (y : B). G y × (text ≡ u y ++ a.0.1)) same.0 made);
   whole = λ b rest fits.
       let w = stands.each b fits in
       let spelled : u b ≡ s w.0 = ap u (sym w.2) ∙ (stands.fits w.0 w.1).1 in
@@ -181,7 +198,15 @@ mapped-reader {A} {B} F s r G u f R stands = record {
         | inl h ↦
             let g = R.fronts text rest h in
             let to = stands.fits g.value g.fits in
-            record { front = g.front; value = f g.value; behind = g.behind; fits = to.0; cut = g.cut; begins = to.1 ∙ g.begins }
+            record {
+              front = g.front;
+              value = f g.value;
+              behind = g.behind;
+              fits = to.0;
+              cut = g.cut;
+              begins = to.1
+                  ∙ g.begins;
+            }
         | inr y ↦ absurd (cc (y.2))
       ];
   local = λ front b more other e.
@@ -200,7 +225,8 @@ pub some-times : {A : Type 0} (F : A → Type 0) (a : A) → F a → (n : ℕ) �
 some-times F a fits zero = ([], (refl, tt))
 some-times F a fits (suc n) = let more = some-times F a fits n in (a ∷ more.0, (ap suc more.1.0, (fits, more.1.1)))
 
-no-times : {A : Type 0} (F : A → Type 0) (s : A → List ℕ) (r : List ℕ → Read A) → IsReader (AreTimes F 0) (flat_map s) (times r 0)
+no-times : {A : Type 0} (F : A → Type 0) (s : A → List ℕ) (r : List ℕ → Read A)
+    → IsReader (AreTimes F 0) (flat_map s) (times r 0)
 unfolding times
 no-times {A} F s r = record {
   sound = λ text xs rest e.
@@ -227,7 +253,8 @@ list_behind a others = Ok (a ∷ others.0, others.1)
 abbrev as_list : {A : Type 0} → (A × List A) × List ℕ → Read (List A)
 as_list p = Ok (to_list p.0, p.1)
 
-same_times : {A : Type 0} (r : List ℕ → Read A) (n : ℕ) (text : List ℕ) → times r (suc n) text ≡ mapped to_list (both r (λ _. times r n)) text
+same_times : {A : Type 0} (r : List ℕ → Read A) (n : ℕ) (text : List ℕ)
+    → times r (suc n) text ≡ mapped to_list (both r (λ _. times r n)) text
 unfolding times
 same_times {A} r n text = by (r text)
   where
@@ -235,31 +262,41 @@ same_times {A} r n text = by (r text)
     again x (Ok others) = refl
     again x (Err rest) = refl
 
-    by : (found : Read A) → (found >>= λ a. (times r n a.1 >>= list_behind a.0)) ≡ ((found >>= λ a. (times r n a.1 >>= pair_behind a.0)) >>= as_list)
+    by : (found : Read A)
+        → (found >>= λ a. (times r n a.1 >>= list_behind a.0))
+        ≡ ((found >>= λ a. (times r n a.1 >>= pair_behind a.0)) >>= as_list)
     by (Ok x) = again x.0 (times r n x.1)
     by (Err rest) = refl
 
-same-reader : {A : Type 0} (F : A → Type 0) (s : A → List ℕ) (r q : List ℕ → Read A) → ((text : List ℕ) → q text ≡ r text) → IsReader F s r → IsReader F s q
+same-reader : {A : Type 0} (F : A → Type 0) (s : A → List ℕ) (r q : List ℕ → Read A)
+    → ((text : List ℕ) → q text ≡ r text) → IsReader F s r → IsReader F s q
 same-reader F s r q same R = record {
   sound = λ text a rest e. R.sound text a rest (sym (same text) ∙ e);
   whole = λ a rest fits. same (s a ++ rest) ∙ R.whole a rest fits;
   fronts = λ text rest e. R.fronts text rest (sym (same text) ∙ e);
-  local = λ front b more other e. same (front ++ b ∷ other) ∙ R.local front b more other (sym (same (front ++ b ∷ more)) ∙ e);
+  local = λ front b more other e. same (front ++ b ∷ other)
+      ∙ R.local front b more other (sym (same (front ++ b ∷ more)) ∙ e);
 }
 
-list-stands : {A : Type 0} (F : A → Type 0) (s : A → List ℕ) (n : ℕ) → Stands (λ (p : A × List A). F p.0 × AreTimes F n p.1) (λ (p : A × List A). s p.0 ++ flat_map s p.1) (AreTimes F (suc n)) (flat_map s) to_list
+list-stands : {A : Type 0} (F : A → Type 0) (s : A → List ℕ) (n : ℕ)
+    → Stands (λ (p : A × List A). F p.0 × AreTimes F n p.1) (λ (p : A × List A). s p.0 ++ flat_map s p.1)
+    (AreTimes F (suc n)) (flat_map s) to_list
 list-stands {A} F s n = record { fits = λ p fits. ((ap suc fits.1.0, (fits.0, fits.1.1)), refl); each = each }
   where
     each : (xs : List A) → AreTimes F (suc n) xs → (p : A × List A) × (F p.0 × AreTimes F n p.1) × (to_list p ≡ xs)
     each [] fits = absurd (cc (fits.0))
     each (x ∷ xs) fits = let size : length xs ≡ n = cc in ((x, xs), (fits.1.0, (size, fits.1.1)), refl)
 
-pub times-reader : {A : Type 0} (F : A → Type 0) (s : A → List ℕ) (r : List ℕ → Read A) (a : A) → F a → IsReader F s r → (n : ℕ) → IsReader (AreTimes F n) (flat_map s) (times r n)
+pub times-reader : {A : Type 0} (F : A → Type 0) (s : A → List ℕ) (r : List ℕ → Read A) (a : A) → F a → IsReader F s r
+    → (n : ℕ) → IsReader (AreTimes F n) (flat_map s) (times r n)
 times-reader F s r a fits R zero = no-times F s r
 times-reader {A} F s r a fits R (suc n) =
-    same-reader (AreTimes F (suc n)) (flat_map s) (mapped to_list (both r (λ _. times r n))) (times r (suc n)) (same_times r n)
-    (mapped-reader (λ (p : A × List A). F p.0 × AreTimes F n p.1) (λ (p : A × List A). s p.0 ++ flat_map s p.1) (both r (λ _. times r n)) (AreTimes F (suc n)) (flat_map s) to_list
-    (both-reader F s r (λ _. AreTimes F n) (λ _. flat_map s) (λ _. times r n) R (λ x f. times-reader F s r a fits R n) (λ x f. some-times F a fits n))
+    same-reader (AreTimes F (suc n)) (flat_map s) (mapped to_list (both r (λ _. times r n))) (times r (suc n))
+    (same_times r n)
+    (mapped-reader (λ (p : A × List A). F p.0 × AreTimes F n p.1) (λ (p : A × List A). s p.0 ++ flat_map s p.1)
+    (both r (λ _. times r n)) (AreTimes F (suc n)) (flat_map s) to_list
+    (both-reader F s r (λ _. AreTimes F n) (λ _. flat_map s) (λ _. times r n) R (λ x f. times-reader F s r a fits R n)
+    (λ x f. some-times F a fits n))
     (list-stands F s n))
 
 -- These bytes and no others.
@@ -273,7 +310,8 @@ literal-sound [] text rest e = (got_is tt tt text rest e).1
 literal-sound (c ∷ cs) [] rest e = absurd (cc (e))
 literal-sound (c ∷ cs) (b ∷ text) rest e =
     elim (chosen (b == c) (literal_at cs text) (stopped (b ∷ text)) (got tt rest) e) [
-      | inl h ↦ let same = (Decides-eqb b c).0 h.0 in let more = literal-sound cs text rest h.1 in ap (λ x. x ∷ text) same ∙ ap (λ l. c ∷ l) more
+      | inl h ↦ let same = (Decides-eqb b c).0 h.0 in let more = literal-sound cs text rest h.1 in
+          ap (λ x. x ∷ text) same ∙ ap (λ l. c ∷ l) more
       | inr h ↦ absurd (cc (h.1))
     ]
 
@@ -297,11 +335,18 @@ literal-fronts (c ∷ cs) (b ∷ text) rest e =
       | inl h ↦
           let same = (Decides-eqb b c).0 h.0 in
           let more = literal-fronts cs text rest h.1 in
-          record { front = b ∷ more.front; behind = more.behind; cut = ap (λ l. b ∷ l) more.cut; begins = ap (λ x. x ∷ cs) (sym same) ∙ ap (λ l. b ∷ l) more.begins }
+          record {
+            front = b ∷ more.front;
+            behind = more.behind;
+            cut = ap (λ l. b ∷ l) more.cut;
+            begins =
+                ap (λ x. x ∷ cs) (sym same) ∙ ap (λ l. b ∷ l) more.begins;
+          }
       | inr h ↦ record { front = []; behind = c ∷ cs; cut = stopped_is (b ∷ text) rest h.1; begins = refl }
     ]
 
-literal-local : (cs front : List ℕ) (b : ℕ) (more other : List ℕ) → literal_at cs (front ++ b ∷ more) ≡ stopped (b ∷ more) → literal_at cs (front ++ b ∷ other) ≡ stopped (b ∷ other)
+literal-local : (cs front : List ℕ) (b : ℕ) (more other : List ℕ)
+    → literal_at cs (front ++ b ∷ more) ≡ stopped (b ∷ more) → literal_at cs (front ++ b ∷ other) ≡ stopped (b ∷ other)
 unfolding literal_at
 literal-local [] front b more other e = absurd (cc (e))
 literal-local (c ∷ cs) [] b more other e =
@@ -310,7 +355,8 @@ literal-local (c ∷ cs) [] b more other e =
       | inr h ↦ rw h.0 refl
     ]
 literal-local (c ∷ cs) (x ∷ front) b more other e =
-    elim (chosen (x == c) (literal_at cs (front ++ b ∷ more)) (stopped (x ∷ (front ++ b ∷ more))) (stopped (b ∷ more)) e) [
+    elim (chosen (x == c) (literal_at cs (front ++ b ∷ more)) (stopped (x ∷ (front ++ b ∷ more))) (stopped (b ∷ more))
+    e) [
       | inl h ↦ rw h.0 (literal-local cs front b more other h.1)
       | inr h ↦ absurd (not_behind x front more b (stopped_is (x ∷ (front ++ b ∷ more)) (b ∷ more) h.1))
     ]
@@ -341,7 +387,10 @@ bytes-reader n = record {
             let size : length (take n text) ≡ n = let l = length-take n text in omega (arith, l, long) in
             let same = got_is (take n text) a (drop n text) rest h.1 in
             subst (λ (l : List ℕ). (length a ≡ n) × (text ≡ a ++ l)) same.1
-            (subst (λ (y : List ℕ). (length y ≡ n) × (text ≡ y ++ drop n text)) same.0 (size, sym (take-append-drop n text)))
+            (subst (λ (y : List ℕ). (length y ≡ n) × (text ≡ y ++ drop n text)) same.0 (
+              size,
+              sym (take-append-drop n text),
+            ))
       ];
   whole = λ a rest fits.
       let size = length-append a rest in
@@ -366,7 +415,8 @@ bytes-reader n = record {
         | inr h ↦ absurd (cc (h.1))
       ];
   local = λ front b more other e.
-      elim (chosen (ltb (length (front ++ b ∷ more)) n) (stopped []) (got (take n (front ++ b ∷ more)) (drop n (front ++ b ∷ more))) (stopped (b ∷ more)) e) [
+      elim (chosen (ltb (length (front ++ b ∷ more)) n) (stopped [])
+      (got (take n (front ++ b ∷ more)) (drop n (front ++ b ∷ more))) (stopped (b ∷ more)) e) [
         | inl h ↦ absurd (cc (h.1))
         | inr h ↦ absurd (cc (h.1))
       ];

@@ -1,5 +1,6 @@
 -- The requests of a pull, and the answers that it waits for (keynoted's own line protocol).
-use Rattle.std.specs.Prelude.{ℕ, ◌≡◌, ◌≢◌, ◌⊎◌, ◌+◌, ◌-◌, ◌/◌, ◌%◌, ◌≤◌, nat_lt, if◌then◌else◌, false, List, [], ◌∷◌, ◌++◌, length, flat_map}
+use Rattle.std.specs.Prelude.{ℕ, ◌≡◌, ◌≢◌, ◌⊎◌, ◌+◌, ◌-◌, ◌/◌, ◌%◌, ◌≤◌, nat_lt, if◌then◌else◌, false, List, [], ◌∷◌}
+use Rattle.std.specs.Prelude.{◌++◌, length, flat_map}
 use Rattle.std.specs.Prelude.{slice_index, Some, codes, decimal}
 use Rattle.std.specs.List.{list_any, before_first}
 use Rattle.kn_base.specs.Decimal.{decimal_of}

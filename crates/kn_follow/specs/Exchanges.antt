@@ -4,7 +4,8 @@ use Rattle.kn_outside.specs.Seen.{LinkSeen}
 use Rattle.kn_outside.specs.Faults.{Rose}
 use Rattle.kn_history.specs.declared.update.Update.{Update}
 use Rattle.kn_follow.specs.declared.pull_fault.PullFault.{PullFault}
-use Rattle.kn_follow.specs.declared.pull_fault.PullFault.TheVariants.{Read, Write, Denied, Ended, Long, Follow, Unserved, NoMemory}
+use Rattle.kn_follow.specs.declared.pull_fault.PullFault.TheVariants.{Read, Write, Denied, Ended, Long, Follow}
+use Rattle.kn_follow.specs.declared.pull_fault.PullFault.TheVariants.{Unserved, NoMemory}
 use Rattle.kn_follow.specs.declared.request.Request.{Request}
 use Rattle.kn_follow.specs.declared.request.Request.TheVariants.{Log}
 use Rattle.kn_follow.specs.Following.{IsApplied}
@@ -29,7 +30,8 @@ pub record Passes (request : Request) (line answer old new : List ℕ) (l l' : L
   pub calm : l'.faults ≡ l.faults
 
 -- the pull ends at this request, where these bytes were held and the replica was so
-pub record IsStopped (request : Request) (line held : List ℕ) (l l' : LinkSeen) (old new : List Update) (fault : PullFault) : Type 0 where
+pub record IsStopped (request : Request) (line held : List ℕ) (l l' : LinkSeen) (old new : List Update)
+    (fault : PullFault) : Type 0 where
   pub piece : List ℕ
   pub written : List ℕ
   pub gains : Gains l l' piece written

@@ -79,8 +79,8 @@ pub record IsReplyRefused (old : List Update) (text : List ℕ) (fault : FollowF
   pub form : IsLogText text reply
   pub fault_is : IsReplyFault old reply fault new
 
--- Why a text isn't applied, and what the replica then is. It is as before where the text isn't of the form, and where it
--- is to a client that holds another number of updates; when out of memory some first updates of the reply are taken.
+-- Why a text isn't applied, and what the replica then is. It is as before where the text isn't of the form, and where
+-- it is to a client that holds another number of updates; when out of memory some first updates of the reply are taken.
 abbrev pub IsFollowFault : List Update → List ℕ → FollowFault → List Update → Type 0
 IsFollowFault old text (Line at) new = DepartsAt text at × (new ≡ old)
 IsFollowFault old text (Gap from have) new = IsReplyRefused old text (Gap from have) new
@@ -97,4 +97,5 @@ IsReadFault text NoMemory = Unit {0}
 -- these replies are applied one after the other
 abbrev pub Applies : List Update → List (List ℕ) → List Update → Type 0
 Applies old [] new = new ≡ old
-Applies old (text ∷ texts) new = (count : ℕ) × (mid : List Update) × IsApplied old text count mid × Applies mid texts new
+Applies old (text ∷ texts) new = (count : ℕ) × (mid : List Update) × IsApplied old text count mid
+    × Applies mid texts new

@@ -7,12 +7,14 @@ use Rattle.kn_history.specs.declared.update.Update.{Update}
 use Rattle.kn_follow.specs.declared.fault.FollowFault.{FollowFault}
 use Rattle.kn_follow.specs.declared.fault.FollowFault.TheVariants as F
 use Rattle.kn_follow.specs.declared.pull_fault.PullFault.{PullFault}
-use Rattle.kn_follow.specs.declared.pull_fault.PullFault.TheVariants.{Read, Write, Denied, Ended, Long, Follow, Unserved, NoMemory}
+use Rattle.kn_follow.specs.declared.pull_fault.PullFault.TheVariants.{Read, Write, Denied, Ended, Long, Follow}
+use Rattle.kn_follow.specs.declared.pull_fault.PullFault.TheVariants.{Unserved, NoMemory}
 use Rattle.kn_follow.specs.declared.reply.TheConstants.{REPLY_BYTES}
 use Rattle.kn_follow.specs.declared.request.Request.{Request}
 use Rattle.kn_follow.specs.declared.request.Request.TheVariants.{Admin, Log, Bye}
 use Rattle.kn_follow.specs.Following.{IsApplied, IsFollowFault}
-use Rattle.kn_follow.specs.Answers.{admin_line, log_line, bye_line, request_line, ok_line, nomem_line, IsNoLine, IsAnswer, Awaits}
+use Rattle.kn_follow.specs.Answers.{admin_line, log_line, bye_line, request_line, ok_line, nomem_line, IsNoLine}
+use Rattle.kn_follow.specs.Answers.{IsAnswer, Awaits}
 
 -- these bytes were taken of the input, which are its next ones, and these were written
 pub record Gains (l l' : LinkSeen) (taken written : List ℕ) : Type 0 where
@@ -78,7 +80,8 @@ IsUnanswered request line written held l l' (Ended n) =
     (written ≡ line) × Awaits request held × (length held ≤ REPLY_BYTES) × (n ≡ length held)
     × IfSome l'.left (λ left. left ≡ []) × (l'.faults ≡ l.faults)
 IsUnanswered request line written held l l' (Long n) =
-    (written ≡ line) × Awaits request held × (REPLY_BYTES < length held) × (n ≡ REPLY_BYTES + 1) × (l'.faults ≡ l.faults)
+    (written ≡ line) × Awaits request held × (REPLY_BYTES < length held) × (n ≡ REPLY_BYTES + 1)
+    × (l'.faults ≡ l.faults)
 IsUnanswered request line written held l l' NoMemory =
     ((written ≡ []) ⊎ (written ≡ line)) × (l'.faults ≡ l.faults)
 IsUnanswered request line written held l l' (Denied code) = ⊥
@@ -107,7 +110,8 @@ IsCause request old answer (Ended n) new = ⊥
 IsCause request old answer (Long n) new = ⊥
 
 -- the pull ends by the answer to a request; of the bytes that were there, the rest belongs to no answer
-pub record IsEndedBy (request : Request) (line written held : List ℕ) (l l' : LinkSeen) (old new : List Update) (fault : PullFault) : Type 0 where
+pub record IsEndedBy (request : Request) (line written held : List ℕ) (l l' : LinkSeen) (old new : List Update)
+    (fault : PullFault) : Type 0 where
   pub answer : List ℕ
   pub rest : List ℕ
   pub asked : written ≡ line
@@ -117,11 +121,13 @@ pub record IsEndedBy (request : Request) (line written held : List ℕ) (l l' : 
   pub calm : l'.faults ≡ l.faults
 
 -- the pull ends without an answer to a request
-pub record IsCutOff (request : Request) (line written held : List ℕ) (l l' : LinkSeen) (old new : List Update) (fault : PullFault) : Type 0 where
+pub record IsCutOff (request : Request) (line written held : List ℕ) (l l' : LinkSeen) (old new : List Update)
+    (fault : PullFault) : Type 0 where
   pub cause : IsUnanswered request line written held l l' fault
   pub kept : new ≡ old
 
-abbrev pub Stops : Request → List ℕ → List ℕ → List ℕ → LinkSeen → LinkSeen → List Update → List Update → PullFault → Type 0
+abbrev pub Stops : Request → List ℕ → List ℕ → List ℕ → LinkSeen → LinkSeen → List Update → List Update → PullFault
+    → Type 0
 Stops request line written held l l' old new fault =
     IsCutOff request line written held l l' old new fault ⊎ IsEndedBy request line written held l l' old new fault
 

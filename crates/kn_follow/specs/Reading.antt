@@ -1,5 +1,5 @@
--- Reading a reply from its first byte on. What is read is a value, and the bytes behind it; a text of which none is read
--- gives the bytes from the first one on that can't stand there, or none where it breaks off.
+-- Reading a reply from its first byte on. What is read is a value, and the bytes behind it; a text of which none is
+-- read gives the bytes from the first one on that can't stand there, or none where it breaks off.
 use Rattle.std.specs.Prelude.{ℕ, zero, suc, ◌+◌, ◌-◌, ◌*◌, ◌/◌, Bool, ◌==◌, ◌&&◌, ◌||◌, nat_le, nat_lt}
 use Rattle.std.specs.Prelude.{min, if◌then◌else◌, List, [], ◌∷◌, length, take, drop, codes, Result, Ok, Err}
 use Rattle.kn_base.specs.Decimal.{is_digit}
@@ -82,7 +82,8 @@ number_at least most end (b ∷ text) =
 unfoldable pub addition_at : List ℕ → Read BatchItem
 addition_at text =
     mapped (λ p. AddText p.1.1.0)
-    (both (literal_at (codes "ADD ")) (λ _. both (number_at 0 NINE_DIGITS 10) (λ n. both (bytes_at n) (λ _. literal_at (10 ∷ [])))))
+    (both (literal_at (codes "ADD "))
+    (λ _. both (number_at 0 NINE_DIGITS 10) (λ n. both (bytes_at n) (λ _. literal_at (10 ∷ [])))))
     text
 
 unfoldable pub removal_at : List ℕ → Read BatchItem
@@ -98,7 +99,8 @@ item_at (b ∷ text) =
 unfoldable pub update_at : List ℕ → Read ToldUpdate
 update_at text =
     mapped (λ p. record { caller = p.1.0; items = p.1.1.1 })
-    (both (literal_at (codes "UPDATE ")) (λ _. both (number_at 0 NINE_DIGITS 32) (λ _. both (number_at 1 CHANGES 10) (λ n. times item_at n))))
+    (both (literal_at (codes "UPDATE "))
+    (λ _. both (number_at 0 NINE_DIGITS 32) (λ _. both (number_at 1 CHANGES 10) (λ n. times item_at n))))
     text
 
 -- how many updates a reply may have that is to a client which holds the first `from`
@@ -112,7 +114,8 @@ greatest_place from count = if count == LOG_UPDATES then NINE_DIGITS else from +
 unfoldable pub reply_at : List ℕ → Read LogReply
 reply_at text =
     mapped (λ p. record { from = p.1.0; place = p.1.1.1.0; updates = p.1.1.1.1.0 })
-    (both (literal_at (codes "LOG ")) (λ _. both (number_at 0 NINE_DIGITS 32) (λ from. both (number_at 0 (most_updates from) 32)
+    (both (literal_at (codes "LOG "))
+    (λ _. both (number_at 0 NINE_DIGITS 32) (λ from. both (number_at 0 (most_updates from) 32)
     (λ count. both (number_at (from + count) (greatest_place from count) 10)
     (λ _. both (times update_at count) (λ _. literal_at (codes "END\n")))))))
     text

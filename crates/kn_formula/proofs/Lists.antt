@@ -4,7 +4,8 @@ use Rattle.kn_fields.specs.Words.{Mark}
 use Rattle.kn_fields.specs.Reading.{one_part}
 use Rattle.kn_fields.proofs.Levels.{Level, mark_level}
 use Rattle.kn_formula.specs.Trees.{joined}
-use Rattle.kn_formula.specs.Grammar.{Form, Both, One, Forms, form_words, both_words, one_words, forms_words, form_parts, both_parts, one_tree, forms_parts, form_tree}
+use Rattle.kn_formula.specs.Grammar.{Form, Both, One, Forms, form_words, both_words, one_words, forms_words, form_parts}
+use Rattle.kn_formula.specs.Grammar.{both_parts, one_tree, forms_parts, form_tree}
 use Rattle.kn_formula.specs.Grammar.Form.{both, either}
 use Rattle.kn_formula.specs.Grammar.Both.{one, each}
 use Rattle.kn_formula.specs.Grammar.Forms.{last, further}
@@ -30,14 +31,17 @@ forms_split (further f fs) = inr (f, fs, refl)
 abbrev pub form_level : Level Mark Written Written Written Both Form
 unfolding form_words form_parts
 form_level =
-    mark_level (codes "||") one_part (joined Any) both_words both_tree form_words form_parts both either (λ b. refl) (λ b. refl) (λ b f. refl) (λ b f. refl) form_split
+    mark_level (codes "||") one_part (joined Any) both_words both_tree form_words form_parts both either (λ b. refl)
+    (λ b. refl) (λ b f. refl) (λ b f. refl) form_split
 
 abbrev pub both_level : Level Mark Written Written Written One Both
 unfolding both_words both_parts
 both_level =
-    mark_level (codes "&&") one_part (joined All) one_words one_tree both_words both_parts one each (λ o. refl) (λ o. refl) (λ o b. refl) (λ o b. refl) both_split
+    mark_level (codes "&&") one_part (joined All) one_words one_tree both_words both_parts one each (λ o. refl)
+    (λ o. refl) (λ o b. refl) (λ o b. refl) both_split
 
 abbrev pub forms_level : ℕ → Level Mark Written Written Written Form Forms
 unfolding forms_words forms_parts
 forms_level need =
-    mark_level (codes ",") one_part (Several (AtLeast need)) form_words form_tree forms_words forms_parts last further (λ f. refl) (λ f. refl) (λ f fs. refl) (λ f fs. refl) forms_split
+    mark_level (codes ",") one_part (Several (AtLeast need)) form_words form_tree forms_words forms_parts last further
+    (λ f. refl) (λ f. refl) (λ f fs. refl) (λ f fs. refl) forms_split

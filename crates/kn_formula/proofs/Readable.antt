@@ -17,10 +17,12 @@ use Rattle.kn_formula.proofs.Licenses.{formula_stands}
 use Rattle.kn_formula.proofs.Sizes.{tree_nodes, tree_sound}
 use Rattle.kn_formula.proofs.Nesting.{tree_depth}
 
-pub stated_readable : (constants : List Constant) (tokens : List Seen) (formula : Formula) → IsFormula constants tokens formula → (IsTooDeep tokens → ⊥) → IsReadable (length tokens) formula
+pub stated_readable : (constants : List Constant) (tokens : List Seen) (formula : Formula)
+    → IsFormula constants tokens formula → (IsTooDeep tokens → ⊥) → IsReadable (length tokens) formula
 stated_readable constants tokens formula is shallow =
     let form = is.spelled.form in
-    let tree : formula ≡ formula_of constants (form_tree form) = sym is.means ∙ ap (formula_of constants) (sym is.spelled.tree) in
+    let tree : formula ≡ formula_of constants (form_tree form) = sym is.means
+    ∙ ap (formula_of constants) (sym is.spelled.tree) in
     let words : length (form_words form) ≡ length tokens = ap length is.spelled.words ∙ length_words tokens in
     record {
       sound = ap is_sound tree ∙ tree_sound constants form (ap has_bad_threshold is.spelled.tree ∙ is.thresholds);
@@ -29,10 +31,18 @@ stated_readable constants tokens formula is shallow =
     }
 
 -- so is what is given of a field among more tokens
-pub given_readable : (constants : List Constant) (tokens : List Seen) (from end : ℕ) (r : Result (Option Formula) FormulaFault) → from ≤ end → end ≤ length tokens
-    → Gives r (licensees_of constants (between from end tokens)) → (IsTooDeep (between from end tokens) → ⊥) → IfOk r (λ licensees. IfSome licensees (λ formula. IsReadable (length tokens) formula))
+pub given_readable : (constants : List Constant) (tokens : List Seen) (from end : ℕ)
+    (r : Result (Option Formula) FormulaFault) → from ≤ end → end ≤ length tokens
+    → Gives r (licensees_of constants (between from end tokens)) → (IsTooDeep (between from end tokens) → ⊥)
+    → IfOk r (λ licensees. IfSome licensees (λ formula. IsReadable (length tokens) formula))
 given_readable constants tokens from end (Ok None) ordered within given shallow = tt
 given_readable constants tokens from end (Ok (Some formula)) ordered within given shallow =
-    let r = stated_readable constants (between from end tokens) formula (formula_stands constants (between from end tokens) (Some formula) given) shallow in
-    record { sound = r.sound; small = omega (arith, r.small, between_length tokens from end ordered within); shallow = r.shallow }
+    let r = stated_readable constants (between from end tokens) formula
+    (formula_stands constants (between from end tokens) (Some formula) given) shallow in
+    record {
+      sound = r.sound;
+      small = omega (arith, r.small, between_length tokens from end ordered within);
+      shallow =
+          r.shallow;
+    }
 given_readable constants tokens from end (Err fault) ordered within given shallow = tt

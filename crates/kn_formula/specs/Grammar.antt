@@ -3,7 +3,8 @@
 use Rattle.std.specs.Prelude.{◌≡◌, ℕ, List, [], ◌∷◌, ◌++◌, codes}
 use Rattle.kn_lex.specs.Cutting.{Seen}
 use Rattle.kn_fields.specs.Words.{Word, words_of}
-use Rattle.kn_fields.specs.Words.Word.{literal as literal_word, name as name_word, number as number_word, sign as sign_word}
+use Rattle.kn_fields.specs.Words.Word.{literal as literal_word, name as name_word, number as number_word}
+use Rattle.kn_fields.specs.Words.Word.{sign as sign_word}
 use Rattle.kn_formula.specs.Trees.{joined, need_of}
 use Rattle.kn_formula.specs.declared.written.Principal.TheVariants.{Literal, Name}
 use Rattle.kn_formula.specs.declared.written.Rule.TheVariants.{All, Any, AtLeast}
@@ -49,7 +50,8 @@ unfoldable mutual
   one_words (literal value) = literal_word value ∷ []
   one_words (name text) = name_word text ∷ []
   one_words (some_of digits fs) =
-      number_word digits ∷ sign_word (codes "-") ∷ name_word (codes "of") ∷ sign_word (codes "(") ∷ forms_words fs ++ sign_word (codes ")") ∷ []
+      number_word digits ∷ sign_word (codes "-") ∷ name_word (codes "of") ∷ sign_word (codes "(") ∷ forms_words fs
+      ++ sign_word (codes ")") ∷ []
 
   pub forms_words : Forms → List Word
   forms_words (last f) = form_words f

@@ -17,7 +17,8 @@ NamesText text (Err NoMemory) = Unit {0}
 
 -- the formula is given, or the fault of its principals
 abbrev pub Names : List Constant → Written → Result Formula FormulaFault → Type 0
-Names constants written (Ok formula) = (has_bad_name constants written ≡ false) × (formula ≡ formula_of constants written)
+Names constants written (Ok formula) = (has_bad_name constants written ≡ false)
+    × (formula ≡ formula_of constants written)
 Names constants written (Err Syntax) = ⊥
 Names constants written (Err Threshold) = ⊥
 Names constants written (Err Name) = has_bad_name constants written ≡ true

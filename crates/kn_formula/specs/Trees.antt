@@ -1,5 +1,6 @@
 -- Formulas as they are written, their faults, and what they mean (RFC 2704, section 4, the Licensees field).
-use Rattle.std.specs.Prelude.{ℕ, Bool, true, false, ◌||◌, ◌==◌, nat_lt, List, [], ◌∷◌, length, slice_index, Option, Some, None, if◌then◌else◌}
+use Rattle.std.specs.Prelude.{ℕ, Bool, true, false, ◌||◌, ◌==◌, nat_lt, List, [], ◌∷◌, length, slice_index, Option}
+use Rattle.std.specs.Prelude.{Some, None, if◌then◌else◌}
 use Rattle.std.specs.List.{list_any}
 use Rattle.std.specs.Str.{bytes_eq}
 use Rattle.kn_base.specs.Decimal.{digits_value}
@@ -27,7 +28,8 @@ joined rule (part ∷ next ∷ parts) = written.Several rule (part ∷ next ∷ 
 -- The number of a threshold by its digits. It is 0 where the first digit is 0, and where the number doesn't fit 32
 -- bits; the lexer gives no such number.
 unfoldable pub need_of : List ℕ → ℕ
-need_of digits = if slice_index digits 0 == 48 || nat_lt 4294967295 (digits_value digits) then 0 else digits_value digits
+need_of digits = if slice_index digits 0 == 48 || nat_lt 4294967295 (digits_value digits) then 0 else digits_value
+    digits
 
 abbrev pub itself : Bool → Bool
 itself b = b
@@ -49,8 +51,8 @@ has_bad_threshold = fold-Written Bool threshold_step
 unfoldable pub constant_value : List Constant → List ℕ → Option (List ℕ)
 constant_value constants name = value_of name constants
 
--- The text of a principal: the value of a literal; the local policy, where its name stands without quotes, whatever the constants; and
--- else the value of the constant of that name, which is keynoted's own choice.
+-- The text of a principal: the value of a literal; the local policy, where its name stands without quotes, whatever the
+-- constants; and else the value of the constant of that name, which is keynoted's own choice.
 abbrev pub principal_text : List Constant → Principal → Option (List ℕ)
 principal_text constants (Literal value) = Some value
 principal_text constants (Name text) = if bytes_eq text policy then Some policy else constant_value constants text

@@ -1,5 +1,6 @@
 -- Literals whose bytes are plain: digits behind a letter.
-use Rattle.std.proofs.Common.{◌≡◌, ℕ, false, suc, Bool, ◌+◌, ◌-◌, ◌^◌, ◌%◌, ◌<◌, ◌≤◌, ◌==◌, ◌||◌, List, [], ◌∷◌, ◌++◌, Option, Some, None, length, take, arith, refl, ◌∙◌, ap, append_assoc, length-append}
+use Rattle.std.proofs.Common.{◌≡◌, ℕ, false, suc, Bool, ◌+◌, ◌-◌, ◌^◌, ◌%◌, ◌<◌, ◌≤◌, ◌==◌, ◌||◌, List, [], ◌∷◌, ◌++◌}
+use Rattle.std.proofs.Common.{Option, Some, None, length, take, arith, refl, ◌∙◌, ap, append_assoc, length-append}
 use Rattle.std.specs.Prelude.{nat_lt, decimal}
 use Rattle.std.proofs.lemmas.Bool.{ne_eqb, le-ltb, or_from}
 use Rattle.std.proofs.lemmas.Fmt.{decimal_by_steps, length-decimal-le}
@@ -26,7 +27,8 @@ digit_plain : (d : ℕ) → d < 10 → IsPlain (48 + d)
 digit_plain d small = record {
   quote = ne_eqb (48 + d) 34 (λ e. omega arith);
   escape = ne_eqb (48 + d) 92 (λ e. omega arith);
-  line = or_from (48 + d == 10) (48 + d == 13) (ne_eqb (48 + d) 10 (λ e. omega arith)) (ne_eqb (48 + d) 13 (λ e. omega arith));
+  line = or_from (48 + d == 10) (48 + d == 13) (ne_eqb (48 + d) 10 (λ e. omega arith))
+      (ne_eqb (48 + d) 13 (λ e. omega arith));
   zero_byte = ne_eqb (48 + d) 0 (λ e. omega arith);
 }
 
@@ -36,7 +38,8 @@ plain_more (x ∷ ds) d are is = (are.0, plain_more ds d are.1 is)
 
 pub decimal_plain : (n : ℕ) → n < 2 ^ 64 → ArePlain (decimal n)
 decimal_plain n small =
-    decimal_by_steps (λ _ ds. ArePlain ds) (λ d low. (digit_plain d low, tt)) (λ m ds over are. plain_more ds (48 + m % 10) are (digit_plain (m % 10) (omega arith))) n small
+    decimal_by_steps (λ _ ds. ArePlain ds) (λ d low. (digit_plain d low, tt))
+    (λ m ds over are. plain_more ds (48 + m % 10) are (digit_plain (m % 10) (omega arith))) n small
 
 -- a literal of this value
 abbrev pub quoted : List ℕ → List ℕ
@@ -49,25 +52,31 @@ plain_len : (body rest : List ℕ) → ArePlain body → quote_len Plain (body +
 unfolding quote_len
 plain_len [] rest are = refl
 plain_len (b ∷ body) rest are =
-    rw (are.0.quote, are.0.escape, are.0.line) (ap (more_len 1) (plain_len body rest are.1) ∙ one_more (length (body ++ 34 ∷ [])))
+    rw (are.0.quote, are.0.escape, are.0.line) (ap (more_len 1) (plain_len body rest are.1)
+    ∙ one_more (length (body ++ 34 ∷ [])))
 
 no_zero : (body : List ℕ) → ArePlain body → zero_place (body ++ 34 ∷ []) ≡ None
 unfolding zero_place
 no_zero [] are = refl
 no_zero (b ∷ body) are = rw (are.0.zero_byte) (ap (more_len 1) (no_zero body are.1))
 
-literal_piece : (body rest : List ℕ) → ArePlain body → plain_piece false (quoted body ++ rest) ≡ Some (Token Text, length (quoted body))
+literal_piece : (body rest : List ℕ) → ArePlain body
+    → plain_piece false (quoted body ++ rest) ≡ Some (Token Text, length (quoted body))
 unfolding plain_piece quote_len
 literal_piece body rest are =
-    let found : quote_len Plain ((body ++ 34 ∷ []) ++ rest) ≡ Some (length (body ++ 34 ∷ [])) = ap (quote_len Plain) (append_assoc body (34 ∷ []) rest) ∙ plain_len body rest are in
-    ap (λ (o : Option ℕ). with_sort Text (more_len 1 o)) found ∙ ap (with_sort Text) (one_more (length (body ++ 34 ∷ [])))
+    let found : quote_len Plain ((body ++ 34 ∷ []) ++ rest) ≡ Some (length (body ++ 34 ∷ [])) =
+    ap (quote_len Plain) (append_assoc body (34 ∷ []) rest) ∙ plain_len body rest are in
+    ap (λ (o : Option ℕ). with_sort Text (more_len 1 o)) found
+    ∙ ap (with_sort Text) (one_more (length (body ++ 34 ∷ [])))
 
 literal_clean : (body : List ℕ) (at : ℕ) → ArePlain body → zero_fault at (zero_place (quoted body)) ≡ None
 unfolding zero_place
 literal_clean body at are = ap (λ (o : Option ℕ). zero_fault at (more_len 1 o)) (no_zero body are)
 
-pub literal_cut : (told : Bool) (body rest : List ℕ) → ArePlain body → IsCut (record { context = WithinLine; told = told }) (Token Text) (quoted body) rest
-literal_cut told body rest are = record { some = refl; told = refl; cut = literal_piece body rest are; clean = λ at. literal_clean body at are }
+pub literal_cut : (told : Bool) (body rest : List ℕ) → ArePlain body
+    → IsCut (record { context = WithinLine; told = told }) (Token Text) (quoted body) rest
+literal_cut told body rest are =
+    record { some = refl; told = refl; cut = literal_piece body rest are; clean = λ at. literal_clean body at are }
 
 plain_value : (body : List ℕ) → ArePlain body → value_behind 0 body ≡ body
 unfolding value_behind
@@ -91,7 +100,9 @@ pub literal_names : (body : List ℕ) → ArePlain body → 0 < length body → 
 literal_names body are some short =
     let size : length (literal_value (quoted body)) ≡ length body = ap length (literal_of body are) in
     record {
-      not_bad = rw size (or_from (length body == 0) (nat_lt 4096 (length body)) (ne_eqb (length body) 0 (λ e. omega arith)) (le-ltb 4096 (length body) short));
+      not_bad = rw size
+          (or_from (length body == 0) (nat_lt 4096 (length body)) (ne_eqb (length body) 0 (λ e. omega arith))
+          (le-ltb 4096 (length body) short));
     }
 
 pub short_decimal : (n : ℕ) → n < 10000 → length (decimal n) ≤ 4

@@ -1,5 +1,6 @@
 -- The generator (keynoted's own): which credentials and which query a start and a number of credentials give.
-use Rattle.std.specs.Prelude.{ℕ, suc, zero, ◌+◌, ◌-◌, ◌*◌, ◌/◌, ◌%◌, List, [], ◌∷◌, ◌++◌, None, codes, decimal, flat_map}
+use Rattle.std.specs.Prelude.{ℕ, suc, zero, ◌+◌, ◌-◌, ◌*◌, ◌/◌, ◌%◌, List, [], ◌∷◌, ◌++◌, None, codes, decimal}
+use Rattle.std.specs.Prelude.{flat_map}
 use Rattle.kn_env.specs.Attributes.{Attribute}
 use Rattle.kn_history.specs.declared.update.Update.{Update}
 use Rattle.kn_history.specs.History.{loaded_history}
@@ -21,8 +22,8 @@ state_behind (suc draws) x = state_behind draws (next_state x)
 abbrev pub draw_value : ℕ → ℕ → ℕ
 draw_value draws x = state_behind draws x / 65536
 
--- what six draws give of them to principal i of n, the last of which requests: a later principal, three of all, a number that an
--- attribute has to pass, and a compliance value
+-- what six draws give of them to principal i of n, the last of which requests: a later principal, three of all, a
+-- number that an attribute has to pass, and a compliance value
 abbrev pub numbers_of : ℕ → ℕ → ℕ → Numbers
 numbers_of n i x = record {
   later = i + 1 + draw_value 1 x % (n - 1 - i);
@@ -41,13 +42,16 @@ policy_text = codes "Authorizer: \"POLICY\"\nLicensees: \"p0\"\n"
 unfoldable pub credential_text : ℕ → Numbers → List ℕ
 credential_text i numbers = flat_map (λ part. part) (
     codes "Authorizer: \"p" ∷ decimal i ∷ codes "\"\nLicensees: \"p" ∷ decimal numbers.later
-    ∷ codes "\" || 2-of(\"p" ∷ decimal numbers.first ∷ codes "\",\"p" ∷ decimal numbers.second ∷ codes "\",\"p" ∷ decimal numbers.third
-    ∷ codes "\")\nConditions: @level > " ∷ decimal numbers.least ∷ codes " -> \"v" ∷ decimal numbers.value ∷ codes "\"; true -> \"v1\";\n" ∷ [])
+    ∷ codes "\" || 2-of(\"p" ∷ decimal numbers.first ∷ codes "\",\"p" ∷ decimal numbers.second ∷ codes "\",\"p"
+    ∷ decimal numbers.third
+    ∷ codes "\")\nConditions: @level > " ∷ decimal numbers.least ∷ codes " -> \"v" ∷ decimal numbers.value
+    ∷ codes "\"; true -> \"v1\";\n" ∷ [])
 
 -- the credentials of so many principals from principal i on, where the state of the draws is x
 unfoldable pub credential_texts : ℕ → ℕ → ℕ → ℕ → List (List ℕ)
 credential_texts n zero i x = []
-credential_texts n (suc more) i x = credential_text i (numbers_of n i x) ∷ credential_texts n more (i + 1) (state_behind 6 x)
+credential_texts n (suc more) i x = credential_text i (numbers_of n i x)
+    ∷ credential_texts n more (i + 1) (state_behind 6 x)
 
 -- all n credentials: the policy's, and one of each principal that doesn't request
 abbrev pub generated_texts : ℕ → ℕ → List (List ℕ)

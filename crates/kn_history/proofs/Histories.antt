@@ -1,5 +1,6 @@
 -- One more change of a history, and one more update.
-use Rattle.std.proofs.Common.{◌≡◌, ℕ, ◌+◌, ◌≤◌, Bool, true, false, not, cond, ◌||◌, ◌==◌, List, [], ◌∷◌, ◌++◌, length, filter, None}
+use Rattle.std.proofs.Common.{◌≡◌, ℕ, ◌+◌, ◌≤◌, Bool, true, false, not, cond, ◌||◌, ◌==◌, List, [], ◌∷◌, ◌++◌, length}
+use Rattle.std.proofs.Common.{filter, None}
 use Rattle.std.proofs.Common.{refl, sym, ap, ◌∙◌, subst, append_assoc, append-nil, eq-eqb}
 use Rattle.std.specs.Prelude.{IsSome}
 use Rattle.std.specs.List.{list_any}
@@ -13,7 +14,8 @@ use Rattle.kn_history.specs.declared.update.Change.{Change}
 use Rattle.kn_history.specs.declared.update.Change.TheVariants.{Add, Remove}
 use Rattle.kn_history.specs.declared.update.Update.{Update}
 use Rattle.kn_history.specs.declared.update.Numbered.{Numbered}
-use Rattle.kn_history.specs.History.{NumberedText, all_changes, additions, is_removal_of, kept, live, refusal_of_text, refusal_of_id}
+use Rattle.kn_history.specs.History.{NumberedText, all_changes, additions, is_removal_of, kept, live, refusal_of_text}
+use Rattle.kn_history.specs.History.{refusal_of_id}
 use Rattle.kn_history.specs.History.{update_may_follow, updates_may_follow, is_valid_history, addition_by, removal_by}
 
 addition : List ℕ → ℕ → Numbered
@@ -24,11 +26,13 @@ removal id = record { change = Remove; id = id }
 
 -- An addition removes nothing.
 
-kept-addition : (change : Change) (at : ℕ) (later : List Numbered) (text : List ℕ) (id : ℕ) → kept change at (later ++ addition text id ∷ []) ≡ kept change at later
+kept-addition : (change : Change) (at : ℕ) (later : List Numbered) (text : List ℕ) (id : ℕ)
+    → kept change at (later ++ addition text id ∷ []) ≡ kept change at later
 unfolding addition
 kept-addition (Add own) at later text id =
     ap (λ t. cond t [] (record { id = at; text = own } ∷ []))
-    (list_any-append (λ c. is_removal_of at c.change c.id) later (addition text id ∷ []) ∙ or-false (list_any (λ c. is_removal_of at c.change c.id) later))
+    (list_any-append (λ c. is_removal_of at c.change c.id) later (addition text id ∷ [])
+    ∙ or-false (list_any (λ c. is_removal_of at c.change c.id) later))
 kept-addition Remove at later text id = refl
 
 pub live-addition : (past : List Numbered) (text : List ℕ) (id : ℕ)
@@ -45,10 +49,12 @@ live-addition (c ∷ past) text id =
 stays : ℕ → NumberedText → Bool
 stays id c = not (c.id == id)
 
-kept-removal : (change : Change) (at : ℕ) (later : List Numbered) (id : ℕ) → kept change at (later ++ removal id ∷ []) ≡ filter (stays id) (kept change at later)
+kept-removal : (change : Change) (at : ℕ) (later : List Numbered) (id : ℕ)
+    → kept change at (later ++ removal id ∷ []) ≡ filter (stays id) (kept change at later)
 unfolding removal stays
 kept-removal (Add own) at later id =
-    ap (λ t. cond t [] (record { id = at; text = own } ∷ [])) (list_any-append (λ c. is_removal_of at c.change c.id) later (removal id ∷ []))
+    ap (λ t. cond t [] (record { id = at; text = own } ∷ []))
+    (list_any-append (λ c. is_removal_of at c.change c.id) later (removal id ∷ []))
     ∙ by (list_any (λ c. is_removal_of at c.change c.id) later)
   where
     own_text : List NumberedText
@@ -63,7 +69,8 @@ kept-removal (Add own) at later id =
     by false = last (at == id)
 kept-removal Remove at later id = refl
 
-pub live-removal : (past : List Numbered) (id : ℕ) → live (past ++ record { change = Remove; id = id } ∷ []) ≡ filter (λ c. not (c.id == id)) (live past)
+pub live-removal : (past : List Numbered) (id : ℕ)
+    → live (past ++ record { change = Remove; id = id } ∷ []) ≡ filter (λ c. not (c.id == id)) (live past)
 unfolding removal stays
 live-removal [] id = refl
 live-removal (c ∷ past) id =
@@ -75,33 +82,43 @@ live-removal (c ∷ past) id =
 
 pub updates-push : (past : List Numbered) (history : List Update) (u : Update) → updates_may_follow past history ≡ true
     → update_may_follow (past ++ all_changes history) u ≡ true → updates_may_follow past (history ++ u ∷ []) ≡ true
-updates-push past [] u h last = and_from (update_may_follow past u) true (subst (λ front. update_may_follow front u ≡ true) (append-nil past) last) refl
+updates-push past [] u h last =
+    and_from (update_may_follow past u) true (subst (λ front. update_may_follow front u ≡ true) (append-nil past) last)
+    refl
 updates-push past (first ∷ history) u h last =
     let parts = and_parts (update_may_follow past first) (updates_may_follow (past ++ first.changes) history) h in
     and_from (update_may_follow past first) (updates_may_follow (past ++ first.changes) (history ++ u ∷ [])) parts.0
     (updates-push (past ++ first.changes) history u parts.1
-    (subst (λ front. update_may_follow front u ≡ true) (sym (append_assoc past first.changes (all_changes history))) last))
+    (subst (λ front. update_may_follow front u ≡ true) (sym (append_assoc past first.changes (all_changes history)))
+    last))
 
-updates-before : (past : List Numbered) (history more : List Update) → updates_may_follow past (history ++ more) ≡ true → updates_may_follow past history ≡ true
+updates-before : (past : List Numbered) (history more : List Update) → updates_may_follow past (history ++ more) ≡ true
+    → updates_may_follow past history ≡ true
 updates-before past [] more h = refl
 updates-before past (first ∷ history) more h =
-    let parts = and_parts (update_may_follow past first) (updates_may_follow (past ++ first.changes) (history ++ more)) h in
-    and_from (update_may_follow past first) (updates_may_follow (past ++ first.changes) history) parts.0 (updates-before (past ++ first.changes) history more parts.1)
+    let parts = and_parts (update_may_follow past first) (updates_may_follow (past ++ first.changes) (history ++ more))
+    h in
+    and_from (update_may_follow past first) (updates_may_follow (past ++ first.changes) history) parts.0
+    (updates-before (past ++ first.changes) history more parts.1)
 
 pub valid-grows : (history : List Update) (update : Update) → is_valid_history history ≡ true
     → update_may_follow (all_changes history) update ≡ true → is_valid_history (history ++ update ∷ []) ≡ true
 valid-grows history update valid follows = updates-push [] history update valid follows
 
-pub valid-before : (history more : List Update) → is_valid_history (history ++ more) ≡ true → is_valid_history history ≡ true
+pub valid-before : (history more : List Update) → is_valid_history (history ++ more) ≡ true
+    → is_valid_history history ≡ true
 valid-before history more valid = updates-before [] history more valid
 
 -- An update of one change, and one of any.
 
-pub addition-follows : (past : List Numbered) (caller : ℕ) (text : List ℕ) → refusal_of_text past text ≡ None → IsSome (assertion_of text)
+pub addition-follows : (past : List Numbered) (caller : ℕ) (text : List ℕ) → refusal_of_text past text ≡ None
+    → IsSome (assertion_of text)
     → update_may_follow past (addition_by caller text (additions past + 1)) ≡ true
-addition-follows past caller text accepted reads = rw (accepted, eq-eqb (additions past + 1) (additions past + 1) refl, reads) refl
+addition-follows past caller text accepted reads =
+    rw (accepted, eq-eqb (additions past + 1) (additions past + 1) refl, reads) refl
 
-pub removal-follows : (past : List Numbered) (caller id : ℕ) → refusal_of_id past id ≡ None → update_may_follow past (removal_by caller id) ≡ true
+pub removal-follows : (past : List Numbered) (caller id : ℕ) → refusal_of_id past id ≡ None
+    → update_may_follow past (removal_by caller id) ≡ true
 removal-follows past caller id accepted = rw accepted refl
 
 pub has_changes : (past : List Numbered) (u : Update) → update_may_follow past u ≡ true → 1 ≤ length u.changes
@@ -109,4 +126,5 @@ has_changes past u follows = leb-true 1 (length u.changes) (and_parts _ _ (and_p
 
 pub changes-push : (made : List Update) (u : Update) → all_changes (made ++ u ∷ []) ≡ all_changes made ++ u.changes
 changes-push made u =
-    flat_map-append (λ (x : Update). x.changes) made (u ∷ []) ∙ ap (λ (l : List Numbered). all_changes made ++ l) (append-nil u.changes)
+    flat_map-append (λ (x : Update). x.changes) made (u ∷ [])
+    ∙ ap (λ (l : List Numbered). all_changes made ++ l) (append-nil u.changes)

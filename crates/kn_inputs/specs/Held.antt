@@ -15,7 +15,8 @@ pub record HasContent (files : FilesSeen) (name bytes : List ℕ) : Type 0 where
 
 -- the file of this name is larger than any that is read, if contents are told
 abbrev pub IsTooLarge : FilesSeen → List ℕ → Type 0
-IsTooLarge files name = IfSome files.content (λ content_of. IsSomeAnd (content_of name) (λ bytes. FILE_BYTES < length bytes))
+IsTooLarge files name =
+    IfSome files.content (λ content_of. IsSomeAnd (content_of name) (λ bytes. FILE_BYTES < length bytes))
 
 -- a policy file whose assertions make a history
 pub record IsPolicy (files : FilesSeen) (name bytes : List ℕ) : Type 0 where

@@ -20,7 +20,8 @@ use Rattle.kn_inputs.specs.Stopping.{IsLimitAt}
 abbrev pub grounds_of : KeyFile → Grounds
 grounds_of keys = record { secret = keys.secret; verdict = verdict_of keys.auth }
 
--- The files of these names were read: a policy and, where one is named, a key file. Over what they hold something ran so.
+-- The files of these names were read: a policy and, where one is named, a key file. Over what they hold something ran
+-- so.
 pub record RunsOver (f f' : FilesSeen) (names : AskNames) (Runs : Grounds → List Update → Type 0) : Type 0 where
   pub asked : HasAsked (ask_order names) f f'
   pub bytes : List ℕ
@@ -33,8 +34,10 @@ pub record RunsOver (f f' : FilesSeen) (names : AskNames) (Runs : Grounds → Li
 abbrev pub StopsAtPolicy : FilesSeen → FilesSeen → List ℕ → Stop → Type 0
 StopsAtPolicy f f' name FileFailed = HasFailed (name ∷ []) f f'
 StopsAtPolicy f f' name FileTooLarge = HasAsked (name ∷ []) f f' × IsTooLarge f name
-StopsAtPolicy f f' name (Policy n fault) = (bytes : List ℕ) × IsFileRead name f f' bytes × IsFaultyAt (pieces_of bytes) n fault
-StopsAtPolicy f f' name (Limit n word count) = (bytes : List ℕ) × IsFileRead name f f' bytes × IsLimitAt (pieces_of bytes) n word count
+StopsAtPolicy f f' name (Policy n fault) = (bytes : List ℕ) × IsFileRead name f f' bytes
+    × IsFaultyAt (pieces_of bytes) n fault
+StopsAtPolicy f f' name (Limit n word count) = (bytes : List ℕ) × IsFileRead name f f' bytes
+    × IsLimitAt (pieces_of bytes) n word count
 StopsAtPolicy f f' name Memory = (f' ≡ f) ⊎ HasAsked (name ∷ []) f f'
 StopsAtPolicy f f' name stop = ⊥
 
@@ -42,7 +45,8 @@ StopsAtPolicy f f' name stop = ⊥
 abbrev pub StopsAtKeys : FilesSeen → FilesSeen → List (List ℕ) → List ℕ → Stop → Type 0
 StopsAtKeys f f' front name FileFailed = HasFailed (front ++ name ∷ []) f f'
 StopsAtKeys f f' front name FileTooLarge = HasAsked (front ++ name ∷ []) f f' × IsTooLarge f name
-StopsAtKeys f f' front name (KeyLine n) = HasAsked (front ++ name ∷ []) f f' × (text : List ℕ) × HasContent f name text × IsFirstMalformed text n
+StopsAtKeys f f' front name (KeyLine n) = HasAsked (front ++ name ∷ []) f f' × (text : List ℕ) × HasContent f name text
+    × IsFirstMalformed text n
 StopsAtKeys f f' front name Memory = HasAsked front f f' ⊎ HasAsked (front ++ name ∷ []) f f'
 StopsAtKeys f f' front name stop = ⊥
 

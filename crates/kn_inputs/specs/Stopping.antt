@@ -8,7 +8,8 @@ use Rattle.kn_reply.specs.declared.refusal.LimitWord.{LimitWord}
 use Rattle.kn_reply.specs.declared.refusal.Refusal.TheVariants.{Limit as TheLimit}
 use Rattle.kn_daemon.specs.Daemon.{refusal_of_store}
 use Rattle.kn_inputs.specs.declared.stop.Stop.{Stop}
-use Rattle.kn_inputs.specs.declared.stop.Stop.TheVariants.{Words, FileFailed, FileTooLarge, Policy, Limit, KeyLine, Memory}
+use Rattle.kn_inputs.specs.declared.stop.Stop.TheVariants.{Words, FileFailed, FileTooLarge, Policy, Limit, KeyLine}
+use Rattle.kn_inputs.specs.declared.stop.Stop.TheVariants.{Memory}
 use Rattle.kn_inputs.specs.Held.{IsTooLarge}
 
 -- why a file isn't read

@@ -10,7 +10,8 @@ use Rattle.kn_reply.specs.declared.refusal.LimitWord.{LimitWord}
 use Rattle.kn_reply.specs.declared.refusal.LimitWord.TheVariants as W
 use Rattle.kn_reply.specs.Replies.{word_text}
 use Rattle.kn_inputs.specs.declared.stop.Stop.{Stop}
-use Rattle.kn_inputs.specs.declared.stop.Stop.TheVariants.{Words, FileFailed, FileTooLarge, Policy, Limit, KeyLine, Memory}
+use Rattle.kn_inputs.specs.declared.stop.Stop.TheVariants.{Words, FileFailed, FileTooLarge, Policy, Limit, KeyLine}
+use Rattle.kn_inputs.specs.declared.stop.Stop.TheVariants.{Memory}
 
 -- what stops a command whose policy isn't loaded for this; a refusal that loading tells is one of the four limits
 abbrev pub stop_of : LoadFault → Stop
@@ -34,12 +35,14 @@ status_of Memory = 5
 -- the line that tells a fault of the n-th assertion of a policy file; `NoMemory` has no number, and is told otherwise
 unfoldable pub policy_fault_line : List ℕ → ℕ → ReadFault → List ℕ
 policy_fault_line name n fault =
-    codes "error policy " ++ name ++ codes " " ++ decimal n ++ codes " " ++ decimal (unwrap_or (fault_number fault) 0) ++ codes " " ++ decimal (fault_place fault) ++ codes "\n"
+    codes "error policy " ++ name ++ codes " " ++ decimal n ++ codes " " ++ decimal (unwrap_or (fault_number fault) 0)
+    ++ codes " " ++ decimal (fault_place fault) ++ codes "\n"
 
 -- the line that tells which limit refuses the n-th assertion of a policy file
 unfoldable pub limit_line : List ℕ → ℕ → LimitWord → ℕ → List ℕ
 limit_line name n word count =
-    codes "error policy " ++ name ++ codes " " ++ decimal n ++ codes " limit " ++ word_text word ++ codes " " ++ decimal count ++ codes "\n"
+    codes "error policy " ++ name ++ codes " " ++ decimal n ++ codes " limit " ++ word_text word ++ codes " "
+    ++ decimal count ++ codes "\n"
 
 -- the line that tells the first malformed line of a key file
 unfoldable pub keys_line : ℕ → List ℕ

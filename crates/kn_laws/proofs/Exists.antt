@@ -1,5 +1,7 @@
 -- Every query has a proof: principals can be settled from the highest level down.
-use Rattle.std.proofs.Common.{◌≡◌, ℕ, suc, zero, ◌+◌, ◌<◌, ◌≤◌, ◌⊎◌, Bool, true, false, cond, ◌||◌, ◌==◌, List, [], ◌∷◌, ◌++◌, length, get_or, All, Any, inl, inr, refl, sym, ap, ◌∙◌, subst, append_assoc, append-nil, arith}
+use Rattle.std.proofs.Common.{◌≡◌, ℕ, suc, zero, ◌+◌, ◌<◌, ◌≤◌, ◌⊎◌, Bool, true, false, cond, ◌||◌, ◌==◌, List, [], ◌∷◌}
+use Rattle.std.proofs.Common.{◌++◌, length, get_or, All, Any, inl, inr, refl, sym, ap, ◌∙◌, subst, append_assoc}
+use Rattle.std.proofs.Common.{append-nil, arith}
 use Rattle.std.specs.List.{list_any}
 use Rattle.std.specs.Str.{bytes_eq}
 use Rattle.std.proofs.lemmas.Bool.{cases_lt}
@@ -35,15 +37,18 @@ Any-later : {A : Type 0} (P : A → Type 0) (x : A) (xs : List A) → Any P xs �
 Any-later P x xs (k, y, within, is, h) = (suc k, y, omega arith, is, h)
 
 -- either one grants the level, or none does
-find-grant : (e : Equations) (v : ℕ) (at : Levels) (ss : List Statement) → Any (Grants e v at) ss ⊎ All (GivesNothing e v at) ss
+find-grant : (e : Equations) (v : ℕ) (at : Levels) (ss : List Statement) → Any (Grants e v at) ss
+    ⊎ All (GivesNothing e v at) ss
 find-grant e v at [] = inr (λ i d l. absurd (omega arith))
 find-grant e v at (s ∷ ss) = by (cases_lt (worth e.top at s) v) (cases_lt 0 (at s.authorizer)) (find-grant e v at ss)
   where
-    by : (worth e.top at s < v) ⊎ (v ≤ worth e.top at s) → (0 < at s.authorizer) ⊎ (at s.authorizer ≤ 0) → Any (Grants e v at) ss ⊎ All (GivesNothing e v at) ss
+    by : (worth e.top at s < v) ⊎ (v ≤ worth e.top at s) → (0 < at s.authorizer) ⊎ (at s.authorizer ≤ 0)
+        → Any (Grants e v at) ss ⊎ All (GivesNothing e v at) ss
         → Any (Grants e v at) (s ∷ ss) ⊎ All (GivesNothing e v at) (s ∷ ss)
     by worths levels (inl found) = inl (Any-later (Grants e v at) s ss found)
     by (inl less) levels (inr none) = inr (All-cons (GivesNothing e v at) s ss (λ free. less) none)
-    by (inr enough) (inl some) (inr none) = inr (All-cons (GivesNothing e v at) s ss (λ free. absurd (omega arith)) none)
+    by (inr enough) (inl some) (inr none) =
+        inr (All-cons (GivesNothing e v at) s ss (λ free. absurd (omega arith)) none)
     by (inr enough) (inr free) (inr none) = inl (0, s, omega arith, refl, (omega arith, enough))
 
 -- how many assertions have an authorizer without a level
@@ -58,7 +63,8 @@ unsettled-le at other b (s ∷ ss) =
     let rest = unsettled-le at other b ss in
     grind (arith, nat_tests)
 
-unsettled-less : (at other : Levels) → Below at other → (ss : List Statement) → Any (λ s. (at s.authorizer ≡ 0) × (0 < other s.authorizer)) ss → unsettled other ss < unsettled at ss
+unsettled-less : (at other : Levels) → Below at other → (ss : List Statement)
+    → Any (λ s. (at s.authorizer ≡ 0) × (0 < other s.authorizer)) ss → unsettled other ss < unsettled at ss
 unsettled-less at other b [] (k, x, within, is, h) = absurd (omega arith)
 unsettled-less at other b (s ∷ ss) (zero, x, within, is, (free, some)) =
     let before : at s.authorizer ≡ 0 = ap (λ z. at z.authorizer) is ∙ free in
@@ -71,49 +77,68 @@ unsettled-less at other b (s ∷ ss) (suc k, x, within, is, h) =
     grind (arith, nat_tests)
 
 -- a row behind rows in order
-AreRows-push : (e : Equations) (before rows : List NamedRow) (row : NamedRow) → AreRows e before rows → IsRow e (before ++ rows) row → AreRows e before (rows ++ row ∷ [])
+AreRows-push : (e : Equations) (before rows : List NamedRow) (row : NamedRow) → AreRows e before rows
+    → IsRow e (before ++ rows) row → AreRows e before (rows ++ row ∷ [])
 AreRows-push e before [] row are is = (subst (λ rows. IsRow e rows row) (append-nil before) is, tt)
-AreRows-push e before (first ∷ rows) row are is =
-    (are.0, AreRows-push e (before ++ first ∷ []) rows row are.1 (subst (λ all. IsRow e all row) (sym (append_assoc before (first ∷ []) rows)) is))
+AreRows-push e before (first ∷ rows) row are is = (
+  are.0,
+  AreRows-push e (before ++ first ∷ []) rows row are.1
+      (subst (λ all. IsRow e all row) (sym (append_assoc before (first ∷ []) rows)) is),
+)
 
 -- whom no row names, no row gives a level
-row_level-none : (rows : List NamedRow) (name : List ℕ) → list_any (λ r. bytes_eq r.principal name) rows ≡ false → row_level rows name ≡ 0
+row_level-none : (rows : List NamedRow) (name : List ℕ) → list_any (λ r. bytes_eq r.principal name) rows ≡ false
+    → row_level rows name ≡ 0
 row_level-none [] name none = refl
 row_level-none (row ∷ rows) name none = by (bytes_eq row.principal name) none (row_level-none rows name)
   where
-    by : (t : Bool) → (t || list_any (λ r. bytes_eq r.principal name) rows) ≡ false → (list_any (λ r. bytes_eq r.principal name) rows ≡ false → row_level rows name ≡ 0) → cond t row.value (row_level rows name) ≡ 0
+    by : (t : Bool) → (t || list_any (λ r. bytes_eq r.principal name) rows) ≡ false
+        → (list_any (λ r. bytes_eq r.principal name) rows ≡ false → row_level rows name ≡ 0)
+        → cond t row.value (row_level rows name) ≡ 0
     by true none rest = absurd (cc)
     by false none rest = rest none
 
 -- and whom rows in order name, they give one
-named-none : (e : Equations) (before rows : List NamedRow) (name : List ℕ) → AreRows e before rows → row_level rows name ≡ 0 → list_any (λ r. bytes_eq r.principal name) rows ≡ false
+named-none : (e : Equations) (before rows : List NamedRow) (name : List ℕ) → AreRows e before rows
+    → row_level rows name ≡ 0 → list_any (λ r. bytes_eq r.principal name) rows ≡ false
 named-none e before [] name are none = refl
-named-none e before (row ∷ rows) name are none = by (bytes_eq row.principal name) are.0.above_lowest none (named-none e (before ++ row ∷ []) rows name are.1)
+named-none e before (row ∷ rows) name are none =
+    by (bytes_eq row.principal name) are.0.above_lowest none (named-none e (before ++ row ∷ []) rows name are.1)
   where
-    by : (t : Bool) → 1 ≤ row.value → cond t row.value (row_level rows name) ≡ 0 → (row_level rows name ≡ 0 → list_any (λ r. bytes_eq r.principal name) rows ≡ false) → (t || list_any (λ r. bytes_eq r.principal name) rows) ≡ false
+    by : (t : Bool) → 1 ≤ row.value → cond t row.value (row_level rows name) ≡ 0
+        → (row_level rows name ≡ 0 → list_any (λ r. bytes_eq r.principal name) rows ≡ false)
+        → (t || list_any (λ r. bytes_eq r.principal name) rows) ≡ false
     by true some none rest = absurd (omega arith)
     by false some none rest = rest none
 
 -- a row more leaves the level of a principal, or gives its own to one who had none
 push-cases : (e : Equations) (rows : List NamedRow) (row : NamedRow) (name : List ℕ)
-    → (levels_by e (rows ++ row ∷ []) name ≡ levels_by e rows name) ⊎ ((levels_by e rows name ≡ 0) × (levels_by e (rows ++ row ∷ []) name ≡ row.value))
+    → (levels_by e (rows ++ row ∷ []) name ≡ levels_by e rows name)
+    ⊎ ((levels_by e rows name ≡ 0) × (levels_by e (rows ++ row ∷ []) name ≡ row.value))
 push-cases e rows row name =
-    subst (λ n. (cond (is_requester e name) e.top n ≡ cond (is_requester e name) e.top (row_level rows name)) ⊎ ((cond (is_requester e name) e.top (row_level rows name) ≡ 0) × (cond (is_requester e name) e.top n ≡ row.value)))
+    subst (λ n. (cond (is_requester e name) e.top n ≡ cond (is_requester e name) e.top (row_level rows name))
+    ⊎ ((cond (is_requester e name) e.top (row_level rows name) ≡ 0)
+    × (cond (is_requester e name) e.top n ≡ row.value)))
     (sym (row_level-push rows row name))
-    (by (is_requester e name) (list_any (λ r. bytes_eq r.principal name) rows) (bytes_eq row.principal name) (row_level rows name) (row_level-none rows name))
+    (by (is_requester e name) (list_any (λ r. bytes_eq r.principal name) rows) (bytes_eq row.principal name)
+    (row_level rows name) (row_level-none rows name))
   where
     by : (requester named same : Bool) (level : ℕ) → (named ≡ false → level ≡ 0)
         → (cond requester e.top (cond named level (cond same row.value 0)) ≡ cond requester e.top level)
-        ⊎ ((cond requester e.top level ≡ 0) × (cond requester e.top (cond named level (cond same row.value 0)) ≡ row.value))
+        ⊎ ((cond requester e.top level ≡ 0)
+        × (cond requester e.top (cond named level (cond same row.value 0)) ≡ row.value))
     by true named same level none = inl refl
     by false true same level none = inl refl
     by false false true level none = inr (none refl, refl)
     by false false false level none = inl (sym (none refl))
 
-push-here : (e : Equations) (rows : List NamedRow) (row : NamedRow) → IsRow e rows row → levels_by e (rows ++ row ∷ []) row.principal ≡ row.value
+push-here : (e : Equations) (rows : List NamedRow) (row : NamedRow) → IsRow e rows row
+    → levels_by e (rows ++ row ∷ []) row.principal ≡ row.value
 push-here e rows row is =
     ap (cond (is_requester e row.principal) e.top) (row_level-push rows row row.principal)
-    ∙ ap (λ t. cond t e.top (cond (list_any (λ r. bytes_eq r.principal row.principal) rows) (row_level rows row.principal) (cond (bytes_eq row.principal row.principal) row.value 0))) is.other
+    ∙ ap (λ t. cond t e.top
+    (cond (list_any (λ r. bytes_eq r.principal row.principal) rows) (row_level rows row.principal)
+    (cond (bytes_eq row.principal row.principal) row.value 0))) is.other
     ∙ ap (λ t. cond t (row_level rows row.principal) (cond (bytes_eq row.principal row.principal) row.value 0)) is.fresh
     ∙ ap (λ t. cond t row.value 0) ((bytes_eq-Decides row.principal row.principal).1 refl)
 
@@ -122,7 +147,9 @@ abbrev grant_row : ℕ → Statement → NamedRow
 grant_row v s = record { value = v; id = s.id; principal = s.authorizer }
 
 -- it may follow the rows
-grant-is_row : (e : Equations) (v : ℕ) (rows : List NamedRow) (s : Statement) → 0 < v → IsSettled e v rows → levels_by e rows s.authorizer ≡ 0 → Any (Supports e (levels_by e rows) (grant_row v s)) e.statements → IsRow e rows (grant_row v s)
+grant-is_row : (e : Equations) (v : ℕ) (rows : List NamedRow) (s : Statement) → 0 < v → IsSettled e v rows
+    → levels_by e rows s.authorizer ≡ 0 → Any (Supports e (levels_by e rows) (grant_row v s)) e.statements
+    → IsRow e rows (grant_row v s)
 grant-is_row e v rows s some h free supported =
     let none = by (is_requester e s.authorizer) h.within free in
     record {
@@ -133,12 +160,14 @@ grant-is_row e v rows s some h free supported =
       supported = supported;
     }
   where
-    by : (t : Bool) → v ≤ e.top → cond t e.top (row_level rows s.authorizer) ≡ 0 → (t ≡ false) × (row_level rows s.authorizer ≡ 0)
+    by : (t : Bool) → v ≤ e.top → cond t e.top (row_level rows s.authorizer) ≡ 0 → (t ≡ false)
+        × (row_level rows s.authorizer ≡ 0)
     by true le none = absurd (omega arith)
     by false le none = (refl, none)
 
 -- rows with one that grants v in the place of the last
-module _ (e : Equations) (v : ℕ) (rows : List NamedRow) (s : Statement) (some : 0 < v) (h : IsSettled e v rows) (is : IsRow e rows (grant_row v s)) where
+module _ (e : Equations) (v : ℕ) (rows : List NamedRow) (s : Statement) (some : 0 < v) (h : IsSettled e v rows)
+    (is : IsRow e rows (grant_row v s)) where
   abbrev before : Levels
   before = levels_by e rows
 
@@ -170,7 +199,8 @@ module _ (e : Equations) (v : ℕ) (rows : List NamedRow) (s : Statement) (some 
   stays_closed : All (IsClosedAbove e v after) e.statements
   stays_closed i d l u more worths =
       let x : Statement = get_or e.statements i d in
-      let earlier : u ≤ worth e.top before x = worth-carried u e.top after before (omega arith) (carried u more) x worths in
+      let earlier : u ≤ worth e.top before x =
+      worth-carried u e.top after before (omega arith) (carried u more) x worths in
       let had = h.closed i d l u more earlier in
       let le = raises x.authorizer in
       omega arith
@@ -183,25 +213,31 @@ module _ (e : Equations) (v : ℕ) (rows : List NamedRow) (s : Statement) (some 
     above = stays_above;
   }
 
-  fewer : (k : ℕ) → k < length e.statements → get_or e.statements k s ≡ s → before s.authorizer ≡ 0 → unsettled after e.statements < unsettled before e.statements
+  fewer : (k : ℕ) → k < length e.statements → get_or e.statements k s ≡ s → before s.authorizer ≡ 0
+      → unsettled after e.statements < unsettled before e.statements
   fewer k within here free =
       let given : after s.authorizer ≡ v = push-here e rows (grant_row v s) is in
       unsettled-less before after raises e.statements (k, s, within, here, (free, omega arith))
 
 -- where none grants v, the next lower level may be settled
-goes_down : (e : Equations) (v : ℕ) (rows : List NamedRow) → IsSettled e (suc v) rows → All (GivesNothing e (suc v) (levels_by e rows)) e.statements → IsSettled e v rows
+goes_down : (e : Equations) (v : ℕ) (rows : List NamedRow) → IsSettled e (suc v) rows
+    → All (GivesNothing e (suc v) (levels_by e rows)) e.statements → IsSettled e v rows
 goes_down e v rows h none = record {
   in_order = h.in_order;
   within = let le = h.within in omega arith;
-  closed = λ i d l u more worths. by i d l u more worths (cases_lt 0 (levels_by e rows (get_or e.statements i d).authorizer)) (cases_lt (suc v) u);
+  closed = λ i d l u more worths.
+      by i d l u more worths (cases_lt 0 (levels_by e rows (get_or e.statements i d).authorizer)) (cases_lt (suc v) u);
   above = λ name some. let le = h.above name some in omega arith;
 }
   where
-    by : (i : ℕ) (d : Statement) → i < length e.statements → (u : ℕ) → v < u → u ≤ worth e.top (levels_by e rows) (get_or e.statements i d)
-        → (0 < levels_by e rows (get_or e.statements i d).authorizer) ⊎ (levels_by e rows (get_or e.statements i d).authorizer ≤ 0) → (suc v < u) ⊎ (u ≤ suc v)
+    by : (i : ℕ) (d : Statement) → i < length e.statements → (u : ℕ) → v < u
+        → u ≤ worth e.top (levels_by e rows) (get_or e.statements i d)
+        → (0 < levels_by e rows (get_or e.statements i d).authorizer)
+        ⊎ (levels_by e rows (get_or e.statements i d).authorizer ≤ 0) → (suc v < u) ⊎ (u ≤ suc v)
         → u ≤ levels_by e rows (get_or e.statements i d).authorizer
     by i d l u more worths levels (inl higher) = h.closed i d l u higher worths
-    by i d l u more worths (inl some) (inr here) = let le = h.above (get_or e.statements i d).authorizer some in omega arith
+    by i d l u more worths (inl some) (inr here) = let le = h.above (get_or e.statements i d).authorizer some in
+        omega arith
     by i d l u more worths (inr free) (inr here) = let less = none i d l (omega arith) in absurd (omega arith)
 
 -- rows at which all above v is settled
@@ -210,11 +246,19 @@ record Reached (e : Equations) (v : ℕ) : Type 0 where
   settled : IsSettled e v rows
 
 -- one level is settled, by as many grants as authorizers are left
-settle-at : (e : Equations) (v n : ℕ) (rows : List NamedRow) → IsSettled e (suc v) rows → unsettled (levels_by e rows) e.statements ≤ n → Reached e v
+settle-at : (e : Equations) (v n : ℕ) (rows : List NamedRow) → IsSettled e (suc v) rows
+    → unsettled (levels_by e rows) e.statements ≤ n → Reached e v
 settle-at e v zero rows h few =
     elim (find-grant e (suc v) (levels_by e rows) e.statements) [
       | inl (k, s, within, here, (free, enough)) ↦
-          let is : IsRow e rows (grant_row (suc v) s) = grant-is_row e (suc v) rows s (omega arith) h free (k, s, within, here, record { named = refl; own = refl; enough = enough }) in
+          let is : IsRow e rows (grant_row (suc v) s) =
+          grant-is_row e (suc v) rows s (omega arith) h free (
+            k,
+            s,
+            within,
+            here,
+            record { named = refl; own = refl; enough = enough },
+          ) in
           let less = fewer e (suc v) rows s (omega arith) h is k within here free in
           absurd (omega arith)
       | inr none ↦ record { rows = rows; settled = goes_down e v rows h none }
@@ -222,7 +266,14 @@ settle-at e v zero rows h few =
 settle-at e v (suc n) rows h few =
     elim (find-grant e (suc v) (levels_by e rows) e.statements) [
       | inl (k, s, within, here, (free, enough)) ↦
-          let is : IsRow e rows (grant_row (suc v) s) = grant-is_row e (suc v) rows s (omega arith) h free (k, s, within, here, record { named = refl; own = refl; enough = enough }) in
+          let is : IsRow e rows (grant_row (suc v) s) =
+          grant-is_row e (suc v) rows s (omega arith) h free (
+            k,
+            s,
+            within,
+            here,
+            record { named = refl; own = refl; enough = enough },
+          ) in
           let less = fewer e (suc v) rows s (omega arith) h is k within here free in
           settle-at e v n (rows ++ grant_row (suc v) s ∷ []) (granted e (suc v) rows s (omega arith) h is) (omega arith)
       | inr none ↦ record { rows = rows; settled = goes_down e v rows h none }
@@ -230,7 +281,8 @@ settle-at e v (suc n) rows h few =
 
 settle-down : (e : Equations) (v : ℕ) → Reached e v → Reached e 0
 settle-down e zero r = r
-settle-down e (suc v) r = settle-down e v (settle-at e v (unsettled (levels_by e r.rows) e.statements) r.rows r.settled (omega arith))
+settle-down e (suc v) r =
+    settle-down e v (settle-at e v (unsettled (levels_by e r.rows) e.statements) r.rows r.settled (omega arith))
 
 -- before any row nothing above the top is open
 starts : (e : Equations) → Reached e e.top
@@ -239,7 +291,8 @@ starts e = record {
   settled = record {
     in_order = tt;
     within = omega arith;
-    closed = λ i d l u more worths. let most = worth-le e.top (levels_by e []) low (get_or e.statements i d) in absurd (omega arith);
+    closed = λ i d l u more worths. let most = worth-le e.top (levels_by e []) low (get_or e.statements i d) in
+        absurd (omega arith);
     above = λ name. at_top (is_requester e name);
   };
 }

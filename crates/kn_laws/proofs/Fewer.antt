@@ -4,7 +4,8 @@ use Rattle.std.specs.Str.{bytes_eq}
 use Rattle.kn_env.specs.Environment.{Asked}
 use Rattle.kn_principal.specs.Principals.{policy}
 use Rattle.kn_meaning.specs.Formulas.{Levels}
-use Rattle.kn_meaning.specs.Equations.{Part, statement_of, equations_over, worth, highest_worth, is_requester, round, IsLeast}
+use Rattle.kn_meaning.specs.Equations.{Part, statement_of, equations_over, worth, highest_worth, is_requester, round}
+use Rattle.kn_meaning.specs.Equations.{IsLeast}
 use Rattle.kn_laws.specs.Laws.{FewerLowerAll, FewerNeverRaise}
 
 max-more : (a b c : ℕ) → b ≤ c → max a b ≤ max a c
@@ -39,7 +40,8 @@ fewer-lower_all asked keeps parts at lower all some name = some.least at raised 
     raised : (other : List ℕ) → round (equations_over asked (filter keeps parts)) at other ≤ at other
     raised other =
         subst (λ n. round (equations_over asked (filter keeps parts)) at other ≤ n) (all.solves other)
-        (round-fewer asked keeps (equations_over asked parts).top at other (is_requester (equations_over asked parts) other) parts)
+        (round-fewer asked keeps (equations_over asked parts).top at other
+        (is_requester (equations_over asked parts) other) parts)
 
 pub fewer-never_raise : FewerNeverRaise
 fewer-never_raise asked keeps parts level lower all some =

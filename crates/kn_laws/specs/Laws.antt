@@ -32,21 +32,23 @@ EveryQueryHasALevel = (e : Equations) → (level : ℕ) × IsPolicyLevel e level
 
 -- one alone
 abbrev pub EveryQueryHasOneLevel : Type 0
-EveryQueryHasOneLevel = (e : Equations) (level other : ℕ) → IsPolicyLevel e level → IsPolicyLevel e other → level ≡ other
+EveryQueryHasOneLevel = (e : Equations) (level other : ℕ) → IsPolicyLevel e level → IsPolicyLevel e other
+    → level ≡ other
 
 -- and no least level is above the top, however high the ceilings are
 abbrev pub LeastLevelsAreWithin : Type 0
 LeastLevelsAreWithin = (e : Equations) (at : Levels) → IsLeast e at → (name : List ℕ) → at name ≤ e.top
 
--- The rows of a proof give each principal its least level. The policy's is the level that they prove, whatever levels are
--- the least, and no other level has a proof.
+-- The rows of a proof give each principal its least level. The policy's is the level that they prove, whatever levels
+-- are the least, and no other level has a proof.
 pub record IsDetermined (e : Equations) (rows : List NamedRow) (level : ℕ) : Type 0 where
   pub least : IsLeast e (levels_by e rows)
   pub claim : (at : Levels) → IsLeast e at → at policy ≡ level
   pub only : (others : List NamedRow) (other : ℕ) → IsProof e others other → other ≡ level
 
 abbrev pub ProofDeterminesLevel : Type 0
-ProofDeterminesLevel = (e : Equations) (rows : List NamedRow) (level : ℕ) → IsProof e rows level → IsDetermined e rows level
+ProofDeterminesLevel = (e : Equations) (rows : List NamedRow) (level : ℕ) → IsProof e rows level
+    → IsDetermined e rows level
 
 -- each query has a proof
 abbrev pub EveryQueryHasAProof : Type 0
@@ -54,24 +56,29 @@ EveryQueryHasAProof = (e : Equations) → (level : ℕ) × (rows : List NamedRow
 
 -- rows that don't name an assertion prove the same level without it
 abbrev pub RowsStayAProof : Type 0
-RowsStayAProof = (asked : Asked) (id : Id) (parts : List Part) (rows : List NamedRow) (level : ℕ) → IsProof (equations_over asked parts) rows level → is_row_by rows id ≡ false
+RowsStayAProof = (asked : Asked) (id : Id) (parts : List Part) (rows : List NamedRow) (level : ℕ)
+    → IsProof (equations_over asked parts) rows level → is_row_by rows id ≡ false
     → IsProof (equations_over asked (without_part id parts)) rows level
 
 -- so it isn't critical
 abbrev pub UnnamedIsNotCritical : Type 0
-UnnamedIsNotCritical = (asked : Asked) (parts : List Part) (id : Id) (rows : List NamedRow) (level : ℕ) → IsProof (equations_over asked parts) rows level → is_row_by rows id ≡ false
+UnnamedIsNotCritical = (asked : Asked) (parts : List Part) (id : Id) (rows : List NamedRow) (level : ℕ)
+    → IsProof (equations_over asked parts) rows level → is_row_by rows id ≡ false
     → IsCritical asked parts id → ⊥
 
 -- the critical assertions are one list
 abbrev pub CriticalIsOne : Type 0
-CriticalIsOne = (asked : Asked) (all parts : List Part) (ids others : List Id) → AreCritical asked all parts ids → AreCritical asked all parts others → ids ≡ others
+CriticalIsOne = (asked : Asked) (all parts : List Part) (ids others : List Id) → AreCritical asked all parts ids
+    → AreCritical asked all parts others → ids ≡ others
 
 -- Where some of the assertions are taken away, no principal's least level rises,
 abbrev pub FewerLowerAll : Type 0
-FewerLowerAll = (asked : Asked) (keeps : Part → Bool) (parts : List Part) (at lower : Levels) → IsLeast (equations_over asked parts) at
+FewerLowerAll = (asked : Asked) (keeps : Part → Bool) (parts : List Part) (at lower : Levels)
+    → IsLeast (equations_over asked parts) at
     → IsLeast (equations_over asked (filter keeps parts)) lower → (name : List ℕ) → lower name ≤ at name
 
 -- and so the policy's doesn't.
 abbrev pub FewerNeverRaise : Type 0
-FewerNeverRaise = (asked : Asked) (keeps : Part → Bool) (parts : List Part) (level lower : ℕ) → IsPolicyLevel (equations_over asked parts) level
+FewerNeverRaise = (asked : Asked) (keeps : Part → Bool) (parts : List Part) (level lower : ℕ)
+    → IsPolicyLevel (equations_over asked parts) level
     → IsPolicyLevel (equations_over asked (filter keeps parts)) lower → lower ≤ level

@@ -1,5 +1,6 @@
 -- Each token among clean pieces is one of the text.
-use Rattle.std.proofs.Common.{◌≡◌, ◌<◌, ◌⊎◌, ◌++◌, Option, Some, ℕ, true, false, Bool, ◌+◌, ◌≤◌, inr, List, [], ◌∷◌, None, length, take, drop, arith, refl, subst}
+use Rattle.std.proofs.Common.{◌≡◌, ◌<◌, ◌⊎◌, ◌++◌, Option, Some, ℕ, true, false, Bool, ◌+◌, ◌≤◌, inr, List, [], ◌∷◌}
+use Rattle.std.proofs.Common.{None, length, take, drop, arith, refl, subst}
 use Rattle.std.specs.Prelude.{All, nat_lt}
 use Rattle.std.proofs.lemmas.List.{length-drop, length-take-le}
 use Rattle.std.proofs.lemmas.List.Elements.{All-nil, All-cons}
@@ -24,7 +25,8 @@ use Rattle.kn_lex.proofs.Pieces.{piece_is}
 use Rattle.kn_lex.proofs.Along.{IsReached, reached_start, reached_more, reached_fault}
 
 -- no place that clean pieces reach shows a fault where the text has none
-clean_at : (text : List ℕ) (place : Place) (at : ℕ) (tokens : List Seen) → IsFaultless text → IsReached text place at tokens
+clean_at : (text : List ℕ) (place : Place) (at : ℕ) (tokens : List Seen) → IsFaultless text
+    → IsReached text place at tokens
     → fault_at place at (drop at text) ≡ None
 clean_at text place at tokens faultless h = by (fault_at place at (drop at text)) refl
   where
@@ -33,42 +35,54 @@ clean_at text place at tokens faultless h = by (fault_at place at (drop at text)
     by (Some fault) e = absurd (faultless fault (reached_fault text place at tokens fault h e).has)
 
 -- a number that shows no fault is not too large
-number_bound : (place : Place) (at : ℕ) (left : List ℕ) (n : ℕ) → IsPiece place.context left (Token NumberSort) n → fault_at place at left ≡ None
+number_bound : (place : Place) (at : ℕ) (left : List ℕ) (n : ℕ) → IsPiece place.context left (Token NumberSort) n
+    → fault_at place at left ≡ None
     → digits_value (take n left) ≤ number_max
-number_bound place at left n cut clean = by (nat_lt number_max (digits_value (take n left))) refl (begins_fraction (drop n left)) refl
+number_bound place at left n cut clean =
+    by (nat_lt number_max (digits_value (take n left))) refl (begins_fraction (drop n left)) refl
   where
     none : (fault : LexFault) → Shows place at left fault → ⊥
     none fault shown = subst (Least fault) clean (shown_least place at left fault shown)
 
-    by : (b : Bool) → nat_lt number_max (digits_value (take n left)) ≡ b → (f : Bool) → begins_fraction (drop n left) ≡ f
+    by : (b : Bool) → nat_lt number_max (digits_value (take n left)) ≡ b → (f : Bool)
+        → begins_fraction (drop n left) ≡ f
         → digits_value (take n left) ≤ number_max
     by false b f e = grind (arith, nat_tests)
     by true b true e = absurd (none (Float at) (refl, inr (record { n = n; cut = cut; shown = e })))
-    by true b false e = absurd (none (Number at) (refl, record { n = n; cut = cut; shown = (e, grind (arith, nat_tests)) }))
+    by true b false e =
+        absurd (none (Number at) (refl, record { n = n; cut = cut; shown = (e, grind (arith, nat_tests)) }))
 
 piece_spelled : (context : Context) (sort : Sort) (bytes : List ℕ) → Spells context (Token sort) bytes
     → (sort ≡ NumberSort → digits_value bytes ≤ number_max)
     → IsSpelled sort bytes
 piece_spelled context sort bytes s b = grind arith
 
-pub token_facts : (text : List ℕ) (tokens : List Seen) → Cuts text tokens → IsFaultless text → All (IsTokenOf text) tokens
+pub token_facts : (text : List ℕ) (tokens : List Seen) → Cuts text tokens → IsFaultless text
+    → All (IsTokenOf text) tokens
 token_facts text tokens h faultless =
-    rw h.told (along text Tokens (λ end at e list reached. All-nil (IsTokenOf text)) skip token h.pieces start 0 h.reached.0 h.reached.1 [] (reached_start text))
+    rw h.told (along text Tokens (λ end at e list reached. All-nil (IsTokenOf text)) skip token h.pieces start 0
+    h.reached.0 h.reached.1 [] (reached_start text))
   where
     Tokens : Place → ℕ → List Seen → Type 0
     Tokens place at tokens = (list : List Seen) → IsReached text place at list → All (IsTokenOf text) tokens
 
-    more : (place : Place) (at : ℕ) (piece : Piece) (n : ℕ) (list : List Seen) → IsPiece place.context (drop at text) piece n
+    more : (place : Place) (at : ℕ) (piece : Piece) (n : ℕ) (list : List Seen)
+        → IsPiece place.context (drop at text) piece n
         → IsReached text place at list
-        → IsReached text (place_after place piece (take n (drop at text))) (at + n) (list ++ token_of place.context at piece (take n (drop at text)))
+        → IsReached text (place_after place piece (take n (drop at text))) (at + n)
+        (list ++ token_of place.context at piece (take n (drop at text)))
     more place at piece n list cut reached =
-        reached_more text place at list _ (piece, n) reached (piece_is place.context (drop at text) piece n cut) (clean_at text place at list faultless reached) refl
+        reached_more text place at list _ (piece, n) reached (piece_is place.context (drop at text) piece n cut)
+        (clean_at text place at list faultless reached) refl
 
-    skip : (place : Place) (at : ℕ) (piece : Piece) (n : ℕ) (left : List Seen) → IsPiece place.context (drop at text) piece n
-        → (is_token piece ≡ false) ⊎ (n ≡ 0) → Tokens (place_after place piece (take n (drop at text))) (at + n) left → Tokens place at left
+    skip : (place : Place) (at : ℕ) (piece : Piece) (n : ℕ) (left : List Seen)
+        → IsPiece place.context (drop at text) piece n
+        → (is_token piece ≡ false) ⊎ (n ≡ 0) → Tokens (place_after place piece (take n (drop at text))) (at + n) left
+        → Tokens place at left
     skip place at piece n left cut empty rest list reached = rest _ (more place at piece n list cut reached)
 
-    token : (place : Place) (at : ℕ) (sort : Sort) (n : ℕ) (left : List Seen) → IsPiece place.context (drop at text) (Token sort) n → 0 < n
+    token : (place : Place) (at : ℕ) (sort : Sort) (n : ℕ) (left : List Seen)
+        → IsPiece place.context (drop at text) (Token sort) n → 0 < n
         → Tokens (place_after place (Token sort) (take n (drop at text))) (at + n) left
         → Tokens place at (made place.context at sort (take n (drop at text)) ∷ left)
     token place at sort n left cut some rest list reached =
@@ -80,6 +94,7 @@ token_facts text tokens h faultless =
           within = omega (arith, size, length-drop at text, cut.within, some);
           slice = rw size refl;
           spelled = piece_spelled place.context sort _ cut.spelled
-              (λ same. number_bound place at (drop at text) n (rw (← same) cut) (clean_at text place at list faultless reached));
+              (λ same. number_bound place at (drop at text) n (rw (← same) cut)
+              (clean_at text place at list faultless reached));
         })
         (rest _ (more place at (Token sort) n list cut reached))

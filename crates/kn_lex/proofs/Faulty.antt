@@ -1,5 +1,6 @@
 -- The fault that the code finds at a place is the first one that the place shows.
-use Rattle.std.proofs.Common.{◌≡◌, ℕ, zero, suc, true, false, Bool, ◌+◌, ◌<◌, ◌≤◌, ◌⊎◌, inl, inr, List, [], ◌∷◌, Option, Some, None, length, take, drop, arith, refl, sym, ◌∙◌, ap, subst}
+use Rattle.std.proofs.Common.{◌≡◌, ℕ, zero, suc, true, false, Bool, ◌+◌, ◌<◌, ◌≤◌, ◌⊎◌, inl, inr, List, [], ◌∷◌, Option}
+use Rattle.std.proofs.Common.{Some, None, length, take, drop, arith, refl, sym, ◌∙◌, ap, subst}
 use Rattle.std.specs.Prelude.{◌&&◌, ◌==◌, nat_lt, slice_get}
 use Rattle.std.specs.List.{list_all}
 use Rattle.std.proofs.lemmas.List.{length-take-le}
@@ -9,8 +10,10 @@ use Rattle.kn_base.specs.Decimal.{is_digit, digits_value}
 use Rattle.kn_lex.specs.Bytes.{is_white, begins_with}
 use Rattle.kn_lex.specs.Spelling.{is_run, is_blank}
 use Rattle.kn_lex.specs.Cutting.{IsPiece, BeginsNone, is_line_start}
-use Rattle.kn_lex.specs.Faults.{begins_foreign, begins_quote, begins_ampersand, begins_match, begins_other, begins_fraction, number_max, goes_on, HoldsZero, HasNumber, Shows, fault_place}
-use Rattle.kn_lex.specs.Scanning.{white_len, zero_place, zero_fault, number_fault, stuck_fault, piece_fault, fault_by, is_bad_blank, fault_at, piece_at, plain_piece, more_len}
+use Rattle.kn_lex.specs.Faults.{begins_foreign, begins_quote, begins_ampersand, begins_match, begins_other}
+use Rattle.kn_lex.specs.Faults.{begins_fraction, number_max, goes_on, HoldsZero, HasNumber, Shows, fault_place}
+use Rattle.kn_lex.specs.Scanning.{white_len, zero_place, zero_fault, number_fault, stuck_fault, piece_fault, fault_by}
+use Rattle.kn_lex.specs.Scanning.{is_bad_blank, fault_at, piece_at, plain_piece, more_len}
 use Rattle.kn_lex.specs.declared.token.Sort.{Sort}
 use Rattle.kn_lex.specs.declared.token.Sort.TheVariants.{Number as NumberSort}
 use Rattle.kn_lex.specs.declared.piece.Piece.{Piece}
@@ -19,7 +22,8 @@ use Rattle.kn_lex.specs.declared.piece.Place.{Place}
 use Rattle.kn_lex.specs.declared.piece.Context.{Context}
 use Rattle.kn_lex.specs.declared.piece.Context.TheVariants.{LineStart}
 use Rattle.kn_lex.specs.declared.fault.LexFault.{LexFault}
-use Rattle.kn_lex.specs.declared.fault.LexFault.TheVariants.{NotText, BadString, BadToken, Float, Regex, Number, Blank, NoMemory}
+use Rattle.kn_lex.specs.declared.fault.LexFault.TheVariants.{NotText, BadString, BadToken, Float, Regex, Number, Blank}
+use Rattle.kn_lex.specs.declared.fault.LexFault.TheVariants.{NoMemory}
 use Rattle.kn_lex.proofs.Scans.{is_blank-cons}
 use Rattle.kn_lex.proofs.Spelled.{both, choice, white_some}
 use Rattle.kn_lex.proofs.Pieces.{found_size, piece_sound, piece_is, none_begins, none_found}
@@ -39,7 +43,8 @@ zero_found [] j h = absurd (cc)
 zero_found (c ∷ cs) zero h = (0, grind (arith, nat_tests), omega arith)
 zero_found (c ∷ cs) (suc j) h =
     let rest = zero_found cs j h in
-    choice (λ o. (k : ℕ) × (o ≡ Some k) × (k ≤ suc j)) (c == 0) _ _ (λ _. (0, refl, omega arith)) (λ _. (1 + rest.0, ap (more_len 1) rest.1, omega (arith, rest.2)))
+    choice (λ o. (k : ℕ) × (o ≡ Some k) × (k ≤ suc j)) (c == 0) _ _ (λ _. (0, refl, omega arith))
+    (λ _. (1 + rest.0, ap (more_len 1) rest.1, omega (arith, rest.2)))
 
 all_at : (p : ℕ → Bool) (bytes : List ℕ) (k c : ℕ) → list_all p bytes ≡ true → slice_get bytes k ≡ Some c → p c ≡ true
 all_at p [] k c e h = absurd (cc)
@@ -75,7 +80,8 @@ abbrev FoundShown : Place → ℕ → List ℕ → Option LexFault → Type 0
 FoundShown place at left None = Unit {0}
 FoundShown place at left (Some fault) = Shows place at left fault
 
-stuck_shown : (place : Place) (at : ℕ) (left : List ℕ) → BeginsNone place.context left → FoundShown place at left (stuck_fault at left)
+stuck_shown : (place : Place) (at : ℕ) (left : List ℕ) → BeginsNone place.context left
+    → FoundShown place at left (stuck_fault at left)
 unfolding stuck_fault
 stuck_shown place at left none = grind arith
 
@@ -84,8 +90,10 @@ zero_shown : (place : Place) (at : ℕ) (left : List ℕ) (piece : Piece) (n : �
 zero_shown place at left piece n cut = grind (arith, zero_at)
 
 -- the fault of a piece is that of a number, or of a byte 0
-by_number : (P : Option LexFault → Type 0) (context : Context) (at : ℕ) (left : List ℕ) (piece : Piece) (n : ℕ) → IsPiece context left piece n
-    → (IsPiece context left (Token NumberSort) n → P (number_fault at (take n left) (drop n left))) → P (zero_fault at (zero_place (take n left)))
+by_number : (P : Option LexFault → Type 0) (context : Context) (at : ℕ) (left : List ℕ) (piece : Piece) (n : ℕ)
+    → IsPiece context left piece n
+    → (IsPiece context left (Token NumberSort) n → P (number_fault at (take n left) (drop n left)))
+    → P (zero_fault at (zero_place (take n left)))
     → P (piece_fault at piece (take n left) (drop n left))
 by_number P context at left piece n cut number other = grind arith
 
@@ -96,14 +104,16 @@ piece_shown place at left piece n cut = grind (arith, nat_tests, zero_shown)
 found_shown : (place : Place) (at : ℕ) (left : List ℕ) → FoundShown place at left (fault_at place at left)
 found_shown place at left =
     choice (FoundShown place at left) (is_bad_blank place left) _ _
-    (λ b. let p = white_at place.context place.told (is_blank left) (goes_on false left) b in (refl, p.0, p.1, p.2, p.3))
+    (λ b. let p = white_at place.context place.told (is_blank left) (goes_on false left) b in
+    (refl, p.0, p.1, p.2, p.3))
     (λ _. by (piece_at place.context left) refl)
   where
     by : (o : Option (Piece × ℕ)) → piece_at place.context left ≡ o → FoundShown place at left (fault_by at left o)
     by None e = stuck_shown place at left (none_begins place.context left e)
     by (Some p) e = piece_shown place at left p.0 p.1 (piece_sound place.context left p e)
 
-pub fault_shown : (place : Place) (at : ℕ) (left : List ℕ) (fault : LexFault) → fault_at place at left ≡ Some fault → Shows place at left fault
+pub fault_shown : (place : Place) (at : ℕ) (left : List ℕ) (fault : LexFault) → fault_at place at left ≡ Some fault
+    → Shows place at left fault
 fault_shown place at left fault e = subst (FoundShown place at left) e (found_shown place at left)
 
 -- what is shown is found, or something before it
@@ -113,7 +123,8 @@ Least other None = ⊥
 Least other (Some fault) = (fault_place fault < fault_place other) ⊎ (fault ≡ other)
 
 -- where no piece begins, and in a piece that isn't white space, no blank line is refused
-stuck_at : (place : Place) (at : ℕ) (left : List ℕ) → BeginsNone place.context left → fault_at place at left ≡ stuck_fault at left
+stuck_at : (place : Place) (at : ℕ) (left : List ℕ) → BeginsNone place.context left
+    → fault_at place at left ≡ stuck_fault at left
 stuck_at place at left none =
     let nothing = none_found place.context left none in
     choice (λ o. o ≡ stuck_fault at left) (is_bad_blank place left) _ _
@@ -126,7 +137,8 @@ token_at place at left sort n cut =
     choice (λ o. o ≡ piece_fault at (Token sort) (take n left) (drop n left)) (is_bad_blank place left) _ _
     (λ b. let w = bad_white place left b in let white = w.found in absurd (grind arith)) (λ _. rw found refl)
 
-zero_least : (at k : ℕ) (bytes : List ℕ) → slice_get bytes k ≡ Some 0 → Least (NotText (at + k)) (zero_fault at (zero_place bytes))
+zero_least : (at k : ℕ) (bytes : List ℕ) → slice_get bytes k ≡ Some 0
+    → Least (NotText (at + k)) (zero_fault at (zero_place bytes))
 zero_least at k bytes here = grind (arith, zero_found)
 
 -- white space isn't byte 0
@@ -137,47 +149,64 @@ pub number_spelled : (context : Context) (left : List ℕ) (n : ℕ) → IsPiece
     → is_run is_digit is_digit (take n left) ≡ true
 number_spelled context left n cut = grind arith
 
-holds_least : (place : Place) (at k : ℕ) (left : List ℕ) → HoldsZero place.context left k → Least (NotText (at + k)) (fault_at place at left)
+holds_least : (place : Place) (at k : ℕ) (left : List ℕ) → HoldsZero place.context left k
+    → Least (NotText (at + k)) (fault_at place at left)
 holds_least place at k left h =
     let P : Option LexFault → Type 0 = Least (NotText (at + k)) in
-    choice P (is_bad_blank place left) _ _ (λ b. let w = bad_white place left b in let some = later h.n k left w.white h.here in inl (omega (arith, some)))
+    choice P (is_bad_blank place left) _ _ (λ b. let w = bad_white place left b in
+    let some = later h.n k left w.white h.here in inl (omega (arith, some)))
     (λ _. rw (piece_is place.context left h.piece h.n h.cut)
     (by_number P place.context at left h.piece h.n h.cut
-    (λ number. absurd (no_zero_digit (take h.n left) k (number_spelled place.context left h.n number) h.here)) (zero_least at k (take h.n left) h.here)))
+    (λ number. absurd (no_zero_digit (take h.n left) k (number_spelled place.context left h.n number) h.here))
+    (zero_least at k (take h.n left) h.here)))
 
 -- the tests of a byte where no piece begins
 stuck_is : (at : ℕ) (left : List ℕ)
-    → (begins_foreign left ≡ true → stuck_fault at left ≡ Some (NotText at)) × (begins_quote left ≡ true → stuck_fault at left ≡ Some (BadString at))
-    × (begins_ampersand left ≡ true → stuck_fault at left ≡ Some (Float at)) × (begins_match left ≡ true → stuck_fault at left ≡ Some (Regex at))
+    → (begins_foreign left ≡ true → stuck_fault at left ≡ Some (NotText at))
+    × (begins_quote left ≡ true → stuck_fault at left ≡ Some (BadString at))
+    × (begins_ampersand left ≡ true → stuck_fault at left ≡ Some (Float at))
+    × (begins_match left ≡ true → stuck_fault at left ≡ Some (Regex at))
     × (begins_other left ≡ true → stuck_fault at left ≡ Some (BadToken at))
 unfolding stuck_fault
 stuck_is at left = grind (arith, nat_tests)
 
-found_least : (place : Place) (at : ℕ) (left : List ℕ) (fault : LexFault) → fault_at place at left ≡ Some fault → Least fault (fault_at place at left)
+found_least : (place : Place) (at : ℕ) (left : List ℕ) (fault : LexFault) → fault_at place at left ≡ Some fault
+    → Least fault (fault_at place at left)
 found_least place at left fault e = rw e (inr refl)
 
-fraction_least : (place : Place) (at : ℕ) (left : List ℕ) → HasNumber place.context left (λ digits rest. begins_fraction rest ≡ true)
+fraction_least : (place : Place) (at : ℕ) (left : List ℕ)
+    → HasNumber place.context left (λ digits rest. begins_fraction rest ≡ true)
     → Least (Float at) (fault_at place at left)
-fraction_least place at left h = found_least place at left (Float at) (token_at place at left NumberSort h.n h.cut ∙ rw h.shown refl)
+fraction_least place at left h = found_least place at left (Float at) (token_at place at left NumberSort h.n h.cut
+    ∙ rw h.shown refl)
 
 large_least : (place : Place) (at : ℕ) (left : List ℕ)
     → HasNumber place.context left (λ digits rest. (begins_fraction rest ≡ false) × (number_max < digits_value digits))
     → Least (Number at) (fault_at place at left)
 large_least place at left h =
-    let large : nat_lt number_max (digits_value (take h.n left)) ≡ true = (Decides-ltb number_max (digits_value (take h.n left))).1 h.shown.1 in
+    let large : nat_lt number_max (digits_value (take h.n left)) ≡ true =
+    (Decides-ltb number_max (digits_value (take h.n left))).1 h.shown.1 in
     found_least place at left (Number at) (token_at place at left NumberSort h.n h.cut ∙ rw (h.shown.0, large) refl)
 
 -- what is shown where no piece begins
-stuck_least : (place : Place) (at : ℕ) (left : List ℕ) (fault : LexFault) → BeginsNone place.context left → stuck_fault at left ≡ Some fault
+stuck_least : (place : Place) (at : ℕ) (left : List ℕ) (fault : LexFault) → BeginsNone place.context left
+    → stuck_fault at left ≡ Some fault
     → Least fault (fault_at place at left)
 stuck_least place at left fault none e = found_least place at left fault (stuck_at place at left none ∙ e)
 
-pub shown_least : (place : Place) (at : ℕ) (left : List ℕ) (fault : LexFault) → Shows place at left fault → Least fault (fault_at place at left)
+pub shown_least : (place : Place) (at : ℕ) (left : List ℕ) (fault : LexFault) → Shows place at left fault
+    → Least fault (fault_at place at left)
 shown_least place at left (NotText p) h = grind (arith, holds_least, stuck_least, stuck_is)
-shown_least place at left (BadString p) h = rw h.0 (stuck_least place at left (BadString at) h.1 ((stuck_is at left).1 h.2))
-shown_least place at left (BadToken p) h = rw h.0 (stuck_least place at left (BadToken at) h.1 ((stuck_is at left).4 h.2))
+shown_least place at left (BadString p) h =
+    rw h.0 (stuck_least place at left (BadString at) h.1 ((stuck_is at left).1 h.2))
+shown_least place at left (BadToken p) h =
+    rw h.0 (stuck_least place at left (BadToken at) h.1 ((stuck_is at left).4 h.2))
 shown_least place at left (Float p) h =
-    rw h.0 (elim h.1 [ inl a ↦ stuck_least place at left (Float at) a.0 ((stuck_is at left).2 a.1) | inr n ↦ fraction_least place at left n ])
+    rw h.0 (elim h.1 [
+      | inl a ↦ stuck_least place at left (Float at) a.0 ((stuck_is at left).2 a.1)
+      | inr n ↦ fraction_least place at
+          left n
+    ])
 shown_least place at left (Regex p) h = rw h.0 (stuck_least place at left (Regex at) h.1 ((stuck_is at left).3 h.2))
 shown_least place at left (Number p) h = rw h.0 (large_least place at left h.1)
 shown_least place at left (Blank p) h = rw h.0 (found_least place at left (Blank at) (rw (h.1, h.2, h.3, h.4) refl))
@@ -185,7 +214,8 @@ shown_least place at left NoMemory h = absurd h
 
 -- a fault stands in its piece
 
-pub shown_from : (place : Place) (at : ℕ) (left : List ℕ) (fault : LexFault) → Shows place at left fault → at ≤ fault_place fault
+pub shown_from : (place : Place) (at : ℕ) (left : List ℕ) (fault : LexFault) → Shows place at left fault
+    → at ≤ fault_place fault
 shown_from place at left fault h = grind arith
 
 abbrev Within : ℕ → Option LexFault → Type 0
@@ -216,5 +246,6 @@ fault_within place at left fault piece n e cut =
     let found = piece_is place.context left piece n cut in
     subst (Within (at + n)) e
     (choice (Within (at + n)) (is_bad_blank place left) _ _
-    (λ b. let w = bad_white place left b in let white = w.found in let some = w.some in let same : w.n ≡ n = ap found_size (sym white ∙ found) in omega arith)
+    (λ b. let w = bad_white place left b in let white = w.found in let some = w.some in
+    let same : w.n ≡ n = ap found_size (sym white ∙ found) in omega arith)
     (λ _. rw found (piece_within place.context at left piece n cut)))

@@ -1,5 +1,6 @@
 -- A search for the first byte of a kind, and what is counted up to it.
-use Rattle.std.proofs.Common.{◌≡◌, ℕ, true, zero, suc, Bool, List, [], ◌∷◌, Option, Some, None, length, take, drop, arith, refl}
+use Rattle.std.proofs.Common.{◌≡◌, ℕ, true, zero, suc, Bool, List, [], ◌∷◌, Option, Some, None, length, take, drop}
+use Rattle.std.proofs.Common.{arith, refl}
 use Rattle.std.specs.Prelude.{not, if◌then◌else◌, ◌==◌}
 use Rattle.std.specs.List.{prefix_len}
 use Rattle.std.proofs.lemmas.Bool.Decides.{nat_tests}
@@ -19,11 +20,14 @@ End bytes (Some k) = k
 pub run_by_first : (test : ℕ → Bool) (bytes : List ℕ) (r : Option ℕ) → IsFirstByte test bytes r
     → prefix_len (λ byte. not (test byte)) bytes ≡ End bytes r
 run_by_first test bytes None h =
-    prefix_len_is _ bytes (length bytes) 0 (omega arith) (λ k within. fails _ (h k (omega arith) within)) (λ over. absurd (omega arith))
+    prefix_len_is _ bytes (length bytes) 0 (omega arith) (λ k within. fails _ (h k (omega arith) within))
+    (λ over. absurd (omega arith))
 run_by_first test bytes (Some k) h = grind (arith, prefix_len_is)
 
 zero_by_run : (bytes : List ℕ)
-    → zero_place bytes ≡ (if prefix_len (λ byte. not (byte == 0)) bytes == length bytes then None else Some (prefix_len (λ byte. not (byte == 0)) bytes))
+    → zero_place bytes
+    ≡ (if prefix_len (λ byte. not (byte == 0)) bytes
+    == length bytes then None else Some (prefix_len (λ byte. not (byte == 0)) bytes))
 unfolding zero_place
 zero_by_run [] = refl
 zero_by_run (c ∷ cs) = grind (arith, nat_tests, zero_by_run cs)

@@ -1,5 +1,6 @@
 -- Tokens stand in their order, and each tells whether it begins a line.
-use Rattle.std.proofs.Common.{◌≡◌, ◌<◌, ◌⊎◌, ℕ, true, false, Bool, ◌+◌, ◌≤◌, not, List, [], ◌∷◌, ◌++◌, length, take, drop, arith, refl, sym, ◌∙◌, ap}
+use Rattle.std.proofs.Common.{◌≡◌, ◌<◌, ◌⊎◌, ℕ, true, false, Bool, ◌+◌, ◌≤◌, not, List, [], ◌∷◌, ◌++◌, length, take}
+use Rattle.std.proofs.Common.{drop, arith, refl, sym, ◌∙◌, ap}
 use Rattle.std.specs.Prelude.{◌==◌, if◌then◌else◌}
 use Rattle.std.specs.List.{list_all}
 use Rattle.std.proofs.Math.Seq.{take-add}
@@ -8,8 +9,10 @@ use Rattle.std.proofs.lemmas.Bool.Decides.{nat_tests}
 use Rattle.std.proofs.lemmas.List.{length-take-le, drop-drop}
 use Rattle.kn_base.specs.Decimal.{is_digit}
 use Rattle.kn_lex.specs.Bytes.{begins_name, continues_name}
-use Rattle.kn_lex.specs.Spelling.{is_run, is_label_tail, is_label, is_body, is_sign, items_bytes, IsLiteral, SpellsPlain, Spells}
-use Rattle.kn_lex.specs.Cutting.{IsPiece, is_token, Reaches, Cuts, Seen, start, place_after, context_after, tokens_of, is_line_start, is_comment_label, ends_line}
+use Rattle.kn_lex.specs.Spelling.{is_run, is_label_tail, is_label, is_body, is_sign, items_bytes, IsLiteral}
+use Rattle.kn_lex.specs.Spelling.{SpellsPlain, Spells}
+use Rattle.kn_lex.specs.Cutting.{IsPiece, is_token, Reaches, Cuts, Seen, start, place_after, context_after, tokens_of}
+use Rattle.kn_lex.specs.Cutting.{is_line_start, is_comment_label, ends_line}
 use Rattle.kn_lex.specs.TokenFacts.{StandInOrder, begins_line}
 use Rattle.kn_lex.specs.declared.token.Sort.{Sort}
 use Rattle.kn_lex.specs.declared.token.Sort.TheVariants.{Label, Body, Name, Number, Text, Sign}
@@ -23,21 +26,35 @@ use Rattle.kn_lex.proofs.Spelled.{both, only_body}
 -- the token that a piece of this sort is
 abbrev pub made : Context → ℕ → Sort → List ℕ → Seen
 made context at sort bytes =
-    record { sort = sort; span = record { start = at; end = at + length bytes }; text = bytes; first = is_line_start context }
+    record {
+      sort = sort;
+      span = record { start = at; end = at + length bytes };
+      text = bytes;
+      first =
+          is_line_start context;
+    }
 
 -- what holds behind the last piece, and before each piece where it holds behind it, holds of the tokens from a place on
 pub along : (whole : List ℕ) (P : Place → ℕ → List Seen → Type 0)
     (none : (end : Place) (at : ℕ) → drop at whole ≡ [] → P end at [])
-    (skip : (place : Place) (at : ℕ) (piece : Piece) (n : ℕ) (left : List Seen) → IsPiece place.context (drop at whole) piece n
-    → (is_token piece ≡ false) ⊎ (n ≡ 0) → P (place_after place piece (take n (drop at whole))) (at + n) left → P place at left)
-    (token : (place : Place) (at : ℕ) (sort : Sort) (n : ℕ) (left : List Seen) → IsPiece place.context (drop at whole) (Token sort) n → 0 < n
+    (skip : (place : Place) (at : ℕ) (piece : Piece) (n : ℕ) (left : List Seen)
+    → IsPiece place.context (drop at whole) piece n
+    → (is_token piece ≡ false) ⊎ (n ≡ 0) → P (place_after place piece (take n (drop at whole))) (at + n) left
+    → P place at left)
+    (token : (place : Place) (at : ℕ) (sort : Sort) (n : ℕ) (left : List Seen)
+    → IsPiece place.context (drop at whole) (Token sort) n → 0 < n
     → P (place_after place (Token sort) (take n (drop at whole))) (at + n) left
     → P place at (made place.context at sort (take n (drop at whole)) ∷ left))
     (pieces : List (Piece × ℕ)) (place : Place) (at : ℕ) (end : Place) → Reaches place (drop at whole) pieces end []
     → P place at (tokens_of place at (drop at whole) pieces)
 along whole P none skip token [] place at end h = none place at h.1
 along whole P none skip token ((piece, n) ∷ ps) place at end h =
-    grind (arith, drop-drop, length-take-le, along whole P none skip token ps (place_after place piece (take n (drop at whole))) (at + n) end)
+    grind (
+      arith,
+      drop-drop,
+      length-take-le,
+      along whole P none skip token ps (place_after place piece (take n (drop at whole))) (at + n) end,
+    )
 
 pub in_order : (text : List ℕ) (tokens : List Seen) → Cuts text tokens → StandInOrder 0 tokens
 in_order text tokens h =
@@ -53,11 +70,13 @@ in_order text tokens h =
 ends_more : (c : ℕ) (cs : List ℕ) → (c == 10) ≡ false → ends_line cs ≡ false → ends_line (c ∷ cs) ≡ false
 ends_more c cs e h = grind arith
 
-all_end : (p : ℕ → Bool) (cs : List ℕ) → ((c : ℕ) → p c ≡ true → (c == 10) ≡ false) → list_all p cs ≡ true → ends_line cs ≡ false
+all_end : (p : ℕ → Bool) (cs : List ℕ) → ((c : ℕ) → p c ≡ true → (c == 10) ≡ false) → list_all p cs ≡ true
+    → ends_line cs ≡ false
 all_end p [] other all = refl
 all_end p (c ∷ cs) other all = grind (arith, ends_more, all_end p cs other)
 
-run_end : (head tail : ℕ → Bool) (bytes : List ℕ) → ((c : ℕ) → head c ≡ true → (c == 10) ≡ false) → ((c : ℕ) → tail c ≡ true → (c == 10) ≡ false)
+run_end : (head tail : ℕ → Bool) (bytes : List ℕ) → ((c : ℕ) → head c ≡ true → (c == 10) ≡ false)
+    → ((c : ℕ) → tail c ≡ true → (c == 10) ≡ false)
     → is_run head tail bytes ≡ true → ends_line bytes ≡ false
 run_end head tail bytes first other e = grind (arith, all_end)
 
@@ -90,15 +109,22 @@ literal_end bytes h = ap ends_line h.spelled ∙ ends_append (34 ∷ items_bytes
 plain_ends : (first : Bool) (piece : Piece) (c : ℕ) (cs : List ℕ) → SpellsPlain first piece (c ∷ cs)
     → is_line_start (context_after piece (c ∷ cs)) ≡ ends_line (c ∷ cs)
 plain_ends first White c cs s = grind arith
-plain_ends first Comment c cs s = sym (run_end (λ b. b == 35) (λ b. not (b == 10)) (c ∷ cs) (λ c e. grind (arith, nat_tests)) (λ c e. grind arith) s)
+plain_ends first Comment c cs s =
+    sym (run_end (λ b. b == 35) (λ b. not (b == 10)) (c ∷ cs) (λ c e. grind (arith, nat_tests)) (λ c e. grind arith) s)
 plain_ends first (Token Label) c cs s = by (is_comment_label (c ∷ cs)) ∙ sym (label_end (c ∷ cs) (both _ _ s).1)
   where
     by : (b : Bool) → is_line_start (if b then CommentBody else WithinLine) ≡ false
     by b = grind arith
 plain_ends first (Token Body) c cs s = absurd s
 plain_ends first (Token Name) c cs s =
-    sym (run_end begins_name continues_name (c ∷ cs) (λ c e. grind (arith, nat_tests)) (λ c e. grind (arith, nat_tests)) s)
-plain_ends first (Token Number) c cs s = grind (arith, run_end is_digit is_digit (c ∷ cs) (λ c e. grind (arith, nat_tests)) (λ c e. grind (arith, nat_tests)))
+    sym (run_end begins_name continues_name (c ∷ cs) (λ c e. grind (arith, nat_tests)) (λ c e. grind (arith, nat_tests))
+    s)
+plain_ends first (Token Number) c cs s =
+    grind (
+      arith,
+      run_end is_digit is_digit (c ∷ cs) (λ c e. grind (arith, nat_tests))
+          (λ c e. grind (arith, nat_tests)),
+    )
 plain_ends first (Token Text) c cs s = sym (literal_end (c ∷ cs) s)
 plain_ends first (Token Sign) c cs s = sym (sign_end (c ∷ cs) s)
 
@@ -106,13 +132,17 @@ context_ends : (context : Context) (piece : Piece) (c : ℕ) (cs : List ℕ) →
     → is_line_start (context_after piece (c ∷ cs)) ≡ ends_line (c ∷ cs)
 context_ends LineStart piece c cs s = plain_ends true piece c cs s
 context_ends WithinLine piece c cs s = plain_ends false piece c cs s
-context_ends CommentBody piece c cs s = let body = only_body piece (c ∷ cs) s in rw body.0 (sym (body_end (c ∷ cs) body.1))
+context_ends CommentBody piece c cs s = let body = only_body piece (c ∷ cs) s in
+    rw body.0 (sym (body_end (c ∷ cs) body.1))
 
 -- an empty piece is an empty body, behind which no line begins
 empty_piece : (context : Context) (piece : Piece) → Spells context piece []
     → (is_line_start context ≡ false) × (is_line_start (context_after piece []) ≡ false)
 empty_piece context piece s = grind arith
 
-pub next_begins : (whole : List ℕ) (place : Place) (at : ℕ) (piece : Piece) (n : ℕ) → is_line_start place.context ≡ begins_line whole at
-    → IsPiece place.context (drop at whole) piece n → is_line_start (context_after piece (take n (drop at whole))) ≡ begins_line whole (at + n)
-next_begins whole place at piece n here cut = grind (arith, nat_tests, empty_piece, ne_eqb, context_ends, take-add, ends_append)
+pub next_begins : (whole : List ℕ) (place : Place) (at : ℕ) (piece : Piece) (n : ℕ)
+    → is_line_start place.context ≡ begins_line whole at
+    → IsPiece place.context (drop at whole) piece n → is_line_start (context_after piece (take n (drop at whole)))
+    ≡ begins_line whole (at + n)
+next_begins whole place at piece n here cut =
+    grind (arith, nat_tests, empty_piece, ne_eqb, context_ends, take-add, ends_append)

@@ -1,5 +1,6 @@
 -- The piece that the scanner finds is the one piece that begins there.
-use Rattle.std.proofs.Common.{◌≡◌, ℕ, zero, suc, true, false, Bool, ◌<◌, ◌≤◌, List, [], ◌∷◌, ◌++◌, Option, Some, None, length, take, drop, get_or, arith, refl, ◌∙◌, ap, if◌then◌else◌}
+use Rattle.std.proofs.Common.{◌≡◌, ℕ, zero, suc, true, false, Bool, ◌<◌, ◌≤◌, List, [], ◌∷◌, ◌++◌, Option, Some, None}
+use Rattle.std.proofs.Common.{length, take, drop, get_or, arith, refl, ◌∙◌, ap, if◌then◌else◌}
 use Rattle.std.specs.Prelude.{not, ◌||◌, ◌==◌, codes}
 use Rattle.std.specs.List.{prefix_len, list_all, list_any}
 use Rattle.std.proofs.lemmas.List.{take-append-drop, length-take-le}
@@ -7,10 +8,13 @@ use Rattle.std.proofs.lemmas.List.Sums.{prefix_len-le-length}
 use Rattle.std.proofs.lemmas.Bool.{false≢true}
 use Rattle.std.proofs.lemmas.Bool.Decides.{nat_tests}
 use Rattle.kn_base.specs.Decimal.{is_digit}
-use Rattle.kn_lex.specs.Bytes.{is_white, is_letter, begins_name, continues_name, is_short_sign, is_lone_sign, is_long_sign, kind_of}
-use Rattle.kn_lex.specs.Spelling.{is_run, is_white_space, is_label, is_label_tail, is_sign, IsLiteral, SpellsPlain, Spells, items_bytes}
+use Rattle.kn_lex.specs.Bytes.{is_white, is_letter, begins_name, continues_name, is_short_sign, is_lone_sign}
+use Rattle.kn_lex.specs.Bytes.{is_long_sign, kind_of}
+use Rattle.kn_lex.specs.Spelling.{is_run, is_white_space, is_label, is_label_tail, is_sign, IsLiteral, SpellsPlain}
+use Rattle.kn_lex.specs.Spelling.{Spells, items_bytes}
 use Rattle.kn_lex.specs.Cutting.{IsPiece, BeginsNone}
-use Rattle.kn_lex.specs.Scanning.{white_len, line_len, colon_len, label_len, sign_len, quote_len, plain_piece, word_piece, with_sort, piece_at}
+use Rattle.kn_lex.specs.Scanning.{white_len, line_len, colon_len, label_len, sign_len, quote_len, plain_piece}
+use Rattle.kn_lex.specs.Scanning.{word_piece, with_sort, piece_at}
 use Rattle.kn_lex.specs.declared.bytes.Kind.{Kind}
 use Rattle.kn_lex.specs.declared.bytes.Kind.TheVariants.{Space, Hash, Word, Numeral, Quote, Lone, Other}
 use Rattle.kn_lex.specs.declared.quote.Quote.TheVariants.{Opening}
@@ -18,7 +22,9 @@ use Rattle.kn_lex.specs.declared.token.Sort.TheVariants.{Label, Body, Name, Numb
 use Rattle.kn_lex.specs.declared.piece.Piece.{Piece}
 use Rattle.kn_lex.specs.declared.piece.Piece.TheVariants.{White, Comment, Token}
 use Rattle.kn_lex.specs.declared.piece.Context.{Context}
-use Rattle.kn_lex.proofs.Spelled.{both, choice, same_byte, run_longest, run_passes, white_within, white_some, white_longest, white_spelled, colon_within, colon_found, name_in_label, body_within, body_spelled, body_longest, piece_some}
+use Rattle.kn_lex.proofs.Spelled.{both, choice, same_byte, run_longest, run_passes, white_within, white_some}
+use Rattle.kn_lex.proofs.Spelled.{white_longest, white_spelled, colon_within, colon_found, name_in_label, body_within}
+use Rattle.kn_lex.proofs.Spelled.{body_spelled, body_longest, piece_some}
 use Rattle.kn_lex.proofs.Scans.{take_next}
 use Rattle.kn_lex.proofs.Literals.{quote_sound, literal_found}
 
@@ -31,7 +37,8 @@ any_passes : (p : ℕ → Bool) (c : ℕ) (xs : List ℕ) → list_any (λ d. c 
 any_passes p c [] e h = absurd (false≢true e)
 any_passes p c (x ∷ xs) e h = by (c == x) (same_byte c x) (both (p x) (list_all p xs) h) e (any_passes p c xs)
   where
-    by : (b : Bool) → (b ≡ true → c ≡ x) → (p x ≡ true) × (list_all p xs ≡ true) → (b || list_any (λ d. c == d) xs) ≡ true
+    by : (b : Bool) → (b ≡ true → c ≡ x) → (p x ≡ true) × (list_all p xs ≡ true)
+        → (b || list_any (λ d. c == d) xs) ≡ true
         → (list_any (λ d. c == d) xs ≡ true → list_all p xs ≡ true → p c ≡ true) → p c ≡ true
     by b same parts e rest = grind arith
 
@@ -59,7 +66,8 @@ by_kind Quote first rest = with_sort Text (quote_len Opening rest)
 by_kind Lone first rest = Some (Token Sign, 1)
 by_kind Other first rest = with_sort Sign (sign_len rest)
 
-pub plain_piece_by_kind : (first : Bool) (rest : List ℕ) → 0 < length rest → plain_piece first rest ≡ by_kind (kind_of (get_or rest 0 0)) first rest
+pub plain_piece_by_kind : (first : Bool) (rest : List ℕ) → 0 < length rest
+    → plain_piece first rest ≡ by_kind (kind_of (get_or rest 0 0)) first rest
 unfolding plain_piece
 plain_piece_by_kind first [] h = absurd (omega arith)
 plain_piece_by_kind first (c ∷ cs) h = grind (arith, nat_tests, lone_len)
@@ -78,7 +86,8 @@ pub label_here : (rest : List ℕ) (n : ℕ) → label_len rest ≡ Some n → p
 unfolding plain_piece
 label_here rest n e = grind (arith, nat_tests)
 
-sign_found : (first : Bool) (c : ℕ) (cs : List ℕ) → not (begins_no_sign c) ≡ true → plain_piece first (c ∷ cs) ≡ with_sort Sign (sign_len (c ∷ cs))
+sign_found : (first : Bool) (c : ℕ) (cs : List ℕ) → not (begins_no_sign c) ≡ true
+    → plain_piece first (c ∷ cs) ≡ with_sort Sign (sign_len (c ∷ cs))
 unfolding plain_piece
 sign_found first c cs e = grind (arith, nat_tests)
 
@@ -92,11 +101,13 @@ run_spelled : (head tail : ℕ → Bool) (c : ℕ) (cs : List ℕ) → head c �
     → is_run head tail (take (prefix_len tail (c ∷ cs)) (c ∷ cs)) ≡ true
 run_spelled head tail c cs h t = grind (arith, take_next, run_passes tail cs)
 
-label_spelled : (c : ℕ) (cs : List ℕ) (n : ℕ) → is_letter c ≡ true → is_label_tail (take n (c ∷ cs)) ≡ true → is_label (take n (c ∷ cs)) ≡ true
+label_spelled : (c : ℕ) (cs : List ℕ) (n : ℕ) → is_letter c ≡ true → is_label_tail (take n (c ∷ cs)) ≡ true
+    → is_label (take n (c ∷ cs)) ≡ true
 label_spelled c cs n l h = grind (arith, nat_tests)
 
 -- where a label begins
-label_begins : (first letter : Bool) (k : Option ℕ) (n : ℕ) → (if first then if letter then k else None else None) ≡ Some n
+label_begins : (first letter : Bool) (k : Option ℕ) (n : ℕ)
+    → (if first then if letter then k else None else None) ≡ Some n
     → (first ≡ true) × (letter ≡ true) × (k ≡ Some n)
 label_begins first letter k n e = grind arith
 
@@ -104,8 +115,12 @@ word_fits : (first : Bool) (c : ℕ) (cs : List ℕ) → begins_name c ≡ true
     → Fits (SpellsPlain first) (c ∷ cs) (word_piece (if first then label_len (c ∷ cs) else None) (c ∷ cs))
 word_fits first c cs b = by (if first then label_len (c ∷ cs) else None) refl
   where
-    by : (k : Option ℕ) → (if first then label_len (c ∷ cs) else None) ≡ k → Fits (SpellsPlain first) (c ∷ cs) (word_piece k (c ∷ cs))
-    by None e = (prefix_len-le-length continues_name (c ∷ cs), run_spelled begins_name continues_name c cs b (rw b refl))
+    by : (k : Option ℕ) → (if first then label_len (c ∷ cs) else None) ≡ k
+        → Fits (SpellsPlain first) (c ∷ cs) (word_piece k (c ∷ cs))
+    by None e = (
+      prefix_len-le-length continues_name (c ∷ cs),
+      run_spelled begins_name continues_name c cs b (rw b refl),
+    )
     by (Some n) e =
         let l = label_begins first (is_letter c) (colon_len (c ∷ cs)) n e in
         let w = colon_within (c ∷ cs) n l.2 in
@@ -127,9 +142,14 @@ plain_fits first [] = tt
 plain_fits first (c ∷ cs) =
     let P : Option (Piece × ℕ) → Type 0 = Fits (SpellsPlain first) (c ∷ cs) in
     choice P (is_white c) _ _ (λ w. (white_within (c ∷ cs), white_spelled (c ∷ cs) (white_some c cs w)))
-    (λ _. choice P (c == 35) _ _ (λ h. (prefix_len-le-length (λ b. not (b == 10)) (c ∷ cs), run_spelled (λ b. b == 35) (λ b. not (b == 10)) c cs h (grind (arith, nat_tests))))
+    (λ _. choice P (c == 35) _ _
+    (λ h. (
+      prefix_len-le-length (λ b. not (b == 10)) (c ∷ cs),
+      run_spelled (λ b. b == 35) (λ b. not (b == 10)) c cs h (grind (arith, nat_tests)),
+    ))
     (λ _. choice P (begins_name c) _ _ (λ b. word_fits first c cs b)
-    (λ _. choice P (is_digit c) _ _ (λ d. (prefix_len-le-length is_digit (c ∷ cs), run_spelled is_digit is_digit c cs d d))
+    (λ _. choice P (is_digit c) _ _
+    (λ d. (prefix_len-le-length is_digit (c ∷ cs), run_spelled is_digit is_digit c cs d d))
     (λ _. choice P (c == 34) _ _ (λ _. text_fits first (c ∷ cs)) (λ _. sign_fits first (c ∷ cs))))))
 
 piece_fits : (context : Context) (rest : List ℕ) → Fits (Spells context) rest (piece_at context rest)
@@ -162,7 +182,8 @@ label_covers c cs m le e =
     let found = colon_found cs m (omega arith) parts.1 in
     covered _ (Token Label) (suc m) (suc m) (grind (arith, nat_tests)) (omega arith)
 
-name_covers : (first : Bool) (c : ℕ) (cs : List ℕ) (m : ℕ) → begins_name c ≡ true → suc m ≤ prefix_len continues_name (c ∷ cs)
+name_covers : (first : Bool) (c : ℕ) (cs : List ℕ) (m : ℕ) → begins_name c ≡ true
+    → suc m ≤ prefix_len continues_name (c ∷ cs)
     → Covers (Token Name) (suc m) (plain_piece first (c ∷ cs))
 unfolding plain_piece
 name_covers first c cs m b size =
@@ -170,7 +191,8 @@ name_covers first c cs m b size =
     let hash : (c == 35) ≡ false = grind (arith, nat_tests) in
     rw (white, hash, b) (by (if first then label_len (c ∷ cs) else None) refl)
   where
-    by : (k : Option ℕ) → (if first then label_len (c ∷ cs) else None) ≡ k → Covers (Token Name) (suc m) (word_piece k (c ∷ cs))
+    by : (k : Option ℕ) → (if first then label_len (c ∷ cs) else None) ≡ k
+        → Covers (Token Name) (suc m) (word_piece k (c ∷ cs))
     by None e = covered _ (Token Name) (suc m) _ refl size
     by (Some n) e =
         let below = name_in_label (c ∷ cs) n (label_begins first (is_letter c) (colon_len (c ∷ cs)) n e).2 in
@@ -193,11 +215,14 @@ sign_covers first c [] zero le e = rw (sign_found first c [] (short_sign_byte c 
 sign_covers first c [] (suc m) le e = absurd (omega arith)
 sign_covers first c (d ∷ ds) zero le e =
     rw (sign_found first c (d ∷ ds) (short_sign_byte c e))
-    (choice (λ k. Covers (Token Sign) 1 (with_sort Sign k)) (is_long_sign c d) _ _ (λ _. (omega arith, λ same. absurd (omega arith))) (λ _. rw e (omega arith, λ _. refl)))
-sign_covers first c (d ∷ ds) (suc zero) le e = rw (sign_found first c (d ∷ ds) (long_sign_byte c d e), e) (omega arith, λ _. refl)
+    (choice (λ k. Covers (Token Sign) 1 (with_sort Sign k)) (is_long_sign c d) _ _
+    (λ _. (omega arith, λ same. absurd (omega arith))) (λ _. rw e (omega arith, λ _. refl)))
+sign_covers first c (d ∷ ds) (suc zero) le e =
+    rw (sign_found first c (d ∷ ds) (long_sign_byte c d e), e) (omega arith, λ _. refl)
 sign_covers first c cs (suc (suc m)) le e = grind arith
 
-pub plain_covers : (first : Bool) (rest : List ℕ) (other : Piece) (m : ℕ) → m ≤ length rest → SpellsPlain first other (take m rest)
+pub plain_covers : (first : Bool) (rest : List ℕ) (other : Piece) (m : ℕ) → m ≤ length rest
+    → SpellsPlain first other (take m rest)
     → Covers other m (plain_piece first rest)
 unfolding plain_piece
 plain_covers first rest other zero le e = absurd (piece_some first other e)
@@ -206,7 +231,8 @@ plain_covers first (c ∷ cs) White (suc m) le e =
     covered _ White (suc m) _ (rw (white_first c (take m cs) e) refl) (white_longest (c ∷ cs) (suc m) le e)
 plain_covers first (c ∷ cs) Comment (suc m) le e =
     let hash : (c == 35) ≡ true = (both _ _ e).0 in
-    covered _ Comment (suc m) (line_len (c ∷ cs)) (grind (arith, nat_tests)) (run_covers (λ b. b == 35) (λ b. not (b == 10)) c cs m le (grind (arith, nat_tests)) e)
+    covered _ Comment (suc m) (line_len (c ∷ cs)) (grind (arith, nat_tests))
+    (run_covers (λ b. b == 35) (λ b. not (b == 10)) c cs m le (grind (arith, nat_tests)) e)
 plain_covers first (c ∷ cs) (Token Label) (suc m) le e = grind (arith, label_covers)
 plain_covers first (c ∷ cs) (Token Body) (suc m) le e = absurd e
 plain_covers first (c ∷ cs) (Token Name) (suc m) le e =
@@ -214,20 +240,24 @@ plain_covers first (c ∷ cs) (Token Name) (suc m) le e =
     name_covers first c cs m b (run_covers begins_name continues_name c cs m le (rw b refl) e)
 plain_covers first (c ∷ cs) (Token Number) (suc m) le e =
     let d : is_digit c ≡ true = (both _ _ e).0 in
-    covered _ (Token Number) (suc m) (prefix_len is_digit (c ∷ cs)) (grind (arith, nat_tests)) (run_covers is_digit is_digit c cs m le d e)
+    covered _ (Token Number) (suc m) (prefix_len is_digit (c ∷ cs)) (grind (arith, nat_tests))
+    (run_covers is_digit is_digit c cs m le d e)
 plain_covers first (c ∷ cs) (Token Text) (suc m) le e = text_covers first c cs m le e
 plain_covers first (c ∷ cs) (Token Sign) (suc m) le e = sign_covers first c cs m le e
 
-pub piece_covers : (context : Context) (rest : List ℕ) (other : Piece) (m : ℕ) → m ≤ length rest → Spells context other (take m rest)
+pub piece_covers : (context : Context) (rest : List ℕ) (other : Piece) (m : ℕ) → m ≤ length rest
+    → Spells context other (take m rest)
     → Covers other m (piece_at context rest)
 piece_covers context rest other m le e = grind (arith, plain_covers, body_longest)
 
 -- what is found is the piece that begins here
-pub piece_sound : (context : Context) (rest : List ℕ) (p : Piece × ℕ) → piece_at context rest ≡ Some p → IsPiece context rest p.0 p.1
+pub piece_sound : (context : Context) (rest : List ℕ) (p : Piece × ℕ) → piece_at context rest ≡ Some p
+    → IsPiece context rest p.0 p.1
 piece_sound context rest p e = grind (arith, piece_fits, piece_covers)
 
 -- a piece that begins here is what is found
-pub piece_is : (context : Context) (rest : List ℕ) (piece : Piece) (n : ℕ) → IsPiece context rest piece n → piece_at context rest ≡ Some (piece, n)
+pub piece_is : (context : Context) (rest : List ℕ) (piece : Piece) (n : ℕ) → IsPiece context rest piece n
+    → piece_at context rest ≡ Some (piece, n)
 piece_is context rest piece n h =
     let covers = piece_covers context rest piece n h.within h.spelled in
     covers.1 (omega (arith, covers.0, most (piece_at context rest) refl))

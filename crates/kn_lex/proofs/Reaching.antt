@@ -1,5 +1,6 @@
 -- Pieces that reach a place are the only ones, and the first fault after clean ones is the least.
-use Rattle.std.proofs.Common.{◌≡◌, ℕ, Bool, ◌+◌, inl, List, [], ◌∷◌, ◌++◌, Some, None, take, drop, arith, refl, ap, append_assoc}
+use Rattle.std.proofs.Common.{◌≡◌, ℕ, Bool, ◌+◌, inl, List, [], ◌∷◌, ◌++◌, Some, None, take, drop, arith, refl, ap}
+use Rattle.std.proofs.Common.{append_assoc}
 use Rattle.kn_lex.specs.Cutting.{IsPiece, Reaches, spent, place_after, token_of, tokens_of}
 use Rattle.kn_lex.specs.Faults.{Shows}
 use Rattle.kn_lex.specs.Scanning.{piece_at, plain_piece, stuck_fault, body_len, zero_place, fault_at}
@@ -12,7 +13,8 @@ use Rattle.kn_lex.proofs.Pieces.{piece_is}
 use Rattle.kn_lex.proofs.Faulty.{Least, shown_least, shown_from, fault_within}
 
 -- at most one piece begins at a place
-one_piece : (context : Context) (text : List ℕ) (p q : Piece × ℕ) → IsPiece context text p.0 p.1 → IsPiece context text q.0 q.1 → p ≡ q
+one_piece : (context : Context) (text : List ℕ) (p q : Piece × ℕ) → IsPiece context text p.0 p.1
+    → IsPiece context text q.0 q.1 → p ≡ q
 one_piece context text p q h k = grind (arith, piece_is)
 
 -- no fault is found along the pieces
@@ -25,21 +27,25 @@ IsClean place at text (p ∷ ps) =
 pub through : (front : List (Piece × ℕ)) (place : Place) (at : ℕ) (text : List ℕ) (end : Place) (left : List ℕ)
     (other_front : List (Piece × ℕ)) (other_end : Place) (other_left : List ℕ) (other : LexFault) (b : ℕ)
     → Reaches place text front end left → IsClean place at text front
-    → Reaches place text other_front other_end other_left → b ≡ at + spent other_front → Shows other_end b other_left other
+    → Reaches place text other_front other_end other_left → b ≡ at + spent other_front
+    → Shows other_end b other_left other
     → (rest : List (Piece × ℕ)) × Reaches end left rest other_end other_left × (b ≡ at + spent front + spent rest)
-through [] place at text end left other_front other_end other_left other b h c k t o = (other_front, rw (← h.0, ← h.1) k, omega (arith, t))
+through [] place at text end left other_front other_end other_left other b h c k t o =
+    (other_front, rw (← h.0, ← h.1) k, omega (arith, t))
 through (p ∷ ps) place at text end left [] other_end other_left other b h c k t o = grind (arith, shown_least)
 through (p ∷ ps) place at text end left (q ∷ qs) other_end other_left other b h c k t o =
     let same = one_piece place.context text p q h.0 k.0 in
     let size : p.1 ≡ q.1 = ap (λ (r : Piece × ℕ). r.1) same in
-    let rest = through ps (place_after place p.0 (take p.1 text)) (at + p.1) (drop p.1 text) end left qs other_end other_left other b
+    let rest = through ps (place_after place p.0 (take p.1 text)) (at + p.1) (drop p.1 text) end left qs other_end
+    other_left other b
     h.1 c.1 (rw same k.1) (omega (arith, t, size)) o in
     (rest.0, rest.1, omega (arith, rest.2))
 
 -- every other fault behind a place stands behind the one that the place shows
 pub least_behind : (rest : List (Piece × ℕ)) (place : Place) (at : ℕ) (left : List ℕ) (fault : LexFault)
     (other_end : Place) (other_left : List ℕ) (other : LexFault) (b : ℕ) → fault_at place at left ≡ Some fault
-    → Reaches place left rest other_end other_left → b ≡ at + spent rest → Shows other_end b other_left other → Least other (Some fault)
+    → Reaches place left rest other_end other_left → b ≡ at + spent rest → Shows other_end b other_left other
+    → Least other (Some fault)
 least_behind [] place at left fault other_end other_left other b e k t o = grind (arith, shown_least)
 least_behind (q ∷ qs) place at left fault other_end other_left other b e k t o =
     inl (omega (arith, t, fault_within place at left fault q.0 q.1 e k.0, shown_from other_end b other_left other o))
@@ -50,7 +56,8 @@ unfolding plain_piece
 end_piece context n = grind arith
 
 -- the end of a text shows no fault
-pub end_clean : (context : Context) (told : Bool) (at : ℕ) → fault_at (record { context = context; told = told }) at [] ≡ None
+pub end_clean : (context : Context) (told : Bool) (at : ℕ) → fault_at (record { context = context; told = told }) at []
+    ≡ None
 unfolding plain_piece stuck_fault body_len zero_place
 end_clean context told at = grind arith
 
@@ -58,18 +65,24 @@ nothing : (context : Context) (q : Piece × ℕ) → (context ≡ CommentBody �
 nothing context q none cut = absurd (cc (end_piece context none, piece_is context [] q.0 q.1 cut))
 
 -- nothing behind the end shows a fault
-pub none_behind : (rest : List (Piece × ℕ)) (end : Place) (at : ℕ) (other_end : Place) (other_left : List ℕ) (other : LexFault) (b : ℕ)
-    → (end.context ≡ CommentBody → ⊥) → Reaches end [] rest other_end other_left → b ≡ at + spent rest → Shows other_end b other_left other → ⊥
+pub none_behind : (rest : List (Piece × ℕ)) (end : Place) (at : ℕ) (other_end : Place) (other_left : List ℕ)
+    (other : LexFault) (b : ℕ)
+    → (end.context ≡ CommentBody → ⊥) → Reaches end [] rest other_end other_left → b ≡ at + spent rest
+    → Shows other_end b other_left other → ⊥
 none_behind [] end at other_end other_left other b none k t o = grind arith
 none_behind (q ∷ qs) end at other_end other_left other b none k t o = nothing end.context q none k.0
 
 -- one more piece
-pub one_more : (front : List (Piece × ℕ)) (place : Place) (at : ℕ) (text : List ℕ) (end : Place) (left : List ℕ) (p : Piece × ℕ) (a : ℕ)
-    → Reaches place text front end left → IsClean place at text front → a ≡ at + spent front → IsPiece end.context left p.0 p.1
+pub one_more : (front : List (Piece × ℕ)) (place : Place) (at : ℕ) (text : List ℕ) (end : Place) (left : List ℕ)
+    (p : Piece × ℕ) (a : ℕ)
+    → Reaches place text front end left → IsClean place at text front → a ≡ at + spent front
+    → IsPiece end.context left p.0 p.1
     → fault_at end a left ≡ None
-    → Reaches place text (front ++ p ∷ []) (place_after end p.0 (take p.1 left)) (drop p.1 left) × IsClean place at text (front ++ p ∷ [])
+    → Reaches place text (front ++ p ∷ []) (place_after end p.0 (take p.1 left)) (drop p.1 left)
+    × IsClean place at text (front ++ p ∷ [])
     × (spent (front ++ p ∷ []) ≡ spent front + p.1)
-    × (tokens_of place at text (front ++ p ∷ []) ≡ tokens_of place at text front ++ token_of end.context a p.0 (take p.1 left))
+    × (tokens_of place at text (front ++ p ∷ []) ≡ tokens_of place at text front
+    ++ token_of end.context a p.0 (take p.1 left))
 one_more [] place at text end left p a h c s cut e = grind arith
 one_more (q ∷ qs) place at text end left p a h c s cut e =
     let here = token_of place.context at q.0 (take q.1 text) in
@@ -78,7 +91,11 @@ one_more (q ∷ qs) place at text end left p a h c s cut e =
       (h.0, rest.0),
       (c.0, rest.1),
       omega (arith, rest.2),
-      cc (rest.3, append_assoc here (tokens_of behind (at + q.1) (drop q.1 text) qs) (token_of end.context a p.0 (take p.1 left))),
+      cc (
+        rest.3,
+        append_assoc here (tokens_of behind (at + q.1) (drop q.1 text) qs)
+            (token_of end.context a p.0 (take p.1 left)),
+      ),
     )
 
 -- at most one list of pieces cuts a text
@@ -89,8 +106,10 @@ pub one_cutting : (front other : List (Piece × ℕ)) (place : Place) (text : Li
     → front ≡ other
 one_cutting [] [] place text end other_end h n k m = refl
 one_cutting [] (q ∷ qs) place text end other_end h n k m = absurd (nothing end.context q n (rw (← h.0, ← h.1) k.0))
-one_cutting (p ∷ ps) [] place text end other_end h n k m = absurd (nothing other_end.context p m (rw (← k.0, ← k.1) h.0))
+one_cutting (p ∷ ps) [] place text end other_end h n k m =
+    absurd (nothing other_end.context p m (rw (← k.0, ← k.1) h.0))
 one_cutting (p ∷ ps) (q ∷ qs) place text end other_end h n k m =
     let same = one_piece place.context text p q h.0 k.0 in
-    let rest = one_cutting ps qs (place_after place p.0 (take p.1 text)) (drop p.1 text) end other_end h.1 n (rw same k.1) m in
+    let rest = one_cutting ps qs (place_after place p.0 (take p.1 text)) (drop p.1 text) end other_end h.1 n
+    (rw same k.1) m in
     cc

@@ -1,5 +1,7 @@
 -- How the scanner's functions go on at a place in a text, and end with it.
-use Rattle.std.proofs.Common.{cond, ◌≡◌, ℕ, true, false, Bool, ◌+◌, ◌-◌, ◌*◌, ◌^◌, ◌<◌, ◌≤◌, List, [], ◌∷◌, Option, Some, None, suc, length, take, drop, get_or, arith, refl, sym, ◌∙◌, ap, lit<, if◌then◌else◌}
+use Rattle.std.proofs.Common.{cond, ◌≡◌, ℕ, true, false, Bool, ◌+◌, ◌-◌, ◌*◌, ◌^◌, ◌<◌, ◌≤◌, List, [], ◌∷◌, Option}
+use Rattle.std.proofs.Common.{Some, None, suc, length, take, drop, get_or, arith, refl, sym, ◌∙◌, ap, lit<}
+use Rattle.std.proofs.Common.{if◌then◌else◌}
 use Rattle.std.specs.Prelude.{not, ◌||◌, ◌&&◌, ◌==◌, nat_lt, nat_le}
 use Rattle.std.proofs.Math.Nat.{le-mul_of_pos_right, pow-le-pow_right}
 use Rattle.std.proofs.Math.Numerals.{one-add}
@@ -14,7 +16,8 @@ use Rattle.kn_lex.specs.Spelling.{is_blank, is_continuation}
 use Rattle.kn_lex.specs.Between.{is_line_end}
 use Rattle.kn_lex.specs.Faults.{goes_on, number_max, begins_match}
 use Rattle.kn_lex.specs.Cutting.{ends_line}
-use Rattle.kn_lex.specs.Scanning.{white_len, line_len, colon_len, body_len, quote_len, more_len, quote_step, len_after, stuck_fault}
+use Rattle.kn_lex.specs.Scanning.{white_len, line_len, colon_len, body_len, quote_len, more_len, quote_step, len_after}
+use Rattle.kn_lex.specs.Scanning.{stuck_fault}
 use Rattle.kn_lex.specs.declared.quote.Quote.{Quote}
 use Rattle.kn_lex.specs.declared.quote.Step.TheVariants.{Go}
 use Rattle.kn_lex.specs.declared.quote.Quote.TheVariants.{Opening, Plain}
@@ -37,15 +40,18 @@ drop_next x xs n = rw (one-add n) refl
 -- what ends a run tells how the bytes go on
 
 pub white_by_run : (xs : List ℕ)
-    → white_len xs ≡ (if begins_with (λ c. c == 10) (drop (prefix_len is_gap xs) xs) then prefix_len is_gap xs + 1 else prefix_len is_gap xs)
+    → white_len xs ≡ (if begins_with (λ c. c == 10) (drop (prefix_len is_gap xs) xs) then prefix_len is_gap xs
+    + 1 else prefix_len is_gap xs)
 unfolding white_len
 white_by_run [] = refl
 white_by_run (c ∷ cs) = by (c == 10) (is_gap c) refl (λ e. grind (arith, nat_tests)) (white_by_run cs)
   where
     by : (b g : Bool) → (c == 10) ≡ b → (g ≡ true → b ≡ false)
-        → white_len cs ≡ (if begins_with (λ d. d == 10) (drop (prefix_len is_gap cs) cs) then prefix_len is_gap cs + 1 else prefix_len is_gap cs)
+        → white_len cs ≡ (if begins_with (λ d. d == 10) (drop (prefix_len is_gap cs) cs) then prefix_len is_gap cs
+        + 1 else prefix_len is_gap cs)
         → (if b then 1 else if g then 1 + white_len cs else 0)
-        ≡ (if begins_with (λ d. d == 10) (drop (cond g (1 + prefix_len is_gap cs) 0) (c ∷ cs)) then cond g (1 + prefix_len is_gap cs) 0 + 1 else cond g (1 + prefix_len is_gap cs) 0)
+        ≡ (if begins_with (λ d. d == 10) (drop (cond g (1 + prefix_len is_gap cs) 0) (c ∷ cs)) then cond g
+        (1 + prefix_len is_gap cs) 0 + 1 else cond g (1 + prefix_len is_gap cs) 0)
     by b g here other rest = grind (arith, drop_next)
 
 -- a colon goes on no label
@@ -53,19 +59,23 @@ pub colon_ends : (c : ℕ) → continues_label c ≡ true → (c == 58) ≡ fals
 colon_ends c e = grind (arith, nat_tests)
 
 pub colon_by_run : (xs : List ℕ)
-    → colon_len xs ≡ (if begins_with (λ c. c == 58) (drop (prefix_len continues_label xs) xs) then Some (prefix_len continues_label xs + 1) else None)
+    → colon_len xs ≡ (if begins_with (λ c. c == 58) (drop (prefix_len continues_label xs) xs) then Some
+    (prefix_len continues_label xs + 1) else None)
 unfolding colon_len
 colon_by_run [] = refl
 colon_by_run (c ∷ cs) = by (c == 58) (continues_label c) refl (colon_ends c) (colon_by_run cs)
   where
     by : (b g : Bool) → (c == 58) ≡ b → (g ≡ true → b ≡ false)
-        → colon_len cs ≡ (if begins_with (λ d. d == 58) (drop (prefix_len continues_label cs) cs) then Some (prefix_len continues_label cs + 1) else None)
+        → colon_len cs ≡ (if begins_with (λ d. d == 58) (drop (prefix_len continues_label cs) cs) then Some
+        (prefix_len continues_label cs + 1) else None)
         → (if b then Some 1 else if g then more_len 1 (colon_len cs) else None)
-        ≡ (if begins_with (λ d. d == 58) (drop (cond g (1 + prefix_len continues_label cs) 0) (c ∷ cs)) then Some (cond g (1 + prefix_len continues_label cs) 0 + 1) else None)
+        ≡ (if begins_with (λ d. d == 58) (drop (cond g (1 + prefix_len continues_label cs) 0) (c ∷ cs)) then Some
+        (cond g (1 + prefix_len continues_label cs) 0 + 1) else None)
     by b g here other rest = grind (arith, drop_next)
 
 pub body_len_at : (xs : List ℕ) (i : ℕ) → i < length xs
-    → body_len (drop i xs) ≡ (if get_or xs i 0 == 10 && not (is_continuation (drop (i + 1) xs)) then 0 else 1 + body_len (drop (i + 1) xs))
+    → body_len (drop i xs)
+    ≡ (if get_or xs i 0 == 10 && not (is_continuation (drop (i + 1) xs)) then 0 else 1 + body_len (drop (i + 1) xs))
 unfolding body_len
 body_len_at xs i h = at_drop_more body_len xs i 0 h
 
@@ -95,14 +105,16 @@ line_ends (c ∷ cs) = grind (arith, line_ends cs, drop_next)
 
 -- behind a line it goes on with a continuation line alone
 pub body_at_line : (xs : List ℕ) (i n : ℕ) → line_len (drop i xs) ≡ n → i + n < length xs
-    → body_len (drop (i + n) xs) ≡ (if is_continuation (drop (i + n + 1) xs) then 1 + body_len (drop (i + n + 1) xs) else 0)
+    → body_len (drop (i + n) xs)
+    ≡ (if is_continuation (drop (i + n + 1) xs) then 1 + body_len (drop (i + n + 1) xs) else 0)
 body_at_line xs i n e h =
     let newline : (get_or xs (i + n) 0 == 10) ≡ true =
     cc (line_end_at xs (i + n) h, drop-drop n i xs, line_ends (drop i xs)) in
     body_len_at xs (i + n) h ∙ rw newline (grind arith)
 
 pub quote_len_at : (quote : Quote) (xs : List ℕ) (i : ℕ) → i < length xs
-    → quote_len quote (drop i xs) ≡ len_after (quote_step quote (get_or xs i 0)) (λ next. quote_len next (drop (i + 1) xs))
+    → quote_len quote (drop i xs)
+    ≡ len_after (quote_step quote (get_or xs i 0)) (λ next. quote_len next (drop (i + 1) xs))
 unfolding quote_len
 quote_len_at quote xs i h = at_drop_more (quote_len quote) xs i 0 h
 
@@ -120,7 +132,8 @@ pub more_len_zero : (n : Option ℕ) → more_len 0 n ≡ n
 more_len_zero n = grind arith
 
 -- what stands for itself leaves a literal as it is
-pub quoted_run : (xs : List ℕ) → quote_len Plain xs ≡ more_len (prefix_len is_quoted xs) (quote_len Plain (drop (prefix_len is_quoted xs) xs))
+pub quoted_run : (xs : List ℕ)
+    → quote_len Plain xs ≡ more_len (prefix_len is_quoted xs) (quote_len Plain (drop (prefix_len is_quoted xs) xs))
 unfolding quote_len
 quoted_run [] = refl
 quoted_run (c ∷ cs) = grind (arith, nat_tests, quoted_run cs, drop_next)
@@ -148,7 +161,8 @@ pub blank_by_run : (xs : List ℕ) → is_blank xs ≡ is_line_end (drop (prefix
 blank_by_run [] = refl
 blank_by_run (c ∷ cs) = grind (arith, nat_tests, blank_by_run cs, is_blank-cons c cs, drop_next)
 
-pub ends_line_by_last : (bytes : List ℕ) → 0 < length bytes → ends_line bytes ≡ (get_or bytes (length bytes - 1) 0 == 10)
+pub ends_line_by_last : (bytes : List ℕ) → 0 < length bytes
+    → ends_line bytes ≡ (get_or bytes (length bytes - 1) 0 == 10)
 ends_line_by_last [] h = absurd (omega arith)
 ends_line_by_last (a ∷ []) h = refl
 ends_line_by_last (a ∷ b ∷ cs) h =
@@ -173,7 +187,8 @@ too_large digits i value within e over =
     let read = digit_read_at digits i value (digits_value digits) within e in
     let k = length (drop (i + 1) digits) in
     let some : 10 ^ 0 ≤ 10 ^ k = pow-le-pow_right {n = 10} (lit< tt) {i = 0} (omega arith) in
-    let le : value * 10 + (get_or digits i 0 - 48) ≤ (value * 10 + (get_or digits i 0 - 48)) * 10 ^ k = le-mul_of_pos_right _ (omega arith) in
+    let le : value * 10 + (get_or digits i 0 - 48) ≤ (value * 10 + (get_or digits i 0 - 48)) * 10 ^ k =
+    le-mul_of_pos_right _ (omega arith) in
     let above : number_max < digits_value digits = omega (arith, read, le, over) in
     lt-ltb _ _ above
 

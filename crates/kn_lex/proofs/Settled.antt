@@ -7,7 +7,8 @@ use Rattle.kn_lex.specs.declared.piece.Piece.{Piece}
 use Rattle.kn_lex.specs.declared.piece.Context.{Context}
 use Rattle.kn_lex.proofs.Scans.{drop_next}
 
-settled_body : (rest : List ℕ) (commented : Bool) → goes_on commented rest ≡ false → goes_on false (drop (body_len rest) rest) ≡ false
+settled_body : (rest : List ℕ) (commented : Bool) → goes_on commented rest ≡ false
+    → goes_on false (drop (body_len rest) rest) ≡ false
 unfolding body_len
 settled_body [] commented e = refl
 settled_body (c ∷ cs) commented e = grind (arith, nat_tests, settled_body cs true, settled_body cs false, drop_next)
@@ -22,11 +23,13 @@ settled_white [] e = refl
 settled_white (c ∷ cs) e = grind (arith, nat_tests, settled_white cs, drop_next)
 
 -- where nothing goes on a piece is white space or a comment
-settled_plain : (first : Bool) (rest : List ℕ) (p : Piece × ℕ) → plain_piece first rest ≡ Some p → goes_on false rest ≡ false
+settled_plain : (first : Bool) (rest : List ℕ) (p : Piece × ℕ) → plain_piece first rest ≡ Some p
+    → goes_on false rest ≡ false
     → goes_on false (drop p.1 rest) ≡ false
 unfolding plain_piece
 settled_plain first rest p found e = grind (arith, nat_tests, settled_white, settled_line, drop_next)
 
-pub settled_stays : (context : Context) (rest : List ℕ) (p : Piece × ℕ) → piece_at context rest ≡ Some p → goes_on false rest ≡ false
+pub settled_stays : (context : Context) (rest : List ℕ) (p : Piece × ℕ) → piece_at context rest ≡ Some p
+    → goes_on false rest ≡ false
     → goes_on false (drop p.1 rest) ≡ false
 settled_stays context rest p found e = grind (arith, settled_plain, settled_body)

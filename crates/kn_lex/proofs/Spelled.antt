@@ -1,11 +1,13 @@
 -- What the scanner's lengths mean: the front of that length is spelled, and no longer front is.
-use Rattle.std.proofs.Common.{◌⊎◌, inl, inr, ap, cond, ◌≡◌, ◌+◌, ℕ, zero, suc, true, false, Bool, ◌<◌, ◌≤◌, List, [], ◌∷◌, Option, Some, None, length, take, arith, refl, if◌then◌else◌}
+use Rattle.std.proofs.Common.{◌⊎◌, inl, inr, ap, cond, ◌≡◌, ◌+◌, ℕ, zero, suc, true, false, Bool, ◌<◌, ◌≤◌, List, []}
+use Rattle.std.proofs.Common.{◌∷◌, Option, Some, None, length, take, arith, refl, if◌then◌else◌}
 use Rattle.std.specs.Prelude.{◌&&◌, ◌==◌}
 use Rattle.std.proofs.Math.Numerals.{one-add}
 use Rattle.std.specs.List.{prefix_len, list_all}
 use Rattle.std.proofs.lemmas.Bool.Decides.{nat_tests, Decides-eqb}
 use Rattle.kn_lex.specs.Bytes.{is_gap, is_white, continues_name, continues_label}
-use Rattle.kn_lex.specs.Spelling.{is_white_space, is_label_tail, is_blank, is_continuation, is_body, SpellsPlain, SpellsBody}
+use Rattle.kn_lex.specs.Spelling.{is_white_space, is_label_tail, is_blank, is_continuation, is_body, SpellsPlain}
+use Rattle.kn_lex.specs.Spelling.{SpellsBody}
 use Rattle.kn_lex.specs.Scanning.{white_len, colon_len, body_len, more_len}
 use Rattle.kn_lex.specs.declared.token.Sort.TheVariants.{Body}
 use Rattle.kn_lex.specs.declared.piece.Piece.{Piece}
@@ -20,11 +22,13 @@ pub same_byte : (c d : ℕ) → (c == d) ≡ true → c ≡ d
 same_byte c d e = (Decides-eqb c d).0 e
 
 -- a fact of each branch is one of the choice
-pub choice : {X : Type 0} (P : X → Type 0) (b : Bool) (x y : X) → (b ≡ true → P x) → (b ≡ false → P y) → P (if b then x else y)
+pub choice : {X : Type 0} (P : X → Type 0) (b : Bool) (x y : X) → (b ≡ true → P x) → (b ≡ false → P y)
+    → P (if b then x else y)
 choice P b x y first second = grind arith
 
 -- a front that passes isn't longer than the one that is counted
-pub run_longest : (p : ℕ → Bool) (xs : List ℕ) (m : ℕ) → m ≤ length xs → list_all p (take m xs) ≡ true → m ≤ prefix_len p xs
+pub run_longest : (p : ℕ → Bool) (xs : List ℕ) (m : ℕ) → m ≤ length xs → list_all p (take m xs) ≡ true
+    → m ≤ prefix_len p xs
 run_longest p [] m le e = omega arith
 run_longest p (x ∷ xs) zero le e = omega arith
 run_longest p (x ∷ xs) (suc m) le e = grind (arith, run_longest p xs m)
@@ -60,7 +64,8 @@ white_spelled [] some = absurd (omega arith)
 white_spelled (c ∷ []) some = grind (arith, nat_tests)
 white_spelled (c ∷ d ∷ ds) some = grind (arith, white_spelled (d ∷ ds), take_next)
 
-label_more : (c : ℕ) (bytes : List ℕ) → continues_label c ≡ true → is_label_tail bytes ≡ true → is_label_tail (c ∷ bytes) ≡ true
+label_more : (c : ℕ) (bytes : List ℕ) → continues_label c ≡ true → is_label_tail bytes ≡ true
+    → is_label_tail (c ∷ bytes) ≡ true
 label_more c bytes g e = grind arith
 
 -- where the length is that of a colon, or of one byte more
@@ -68,15 +73,19 @@ colon_split : (b g : Bool) (k : Option ℕ) (n : ℕ) → (if b then Some 1 else
     → ((b ≡ true) × (n ≡ 1)) ⊎ ((g ≡ true) × ((m : ℕ) × (k ≡ Some m) × (n ≡ 1 + m)))
 colon_split b g k n e = grind arith
 
-pub colon_within : (xs : List ℕ) (n : ℕ) → colon_len xs ≡ Some n → (0 < n) × (n ≤ length xs) × (is_label_tail (take n xs) ≡ true)
+pub colon_within : (xs : List ℕ) (n : ℕ) → colon_len xs ≡ Some n → (0 < n) × (n ≤ length xs)
+    × (is_label_tail (take n xs) ≡ true)
 unfolding colon_len
 colon_within [] n e = absurd (cc)
 colon_within (c ∷ cs) n e =
     elim (colon_split (c == 58) (continues_label c) (colon_len cs) n e) [
       | inl h ↦ (omega arith, omega arith, rw h.1 h.0)
       | inr h ↦
-          let rest = colon_within cs h.1.0 h.1.1 in
-          (omega arith, omega (arith, rest.1), rw (h.1.2, take_next c cs h.1.0) (label_more c (take h.1.0 cs) h.0 rest.2))
+          let rest = colon_within cs h.1.0 h.1.1 in (
+            omega arith,
+            omega (arith, rest.1),
+            rw (h.1.2, take_next c cs h.1.0) (label_more c (take h.1.0 cs) h.0 rest.2),
+          )
     ]
 
 pub colon_found : (xs : List ℕ) (m : ℕ) → m ≤ length xs → is_label_tail (take m xs) ≡ true → colon_len xs ≡ Some m
@@ -94,9 +103,11 @@ pub name_in_label : (xs : List ℕ) (n : ℕ) → colon_len xs ≡ Some n → pr
 unfolding colon_len
 name_in_label [] n e = absurd (cc)
 name_in_label (c ∷ cs) n e =
-    by (c == 58) (continues_label c) (continues_name c) (colon_len cs) (λ p. (colon_ends c (rw p refl), rw p refl)) e (name_in_label cs)
+    by (c == 58) (continues_label c) (continues_name c) (colon_len cs) (λ p. (colon_ends c (rw p refl), rw p refl)) e
+    (name_in_label cs)
   where
-    by : (b g p : Bool) (k : Option ℕ) → (p ≡ true → (b ≡ false) × (g ≡ true)) → (if b then Some 1 else if g then more_len 1 k else None) ≡ Some n
+    by : (b g p : Bool) (k : Option ℕ) → (p ≡ true → (b ≡ false) × (g ≡ true))
+        → (if b then Some 1 else if g then more_len 1 k else None) ≡ Some n
         → ((m : ℕ) → k ≡ Some m → prefix_len continues_name cs < m) → cond p (1 + prefix_len continues_name cs) 0 < n
     by b g p k name e rest = grind arith
 
@@ -123,7 +134,8 @@ continuation_front xs zero e = absurd (cc)
 continuation_front [] (suc k) e = absurd (cc)
 continuation_front (c ∷ cs) (suc k) e = grind (arith, blank_front (c ∷ cs) (suc k))
 
-pub continuation_body : (xs : List ℕ) (n : ℕ) → n ≡ body_len xs → is_continuation xs ≡ true → is_continuation (take n xs) ≡ true
+pub continuation_body : (xs : List ℕ) (n : ℕ) → n ≡ body_len xs → is_continuation xs ≡ true
+    → is_continuation (take n xs) ≡ true
 unfolding body_len
 continuation_body [] n z e = absurd (cc)
 continuation_body (c ∷ cs) zero z e = grind (arith, nat_tests)
@@ -141,7 +153,8 @@ body_longest [] (suc m) le e = absurd (omega arith)
 body_longest (c ∷ cs) (suc m) le e = grind (arith, continuation_front cs m, body_longest cs m)
 
 -- behind the label of a comment nothing but a body is spelled
-pub only_body : (piece : Piece) (bytes : List ℕ) → SpellsBody piece bytes → (piece ≡ Token Body) × (is_body bytes ≡ true)
+pub only_body : (piece : Piece) (bytes : List ℕ) → SpellsBody piece bytes → (piece ≡ Token Body)
+    × (is_body bytes ≡ true)
 only_body piece bytes s = grind arith
 
 -- any other piece has a byte

@@ -8,14 +8,17 @@ use Rattle.kn_lex.specs.declared.fault.LexFault.{LexFault}
 use Rattle.kn_lex.proofs.Order.{along}
 use Rattle.kn_lex.proofs.Along.{IsFinished, Tells, told, finished_cuts, finished_faultless, one_list, one_fault}
 
-pub tokens_told : (text : List ℕ) (tokens : List Seen) → tokens_or_fault text ≡ Ok tokens → Cuts text tokens × IsFaultless text
+pub tokens_told : (text : List ℕ) (tokens : List Seen) → tokens_or_fault text ≡ Ok tokens → Cuts text tokens
+    × IsFaultless text
 tokens_told text tokens e =
-    let h : IsFinished text tokens = subst (Tells text) e (told text) in (finished_cuts text tokens h, finished_faultless text tokens h)
+    let h : IsFinished text tokens = subst (Tells text) e (told text) in
+    (finished_cuts text tokens h, finished_faultless text tokens h)
 
 pub fault_told : (text : List ℕ) (fault : LexFault) → tokens_or_fault text ≡ Err fault → IsFirstLexicalFault text fault
 fault_told text fault e = subst (Tells text) e (told text)
 
-pub cuts_told : (text : List ℕ) (tokens : List Seen) → Cuts text tokens × IsFaultless text → tokens_or_fault text ≡ Ok tokens
+pub cuts_told : (text : List ℕ) (tokens : List Seen) → Cuts text tokens × IsFaultless text
+    → tokens_or_fault text ≡ Ok tokens
 cuts_told text tokens h = by (tokens_or_fault text) refl
   where
     by : (r : Result (List Seen) LexFault) → tokens_or_fault text ≡ r → r ≡ Ok tokens

@@ -1,5 +1,6 @@
 -- The value of a literal, item by item.
-use Rattle.std.proofs.Common.{append-nil, eq-eqb, ◌≡◌, ℕ, zero, suc, ◌+◌, ◌<◌, ◌≤◌, List, [], ◌∷◌, ◌++◌, None, length, drop, get_or, arith, refl, sym, ◌∙◌, ap}
+use Rattle.std.proofs.Common.{append-nil, eq-eqb, ◌≡◌, ℕ, zero, suc, ◌+◌, ◌<◌, ◌≤◌, List, [], ◌∷◌, ◌++◌, None, length}
+use Rattle.std.proofs.Common.{drop, get_or, arith, refl, sym, ◌∙◌, ap}
 use Rattle.std.specs.Prelude.{not, ◌==◌}
 use Rattle.std.specs.List.{prefix_len}
 use Rattle.std.proofs.lemmas.Bool.{ne_eqb}
@@ -27,13 +28,16 @@ pub value_escaped : (xs : List ℕ) → 0 < length xs → get_or xs 0 0 ≡ 92
 unfolding value_behind
 value_escaped [] h e = absurd (omega arith)
 value_escaped (x ∷ xs) h e =
-    rw (eq-eqb x 92 e) (ap (with_front (escape xs).0) (skipped (escape xs).1 xs ∙ ap (λ n. value_behind 0 (drop n (x ∷ xs))) (sym (add-one (escape xs).1))))
+    rw (eq-eqb x 92 e)
+    (ap (with_front (escape xs).0) (skipped (escape xs).1 xs
+    ∙ ap (λ n. value_behind 0 (drop n (x ∷ xs))) (sym (add-one (escape xs).1))))
 
 pub value_end : (xs : List ℕ) (at : ℕ) → length xs ≤ at → value_behind 0 (drop at xs) ≡ []
 unfolding value_behind
 value_end xs at h = ap (value_behind 0) (drop_all at xs h)
 
-pub value_whole : (value xs : List ℕ) (at : ℕ) → length xs ≤ at → value ++ value_behind 0 (drop at xs) ≡ value_behind 0 xs
+pub value_whole : (value xs : List ℕ) (at : ℕ) → length xs ≤ at
+    → value ++ value_behind 0 (drop at xs) ≡ value_behind 0 xs
     → value ≡ value_behind 0 xs
 value_whole value xs at h e = sym (append-nil value) ∙ ap (λ zs. value ++ zs) (sym (value_end xs at h)) ∙ e
 

@@ -25,4 +25,5 @@ pub record IsGap (text rest : List ℕ) : Type 0 where
 -- from this place on white space and comments alone stand before each token and behind the last
 abbrev pub StandApart : List ℕ → ℕ → List Seen → Type 0
 StandApart text from [] = IsGap (drop from text) []
-StandApart text from (token ∷ tokens) = IsGap (drop from text) (drop token.span.start text) × StandApart text token.span.end tokens
+StandApart text from (token ∷ tokens) = IsGap (drop from text) (drop token.span.start text)
+    × StandApart text token.span.end tokens

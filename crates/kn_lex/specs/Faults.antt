@@ -1,5 +1,6 @@
 -- The lexical faults of a text, each with its place. The faults and their numbers are keynoted's own.
-use Rattle.std.specs.Prelude.{◌≡◌, ℕ, ◌+◌, ◌<◌, ◌⊎◌, Bool, true, false, not, ◌&&◌, ◌||◌, ◌==◌, nat_le, List, [], ◌∷◌, take, drop, slice_get, Option, Some, None}
+use Rattle.std.specs.Prelude.{◌≡◌, ℕ, ◌+◌, ◌<◌, ◌⊎◌, Bool, true, false, not, ◌&&◌, ◌||◌, ◌==◌, nat_le, List, [], ◌∷◌}
+use Rattle.std.specs.Prelude.{take, drop, slice_get, Option, Some, None}
 use Rattle.kn_base.specs.Decimal.{is_digit, digits_value}
 use Rattle.kn_lex.specs.Bytes.{is_white}
 use Rattle.kn_lex.specs.Spelling.{is_blank}
@@ -11,7 +12,8 @@ use Rattle.kn_lex.specs.declared.piece.Place.{Place}
 use Rattle.kn_lex.specs.declared.piece.Context.{Context}
 use Rattle.kn_lex.specs.declared.piece.Context.TheVariants.{LineStart}
 use Rattle.kn_lex.specs.declared.fault.LexFault.{LexFault}
-use Rattle.kn_lex.specs.declared.fault.LexFault.TheVariants.{NotText, BadString, BadToken, Float, Regex, Number, Blank, NoMemory}
+use Rattle.kn_lex.specs.declared.fault.LexFault.TheVariants.{NotText, BadString, BadToken, Float, Regex, Number, Blank}
+use Rattle.kn_lex.specs.declared.fault.LexFault.TheVariants.{NoMemory}
 
 -- what stands at the front of the bytes where no piece begins
 
@@ -39,7 +41,8 @@ begins_match (byte ∷ next ∷ bytes) = byte == 126 && next == 61
 abbrev pub begins_other : List ℕ → Bool
 begins_other [] = false
 begins_other (byte ∷ bytes) =
-    not (begins_foreign (byte ∷ bytes) || begins_quote (byte ∷ bytes) || begins_ampersand (byte ∷ bytes) || begins_match (byte ∷ bytes))
+    not (begins_foreign (byte ∷ bytes) || begins_quote (byte ∷ bytes) || begins_ampersand (byte ∷ bytes)
+    || begins_match (byte ∷ bytes))
 
 -- `.` and a digit
 abbrev pub begins_fraction : List ℕ → Bool

@@ -1,5 +1,6 @@
 -- Which lists of tokens cut a text, said of the finished list.
-use Rattle.std.specs.Prelude.{◌≡◌, ℕ, ◌+◌, ◌<◌, Bool, true, not, ◌&&◌, ◌==◌, List, [], ◌∷◌, ◌++◌, All, map, length, take, drop, Option, Some, None, if◌then◌else◌}
+use Rattle.std.specs.Prelude.{◌≡◌, ℕ, ◌+◌, ◌<◌, Bool, true, not, ◌&&◌, ◌==◌, List, [], ◌∷◌, ◌++◌, All, map, length}
+use Rattle.std.specs.Prelude.{take, drop, Option, Some, None, if◌then◌else◌}
 use Rattle.kn_lex.specs.Spelling.{is_continuation}
 use Rattle.kn_lex.specs.Cutting.{Seen, IsPiece, is_comment_label}
 use Rattle.kn_lex.specs.Seeing.{is_label_sort}
@@ -24,7 +25,8 @@ pub record IsWhole (text : List ℕ) (token : Seen) : Type 0 where
   pub size : token.span.end ≡ token.span.start + length token.text
   pub slice : token.text ≡ take (length token.text) (drop token.span.start text)
   pub line : token.first ≡ begins_line text token.span.start
-  pub longest : IsPiece (context_of token.sort token.first) (drop token.span.start text) (Token token.sort) (length token.text)
+  pub longest : IsPiece (context_of token.sort token.first) (drop token.span.start text) (Token token.sort)
+      (length token.text)
 
 -- the body of a comment would be empty here: the text ends, or the line does and no continuation line follows
 abbrev pub is_body_empty : List ℕ → Bool
@@ -34,7 +36,8 @@ is_body_empty (byte ∷ bytes) = byte == 10 && not (is_continuation bytes)
 -- where a body has to stand behind a token: directly behind the label `Comment:`, unless it would be empty
 abbrev pub body_due : List ℕ → Seen → Option ℕ
 body_due text token =
-    if is_label_sort token.sort && is_comment_label token.text && not (is_body_empty (drop token.span.end text)) then Some token.span.end else None
+    if is_label_sort token.sort && is_comment_label token.text
+    && not (is_body_empty (drop token.span.end text)) then Some token.span.end else None
 
 abbrev pub body_place : Sort → ℕ → Option ℕ
 body_place Body at = Some at
@@ -44,9 +47,9 @@ body_place sort at = None
 abbrev pub body_here : Seen → Option ℕ
 body_here token = body_place token.sort token.span.start
 
--- The tokens of a text: each is whole, they stand in order, and white space and comments alone stand before, between and
--- behind them. Behind each token a body is due exactly where the next token is one, none before the first token, and
--- nothing is due behind the last.
+-- The tokens of a text: each is whole, they stand in order, and white space and comments alone stand before, between
+-- and behind them. Behind each token a body is due exactly where the next token is one, none before the first token,
+-- and nothing is due behind the last.
 pub record AreTokensOf (text : List ℕ) (tokens : List Seen) : Type 0 where
   pub whole : All (IsWhole text) tokens
   pub order : StandInOrder 0 tokens

@@ -1,11 +1,14 @@
 -- What the functions of the scanner compute, from the front of what is left of a text.
-use Rattle.std.specs.Prelude.{ℕ, ◌≡◌, ◌+◌, Bool, true, false, not, ◌&&◌, ◌||◌, ◌==◌, nat_lt, List, [], ◌∷◌, take, drop, Option, Some, None, MatchOption, if◌then◌else◌}
+use Rattle.std.specs.Prelude.{ℕ, ◌≡◌, ◌+◌, Bool, true, false, not, ◌&&◌, ◌||◌, ◌==◌, nat_lt, List, [], ◌∷◌, take, drop}
+use Rattle.std.specs.Prelude.{Option, Some, None, MatchOption, if◌then◌else◌}
 use Rattle.std.specs.List.{prefix_len}
 use Rattle.kn_base.specs.Decimal.{is_digit, digits_value}
-use Rattle.kn_lex.specs.Bytes.{is_gap, is_white, is_letter, begins_name, continues_name, continues_label, is_short_sign, is_long_sign}
+use Rattle.kn_lex.specs.Bytes.{is_gap, is_white, is_letter, begins_name, continues_name, continues_label, is_short_sign}
+use Rattle.kn_lex.specs.Bytes.{is_long_sign}
 use Rattle.kn_lex.specs.Spelling.{is_blank, is_continuation}
 use Rattle.kn_lex.specs.Cutting.{is_line_start}
-use Rattle.kn_lex.specs.Faults.{begins_foreign, begins_quote, begins_ampersand, begins_match, begins_fraction, number_max, goes_on}
+use Rattle.kn_lex.specs.Faults.{begins_foreign, begins_quote, begins_ampersand, begins_match, begins_fraction}
+use Rattle.kn_lex.specs.Faults.{number_max, goes_on}
 use Rattle.kn_lex.specs.declared.quote.Quote.{Quote}
 use Rattle.kn_lex.specs.declared.quote.Quote.TheVariants.{Opening, Plain, Escaped, Returned, Joined}
 use Rattle.kn_lex.specs.declared.quote.Step.{Step}
@@ -18,7 +21,8 @@ use Rattle.kn_lex.specs.declared.piece.Place.{Place}
 use Rattle.kn_lex.specs.declared.piece.Context.{Context}
 use Rattle.kn_lex.specs.declared.piece.Context.TheVariants.{LineStart, WithinLine, CommentBody}
 use Rattle.kn_lex.specs.declared.fault.LexFault.{LexFault}
-use Rattle.kn_lex.specs.declared.fault.LexFault.TheVariants.{NotText, BadString, BadToken, Float, Regex, Number as NumberFault, Blank}
+use Rattle.kn_lex.specs.declared.fault.LexFault.TheVariants.{NotText, BadString, BadToken, Float, Regex}
+use Rattle.kn_lex.specs.declared.fault.LexFault.TheVariants.{Number as NumberFault, Blank}
 
 -- one byte of a literal
 abbrev pub quote_step : Quote → ℕ → Step

@@ -27,7 +27,8 @@ pub record IsTokenOf (text : List ℕ) (token : Seen) : Type 0 where
 -- the tokens stand in their order from this place on, none over the next
 abbrev pub StandInOrder : ℕ → List Seen → Type 0
 StandInOrder from [] = Unit {0}
-StandInOrder from (token ∷ tokens) = (from ≤ token.span.start) × (token.span.start < token.span.end) × StandInOrder token.span.end tokens
+StandInOrder from (token ∷ tokens) = (from ≤ token.span.start) × (token.span.start < token.span.end)
+    × StandInOrder token.span.end tokens
 
 -- a line of the text begins at this place
 abbrev pub begins_line : List ℕ → ℕ → Bool

@@ -1,5 +1,6 @@
 -- What was read of the texts of a batch.
-use Rattle.std.proofs.Common.{ℕ, ◌≡◌, ◌+◌, ◌-◌, ◌<◌, ◌≤◌, List, [], ◌∷◌, ◌++◌, length, map, take, drop, zero, suc, ap, refl, sym, ◌∙◌, arith}
+use Rattle.std.proofs.Common.{ℕ, ◌≡◌, ◌+◌, ◌-◌, ◌<◌, ◌≤◌, List, [], ◌∷◌, ◌++◌, length, map, take, drop, zero, suc, ap}
+use Rattle.std.proofs.Common.{refl, sym, ◌∙◌, arith}
 use Rattle.std.specs.Prelude.{slice_index_or}
 use Rattle.std.specs.List.{AllZip}
 use Rattle.std.proofs.lemmas.List.{take-map, drop-map, drop-take, take-append-drop, length-take-le, length-map}
@@ -11,16 +12,20 @@ use Rattle.kn_load.specs.Drafting.{IsDraftOf, AreReadings}
 
 -- drafts at the places of some spans are the drafts of the texts there
 pub drafts_of_spans : (text_at : Span → List ℕ) (spans : List Span) (drafts : List Draft) → length drafts ≡ length spans
-    → ((i : ℕ) (s : Span) (d : Draft) → i < length spans → IsDraftOf (text_at (slice_index_or spans i s)) (slice_index_or drafts i d))
+    → ((i : ℕ) (s : Span) (d : Draft) → i < length spans
+    → IsDraftOf (text_at (slice_index_or spans i s)) (slice_index_or drafts i d))
     → AllZip IsDraftOf (map text_at spans) drafts
 drafts_of_spans text_at [] [] long each = tt
 drafts_of_spans text_at [] (d ∷ drafts) long each = absurd (omega (arith, long))
 drafts_of_spans text_at (s ∷ spans) [] long each = absurd (omega (arith, long))
 drafts_of_spans text_at (s ∷ spans) (d ∷ drafts) long each =
-    let rest : length drafts ≡ length spans = omega (arith, long) in
-    (each 0 s d (omega arith), drafts_of_spans text_at spans drafts rest (λ i s d lt. each (suc i) s d (omega (arith, lt))))
+    let rest : length drafts ≡ length spans = omega (arith, long) in (
+      each 0 s d (omega arith),
+      drafts_of_spans text_at spans drafts rest (λ i s d lt. each (suc i) s d (omega (arith, lt))),
+    )
 
--- these are the readings of the texts from place n up to another, which stand between those in front of them and those behind
+-- these are the readings of the texts from place n up to another, which stand between those in front of them and those
+-- behind
 pub record IsBatch (all : List (List ℕ)) (n to : ℕ) (readings : Readings) : Type 0 where
   pub texts : List (List ℕ)
   pub are : AreReadings texts readings
@@ -32,9 +37,11 @@ from_place : (texts : List (List ℕ)) (n to : ℕ) → n ≤ to → take n text
 from_place texts zero to order = refl
 from_place texts (suc n) zero order = absurd (omega (arith, order))
 from_place [] (suc n) (suc to) order = refl
-from_place (text ∷ texts) (suc n) (suc to) order = ap (λ (l : List (List ℕ)). text ∷ l) (from_place texts n to (omega (arith, order)))
+from_place (text ∷ texts) (suc n) (suc to) order =
+    ap (λ (l : List (List ℕ)). text ∷ l) (from_place texts n to (omega (arith, order)))
 
-pub batch_is : (file : List ℕ) (spans given : List Span) (n to : ℕ) (readings : Readings) → spans ≡ given → given ≡ spans_of file → n < to → to ≤ length given
+pub batch_is : (file : List ℕ) (spans given : List Span) (n to : ℕ) (readings : Readings) → spans ≡ given
+    → given ≡ spans_of file → n < to → to ≤ length given
     → AreReadings (map (bytes_at file) (take (to - n) (drop n spans))) readings → IsBatch (pieces_of file) n to readings
 batch_is file spans given n to readings same is some end are =
     let f = bytes_at file in
@@ -43,10 +50,12 @@ batch_is file spans given n to readings same is some end are =
     let whole : n + (to - n) ≡ to = omega arith in
     let all : map f spans ≡ pieces = ap (map f) (same ∙ is) in
     let between : batch ≡ drop n (take to pieces) =
-    sym (take-map f (to - n) (drop n spans)) ∙ ap (take (to - n)) (sym (drop-map f n spans)) ∙ sym (drop-take n (to - n) (map f spans))
+    sym (take-map f (to - n) (drop n spans)) ∙ ap (take (to - n)) (sym (drop-map f n spans))
+    ∙ sym (drop-take n (to - n) (map f spans))
     ∙ ap (λ (k : ℕ). drop n (take k (map f spans))) whole ∙ ap (λ (l : List (List ℕ)). drop n (take to l)) all in
     let size : length pieces ≡ length given = ap length (sym all) ∙ length-map spans f ∙ ap length same in
-    let upto : take n pieces ++ batch ≡ take to pieces = ap (λ (l : List (List ℕ)). take n pieces ++ l) between ∙ from_place pieces n to (omega arith) in
+    let upto : take n pieces ++ batch ≡ take to pieces = ap (λ (l : List (List ℕ)). take n pieces ++ l) between
+    ∙ from_place pieces n to (omega arith) in
     record {
       texts = batch;
       are = are;

@@ -1,5 +1,6 @@
 -- The readings of texts, as they are taken in and then added.
-use Rattle.std.proofs.Common.{◌≡◌, ℕ, ◌+◌, ◌<◌, List, [], ◌∷◌, ◌++◌, length, length-append, refl, sym, ap, subst, ◌∙◌, arith, append_assoc, append-nil, Option, Some, None}
+use Rattle.std.proofs.Common.{◌≡◌, ℕ, ◌+◌, ◌<◌, List, [], ◌∷◌, ◌++◌, length, length-append, refl, sym, ap, subst, ◌∙◌}
+use Rattle.std.proofs.Common.{arith, append_assoc, append-nil, Option, Some, None}
 use Rattle.std.specs.Prelude.{MatchOption}
 use Rattle.std.specs.List.{AllZip}
 use Rattle.atomic_table.specs.Seated.{TableId}
@@ -24,14 +25,16 @@ pub record AreLeft (texts : List (List ℕ)) (readings : Readings) (drafts : Lis
   pub are : AreReadings front readings
   pub drafts_are : AllZip IsDraftOf left drafts
 
-pub all_left : (texts : List (List ℕ)) (readings : Readings) (drafts : List Draft) → AreReadings [] readings → AllZip IsDraftOf texts drafts → AreLeft texts readings drafts
+pub all_left : (texts : List (List ℕ)) (readings : Readings) (drafts : List Draft) → AreReadings [] readings
+    → AllZip IsDraftOf texts drafts → AreLeft texts readings drafts
 all_left texts readings drafts none all = record { front = []; left = texts; cut = refl; are = none; drafts_are = all }
 
 pub none_left : (texts : List (List ℕ)) (readings : Readings) → AreLeft texts readings [] → AreReadings texts readings
 none_left texts readings so_far = by so_far.left so_far.cut so_far.drafts_are
   where
     by : (left : List (List ℕ)) → texts ≡ so_far.front ++ left → AllZip IsDraftOf left [] → AreReadings texts readings
-    by [] cut none = subst (λ (l : List (List ℕ)). AreReadings l readings) (sym (cut ∙ append-nil so_far.front)) so_far.are
+    by [] cut none = subst (λ (l : List (List ℕ)). AreReadings l readings) (sym (cut ∙ append-nil so_far.front))
+        so_far.are
     by (text ∷ left) cut none = absurd none
 
 -- the first of the drafts that are left is that of this text
@@ -42,24 +45,35 @@ pub record IsNext (texts : List (List ℕ)) (readings : Readings) (draft : Draft
   pub of_text : IsDraftOf text draft
   pub more : (longer : Readings) → AreReadings (front ++ text ∷ []) longer → AreLeft texts longer drafts
 
-pub next_left : (texts : List (List ℕ)) (readings : Readings) (draft : Draft) (drafts : List Draft) → AreLeft texts readings (draft ∷ drafts) → IsNext texts readings draft drafts
+pub next_left : (texts : List (List ℕ)) (readings : Readings) (draft : Draft) (drafts : List Draft)
+    → AreLeft texts readings (draft ∷ drafts) → IsNext texts readings draft drafts
 next_left texts readings draft drafts so_far = by so_far.left so_far.cut so_far.drafts_are
   where
-    by : (left : List (List ℕ)) → texts ≡ so_far.front ++ left → AllZip IsDraftOf left (draft ∷ drafts) → IsNext texts readings draft drafts
+    by : (left : List (List ℕ)) → texts ≡ so_far.front ++ left → AllZip IsDraftOf left (draft ∷ drafts)
+        → IsNext texts readings draft drafts
     by [] cut none = absurd none
     by (text ∷ left) cut all = record {
       front = so_far.front;
       text = text;
       are = so_far.are;
       of_text = all.0;
-      more = λ longer are. record { front = so_far.front ++ text ∷ []; left = left; cut = cut ∙ sym (append_assoc so_far.front (text ∷ []) left); are = are; drafts_are = all.1 };
+      more = λ longer are. record {
+        front = so_far.front ++ text ∷ [];
+        left = left;
+        cut = cut
+            ∙ sym (append_assoc so_far.front (text ∷ []) left);
+        are = are;
+        drafts_are = all.1;
+      };
     }
 
 module _ (texts : List (List ℕ)) (readings : Readings) (are : AreReadings texts readings) where
   -- where none has a fault, all are read
   pub all_read : readings.fault ≡ None → readings.readies.items ≡ texts
   all_read none =
-      let ends : are.rest ≡ [] = subst (λ (o : Option ReadFault). MatchOption o (are.rest ≡ []) (λ fault. IsFirstFaulty are.rest fault)) none are.ends in
+      let ends : are.rest ≡ [] =
+      subst (λ (o : Option ReadFault). MatchOption o (are.rest ≡ []) (λ fault. IsFirstFaulty are.rest fault)) none
+      are.ends in
       sym (are.cut ∙ ap (λ (l : List (List ℕ)). readings.readies.items ++ l) ends ∙ append-nil readings.readies.items)
 
   pub read_within : length readings.readies.items + length are.rest ≡ length texts
@@ -70,34 +84,50 @@ module _ (texts : List (List ℕ)) (readings : Readings) (are : AreReadings text
   fault_within fault some = by are.rest refl
     where
       by : (rest : List (List ℕ)) → are.rest ≡ rest → length readings.readies.items < length texts
-      by [] is = absurd (subst (λ (l : List (List ℕ)). IsFirstFaulty l fault) is (subst (λ (o : Option ReadFault). MatchOption o (are.rest ≡ []) (λ why. IsFirstFaulty are.rest why)) some are.ends))
+      by [] is = absurd
+          (subst (λ (l : List (List ℕ)). IsFirstFaulty l fault) is
+          (subst (λ (o : Option ReadFault). MatchOption o (are.rest ≡ []) (λ why. IsFirstFaulty are.rest why)) some
+          are.ends))
       by (text ∷ rest) is = let all = read_within in let many = ap length is in omega (arith, all, many)
 
   module _ (front rest : List (List ℕ)) where
     cut_there : front ++ texts ++ rest ≡ front ++ readings.readies.items ++ (are.rest ++ rest)
-    cut_there = ap (λ (l : List (List ℕ)). front ++ l ++ rest) are.cut ∙ regrouped front readings.readies.items are.rest rest
+    cut_there = ap (λ (l : List (List ℕ)). front ++ l ++ rest) are.cut
+        ∙ regrouped front readings.readies.items are.rest rest
       where
         regrouped : (a b c d : List (List ℕ)) → a ++ (b ++ c) ++ d ≡ a ++ b ++ (c ++ d)
         regrouped a b c d = simp append_assoc
 
     -- what a text among them is refused for stops loading
-    pub refused_there : (registry : TableId) (v w : PassSeen) → IsLoaded front registry v → IsSoundPass w → (before place : ℕ) (refusal : StoreFault) → before ≡ length front →
-        RefusesOne v w readings.readies.items place refusal → StopsLoading (front ++ texts ++ rest) (refused_at (before + place + 1) refusal)
+    pub refused_there : (registry : TableId) (v w : PassSeen) → IsLoaded front registry v → IsSoundPass w
+        → (before place : ℕ) (refusal : StoreFault) → before ≡ length front →
+        RefusesOne v w readings.readies.items place refusal
+        → StopsLoading (front ++ texts ++ rest) (refused_at (before + place + 1) refusal)
     refused_there registry v w l sound before place refusal at refused =
         subst (λ (k : ℕ). StopsLoading (front ++ texts ++ rest) (refused_at (k + place + 1) refusal)) (sym at)
-        (subst (λ (all : List (List ℕ)). StopsLoading all (refused_at (length front + place + 1) refusal)) (sym cut_there)
-        (refusal_stops front readings.readies.items registry v w l sound (are.rest ++ rest) place are.reads refusal refused))
+        (subst (λ (all : List (List ℕ)). StopsLoading all (refused_at (length front + place + 1) refusal))
+        (sym cut_there)
+        (refusal_stops front readings.readies.items registry v w l sound (are.rest ++ rest) place are.reads refusal
+        refused))
 
     -- and so does the fault of the text behind them, once they are loaded
-    pub faulty_there : IsLoadable (front ++ readings.readies.items) → (before : ℕ) (fault : ReadFault) (stop : LoadFault) → before ≡ length front → readings.fault ≡ Some fault →
-        MatchOption (fault_number fault) (stop ≡ L.NoMemory) (λ _. stop ≡ L.Faulty (before + length readings.readies.items + 1) fault) → StopsLoading (front ++ texts ++ rest) stop
+    pub faulty_there : IsLoadable (front ++ readings.readies.items)
+        → (before : ℕ) (fault : ReadFault) (stop : LoadFault) → before ≡ length front → readings.fault ≡ Some fault →
+        MatchOption (fault_number fault) (stop ≡ L.NoMemory)
+        (λ _. stop ≡ L.Faulty (before + length readings.readies.items + 1) fault)
+        → StopsLoading (front ++ texts ++ rest) stop
     faulty_there loadable before fault stop at some is =
         subst (λ (all : List (List ℕ)). StopsLoading all stop) (sym cut_there)
-        (by are.rest (subst (λ (o : Option ReadFault). MatchOption o (are.rest ≡ []) (λ why. IsFirstFaulty are.rest why)) some are.ends))
+        (by are.rest (subst
+        (λ (o : Option ReadFault). MatchOption o (are.rest ≡ []) (λ why. IsFirstFaulty are.rest why)) some
+        are.ends))
       where
-        by : (behind : List (List ℕ)) → IsFirstFaulty behind fault → StopsLoading (front ++ readings.readies.items ++ (behind ++ rest)) stop
+        by : (behind : List (List ℕ)) → IsFirstFaulty behind fault
+            → StopsLoading (front ++ readings.readies.items ++ (behind ++ rest)) stop
         by [] none = absurd none
         by (text ∷ behind) faulty =
             let both = length-append front readings.readies.items in
-            let place : before + length readings.readies.items + 1 ≡ length (front ++ readings.readies.items) + 1 = omega (arith, both, at) in
-            fault_stops (front ++ readings.readies.items) (behind ++ rest) text (before + length readings.readies.items + 1) fault stop loadable place faulty is
+            let place : before + length readings.readies.items + 1 ≡ length (front ++ readings.readies.items) + 1 =
+            omega (arith, both, at) in
+            fault_stops (front ++ readings.readies.items) (behind ++ rest) text (before + length readings.readies.items
+            + 1) fault stop loadable place faulty is

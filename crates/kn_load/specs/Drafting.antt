@@ -22,8 +22,8 @@ abbrev pub IsFirstFaulty : List (List ℕ) → ReadFault → Type 0
 IsFirstFaulty [] fault = ⊥
 IsFirstFaulty (text ∷ rest) fault = IsFaultyFor text fault
 
--- These are the readings of the texts up to the first that has none, and why that one has none; where all have one, there are no
--- texts behind.
+-- These are the readings of the texts up to the first that has none, and why that one has none; where all have one,
+-- there are no texts behind.
 pub record AreReadings (texts : List (List ℕ)) (readings : Readings) : Type 0 where
   pub reads : All (λ text. IsSome (assertion_of text)) readings.readies.items
   pub rest : List (List ℕ)

@@ -12,11 +12,13 @@ unfolding formula_level
 formula_level_who top at name = search (rules, the_lemmas, fold_out-Formula)
 
 pub formula_level_all : (top : ℕ) (at : Levels) (parts : List Formula)
-    → formula_level top at (All parts) ≡ threshold top (length (map (formula_level top at) parts)) (map (formula_level top at) parts)
+    → formula_level top at (All parts) ≡ threshold top (length (map (formula_level top at) parts))
+    (map (formula_level top at) parts)
 unfolding formula_level
 formula_level_all top at parts = search (rules, the_lemmas, fold_out-Formula)
 
-pub formula_level_any : (top : ℕ) (at : Levels) (parts : List Formula) → formula_level top at (Any parts) ≡ threshold top 1 (map (formula_level top at) parts)
+pub formula_level_any : (top : ℕ) (at : Levels) (parts : List Formula)
+    → formula_level top at (Any parts) ≡ threshold top 1 (map (formula_level top at) parts)
 unfolding formula_level
 formula_level_any top at parts = search (rules, the_lemmas, fold_out-Formula)
 

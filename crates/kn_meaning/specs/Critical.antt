@@ -1,5 +1,6 @@
 -- The assertions without which the policy's level would be lower (keynoted's own).
-use Rattle.std.specs.Prelude.{ℕ, ◌≡◌, ◌⊎◌, ◌<◌, Bool, true, false, ◌==◌, not, List, [], ◌∷◌, filter, sum_by, Option, Some, None}
+use Rattle.std.specs.Prelude.{ℕ, ◌≡◌, ◌⊎◌, ◌<◌, Bool, true, false, ◌==◌, not, List, [], ◌∷◌, filter, sum_by, Option}
+use Rattle.std.specs.Prelude.{Some, None}
 use Rattle.std.specs.List.{list_any}
 use Rattle.kn_env.specs.Environment.{Asked}
 use Rattle.kn_trees.specs.declared.formula.Formula.{Formula}

@@ -1,5 +1,6 @@
 -- The equations of a query (RFC 2704, section 5) over named principals, and their least solution.
-use Rattle.std.specs.Prelude.{ℕ, ◌≡◌, ◌-◌, ◌≤◌, List, [], ◌∷◌, length, map, Bool, min, max, Option, Some, None, if◌then◌else◌}
+use Rattle.std.specs.Prelude.{ℕ, ◌≡◌, ◌-◌, ◌≤◌, List, [], ◌∷◌, length, map, Bool, min, max, Option, Some, None}
+use Rattle.std.specs.Prelude.{if◌then◌else◌}
 use Rattle.std.specs.List.{list_any}
 use Rattle.std.specs.Str.{bytes_eq}
 use Rattle.kn_principal.specs.Principals.{policy}
@@ -57,7 +58,8 @@ worth top at s = min s.ceiling (licensees_level top at s.licensees)
 -- the highest worth among the assertions of which the principal is authorizer, and 0 where there is none
 abbrev pub highest_worth : ℕ → Levels → List ℕ → List Statement → ℕ
 highest_worth top at name [] = 0
-highest_worth top at name (s ∷ ss) = max (if bytes_eq s.authorizer name then worth top at s else 0) (highest_worth top at name ss)
+highest_worth top at name (s ∷ ss) =
+    max (if bytes_eq s.authorizer name then worth top at s else 0) (highest_worth top at name ss)
 
 abbrev pub is_requester : Equations → List ℕ → Bool
 is_requester e name = list_any (bytes_eq name) e.requesters
@@ -70,7 +72,8 @@ round e at name = if is_requester e name then e.top else highest_worth e.top at 
 -- cycles the least solution is meant (keynoted's own choice).
 pub record IsLeast (e : Equations) (at : Levels) : Type 0 where
   pub solves : (name : List ℕ) → round e at name ≡ at name
-  pub least : (other : Levels) → ((name : List ℕ) → round e other name ≤ other name) → (name : List ℕ) → at name ≤ other name
+  pub least : (other : Levels) → ((name : List ℕ) → round e other name ≤ other name) → (name : List ℕ)
+      → at name ≤ other name
 
 -- the policy's level in the least fixed point is this
 pub record IsPolicyLevel (e : Equations) (level : ℕ) : Type 0 where

@@ -6,7 +6,8 @@ use Rattle.kn_meaning.specs.Equations.{Equations, Statement}
 
 -- one principal licenses another
 abbrev pub licence : ℕ → List ℕ → List ℕ → Statement
-licence id authorizer licensee = record { id = Shared id; authorizer = authorizer; ceiling = 1; licensees = Some (Who licensee) }
+licence id authorizer licensee =
+    record { id = Shared id; authorizer = authorizer; ceiling = 1; licensees = Some (Who licensee) }
 
 -- one requester asks between two compliance values
 abbrev pub question : List ℕ → List Statement → Equations
@@ -18,4 +19,5 @@ direct_policy = licence 1 (codes "POLICY") (codes "alice") ∷ []
 
 -- the policy licenses a, and a and b license each other
 abbrev pub cyclic_policy : List Statement
-cyclic_policy = licence 1 (codes "POLICY") (codes "a") ∷ licence 2 (codes "a") (codes "b") ∷ licence 3 (codes "b") (codes "a") ∷ []
+cyclic_policy = licence 1 (codes "POLICY") (codes "a") ∷ licence 2 (codes "a") (codes "b")
+    ∷ licence 3 (codes "b") (codes "a") ∷ []

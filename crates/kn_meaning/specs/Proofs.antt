@@ -16,14 +16,15 @@ row_level (row ∷ rows) name = if bytes_eq row.principal name then row.value el
 abbrev pub levels_by : Equations → List NamedRow → Levels
 levels_by e rows name = if is_requester e name then e.top else row_level rows name
 
--- the assertion has the row's id and its principal as authorizer, and under these levels it is worth the row's level at least
+-- the assertion has the row's id and its principal as authorizer, and under these levels it is worth the row's level at
+-- least
 pub record Supports (e : Equations) (at : Levels) (row : NamedRow) (s : Statement) : Type 0 where
   pub named : s.id ≡ row.id
   pub own : s.authorizer ≡ row.principal
   pub enough : row.value ≤ worth e.top at s
 
--- A row may follow these: its principal is no requester and stands in none of them, its level is above the lowest, and an
--- assertion supports it under the levels before it.
+-- A row may follow these: its principal is no requester and stands in none of them, its level is above the lowest, and
+-- an assertion supports it under the levels before it.
 pub record IsRow (e : Equations) (before : List NamedRow) (row : NamedRow) : Type 0 where
   pub other : is_requester e row.principal ≡ false
   pub fresh : list_any (λ r. bytes_eq r.principal row.principal) before ≡ false
@@ -40,8 +41,8 @@ AreRows e before (row ∷ rows) = IsRow e before row × AreRows e (before ++ row
 abbrev pub IsClosed : Equations → Levels → Type 0
 IsClosed e at = All (λ s. worth e.top at s ≤ at s.authorizer) e.statements
 
--- The rows prove that the policy has this level: each may follow those before it, under all of them no assertion is worth
--- more than its authorizer has, and the policy has this level.
+-- The rows prove that the policy has this level: each may follow those before it, under all of them no assertion is
+-- worth more than its authorizer has, and the policy has this level.
 pub record IsProof (e : Equations) (rows : List NamedRow) (level : ℕ) : Type 0 where
   pub in_order : AreRows e [] rows
   pub closed : IsClosed e (levels_by e rows)

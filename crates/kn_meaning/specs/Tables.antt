@@ -16,12 +16,14 @@ statement_in s = record { id = s.id; authorizer = s.authorizer; ceiling = s.ceil
 
 -- the equations of a table of statements
 abbrev pub equations_from : ℕ → List (List ℕ) → List Stated → Equations
-equations_from top requesters stated = record { top = top; requesters = requesters; statements = map statement_in stated }
+equations_from top requesters stated =
+    record { top = top; requesters = requesters; statements = map statement_in stated }
 
 -- these entries with the levels that one more round after a table gives them
 abbrev pub next_levels_of : Equations → List Level → List Level → List Level
 next_levels_of e table [] = []
-next_levels_of e table (l ∷ ls) = record { name = l.name; level = round e (level_in table) l.name } ∷ next_levels_of e table ls
+next_levels_of e table (l ∷ ls) = record { name = l.name; level = round e (level_in table) l.name }
+    ∷ next_levels_of e table ls
 
 -- a table with the levels of the next round
 abbrev pub next_table : Equations → List Level → List Level
@@ -50,4 +52,5 @@ table_after e first (suc n) = next_table e (table_after e first n)
 -- the table after as many rounds as it has entries times the top
 abbrev pub last_table : ℕ → List (List ℕ) → List Stated → List Level
 last_table top requesters stated =
-    table_after (equations_from top requesters stated) (first_table top requesters stated) (length (first_table top requesters stated) * top)
+    table_after (equations_from top requesters stated) (first_table top requesters stated)
+    (length (first_table top requesters stated) * top)

@@ -1,5 +1,6 @@
 -- Parts of texts, one after the other.
-use Rattle.std.proofs.Common.{◌≡◌, ℕ, ◌+◌, List, [], ◌++◌, drop, Option, Some, None, refl, sym, ◌∙◌, ap, append_assoc, append-nil}
+use Rattle.std.proofs.Common.{◌≡◌, ℕ, ◌+◌, List, [], ◌++◌, drop, Option, Some, None, refl, sym, ◌∙◌, ap, append_assoc}
+use Rattle.std.proofs.Common.{append-nil}
 use Rattle.std.proofs.Math.Seq.{drop-drop}
 use Rattle.kn_outside.specs.Told.{more, before}
 
@@ -13,7 +14,8 @@ more_more front next None = refl
 more_more front next (Some told) = ap Some (append_assoc told front next)
 
 -- two parts of what is left, one before the other
-pub before_parts : (front next : List ℕ) (old mid new : Option (List ℕ)) → old ≡ before front mid → mid ≡ before next new → old ≡ before (front ++ next) new
+pub before_parts : (front next : List ℕ) (old mid new : Option (List ℕ)) → old ≡ before front mid
+    → mid ≡ before next new → old ≡ before (front ++ next) new
 before_parts front next old mid None first second = first ∙ ap (before front) second
 before_parts front next old mid (Some told) first second =
     first ∙ ap (before front) second ∙ ap Some (sym (append_assoc front next told))

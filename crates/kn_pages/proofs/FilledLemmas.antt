@@ -1,5 +1,6 @@
 -- Pages that are filled: where an item stands.
-use Rattle.std.proofs.Common.{◌≡◌, ℕ, zero, suc, ◌+◌, ◌-◌, ◌*◌, ◌<◌, List, [], ◌∷◌, length, ap, ◌∙◌, arith, append-nil, length-append, suc-mul, zero-mul, zero-add}
+use Rattle.std.proofs.Common.{◌≡◌, ℕ, zero, suc, ◌+◌, ◌-◌, ◌*◌, ◌<◌, List, [], ◌∷◌, length, ap, ◌∙◌, arith, append-nil}
+use Rattle.std.proofs.Common.{length-append, suc-mul, zero-mul, zero-add}
 use Rattle.std.specs.Prelude.{slice_get, slice_index_or}
 use Rattle.kn_pages.specs.Pages.{joined, AreFilled}
 use Rattle.kn_pages.proofs.PageLemmas.{slice_get-left, slice_get-right}
@@ -12,7 +13,8 @@ pub record IsThere {T : Type 0} (pages : List (List T)) (page place i : ℕ) : T
 
 module _ {T : Type 0} (most : ℕ) where
   -- the item at place `page * most + place` of all stands at `place` of that page
-  pub item_of_filled : (pages : List (List T)) (page place i : ℕ) → AreFilled most pages → place < most → i ≡ page * most + place
+  pub item_of_filled : (pages : List (List T)) (page place i : ℕ) → AreFilled most pages → place < most
+      → i ≡ page * most + place
       → i < length (joined pages) → IsThere pages page place i
   item_of_filled [] page place i filled few is within = absurd (omega (arith, within))
   item_of_filled (items ∷ []) zero place i filled few is within =
@@ -34,13 +36,15 @@ module _ {T : Type 0} (most : ℕ) where
       record {
         page_in = omega arith;
         place_in = omega (arith, few, full);
-        same = slice_get-left items (joined (next ∷ pages)) i (omega (arith, same, few, full)) ∙ ap (slice_get items) same;
+        same = slice_get-left items (joined (next ∷ pages)) i (omega (arith, same, few, full))
+            ∙ ap (slice_get items) same;
       }
   item_of_filled (items ∷ next ∷ pages) (suc page) place i filled few is within =
       let full = filled.0 in
       let start : suc page * most ≡ page * most + most = suc-mul page most in
       let longer = length-append items (joined (next ∷ pages)) in
-      let rest = item_of_filled (next ∷ pages) page place (i - length items) filled.1 few (omega (arith, is, start, full)) (omega (arith, within, longer, is, start, full)) in
+      let rest = item_of_filled (next ∷ pages) page place (i - length items) filled.1 few
+      (omega (arith, is, start, full)) (omega (arith, within, longer, is, start, full)) in
       let there = rest.page_in in
       record {
         page_in = omega (arith, there);

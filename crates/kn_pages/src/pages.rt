@@ -112,7 +112,8 @@ impl<T: Shareable> Pages<T> {
         })
     }
 
-    /// Adds an item at the end: on the last page, or where that has `most` items on a new one, which has room for as many.
+    /// Adds an item at the end: on the last page, or where that has `most` items on a new one, which has room for as
+    /// many.
     #[inline(always)]
     pub fn add(&mut self, alloc: Global, most: u32, item: T) -> Result<(), NoMemory>
         requires { 1 ≤ most }
@@ -137,8 +138,8 @@ impl<T: Shareable> Pages<T> {
         }
     }
 
-    /// The list without the item at a place of a page, and without that page where it was the only one. Of a closed page
-    /// that other lists have the items are copied.
+    /// The list without the item at a place of a page, and without that page where it was the only one. Of a closed
+    /// page that other lists have the items are copied.
     pub fn without_item(
         self,
         alloc: Global,

@@ -13,13 +13,19 @@ use Rattle.kn_play.specs.Playing.{state_of_sessions, applied}
 -- the state after a request to pin a session to the version of these updates, where that is retained
 abbrev pub after_pin : OpenSessions → ℕ → Option (List Update) → State
 after_pin old s version =
-    option_map_or (λ refusal. state_of_sessions old) (own_refusal no_grounds (state_of_sessions old) (Looks (ForRetained s 0))) (pinned_to (state_of_sessions old) s version)
+    option_map_or (λ refusal. state_of_sessions old)
+    (own_refusal no_grounds (state_of_sessions old) (Looks (ForRetained s 0)))
+    (pinned_to (state_of_sessions old) s version)
 
 -- a version that isn't retained pins nothing
-pub not-retained : (history : List Update) (old : OpenSessions) (s v : ℕ) → retained_version history v ≡ None → state_of_sessions old ≡ applied history old (Looks (ForRetained s v))
-not-retained history old s v none = by (own_refusal no_grounds (state_of_sessions old) (Looks (ForRetained s v))) (retained_version history v) none
+pub not-retained : (history : List Update) (old : OpenSessions) (s v : ℕ) → retained_version history v ≡ None
+    → state_of_sessions old ≡ applied history old (Looks (ForRetained s v))
+not-retained history old s v none =
+    by (own_refusal no_grounds (state_of_sessions old) (Looks (ForRetained s v))) (retained_version history v) none
   where
-    by : (refusal : Option Refusal) (version : Option (List Update)) → version ≡ None → state_of_sessions old ≡ option_map_or (λ r. state_of_sessions old) refusal (pinned_to (state_of_sessions old) s version)
+    by : (refusal : Option Refusal) (version : Option (List Update)) → version ≡ None
+        → state_of_sessions old
+        ≡ option_map_or (λ r. state_of_sessions old) refusal (pinned_to (state_of_sessions old) s version)
     by (Some refusal) version none = refl
     by None None none = refl
     by None (Some version) none = cc

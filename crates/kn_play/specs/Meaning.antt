@@ -6,7 +6,8 @@ use Rattle.kn_session.specs.Sessions.{Session, session_in}
 use Rattle.kn_daemon.specs.Played.{IsMeant}
 use Rattle.kn_play.specs.declared.meant.Meant.{Meant}
 
--- The requests of the script mean this query over the history: the session as it then stands, and the compliance values.
+-- The requests of the script mean this query over the history: the session as it then stands, and the compliance
+-- values.
 pub record Means (history : List Update) (script : List ℕ) (session : Session) (values : List (List ℕ)) : Type 0 where
   pub requests : List Request
   pub rest : List ℕ
@@ -15,7 +16,8 @@ pub record Means (history : List Update) (script : List ℕ) (session : Session)
 
 -- what was found is the query that the script means
 abbrev pub IsMeantQuery : List Update → List ℕ → Meant → Type 0
-IsMeantQuery history script m = (session : Session) × (session_in m.sessions.sessions m.session ≡ Some session) × Means history script session m.values
+IsMeantQuery history script m = (session : Session) × (session_in m.sessions.sessions m.session ≡ Some session)
+    × Means history script session m.values
 
 -- a script means one query at most
 abbrev pub OneQueryOfScript : Type 0

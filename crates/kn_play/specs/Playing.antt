@@ -21,7 +21,8 @@ state_of_sessions sessions = record { started = sessions.started; sessions = ses
 -- the state after a request of this shape over a version that nothing changes
 abbrev pub applied : List Update → OpenSessions → Shape → State
 applied history sessions shape =
-    option_map_or (λ refusal. state_of_sessions sessions) (own_refusal no_grounds (state_of_sessions sessions) shape) (changed history (state_of_sessions sessions) shape)
+    option_map_or (λ refusal. state_of_sessions sessions) (own_refusal no_grounds (state_of_sessions sessions) shape)
+    (changed history (state_of_sessions sessions) shape)
 
 -- there is room for the numbers of one more session, and of one more private assertion in each
 pub record NumbersGoOn (sessions : OpenSessions) : Type 0 where
@@ -30,18 +31,21 @@ pub record NumbersGoOn (sessions : OpenSessions) : Type 0 where
 
 -- the request asks no query that is answered with a value
 abbrev pub IsNoAnsweredQuery : State → Request → Type 0
-IsNoAnsweredQuery state request = (session : Session) (values : List (List ℕ)) → IsAsking state request session values → ⊥
+IsNoAnsweredQuery state request = (session : Session) (values : List (List ℕ)) → IsAsking state request session values
+    → ⊥
 
 -- a request of this shape asks this of an open session, or no query that is answered with a value
 abbrev pub AsksFor : State → Shape → Option Asked → Type 0
 AsksFor state shape None = (session : Session) (values : List (List ℕ)) → AsksOf state shape session values → ⊥
-AsksFor state shape (Some asked) = (session : Session) × (session_of state asked.session ≡ Some session) × AsksOf state shape session asked.values
+AsksFor state shape (Some asked) = (session : Session) × (session_of state asked.session ≡ Some session)
+    × AsksOf state shape session asked.values
 
 abbrev pub Asks : State → Request → Option Asked → Type 0
 Asks state request asked = AsksFor state (shape_of request) asked
 
 -- the request was played
-pub record IsRequestPlayed (history : List Update) (old : OpenSessions) (request : Request) (new : OpenSessions) (step : Step) : Type 0 where
+pub record IsRequestPlayed (history : List Update) (old : OpenSessions) (request : Request) (new : OpenSessions)
+    (step : Step) : Type 0 where
   pub state : state_of_sessions new ≡ applied history old (shape_of request)
   pub asks : Asks (state_of_sessions old) request step.asked
   pub last : step.is_last ≡ is_last request
@@ -49,11 +53,13 @@ pub record IsRequestPlayed (history : List Update) (old : OpenSessions) (request
 -- the next request was spent and played, if there is a whole one
 abbrev pub PlaysNext : List Update → OpenSessions → Held → OpenSessions → Held → Option Step → Type 0
 PlaysNext history old held new after None = (next_of held ≡ None) × (after ≡ held) × (new ≡ old)
-PlaysNext history old held new after (Some step) = (request : Request) × (next_of held ≡ Some (request, after)) × IsRequestPlayed history old request new step
+PlaysNext history old held new after (Some step) = (request : Request) × (next_of held ≡ Some (request, after))
+    × IsRequestPlayed history old request new step
 
 -- the first so many bytes of a script, and whatever follows them, begin with these requests
 abbrev pub BeginsWith : List ℕ → ℕ → Held → List Request → Type 0
-BeginsWith script from held requests = (more : List ℕ) → Takes (take from script ++ more) requests (held_bytes (pushed held more))
+BeginsWith script from held requests = (more : List ℕ)
+    → Takes (take from script ++ more) requests (held_bytes (pushed held more))
 
 -- the first so many bytes of a script were fed, these requests were taken, and more can be
 pub record IsFed (script : List ℕ) (from : ℕ) (held : Held) (requests : List Request) : Type 0 where
@@ -62,7 +68,8 @@ pub record IsFed (script : List ℕ) (from : ℕ) (held : Held) (requests : List
   pub not_shut : is_shut held ≡ false
 
 -- one more request was taken
-pub record TakesRequest (script : List ℕ) (requests : List Request) (from : ℕ) (held : Held) (request : Request) : Type 0 where
+pub record TakesRequest (script : List ℕ) (requests : List Request) (from : ℕ) (held : Held) (request : Request) :
+    Type 0 where
   pub within : from ≤ length script
   pub begins : BeginsWith script from held (requests ++ request ∷ [])
   pub not_shut : is_last request ≡ false → is_shut held ≡ false
@@ -74,13 +81,15 @@ pub record IsSpent (script : List ℕ) (requests : List Request) (from : ℕ) (h
   pub none : next_of held ≡ None
 
 -- one more request was taken and played
-pub record TakesOne (history : List Update) (script : List ℕ) (requests : List Request) (old : OpenSessions) (from : ℕ) (held : Held) (new : OpenSessions) (step : Step) : Type 0 where
+pub record TakesOne (history : List Update) (script : List ℕ) (requests : List Request) (old : OpenSessions) (from : ℕ)
+    (held : Held) (new : OpenSessions) (step : Step) : Type 0 where
   pub request : Request
   pub taken : TakesRequest script requests from held request
   pub played : IsRequestPlayed history old request new step
 
 -- no whole request is left to be played
-pub record IsScriptRead (script : List ℕ) (requests : List Request) (old : OpenSessions) (from : ℕ) (held : Held) (new : OpenSessions) : Type 0 where
+pub record IsScriptRead (script : List ℕ) (requests : List Request) (old : OpenSessions) (from : ℕ) (held : Held)
+    (new : OpenSessions) : Type 0 where
   pub spent : IsSpent script requests from held
   pub same : new ≡ old
 
@@ -98,7 +107,8 @@ pub record AreUpToEnd (script : List ℕ) (requests : List Request) : Type 0 whe
 -- none of the requests is a query that is answered with a value, where this was the state before them
 abbrev pub AskNothing : List Update → State → List Request → Type 0
 AskNothing history state [] = Unit {0}
-AskNothing history state (request ∷ requests) = IsNoAnsweredQuery state request × AskNothing history (after_request no_grounds history state request) requests
+AskNothing history state (request ∷ requests) = IsNoAnsweredQuery state request
+    × AskNothing history (after_request no_grounds history state request) requests
 
 -- the last query among requests that is answered with a value
 pub record IsLast (history : List Update) (requests : List Request) (q : LastQuery) : Type 0 where
@@ -127,7 +137,8 @@ pub record IsPlayed (history : List Update) (script : List ℕ) (most : ℕ) (p 
   pub last : HasLast history (take most requests) p.last
 
 -- these requests were taken and played, and none of them is the last
-pub record IsBeingPlayed (history : List Update) (script : List ℕ) (from : ℕ) (held : Held) (requests : List Request) (sessions : OpenSessions) (found : Option LastQuery) (count : ℕ) : Type 0 where
+pub record IsBeingPlayed (history : List Update) (script : List ℕ) (from : ℕ) (held : Held) (requests : List Request)
+    (sessions : OpenSessions) (found : Option LastQuery) (count : ℕ) : Type 0 where
   pub fed : IsFed script from held requests
   pub goes_on : list_any is_last requests ≡ false
   pub state : state_of_sessions sessions ≡ played no_grounds history first_state requests

@@ -20,7 +20,8 @@ normal_rest algorithm rest = if ends_with nat_eq algorithm (codes "-hex") then m
 abbrev pub with_algorithm : List ℕ → List ℕ → List ℕ
 with_algorithm algorithm rest = algorithm ++ 58 ∷ normal_rest algorithm rest
 
--- The form by which principals are compared (RFC 2704, section 5; which letters have no case is keynoted's own choice). The part before the first colon is in lower case, and the rest too where that part then ends in `-hex`.
+-- The form by which principals are compared (RFC 2704, section 5; which letters have no case is keynoted's own choice).
+-- The part before the first colon is in lower case, and the rest too where that part then ends in `-hex`.
 abbrev pub normal_form : List ℕ → List ℕ
 normal_form text =
     if list_any is_colon text

@@ -4,8 +4,11 @@ use Rattle.std.proofs.lemmas.List.{append_assoc}
 use Rattle.kn_fields.specs.Words.{Word, itself}
 use Rattle.kn_fields.specs.Reading.{taken, marked}
 use Rattle.kn_program.specs.Signs.{prefix_of}
-use Rattle.kn_program.specs.Grammar.{Or, And, Not, Cmp, Sum, Product, Power, Unary, Atom, or_words, and_words, not_words, cmp_words, sum_words, product_words, power_words, unary_words, atom_words}
-use Rattle.kn_program.proofs.Derivations.{ands, either, nots, each, cmp, negated, sum, compared, product, added, power, multiplied, unary, raised, atom, signed, group}
+use Rattle.kn_program.specs.Grammar.{Or, And, Not, Cmp, Sum, Product, Power, Unary, Atom, or_words, and_words}
+use Rattle.kn_program.specs.Grammar.{not_words, cmp_words, sum_words, product_words, power_words, unary_words}
+use Rattle.kn_program.specs.Grammar.{atom_words}
+use Rattle.kn_program.proofs.Derivations.{ands, either, nots, each, cmp, negated, sum, compared, product, added, power}
+use Rattle.kn_program.proofs.Derivations.{multiplied, unary, raised, atom, signed, group}
 use Rattle.kn_program.specs.Reading.{has_clause}
 use Rattle.kn_program.specs.declared.signs.Prefix.TheVariants.{Minus, Number, Deref}
 
@@ -18,7 +21,8 @@ abbrev pub StartsOperand : List Word → Type 0
 StartsOperand words = StartsTest words × (marked (codes "!") words ≡ None)
 
 mutual
-  unfolding taken itself or_words and_words not_words cmp_words sum_words product_words power_words unary_words atom_words
+  unfolding taken itself or_words and_words not_words cmp_words sum_words product_words power_words unary_words
+      atom_words
 
   pub atom_starts : (a : Atom) (rest : List Word) → StartsOperand (atom_words a ++ rest)
   atom_starts (group o) rest = ((refl, refl), refl)

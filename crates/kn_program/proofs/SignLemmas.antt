@@ -3,7 +3,8 @@ use Rattle.std.proofs.Common.{◌≡◌, ℕ, true, List, Some, arith}
 use Rattle.std.proofs.lemmas.Slice.Eq.{bytes_eq-Decides}
 use Rattle.kn_trees.specs.declared.program.Comparison.{Comparison}
 use Rattle.kn_trees.specs.declared.program.Operation.{Operation}
-use Rattle.kn_program.specs.Signs.{operation_text, operation_of, is_at, comparison_text, comparison_of, prefix_text, prefix_of}
+use Rattle.kn_program.specs.Signs.{operation_text, operation_of, is_at, comparison_text, comparison_of, prefix_text}
+use Rattle.kn_program.specs.Signs.{prefix_of}
 use Rattle.kn_program.specs.declared.signs.Level.{Level}
 use Rattle.kn_program.specs.declared.signs.Level.TheVariants.{Sum, Product, Power}
 use Rattle.kn_program.specs.declared.signs.Prefix.{Prefix}
@@ -12,17 +13,20 @@ use Rattle.kn_program.specs.declared.signs.Prefix.{Prefix}
 abbrev IsOperation : Level → List ℕ → Operation → Type 0
 IsOperation level text operation = (text ≡ operation_text operation) × (is_at level operation ≡ true)
 
-pub operation_before : (level : Level) (text : List ℕ) (found : Operation) → operation_of level text ≡ Some found → IsOperation level text found
+pub operation_before : (level : Level) (text : List ℕ) (found : Operation) → operation_of level text ≡ Some found
+    → IsOperation level text found
 unfolding operation_of
 operation_before Sum text found e = grind (arith, bytes_eq-Decides)
 operation_before Product text found e = grind (arith, bytes_eq-Decides)
 operation_before Power text found e = grind (arith, bytes_eq-Decides)
 
-pub operation_there : (level : Level) (found : Operation) → is_at level found ≡ true → operation_of level (operation_text found) ≡ Some found
+pub operation_there : (level : Level) (found : Operation) → is_at level found ≡ true
+    → operation_of level (operation_text found) ≡ Some found
 unfolding operation_of
 operation_there level found e = grind arith
 
-pub comparison_before : (text : List ℕ) (found : Comparison) → comparison_of text ≡ Some found → text ≡ comparison_text found
+pub comparison_before : (text : List ℕ) (found : Comparison) → comparison_of text ≡ Some found
+    → text ≡ comparison_text found
 unfolding comparison_of
 comparison_before text found e = grind (arith, bytes_eq-Decides)
 

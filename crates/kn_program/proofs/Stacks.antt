@@ -1,5 +1,6 @@
 -- Parts of what is read, as they stand on the stack.
-use Rattle.std.proofs.Common.{◌≡◌, ℕ, ◌+◌, ◌-◌, ◌<◌, List, [], ◌∷◌, ◌++◌, length, Some, None, Ok, refl, sym, ap, ◌∙◌, arith}
+use Rattle.std.proofs.Common.{◌≡◌, ℕ, ◌+◌, ◌-◌, ◌<◌, List, [], ◌∷◌, ◌++◌, length, Some, None, Ok, refl, sym, ap, ◌∙◌}
+use Rattle.std.proofs.Common.{arith}
 use Rattle.std.proofs.Common.{append_assoc, length-append}
 use Rattle.kn_fields.specs.Words.{Word}
 use Rattle.kn_fields.specs.Reading.{Read, taken, marked}
@@ -36,7 +37,8 @@ still_some {old} some puts =
 
 -- an expression more, on top of parts that stand there
 
-on_parts : {wanted : Read Expr} {stack longer : List Expr} {rest : List Word} (below parts : List Expr) → stack ≡ below ++ parts
+on_parts : {wanted : Read Expr} {stack longer : List Expr} {rest : List Word} (below parts : List Expr)
+    → stack ≡ below ++ parts
     → (read : Stands wanted stack longer rest) → longer ≡ below ++ (parts ++ read.read ∷ [])
 on_parts below parts stand read = rw (read.top, stand) (append_assoc below parts (read.read ∷ []))
 
@@ -44,7 +46,8 @@ one_more : {A : Type 0} (n : ℕ) (list : List A) (last : A) → length list ≡
 one_more n list last counted = omega (arith, length-append list (last ∷ []))
 
 -- tests of which these are read, on top of what stood there
-pub record Parts (joint : Joint) (budget left count : ℕ) (below stack : List Expr) (words : List Word) (all : Read Expr) : Type 0 where
+pub record Parts (joint : Joint) (budget left count : ℕ) (below stack : List Expr) (words : List Word)
+    (all : Read Expr) : Type 0 where
   pub parts : List Expr
   pub stand : stack ≡ below ++ parts
   pub counted : length parts ≡ count
@@ -54,11 +57,14 @@ pub record Parts (joint : Joint) (budget left count : ℕ) (below stack : List E
 -- whatever stood below a first one
 abbrev pub PartsStand : Joint → ℕ → ℕ → ℕ → List Expr → List Expr → List Word → (Expr → Read Expr) → Type 0
 PartsStand joint budget left count old stack words all =
-    (below : List Expr) (first : Expr) → old ≡ below ++ first ∷ [] → Parts joint budget left count below stack words (all first)
+    (below : List Expr) (first : Expr) → old ≡ below ++ first ∷ []
+    → Parts joint budget left count below stack words (all first)
 
 -- a test more is read
-module _ {joint : Joint} {budget left count : ℕ} {below stack longer : List Expr} {words rest : List Word} {all : Read Expr}
-    (p : Parts joint budget left count below stack words all) (some : 0 < left) (read : Stands (test_at budget joint words) stack longer rest) where
+module _ {joint : Joint} {budget left count : ℕ} {below stack longer : List Expr} {words rest : List Word} {all :
+    Read Expr}
+    (p : Parts joint budget left count below stack words all) (some : 0 < left)
+    (read : Stands (test_at budget joint words) stack longer rest) where
   -- and a joint behind it
   pub parts_more : {further : List Word} → marked (joint_text joint) rest ≡ Some (tt, further)
       → Parts joint budget (left - 1) (count + 1) below longer further all
@@ -72,7 +78,8 @@ module _ {joint : Joint} {budget left count : ℕ} {below stack longer : List Ex
 
   -- no joint is behind it
   pub parts_last : {whole : List Expr} {end : List Word} → marked (joint_text joint) rest ≡ None → end ≡ rest
-      → ((front parts : List Expr) → longer ≡ front ++ parts → length parts ≡ count + 1 → whole ≡ front ++ several joint parts ∷ [])
+      → ((front parts : List Expr) → longer ≡ front ++ parts → length parts ≡ count + 1
+      → whole ≡ front ++ several joint parts ∷ [])
       → Stands all below whole end
   parts_last none same joins =
       let parts : List Expr = p.parts ++ read.read ∷ [] in
@@ -84,8 +91,10 @@ module _ {joint : Joint} {budget left count : ℕ} {below stack longer : List Ex
 
 -- links, one by one
 
-links_more : {longer : List Operation} (signs : List Operation) (rights : List Expr) (sign : Operation) (right : Expr) → length rights ≡ length signs
-    → longer ≡ signs ++ sign ∷ [] → links_of longer (rights ++ right ∷ []) ≡ links_of signs rights ++ link sign right ∷ []
+links_more : {longer : List Operation} (signs : List Operation) (rights : List Expr) (sign : Operation) (right : Expr)
+    → length rights ≡ length signs
+    → longer ≡ signs ++ sign ∷ [] → links_of longer (rights ++ right ∷ []) ≡ links_of signs rights ++ link sign right
+    ∷ []
 links_more signs rights sign right same added = rw added (by signs rights same)
   where
     by : (signs : List Operation) (rights : List Expr) → length rights ≡ length signs
@@ -95,13 +104,15 @@ links_more signs rights sign right same added = rw added (by signs rights same)
     by (s ∷ signs) [] same = absurd (omega arith)
     by (s ∷ signs) (other ∷ rights) same = ap (λ links. link s other ∷ links) (by signs rights (omega arith))
 
-chain_some : (first : Expr) (links : List Link2) (last : Link2) → E.Chain first (links ++ last ∷ []) ≡ chained first (links ++ last ∷ [])
+chain_some : (first : Expr) (links : List Link2) (last : Link2)
+    → E.Chain first (links ++ last ∷ []) ≡ chained first (links ++ last ∷ [])
 unfolding chained
 chain_some first [] last = refl
 chain_some first (link ∷ links) last = refl
 
 -- operations of which these right sides are read, on top of a first side
-pub record Rights (level : Level) (budget left : ℕ) (sign : Operation) (signs : List Operation) (first : Expr) (below stack : List Expr)
+pub record Rights (level : Level) (budget left : ℕ) (sign : Operation) (signs : List Operation) (first : Expr)
+    (below stack : List Expr)
     (words : List Word) (all : Read Expr) : Type 0 where
   pub rights : List Expr
   pub stand : stack ≡ below ++ first ∷ rights
@@ -109,13 +120,17 @@ pub record Rights (level : Level) (budget left : ℕ) (sign : Operation) (signs 
   pub going : Links level first budget left sign (links_of signs rights) words all
 
 -- whatever stood below that
-abbrev pub RightsStand : Level → ℕ → ℕ → Operation → List Operation → List Expr → List Expr → List Word → (Expr → Read Expr) → Type 0
+abbrev pub RightsStand : Level → ℕ → ℕ → Operation → List Operation → List Expr → List Expr → List Word
+    → (Expr → Read Expr) → Type 0
 RightsStand level budget left sign signs old stack words all =
-    (below : List Expr) (first : Expr) → old ≡ below ++ first ∷ [] → Rights level budget left sign signs first below stack words (all first)
+    (below : List Expr) (first : Expr) → old ≡ below ++ first ∷ []
+    → Rights level budget left sign signs first below stack words (all first)
 
 -- an operation more is read
-module _ {level : Level} {budget left : ℕ} {sign : Operation} {signs longer_signs : List Operation} {first : Expr} {below stack longer : List Expr}
-    {words rest : List Word} {all : Read Expr} (r : Rights level budget left sign signs first below stack words all) (some : 0 < left)
+module _ {level : Level} {budget left : ℕ} {sign : Operation} {signs longer_signs : List Operation} {first :
+    Expr} {below stack longer : List Expr}
+    {words rest : List Word} {all : Read Expr} (r : Rights level budget left sign signs first below stack words all)
+    (some : 0 < left)
     (read : Stands (side_at budget level words) stack longer rest) (added : longer_signs ≡ signs ++ sign ∷ []) where
   as_many : length (r.rights ++ read.read ∷ []) ≡ length longer_signs
   as_many = one_more _ r.rights read.read r.counted ∙ sym (ap length added ∙ one_more _ signs sign refl)
@@ -132,14 +147,17 @@ module _ {level : Level} {budget left : ℕ} {sign : Operation} {signs longer_si
 
   -- no sign is behind it
   pub rights_last : {whole : List Expr} {end : List Word} → taken (operation_of level) rest ≡ None → end ≡ rest
-      → ((front rights : List Expr) (first : Expr) → longer ≡ front ++ first ∷ rights → length rights ≡ length longer_signs
+      → ((front rights : List Expr) (first : Expr) → longer ≡ front ++ first ∷ rights
+      → length rights ≡ length longer_signs
       → whole ≡ front ++ E.Chain first (links_of longer_signs rights) ∷ [])
       → Stands all below whole end
   rights_last none same chains =
       let rights : List Expr = r.rights ++ read.read ∷ [] in
-      let links : links_of longer_signs rights ≡ links_of signs r.rights ++ link sign read.read ∷ [] = links_more signs r.rights sign read.read r.counted added in
+      let links : links_of longer_signs rights ≡ links_of signs r.rights ++ link sign read.read ∷ [] =
+      links_more signs r.rights sign read.read r.counted added in
       record {
         read = E.Chain first (links_of longer_signs rights);
-        is = going_last r.going some read.is none same (ap (E.Chain first) links ∙ chain_some first (links_of signs r.rights) (link sign read.read));
+        is = going_last r.going some read.is none same (ap (E.Chain first) links
+            ∙ chain_some first (links_of signs r.rights) (link sign read.read));
         top = chains below rights first (on_parts below (first ∷ r.rights) r.stand read) as_many;
       }

@@ -1,5 +1,6 @@
 -- What the tokens of a field state is what is read of them.
-use Rattle.std.proofs.Common.{◌≡◌, ℕ, ◌+◌, ◌*◌, Bool, true, false, List, [], ◌∷◌, length, Option, Some, None, Result, Ok, Err, refl, sym, ap, subst, ◌∙◌, arith, append-nil}
+use Rattle.std.proofs.Common.{◌≡◌, ℕ, ◌+◌, ◌*◌, Bool, true, false, List, [], ◌∷◌, length, Option, Some, None, Result}
+use Rattle.std.proofs.Common.{Ok, Err, refl, sym, ap, subst, ◌∙◌, arith, append-nil}
 use Rattle.std.specs.Prelude.{if◌then◌else◌}
 use Rattle.kn_lex.specs.Cutting.{Seen}
 use Rattle.kn_fields.specs.Words.{Word, words_of}
@@ -16,7 +17,8 @@ use Rattle.kn_program.proofs.Complete.{nil_stops}
 use Rattle.kn_program.proofs.Programs.{StopsEntry, sound_program, complete_program}
 
 -- what is read of all the words is spelled by them
-pub read_spelled : (tokens : List Seen) (program : ProgramTree) → read_program (words_of tokens) ≡ Some program → IsProgram tokens program
+pub read_spelled : (tokens : List Seen) (program : ProgramTree) → read_program (words_of tokens) ≡ Some program
+    → IsProgram tokens program
 unfolding read_program
 read_spelled tokens program e =
     let words : List Word = words_of tokens in
@@ -24,7 +26,12 @@ read_spelled tokens program e =
     let all = whole_read (map_read program_with (program_at n words)) program e in
     let m = mapped program_with (program_at n words) program [] all in
     let s = sound_program n words m.from [] m.is in
-    record { form = s.form; words = sym (append-nil (program_words s.form)) ∙ s.spelled; tree = ap program_with s.means ∙ m.made }
+    record {
+      form = s.form;
+      words = sym (append-nil (program_words s.form)) ∙ s.spelled;
+      tree = ap program_with s.means
+          ∙ m.made;
+    }
 
 nothing_stops : StopsEntry []
 unfolding taken
@@ -39,7 +46,8 @@ form_read form =
     let same : program_at n (program_words form) ≡ Some (program_clauses form, []) = rw append-nil at all in
     rw same refl
 
-pub spelled_read : (tokens : List Seen) (program : ProgramTree) → IsProgram tokens program → read_program (words_of tokens) ≡ Some program
+pub spelled_read : (tokens : List Seen) (program : ProgramTree) → IsProgram tokens program
+    → read_program (words_of tokens) ≡ Some program
 spelled_read tokens program s = rw (← s.words, form_read s.form, s.tree) refl
 
 -- tokens spell at most one program
@@ -47,7 +55,8 @@ pub spelled_once : (tokens : List Seen) (a b : ProgramTree) → IsProgram tokens
 spelled_once tokens a b s t = let first = spelled_read tokens a s in let second = spelled_read tokens b t in cc
 
 -- what is found of tokens, by what is spelled
-of_spelled : (tokens : List Seen) (program : ProgramTree) → (tokens ≡ [] → ⊥) → IsProgram tokens program → program_of tokens ≡ judged program
+of_spelled : (tokens : List Seen) (program : ProgramTree) → (tokens ≡ [] → ⊥) → IsProgram tokens program
+    → program_of tokens ≡ judged program
 unfolding program_of
 of_spelled [] program some s = absurd (some refl)
 of_spelled (token ∷ tokens) program some s = ap judged_read (spelled_read (token ∷ tokens) program s)
@@ -66,7 +75,8 @@ fault_is_found tokens Syntax h = no_program tokens h
     no_program : (tokens : List Seen) → HasNoProgram tokens → program_of tokens ≡ Err Syntax
     no_program [] h = absurd (h.some refl)
     no_program (token ∷ tokens) h =
-        let none = λ (program : ProgramTree) (is : read_program (words_of (token ∷ tokens)) ≡ Some program). h.none program (read_spelled (token ∷ tokens) program is) in
+        let none = λ (program : ProgramTree) (is : read_program (words_of (token ∷ tokens)) ≡ Some program).
+        h.none program (read_spelled (token ∷ tokens) program is) in
         grind (arith, none)
 fault_is_found tokens Kind h = rw (of_spelled tokens h.program h.some h.spelled, h.bad) refl
 fault_is_found tokens NoMemory h = absurd h
@@ -76,7 +86,8 @@ abbrev Says : List Seen → Result (Option ProgramTree) ProgramFault → Type 0
 Says tokens (Ok program) = IsConditions tokens program
 Says tokens (Err fault) = Shows tokens fault
 
-judged_says : (tokens : List Seen) (program : ProgramTree) → (tokens ≡ [] → ⊥) → IsProgram tokens program → (well : Bool) → is_well_kinded program ≡ well
+judged_says : (tokens : List Seen) (program : ProgramTree) → (tokens ≡ [] → ⊥) → IsProgram tokens program
+    → (well : Bool) → is_well_kinded program ≡ well
     → Says tokens (if well then Ok (Some program) else Err Kind)
 judged_says tokens program some s true well = record { some = some; spelled = s; kinds = well }
 judged_says tokens program some s false bad = record { some = some; program = program; spelled = s; bad = bad }
@@ -86,9 +97,11 @@ unfolding program_of
 found_says [] = refl
 found_says (token ∷ tokens) = by (read_program (words_of (token ∷ tokens))) refl
   where
-    by : (read : Option ProgramTree) → read_program (words_of (token ∷ tokens)) ≡ read → Says (token ∷ tokens) (judged_read read)
+    by : (read : Option ProgramTree) → read_program (words_of (token ∷ tokens)) ≡ read
+        → Says (token ∷ tokens) (judged_read read)
     by None none = record { some = λ e. cc; none = λ program s. cc (spelled_read (token ∷ tokens) program s) }
-    by (Some program) some = judged_says (token ∷ tokens) program (λ e. cc) (read_spelled (token ∷ tokens) program some) (is_well_kinded program) refl
+    by (Some program) some = judged_says (token ∷ tokens) program (λ e. cc) (read_spelled (token ∷ tokens) program some)
+        (is_well_kinded program) refl
 
 pub program_stands : (tokens : List Seen) (p : Option ProgramTree) → program_of tokens ≡ Ok p → IsConditions tokens p
 program_stands tokens p e = subst (Says tokens) e (found_says tokens)
@@ -105,7 +118,8 @@ unfolding program_of words_of
 nothing_found [] none = refl
 nothing_found (token ∷ tokens) none = absurd (omega arith)
 
-pub judged_by : (tokens : List Seen) → (length (words_of tokens) ≡ 0 → ⊥) → program_of tokens ≡ judged_read (read_program (words_of tokens))
+pub judged_by : (tokens : List Seen) → (length (words_of tokens) ≡ 0 → ⊥)
+    → program_of tokens ≡ judged_read (read_program (words_of tokens))
 unfolding program_of words_of
 judged_by [] some = absurd (some refl)
 judged_by (token ∷ tokens) some = refl

@@ -5,7 +5,8 @@ use Rattle.kn_program.specs.Trees.{several, joined}
 use Rattle.kn_program.specs.declared.signs.Joint.{Joint}
 
 -- a last part behind others
-pub joined_more : (joint : Joint) (list : List Expr) (last : Expr) → (list ≡ [] → ⊥) → several joint (list ++ last ∷ []) ≡ joined joint (list ++ last ∷ [])
+pub joined_more : (joint : Joint) (list : List Expr) (last : Expr) → (list ≡ [] → ⊥)
+    → several joint (list ++ last ∷ []) ≡ joined joint (list ++ last ∷ [])
 unfolding joined
 joined_more joint [] last some = absurd (some refl)
 joined_more joint (part ∷ []) last some = refl

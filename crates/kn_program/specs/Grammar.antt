@@ -3,7 +3,8 @@
 use Rattle.std.specs.Prelude.{◌≡◌, ℕ, pos, Bool, true, List, [], ◌∷◌, ◌++◌, codes, Some, None}
 use Rattle.kn_lex.specs.Cutting.{Seen}
 use Rattle.kn_fields.specs.Words.{Word, words_of}
-use Rattle.kn_fields.specs.Words.Word.{literal as literal_word, name as name_word, number as number_word, sign as sign_word}
+use Rattle.kn_fields.specs.Words.Word.{literal as literal_word, name as name_word, number as number_word}
+use Rattle.kn_fields.specs.Words.Word.{sign as sign_word}
 use Rattle.kn_trees.specs.Forms.{link}
 use Rattle.kn_trees.specs.declared.program.Expr.{Expr}
 use Rattle.kn_trees.specs.declared.program.Expr.TheVariants as E
@@ -126,7 +127,8 @@ unfoldable mutual
 
   pub cmp_tree : Cmp → Expr
   cmp_tree (sum s) = chained (sum_first s) (sum_links s)
-  cmp_tree (compared s sign t) = E.Compare sign (chained (sum_first s) (sum_links s)) (chained (sum_first t) (sum_links t))
+  cmp_tree (compared s sign t) =
+      E.Compare sign (chained (sum_first s) (sum_links s)) (chained (sum_first t) (sum_links t))
 
   pub sum_first : Sum → Expr
   sum_first (product p) = chained (product_first p) (product_links p)
@@ -197,7 +199,8 @@ unfoldable mutual
   clause_words (bare test) = or_words test
   clause_words (valued test value) = or_words test ++ sign_word (codes "->") ∷ or_words value
   clause_words (nested test p) =
-      or_words test ++ (sign_word (codes "->") ∷ sign_word (codes "{") ∷ (program_words p ++ sign_word (codes "}") ∷ []))
+      or_words test ++ (sign_word (codes "->") ∷ sign_word (codes "{")
+      ∷ (program_words p ++ sign_word (codes "}") ∷ []))
 
 abbrev pub program_with : List ClauseTree → ProgramTree
 program_with clauses = roll-Program (record { clauses = clauses })

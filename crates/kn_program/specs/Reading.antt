@@ -1,10 +1,12 @@
 -- Reading a program from the front of a field's words: the bridge between the grammar and the code. The number bounds
 -- the steps, of which twelve for each word and one more are enough.
-use Rattle.std.specs.Prelude.{ℕ, zero, suc, pos, ◌+◌, ◌-◌, ◌*◌, Bool, true, false, ◌&&◌, List, [], ◌∷◌, ◌++◌, length, codes, Option, Some, None}
+use Rattle.std.specs.Prelude.{ℕ, zero, suc, pos, ◌+◌, ◌-◌, ◌*◌, Bool, true, false, ◌&&◌, List, [], ◌∷◌, ◌++◌, length}
+use Rattle.std.specs.Prelude.{codes, Option, Some, None}
 use Rattle.std.specs.Option.{is_none}
 use Rattle.kn_fields.specs.Words.{Word, Mark}
 use Rattle.kn_fields.specs.Words.Word.{literal, name, number}
-use Rattle.kn_fields.specs.Reading.{Read, Reader, map_read, then_read, behind_sign, closed_by, more_at, tail_at, list_at, one_part, whole, taken, marked}
+use Rattle.kn_fields.specs.Reading.{Read, Reader, map_read, then_read, behind_sign, closed_by, more_at, tail_at}
+use Rattle.kn_fields.specs.Reading.{list_at, one_part, whole, taken, marked}
 use Rattle.kn_trees.specs.Forms.{link}
 use Rattle.kn_trees.specs.declared.program.Expr.{Expr}
 use Rattle.kn_trees.specs.declared.program.Expr.TheVariants as E
@@ -45,7 +47,8 @@ constant_of word = None
 
 abbrev pub atom_by : Option Expr → Word → List Word → Reader Expr → Read Expr
 atom_by (Some found) word words tests = Some (found, words)
-atom_by None word words tests = then_read (marked (codes "(") (word ∷ words)) (λ mark inner. then_read (tests inner) (closed_by (codes ")")))
+atom_by None word words tests =
+    then_read (marked (codes "(") (word ∷ words)) (λ mark inner. then_read (tests inner) (closed_by (codes ")")))
 
 -- one word, or an expression in brackets
 abbrev pub atom_front : List Word → Reader Expr → Read Expr
@@ -73,13 +76,15 @@ unfoldable mutual
   pub chain_at : ℕ → Level → Reader Expr
   chain_at zero level words = None
   chain_at (suc n) Sum words = list_at (taken (operation_of Sum)) one_link chained (chain_at n Product) (suc n) words
-  chain_at (suc n) Product words = list_at (taken (operation_of Product)) one_link chained (chain_at n Power) (suc n) words
+  chain_at (suc n) Product words =
+      list_at (taken (operation_of Product)) one_link chained (chain_at n Power) (suc n) words
   chain_at (suc n) Power words = list_at (taken (operation_of Power)) one_link chained (operand_at n) (suc n) words
 
   pub operand_at : ℕ → Reader Expr
   operand_at zero words = None
   operand_at (suc n) words =
-      behind_sign (taken prefix_of words) (atom_at n words) (λ found rest. map_read (prefixed found) (operand_at n rest))
+      behind_sign (taken prefix_of words) (atom_at n words)
+      (λ found rest. map_read (prefixed found) (operand_at n rest))
 
   pub atom_at : ℕ → Reader Expr
   atom_at zero words = None
@@ -97,21 +102,27 @@ side_at n Power words = operand_at n words
 
 -- the tests with a first one that is read, and a joint behind it
 abbrev pub more_tests_at : ℕ → Joint → Expr → Reader Expr
-more_tests_at n joint first words = map_read (joined_parts joint first) (more_at one_part (test_at n joint) (tail_at (marked (joint_text joint)) one_part (test_at n joint) n) tt words)
+more_tests_at n joint first words =
+    map_read (joined_parts joint first)
+    (more_at one_part (test_at n joint) (tail_at (marked (joint_text joint)) one_part (test_at n joint) n) tt words)
 
 -- the operations of a level with a first side that is read, and a sign behind it
 abbrev pub more_links_at : ℕ → Level → Expr → Operation → Reader Expr
-more_links_at n level first sign words = map_read (chained first) (more_at one_link (side_at n level) (tail_at (taken (operation_of level)) one_link (side_at n level) n) sign words)
+more_links_at n level first sign words =
+    map_read (chained first)
+    (more_at one_link (side_at n level) (tail_at (taken (operation_of level)) one_link (side_at n level) n) sign words)
 
 -- the operations of a level behind a first side
 abbrev pub links_at : ℕ → Level → Expr → Reader Expr
-links_at n level first words = map_read (chained first) (tail_at (taken (operation_of level)) one_link (side_at (n - 1) level) n words)
+links_at n level first words =
+    map_read (chained first) (tail_at (taken (operation_of level)) one_link (side_at (n - 1) level) n words)
 
 -- those of a level and of the tighter ones behind a first operand
 abbrev pub climb_at : ℕ → Level → Expr → Reader Expr
 climb_at n Power first words = links_at n Power first words
 climb_at n Product first words = then_read (links_at (n - 1) Power first words) (links_at n Product)
-climb_at n Sum first words = then_read (then_read (links_at (n - 1 - 1) Power first words) (links_at (n - 1) Product)) (links_at n Sum)
+climb_at n Sum first words = then_read (then_read (links_at (n - 1 - 1) Power first words) (links_at (n - 1) Product))
+    (links_at n Sum)
 
 -- those of the tighter levels
 abbrev pub first_at : ℕ → Level → Expr → Reader Expr

@@ -27,6 +27,7 @@ PutsBehind result wanted old stack rest =
 
 -- what the code answers to one word: whether it spells an expression, which is then on top of those below
 abbrev pub PutsWord : Result Bool Unread → Word → List Expr → List Expr → Type 0
-PutsWord (Ok put) word below stack = (put ≡ is_some (constant_of word)) × (stack ≡ below ++ option_to_list (constant_of word))
+PutsWord (Ok put) word below stack = (put ≡ is_some (constant_of word))
+    × (stack ≡ below ++ option_to_list (constant_of word))
 PutsWord (Err Syntax) word below stack = ⊥
 PutsWord (Err NoMemory) word below stack = Unit {0}

@@ -1,5 +1,7 @@
 -- A principal has one quoted text.
-use Rattle.std.proofs.Common.{◌≡◌, ◌≢◌, ◌⊎◌, ℕ, suc, zero, ◌+◌, ◌-◌, ◌*◌, ◌/◌, ◌%◌, ◌<◌, ◌≤◌, false, ◌==◌, cond, List, [], ◌∷◌, ◌++◌, length, flat_map, refl, sym, ap, ◌∙◌, arith, inl, inr, append_assoc, length-append}
+use Rattle.std.proofs.Common.{◌≡◌, ◌≢◌, ◌⊎◌, ℕ, suc, zero, ◌+◌, ◌-◌, ◌*◌, ◌/◌, ◌%◌, ◌<◌, ◌≤◌, false, ◌==◌, cond, List}
+use Rattle.std.proofs.Common.{[], ◌∷◌, ◌++◌, length, flat_map, refl, sym, ap, ◌∙◌, arith, inl, inr, append_assoc}
+use Rattle.std.proofs.Common.{length-append}
 use Rattle.std.specs.Str.{bytes_eq}
 use Rattle.std.proofs.lemmas.Bool.{cases_Bool, cases_eq, cases_lt, cond-false, ne_eqb}
 use Rattle.std.proofs.lemmas.Bool.Decides.{nat_tests, not_from_Decides}
@@ -82,9 +84,11 @@ first_byte b rest small (high h) = ap (λ (q : List ℕ). first (q ++ rest)) (qu
 first_byte b rest small (plain h) = ap (λ (q : List ℕ). first (q ++ rest)) (quoted_plain b h) ∙ first_plain b rest h
 
 -- what stands behind a quoted byte, and the byte
-pub one_byte : (a b : ℕ) (x y : List ℕ) → a < 256 → b < 256 → quoted_byte a ++ x ≡ quoted_byte b ++ y → (a ≡ b) × (x ≡ y)
+pub one_byte : (a b : ℕ) (x y : List ℕ) → a < 256 → b < 256 → quoted_byte a ++ x ≡ quoted_byte b ++ y → (a ≡ b)
+    × (x ≡ y)
 one_byte a b x y small small' e =
-    let same : (a, x) ≡ (b, y) = sym (first_byte a x small (quoting a)) ∙ ap first e ∙ first_byte b y small' (quoting b) in
+    let same : (a, x) ≡ (b, y) = sym (first_byte a x small (quoting a)) ∙ ap first e
+    ∙ first_byte b y small' (quoting b) in
     (ap (λ (p : ℕ × List ℕ). p.0) same, ap (λ (p : ℕ × List ℕ). p.1) same)
 
 heads : (x y : ℕ) (xs ys : List ℕ) → x ∷ xs ≡ y ∷ ys → x ≡ y
@@ -94,28 +98,38 @@ apart : (y : ℕ) (xs ys q : List ℕ) → y ≢ 34 → q ≡ y ∷ ys → 34 �
 apart y xs ys q other is e = other (sym (heads 34 y xs ys (e ∙ is)))
 
 quote_closes : (b : ℕ) (rest x : List ℕ) → Quoting b → 34 ∷ rest ≢ quoted_byte b ++ x
-quote_closes b rest x (quote h) = apart 92 rest (34 ∷ x) (quoted_byte b ++ x) (λ e. omega arith) (ap (λ (c : ℕ). quoted_byte c ++ x) h)
-quote_closes b rest x (backslash h) = apart 92 rest (92 ∷ x) (quoted_byte b ++ x) (λ e. omega arith) (ap (λ (c : ℕ). quoted_byte c ++ x) h)
-quote_closes b rest x (low h) = apart 92 rest _ (quoted_byte b ++ x) (λ e. omega arith) (ap (λ (q : List ℕ). q ++ x) (quoted_low b h))
-quote_closes b rest x (high h) = apart 92 rest _ (quoted_byte b ++ x) (λ e. omega arith) (ap (λ (q : List ℕ). q ++ x) (quoted_high b h))
-quote_closes b rest x (plain h) = apart b rest x (quoted_byte b ++ x) h.no_quote (ap (λ (q : List ℕ). q ++ x) (quoted_plain b h))
+quote_closes b rest x (quote h) =
+    apart 92 rest (34 ∷ x) (quoted_byte b ++ x) (λ e. omega arith) (ap (λ (c : ℕ). quoted_byte c ++ x) h)
+quote_closes b rest x (backslash h) =
+    apart 92 rest (92 ∷ x) (quoted_byte b ++ x) (λ e. omega arith) (ap (λ (c : ℕ). quoted_byte c ++ x) h)
+quote_closes b rest x (low h) =
+    apart 92 rest _ (quoted_byte b ++ x) (λ e. omega arith) (ap (λ (q : List ℕ). q ++ x) (quoted_low b h))
+quote_closes b rest x (high h) =
+    apart 92 rest _ (quoted_byte b ++ x) (λ e. omega arith) (ap (λ (q : List ℕ). q ++ x) (quoted_high b h))
+quote_closes b rest x (plain h) =
+    apart b rest x (quoted_byte b ++ x) h.no_quote (ap (λ (q : List ℕ). q ++ x) (quoted_plain b h))
 
 -- a quote closes
 pub closed : (rest : List ℕ) → HasNoByte (34 ∷ rest)
 closed rest b x small e = quote_closes b rest x (quoting b) e
 
 -- bytes are quoted in one way, where none follows
-pub one_principal : (p q r s : List ℕ) → AreBytes p → AreBytes q → HasNoByte r → HasNoByte s → flat_map quoted_byte p ++ r ≡ flat_map quoted_byte q ++ s → (p ≡ q) × (r ≡ s)
+pub one_principal : (p q r s : List ℕ) → AreBytes p → AreBytes q → HasNoByte r → HasNoByte s
+    → flat_map quoted_byte p ++ r ≡ flat_map quoted_byte q ++ s → (p ≡ q) × (r ≡ s)
 one_principal [] [] r s bytes bytes' stop stop' e = (refl, e)
 one_principal [] (b ∷ q) r s bytes bytes' stop stop' e =
-    absurd (stop b (flat_map quoted_byte q ++ s) (All-head (λ c. c < 256) b q bytes') (e ∙ append_assoc (quoted_byte b) (flat_map quoted_byte q) s))
+    absurd (stop b (flat_map quoted_byte q ++ s) (All-head (λ c. c < 256) b q bytes') (e
+    ∙ append_assoc (quoted_byte b) (flat_map quoted_byte q) s))
 one_principal (a ∷ p) [] r s bytes bytes' stop stop' e =
-    absurd (stop' a (flat_map quoted_byte p ++ r) (All-head (λ c. c < 256) a p bytes) (sym e ∙ append_assoc (quoted_byte a) (flat_map quoted_byte p) r))
+    absurd (stop' a (flat_map quoted_byte p ++ r) (All-head (λ c. c < 256) a p bytes) (sym e
+    ∙ append_assoc (quoted_byte a) (flat_map quoted_byte p) r))
 one_principal (a ∷ p) (b ∷ q) r s bytes bytes' stop stop' e =
     let next : quoted_byte a ++ (flat_map quoted_byte p ++ r) ≡ quoted_byte b ++ (flat_map quoted_byte q ++ s) =
-    sym (append_assoc (quoted_byte a) (flat_map quoted_byte p) r) ∙ e ∙ append_assoc (quoted_byte b) (flat_map quoted_byte q) s in
+    sym (append_assoc (quoted_byte a) (flat_map quoted_byte p) r) ∙ e
+    ∙ append_assoc (quoted_byte b) (flat_map quoted_byte q) s in
     let byte = one_byte a b _ _ (All-head (λ c. c < 256) a p bytes) (All-head (λ c. c < 256) b q bytes') next in
-    let rest = one_principal p q r s (All-tail (λ c. c < 256) a p bytes) (All-tail (λ c. c < 256) b q bytes') stop stop' byte.1 in
+    let rest = one_principal p q r s (All-tail (λ c. c < 256) a p bytes) (All-tail (λ c. c < 256) b q bytes') stop stop'
+    byte.1 in
     let same : a ≡ b = byte.0 in
     let behind : p ≡ q = rest.0 in
     (cc, rest.1)
@@ -132,14 +146,18 @@ pub byte_or_none : (text : List ℕ) → BeginsQuoted text ⊎ HasNoByte text
 byte_or_none text =
     let byte : ℕ = (first text).0 in
     let rest : List ℕ = (first text).1 in
-    let is : (b : ℕ) (behind : List ℕ) → b < 256 → text ≡ quoted_byte b ++ behind → first text ≡ (b, behind) = λ b behind small e. ap first e ∙ first_byte b behind small (quoting b) in
+    let is : (b : ℕ) (behind : List ℕ) → b < 256 → text ≡ quoted_byte b ++ behind
+    → first text ≡ (b, behind) = λ b behind small e. ap first e ∙ first_byte b behind small (quoting b) in
     let test = bytes_eq-Decides text (quoted_byte byte ++ rest) in
     elim (cases_lt byte 256) [
       | inl small ↦ elim (cases_Bool (bytes_eq text (quoted_byte byte ++ rest))) [
         | inl same ↦ inl (record { byte = byte; rest = rest; small = small; spelled = test.0 same })
-        | inr differs ↦ inr (λ b behind below e. not_from_Decides (bytes_eq text (quoted_byte byte ++ rest)) test differs (e ∙ ap (λ (p : ℕ × List ℕ). quoted_byte p.0 ++ p.1) (sym (is b behind below e))))
+        | inr differs ↦ inr
+            (λ b behind below e. not_from_Decides (bytes_eq text (quoted_byte byte ++ rest)) test differs (e
+            ∙ ap (λ (p : ℕ × List ℕ). quoted_byte p.0 ++ p.1) (sym (is b behind below e))))
       ]
-      | inr large ↦ inr (λ b behind below e. let same : byte ≡ b = ap (λ (p : ℕ × List ℕ). p.0) (is b behind below e) in absurd (omega arith))
+      | inr large ↦ inr (λ b behind below e. let same : byte ≡ b = ap (λ (p : ℕ × List ℕ). p.0) (is b behind below e) in
+          absurd (omega arith))
     ]
 
 pub quoted-some : (b : ℕ) → Quoting b → 1 ≤ length (quoted_byte b)
@@ -169,12 +187,20 @@ unquoted_more text begins behind = record {
 }
 
 unquoted_none : (text : List ℕ) → HasNoByte text → IsUnquoted text
-unquoted_none text none = record { principal = []; rest = text; spelled = refl; bytes = All-nil (λ c. c < 256); all = none }
+unquoted_none text none = record {
+  principal = [];
+  rest = text;
+  spelled = refl;
+  bytes = All-nil (λ c. c < 256);
+  all =
+      none;
+}
 
 shorter : (text : List ℕ) (begins : BeginsQuoted text) → length begins.rest < length text
 shorter text begins =
     let some = quoted-some begins.byte (quoting begins.byte) in
-    let size : length text ≡ length (quoted_byte begins.byte) + length begins.rest = ap length begins.spelled ∙ length-append (quoted_byte begins.byte) begins.rest in
+    let size : length text ≡ length (quoted_byte begins.byte) + length begins.rest = ap length begins.spelled
+    ∙ length-append (quoted_byte begins.byte) begins.rest in
     omega arith
 
 -- each text has such bytes
@@ -184,7 +210,8 @@ unquoted_within zero text within = elim (byte_or_none text) [
   | inr none ↦ unquoted_none text none
 ]
 unquoted_within (suc most) text within = elim (byte_or_none text) [
-  | inl begins ↦ let less = shorter text begins in unquoted_more text begins (unquoted_within most begins.rest (omega arith))
+  | inl begins ↦ let less = shorter text begins in
+      unquoted_more text begins (unquoted_within most begins.rest (omega arith))
   | inr none ↦ unquoted_none text none
 ]
 

@@ -1,5 +1,6 @@
 -- How many bytes the rows of a reply take.
-use Rattle.std.proofs.Common.{◌≡◌, ℕ, ◌+◌, ◌*◌, ◌<◌, ◌≤◌, ◌++◌, true, not, ◌&&◌, ◌==◌, nat_le, List, [], ◌∷◌, length, codes, decimal, flat_map, All, length-append, arith}
+use Rattle.std.proofs.Common.{◌≡◌, ℕ, ◌+◌, ◌*◌, ◌<◌, ◌≤◌, ◌++◌, true, not, ◌&&◌, ◌==◌, nat_le, List, [], ◌∷◌, length}
+use Rattle.std.proofs.Common.{codes, decimal, flat_map, All, length-append, arith}
 use Rattle.std.specs.List.{list_all, list_any}
 use Rattle.std.proofs.lemmas.Bool.{and_parts, leb-true}
 use Rattle.kn_base.specs.declared.limits.TheConstants.{COMPLIANCE_VALUE_BYTES}
@@ -21,7 +22,8 @@ id_bytes (Private n) small = let some = decimal_nonempty n (omega arith) in omeg
 name_bytes : (name : List ℕ) → is_name name ≡ true → 1 ≤ length name
 name_bytes name form =
     let outer = and_parts (is_value_name name) (not (list_any (λ byte. byte == 44) name)) form in
-    let inner = and_parts (nat_le 1 (length name) && nat_le (length name) COMPLIANCE_VALUE_BYTES) (list_all (λ byte. nat_le 33 byte && nat_le byte 126) name) outer.0 in
+    let inner = and_parts (nat_le 1 (length name) && nat_le (length name) COMPLIANCE_VALUE_BYTES)
+    (list_all (λ byte. nat_le 33 byte && nat_le byte 126) name) outer.0 in
     let sized = and_parts (nat_le 1 (length name)) (nat_le (length name) COMPLIANCE_VALUE_BYTES) inner.0 in
     leb-true 1 (length name) sized.0
 
@@ -40,7 +42,8 @@ rows_bytes (row ∷ rows) each =
     rw length-append (omega arith)
 
 -- and a reply those of its rows, and of `VALUE 0 x 0 0`, `END` and two newlines
-pub reply_bytes : (text : List ℕ) (reply : ReadReply) → IsReplyText text reply → 12 * length reply.rows + 18 ≤ length text
+pub reply_bytes : (text : List ℕ) (reply : ReadReply) → IsReplyText text reply
+    → 12 * length reply.rows + 18 ≤ length text
 reply_bytes text reply is =
     let rows = rows_bytes reply.rows is.each in
     let value = decimal_nonempty reply.value (let v = is.value in omega arith) in

@@ -1,5 +1,6 @@
 -- The lines of a `VALUE` reply, by the texts of their numbers (keynoted's own line protocol).
-use Rattle.std.specs.Prelude.{ℕ, ◌≡◌, ◌≤◌, ◌<◌, Bool, true, false, not, ◌&&◌, ◌||◌, ◌==◌, nat_le, List, [], ◌∷◌, ◌++◌, length, codes, flat_map, slice_index, All}
+use Rattle.std.specs.Prelude.{ℕ, ◌≡◌, ◌≤◌, ◌<◌, Bool, true, false, not, ◌&&◌, ◌||◌, ◌==◌, nat_le, List, [], ◌∷◌, ◌++◌}
+use Rattle.std.specs.Prelude.{length, codes, flat_map, slice_index, All}
 use Rattle.std.specs.List.{list_all, list_any}
 use Rattle.kn_base.specs.Decimal.{is_digit, digits_value}
 use Rattle.kn_env.specs.Values.{is_value_name}
@@ -7,7 +8,8 @@ use Rattle.kn_proof.specs.Texts.{quoted_byte}
 
 -- a decimal number of any length: digits, of which the first is 0 only where it is the only one
 abbrev pub is_numeral : List ℕ → Bool
-is_numeral text = nat_le 1 (length text) && list_all is_digit text && (length text == 1 || not (slice_index text 0 == 48))
+is_numeral text = nat_le 1 (length text) && list_all is_digit text
+    && (length text == 1 || not (slice_index text 0 == 48))
 
 -- the name of a compliance value, which stood between commas and so has none
 abbrev pub is_name : List ℕ → Bool
@@ -39,7 +41,8 @@ abbrev pub header_parts : List ℕ → List ℕ → List ℕ → List ℕ → He
 header_parts value name version count = record { value = value; name = name; version = version; count = count }
 
 abbrev pub header_line : HeaderTexts → List ℕ
-header_line texts = codes "VALUE " ++ texts.value ++ 32 ∷ texts.name ++ 32 ∷ texts.version ++ 32 ∷ texts.count ++ 10 ∷ []
+header_line texts = codes "VALUE " ++ texts.value ++ 32 ∷ texts.name ++ 32 ∷ texts.version ++ 32 ∷ texts.count ++ 10
+    ∷ []
 
 -- line 1 has its form with these
 pub record IsHeaderForm (texts : HeaderTexts) : Type 0 where
@@ -69,7 +72,8 @@ pub record RowTexts : Type 0 where
   pub principal : List ℕ
 
 abbrev pub row_line : RowTexts → List ℕ
-row_line texts = codes "ROW " ++ texts.value ++ 32 ∷ texts.id ++ codes " \"" ++ flat_map quoted_byte texts.principal ++ codes "\"\n"
+row_line texts = codes "ROW " ++ texts.value ++ 32 ∷ texts.id ++ codes " \"" ++ flat_map quoted_byte texts.principal
+    ++ codes "\"\n"
 
 -- a ROW line has its form with these
 pub record IsRowForm (texts : RowTexts) : Type 0 where

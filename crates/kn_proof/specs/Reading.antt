@@ -1,5 +1,6 @@
 -- Reading a `VALUE` reply: the parts that its text has, or its first fault (keynoted's own line protocol).
-use Rattle.std.specs.Prelude.{ℕ, ◌≡◌, ◌≢◌, ◌≤◌, ◌<◌, ◌+◌, true, List, [], ◌∷◌, ◌++◌, length, codes, decimal, flat_map, All, Option, Some, None, ◌⊎◌}
+use Rattle.std.specs.Prelude.{ℕ, ◌≡◌, ◌≢◌, ◌≤◌, ◌<◌, ◌+◌, true, List, [], ◌∷◌, ◌++◌, length, codes, decimal, flat_map}
+use Rattle.std.specs.Prelude.{All, Option, Some, None, ◌⊎◌}
 use Rattle.kn_proof.specs.declared.named.Id.{Id}
 use Rattle.kn_proof.specs.declared.named.Id.TheVariants.{Shared, Private}
 use Rattle.kn_proof.specs.declared.named.NamedRow.{NamedRow}
@@ -9,7 +10,8 @@ use Rattle.kn_proof.specs.Texts.{row_text}
 use Rattle.kn_proof.specs.declared.fault.ProofFault.{ProofFault}
 use Rattle.kn_proof.specs.declared.fault.ProofFault.TheVariants.{Line, Number, Count, NoMemory}
 use Rattle.kn_proof.specs.declared.header.Header.{Header}
-use Rattle.kn_proof.specs.Lines.{HeaderTexts, IsHeaderForm, IsHeaderInRange, RowTexts, IsRowForm, IsRowInRange, AreBytes, header_line, row_line, is_name}
+use Rattle.kn_proof.specs.Lines.{HeaderTexts, IsHeaderForm, IsHeaderInRange, RowTexts, IsRowForm, IsRowInRange}
+use Rattle.kn_proof.specs.Lines.{AreBytes, header_line, row_line, is_name}
 
 abbrev pub id_number : Id → ℕ
 id_number (Shared n) = n
@@ -36,7 +38,8 @@ header_of value name version count = record { value = value; name = name; versio
 
 -- line 1 of a reply whose name and numbers are in range
 abbrev pub header_text : Header → List ℕ
-header_text header = codes "VALUE " ++ decimal header.value ++ 32 ∷ header.name ++ 32 ∷ decimal header.version ++ 32 ∷ decimal header.count ++ 10 ∷ []
+header_text header = codes "VALUE " ++ decimal header.value ++ 32 ∷ header.name ++ 32 ∷ decimal header.version ++ 32
+    ∷ decimal header.count ++ 10 ∷ []
 
 pub record IsHeader (header : Header) : Type 0 where
   pub name : is_name header.name ≡ true
@@ -88,11 +91,12 @@ IsHeaderFault text (Number n) = (n ≡ 1) × HasLargeHeader text
 IsHeaderFault text (Count n) = ⊥
 IsHeaderFault text NoMemory = ⊥
 
--- What is wrong first in what is left behind a line 1 and so many ROW lines. Lines are counted from 1, so the next one has
--- the number of these rows and 2.
+-- What is wrong first in what is left behind a line 1 and so many ROW lines. Lines are counted from 1, so the next one
+-- has the number of these rows and 2.
 abbrev pub IsRowLinesFault : Header → ℕ → List ℕ → ProofFault → Type 0
 IsRowLinesFault header rows left (Line n) =
-    ((n ≡ rows + 2) × HasNoRow left × HasNoEnd left) ⊎ ((n ≡ rows + 3) × (rows ≡ header.count) × ((rest : List ℕ) × IsEnd left rest × (rest ≢ [])))
+    ((n ≡ rows + 2) × HasNoRow left × HasNoEnd left)
+    ⊎ ((n ≡ rows + 3) × (rows ≡ header.count) × ((rest : List ℕ) × IsEnd left rest × (rest ≢ [])))
 IsRowLinesFault header rows left (Number n) = (n ≡ rows + 2) × HasLargeRow left
 IsRowLinesFault header rows left (Count n) = (n ≡ rows) × (rows ≢ header.count) × ((rest : List ℕ) × IsEnd left rest)
 IsRowLinesFault header rows left NoMemory = ⊥

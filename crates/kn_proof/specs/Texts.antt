@@ -1,5 +1,6 @@
 -- The text of a `VALUE` reply: a compliance value, and the rows that prove it (keynoted's own line protocol).
-use Rattle.std.specs.Prelude.{ℕ, ◌+◌, ◌/◌, ◌%◌, ◌==◌, nat_lt, List, [], ◌∷◌, ◌++◌, length, codes, flat_map, decimal, if◌then◌else◌}
+use Rattle.std.specs.Prelude.{ℕ, ◌+◌, ◌/◌, ◌%◌, ◌==◌, nat_lt, List, [], ◌∷◌, ◌++◌, length, codes, flat_map, decimal}
+use Rattle.std.specs.Prelude.{if◌then◌else◌}
 use Rattle.kn_proof.specs.declared.named.Id.{Id}
 use Rattle.kn_proof.specs.declared.named.Id.TheVariants.{Shared, Private}
 use Rattle.kn_proof.specs.declared.named.NamedRow.{NamedRow}
@@ -21,9 +22,11 @@ id_text (Shared n) = 97 ∷ decimal n
 id_text (Private n) = 112 ∷ decimal n
 
 abbrev pub row_text : NamedRow → List ℕ
-row_text row = codes "ROW " ++ decimal row.value ++ 32 ∷ id_text row.id ++ codes " \"" ++ flat_map quoted_byte row.principal ++ codes "\"\n"
+row_text row = codes "ROW " ++ decimal row.value ++ 32 ∷ id_text row.id ++ codes " \""
+    ++ flat_map quoted_byte row.principal ++ codes "\"\n"
 
 -- the reply that gives the compliance value of this index and name over this version, with its rows
 abbrev pub value_text : ℕ → List ℕ → ℕ → List NamedRow → List ℕ
 value_text index name version rows =
-    codes "VALUE " ++ decimal index ++ 32 ∷ name ++ 32 ∷ decimal version ++ 32 ∷ decimal (length rows) ++ 10 ∷ flat_map row_text rows ++ codes "END\n"
+    codes "VALUE " ++ decimal index ++ 32 ∷ name ++ 32 ∷ decimal version ++ 32 ∷ decimal (length rows) ++ 10
+    ∷ flat_map row_text rows ++ codes "END\n"

@@ -37,7 +37,8 @@ pub record AreRowWords (text value id rest : List ℕ) : Type 0 where
   pub spelled : text ≡ row_front value id ++ rest
   pub cut : IsCutRow value id
 
--- a row stands there, which tells this value and this id; this is behind the quote before its principal, and this behind its line
+-- a row stands there, which tells this value and this id; this is behind the quote before its principal, and this
+-- behind its line
 pub record IsRowAt (text : List ℕ) (value : ℕ) (id : Id) (quoted rest : List ℕ) : Type 0 where
   pub row : NamedRow
   pub same_value : row.value ≡ value

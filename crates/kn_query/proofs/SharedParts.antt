@@ -1,5 +1,6 @@
 -- The credentials of a version by their places, and what a query over them needs.
-use Rattle.std.proofs.Common.{◌≡◌, ℕ, zero, suc, ◌≤◌, List, [], ◌∷◌, ◌++◌, All, length, map, slice_get, Option, Some, refl, sym, ap, subst, ◌∙◌, arith}
+use Rattle.std.proofs.Common.{◌≡◌, ℕ, zero, suc, ◌≤◌, List, [], ◌∷◌, ◌++◌, All, length, map, slice_get, Option, Some}
+use Rattle.std.proofs.Common.{refl, sym, ap, subst, ◌∙◌, arith}
 use Rattle.std.specs.Prelude.{sum_by}
 use Rattle.std.specs.List.{IsDistinct}
 use Rattle.std.proofs.lemmas.List.{append-nil}
@@ -25,35 +26,44 @@ use Rattle.kn_query.specs.SharedParts.{AreRead, shared_parts}
 use Rattle.kn_query.proofs.Texts.{found, have_texts, read_parts, texts_in}
 
 -- there is one for each text
-pub parts-count : (name : ℕ → Id) (texts : List NumberedText) → AreRead texts → length (parts_of name texts) ≡ length texts
+pub parts-count : (name : ℕ → Id) (texts : List NumberedText) → AreRead texts
+    → length (parts_of name texts) ≡ length texts
 parts-count name [] read = refl
 parts-count name (c ∷ texts) read =
     let one : (a : Assertion) × (assertion_of c.text ≡ Some a) = found (assertion_of c.text) read.0 in
-    ap (λ (o : Option Assertion). length (part_by name c.id o ++ parts_of name texts)) one.1 ∙ ap suc (parts-count name texts read.1)
+    ap (λ (o : Option Assertion). length (part_by name c.id o ++ parts_of name texts)) one.1
+    ∙ ap suc (parts-count name texts read.1)
 
 -- its id is that of the text
-pub id-at : (name : ℕ → Id) (texts : List NumberedText) → AreRead texts → (i : ℕ) (text : NumberedText) → slice_get texts i ≡ Some text
+pub id-at : (name : ℕ → Id) (texts : List NumberedText) → AreRead texts → (i : ℕ) (text : NumberedText)
+    → slice_get texts i ≡ Some text
     → IsNumber (map (λ (p : Part). p.id) (parts_of name texts)) (name text.id) i
 id-at name [] read i text here = absurd (cc)
 id-at name (c ∷ texts) read zero text here =
     let one : (a : Assertion) × (assertion_of c.text ≡ Some a) = found (assertion_of c.text) read.0 in
-    ap (λ (o : Option Assertion). slice_get (map (λ (p : Part). p.id) (part_by name c.id o ++ parts_of name texts)) zero) one.1
+    ap (λ (o : Option Assertion). slice_get (map (λ (p : Part). p.id) (part_by name c.id o ++ parts_of name texts))
+    zero) one.1
     ∙ ap (λ (t : NumberedText). Some (name t.id)) (same_Some c text here)
 id-at name (c ∷ texts) read (suc i) text here =
     let one : (a : Assertion) × (assertion_of c.text ≡ Some a) = found (assertion_of c.text) read.0 in
-    ap (λ (o : Option Assertion). slice_get (map (λ (p : Part). p.id) (part_by name c.id o ++ parts_of name texts)) (suc i)) one.1
+    ap (λ (o : Option Assertion). slice_get (map (λ (p : Part). p.id) (part_by name c.id o ++ parts_of name texts))
+    (suc i)) one.1
     ∙ id-at name texts read.1 i text here
 
 -- and its assertion is the reading of the text
-pub assertion-at : (name : ℕ → Id) (texts : List NumberedText) → AreRead texts → (i : ℕ) (text : NumberedText) (a : Assertion)
-    → slice_get texts i ≡ Some text → assertion_of text.text ≡ Some a → IsNumber (map (λ (p : Part). p.assertion) (parts_of name texts)) a i
+pub assertion-at : (name : ℕ → Id) (texts : List NumberedText) → AreRead texts
+    → (i : ℕ) (text : NumberedText) (a : Assertion)
+    → slice_get texts i ≡ Some text → assertion_of text.text ≡ Some a
+    → IsNumber (map (λ (p : Part). p.assertion) (parts_of name texts)) a i
 assertion-at name [] read i text a here is = absurd (cc)
 assertion-at name (c ∷ texts) read zero text a here is =
-    ap (λ (o : Option Assertion). slice_get (map (λ (p : Part). p.assertion) (part_by name c.id o ++ parts_of name texts)) zero)
+    ap (λ (o : Option Assertion).
+    slice_get (map (λ (p : Part). p.assertion) (part_by name c.id o ++ parts_of name texts)) zero)
     (ap (λ (t : NumberedText). assertion_of t.text) (same_Some c text here) ∙ is)
 assertion-at name (c ∷ texts) read (suc i) text a here is =
     let one : (b : Assertion) × (assertion_of c.text ≡ Some b) = found (assertion_of c.text) read.0 in
-    ap (λ (o : Option Assertion). slice_get (map (λ (p : Part). p.assertion) (part_by name c.id o ++ parts_of name texts)) (suc i)) one.1
+    ap (λ (o : Option Assertion).
+    slice_get (map (λ (p : Part). p.assertion) (part_by name c.id o ++ parts_of name texts)) (suc i)) one.1
     ∙ assertion-at name texts read.1 i text a here is
 
 -- a session may have no private assertions
@@ -62,21 +72,31 @@ unfolding IsDistinct
 no-privates = record { few = omega arith; short = omega arith; from_one = tt; different = tt }
 
 -- a query takes the credentials alone
-pub shared-texts : TextsAreShort → (texts : List NumberedText) → AreRead texts → text_bytes texts ≤ LIVE_BYTES → HaveTexts (parts_of Shared texts)
+pub shared-texts : TextsAreShort → (texts : List NumberedText) → AreRead texts → text_bytes texts ≤ LIVE_BYTES
+    → HaveTexts (parts_of Shared texts)
 shared-texts are_short texts read few =
-    subst (λ (l : List Part). HaveTexts l) (append-nil (parts_of Shared texts)) (have_texts are_short texts [] read tt few no-privates)
+    subst (λ (l : List Part). HaveTexts l) (append-nil (parts_of Shared texts))
+    (have_texts are_short texts [] read tt few no-privates)
 
 -- their assertions are readable, and no larger than the texts
-pub parts-readable : ReadingTold → SoundTold → (name : ℕ → Id) (texts : List NumberedText) → AreRead texts → All IsReadablePart (parts_of name texts)
-parts-readable told sound name texts read = texts_readable told sound (texts_in texts) (parts_of name texts) (read_parts name texts read)
+pub parts-readable : ReadingTold → SoundTold → (name : ℕ → Id) (texts : List NumberedText) → AreRead texts
+    → All IsReadablePart (parts_of name texts)
+parts-readable told sound name texts read =
+    texts_readable told sound (texts_in texts) (parts_of name texts) (read_parts name texts read)
 
 bytes-in : (texts : List NumberedText) → sum_by length (texts_in texts) ≡ text_bytes texts
 bytes-in [] = refl
 bytes-in (c ∷ texts) =
     let rest = bytes-in texts in
-    omega (arith, sum_by-cons length c.text (texts_in texts), sum_by-cons (λ (t : NumberedText). length t.text) c texts, rest)
+    omega (
+      arith,
+      sum_by-cons length c.text (texts_in texts),
+      sum_by-cons (λ (t : NumberedText). length t.text) c texts,
+      rest,
+    )
 
-pub parts-size : ReadingTold → SoundTold → (name : ℕ → Id) (texts : List NumberedText) → AreRead texts → total_size (parts_of name texts) ≤ text_bytes texts
+pub parts-size : ReadingTold → SoundTold → (name : ℕ → Id) (texts : List NumberedText) → AreRead texts
+    → total_size (parts_of name texts) ≤ text_bytes texts
 parts-size told sound name texts read =
     let size = texts_size told sound (texts_in texts) (parts_of name texts) (read_parts name texts read) in
     omega (arith, size, bytes-in texts)
@@ -86,7 +106,8 @@ pub asked-with : (session : Session) (query : Asked) (values : List (List ℕ)) 
     → query.values ≡ values → query.requesters ≡ session.requesters
     → equations_over query (shared_parts session.pinned ++ parts_of Own session.privates) ≡ equations_of session values
 asked-with session query values attributes named requesters =
-    let same : query ≡ asked_of session values = λ i. record { attributes = attributes i; values = named i; requesters = requesters i } in
+    let same : query ≡ asked_of session values =
+    λ i. record { attributes = attributes i; values = named i; requesters = requesters i } in
     λ i. equations_over (same i) (session_parts session)
 
 -- a session without private assertions asks with the credentials alone
@@ -94,7 +115,9 @@ pub asked-alone : (session : Session) (query : Asked) (values : List (List ℕ))
     → query.values ≡ values → query.requesters ≡ session.requesters → session.privates ≡ []
     → equations_over query (shared_parts session.pinned) ≡ equations_of session values
 asked-alone session query values attributes named requesters none =
-    let same : query ≡ asked_of session values = λ i. record { attributes = attributes i; values = named i; requesters = requesters i } in
+    let same : query ≡ asked_of session values =
+    λ i. record { attributes = attributes i; values = named i; requesters = requesters i } in
     let parts : shared_parts session.pinned ≡ session_parts session =
-    sym (append-nil (shared_parts session.pinned)) ∙ ap (λ ps. shared_parts session.pinned ++ parts_of Own ps) (sym none) in
+    sym (append-nil (shared_parts session.pinned))
+    ∙ ap (λ ps. shared_parts session.pinned ++ parts_of Own ps) (sym none) in
     λ i. equations_over (same i) (parts i)

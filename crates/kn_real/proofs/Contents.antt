@@ -1,5 +1,6 @@
 -- What a reader gives whose rest is known.
-use Rattle.std.proofs.Common.{◌≡◌, ℕ, ◌+◌, ◌<◌, List, [], ◌++◌, length, refl, sym, ap, ◌∙◌, arith, append_assoc, append-nil, length-append, Option, Some, None}
+use Rattle.std.proofs.Common.{◌≡◌, ℕ, ◌+◌, ◌<◌, List, [], ◌++◌, length, refl, sym, ap, ◌∙◌, arith, append_assoc}
+use Rattle.std.proofs.Common.{append-nil, length-append, Option, Some, None}
 use Rattle.std.specs.Prelude.{IfSome}
 use Rattle.std.specs.Io.KnownBytes.{Consumes, IsAtEnd}
 
@@ -9,14 +10,17 @@ read_nothing None = tt
 read_nothing (Some bytes) = refl
 
 -- one more piece is read
-pub read_piece : (a b c : Option (List ℕ)) (content piece : List ℕ) → Consumes a b content → Consumes b c piece → Consumes a c (content ++ piece)
+pub read_piece : (a b c : Option (List ℕ)) (content piece : List ℕ) → Consumes a b content → Consumes b c piece
+    → Consumes a c (content ++ piece)
 read_piece None b c content piece first last = tt
 read_piece (Some x) None c content piece first last = absurd first
 read_piece (Some x) (Some y) None content piece first last = absurd last
-read_piece (Some x) (Some y) (Some z) content piece first last = first ∙ ap (λ (l : List ℕ). content ++ l) last ∙ sym (append_assoc content piece z)
+read_piece (Some x) (Some y) (Some z) content piece first last = first ∙ ap (λ (l : List ℕ). content ++ l) last
+    ∙ sym (append_assoc content piece z)
 
 -- what was read to the end is all that there was
-pub read_to_end : (a b c : Option (List ℕ)) (content : List ℕ) → Consumes a b content → Consumes b c [] → IsAtEnd c → IfSome a (λ bytes. content ≡ bytes)
+pub read_to_end : (a b c : Option (List ℕ)) (content : List ℕ) → Consumes a b content → Consumes b c [] → IsAtEnd c
+    → IfSome a (λ bytes. content ≡ bytes)
 read_to_end None b c content first last ended = tt
 read_to_end (Some x) None c content first last ended = absurd first
 read_to_end (Some x) (Some y) None content first last ended = absurd last
@@ -24,7 +28,8 @@ read_to_end (Some x) (Some y) (Some z) content first last ended =
     sym (first ∙ ap (λ (l : List ℕ). content ++ l) (last ∙ ended) ∙ append-nil content)
 
 -- where more than n bytes were read there were more
-pub read_past : (a b : Option (List ℕ)) (content : List ℕ) (n : ℕ) → Consumes a b content → n < length content → IfSome a (λ bytes. n < length bytes)
+pub read_past : (a b : Option (List ℕ)) (content : List ℕ) (n : ℕ) → Consumes a b content → n < length content
+    → IfSome a (λ bytes. n < length bytes)
 read_past None b content n read over = tt
 read_past (Some x) None content n read over = absurd read
 read_past (Some x) (Some y) content n read over =

@@ -3,11 +3,14 @@ use Rattle.std.specs.Prelude.{◌≡◌, ◌+◌, ◌≤◌, ℕ, true, List, []
 use Rattle.atomic_table.specs.Seated.{TableId}
 use Rattle.kn_history.specs.declared.update.Update.{Update}
 use Rattle.kn_history.specs.declared.fault.StoreFault.{StoreFault}
-use Rattle.kn_history.specs.declared.fault.StoreFault.TheVariants.{Unknown, LiveFull, BytesFull, HistoryFull, LogFull, NoMemory}
+use Rattle.kn_history.specs.declared.fault.StoreFault.TheVariants.{Unknown, LiveFull, BytesFull, HistoryFull, LogFull}
+use Rattle.kn_history.specs.declared.fault.StoreFault.TheVariants.{NoMemory}
 use Rattle.kn_history.specs.declared.fault.BatchFault.{BatchFault}
 use Rattle.kn_history.specs.declared.fault.BatchFault.TheVariants as B
 use Rattle.kn_history.specs.declared.item.Item.{Item}
-use Rattle.kn_history.specs.History.{all_changes, additions, is_valid_history, update_may_follow, updates_may_follow, refusal_of_text, refusal_of_id, addition_by, additions_by, removal_by, own_updates, IsFirstRefused}
+use Rattle.kn_history.specs.History.{all_changes, additions, is_valid_history, update_may_follow, updates_may_follow}
+use Rattle.kn_history.specs.History.{refusal_of_text, refusal_of_id, addition_by, additions_by, removal_by, own_updates}
+use Rattle.kn_history.specs.History.{IsFirstRefused}
 use Rattle.kn_history.specs.Batches.{refusal_of_items, numbered_from, batch_by}
 use Rattle.kn_history.specs.Retained.{retained_version}
 use Rattle.kn_turn.specs.Passes.{PassView}
@@ -70,13 +73,15 @@ Adds old new text id version = Commits old new (addition_by old.number text id) 
 abbrev pub Removes : PassSeen → PassSeen → ℕ → ℕ → Type 0
 Removes old new id version = Commits old new (removal_by old.number id) version
 
--- these texts were added one after the other, each by an update of the pass's own, as the last updates of all that is then seen
+-- these texts were added one after the other, each by an update of the pass's own, as the last updates of all that is
+-- then seen
 pub record AddsAll (old new : PassSeen) (texts : List (List ℕ)) : Type 0 where
   pub more : List Update
   pub before : List Update
   pub moves : Moves old new more (additions_by old.number (additions (all_changes before)) texts) (length new.seen ∷ [])
   pub ends : new.seen ≡ before ++ additions_by old.number (additions (all_changes before)) texts
-  pub follow : updates_may_follow (all_changes before) (additions_by old.number (additions (all_changes before)) texts) ≡ true
+  pub follow : updates_may_follow (all_changes before) (additions_by old.number (additions (all_changes before)) texts)
+      ≡ true
 
 -- what was asked for was refused at what is then seen
 pub record IsRefused {F : Type 0} (refusal : Option F) (fault : F) (old new : PassSeen) : Type 0 where
@@ -94,7 +99,8 @@ Refuses IsFor old new (LogFull bytes) = IsFor (LogFull bytes)
 
 -- why the text wasn't added
 abbrev pub RefusesText : PassSeen → PassSeen → List ℕ → StoreFault → Type 0
-RefusesText old new text fault = Refuses (λ f. IsRefused (refusal_of_text (all_changes new.seen) text) f old new) old new fault
+RefusesText old new text fault =
+    Refuses (λ f. IsRefused (refusal_of_text (all_changes new.seen) text) f old new) old new fault
 
 -- none of the texts was added, since the one at this place is the first that is refused at what is then seen
 pub record IsOneRefused (old new : PassSeen) (texts : List (List ℕ)) (place : ℕ) (fault : StoreFault) : Type 0 where
@@ -109,8 +115,8 @@ RefusesOne old new texts place fault = Refuses (λ f. IsOneRefused old new texts
 abbrev pub RefusesId : PassSeen → PassSeen → ℕ → StoreFault → Type 0
 RefusesId old new id fault = Refuses (λ f. IsRefused (refusal_of_id (all_changes new.seen) id) f old new) old new fault
 
--- the items were made one update, which is in this version; told are the id of its first addition, or the one that the next
--- addition has, and how many additions it has
+-- the items were made one update, which is in this version; told are the id of its first addition, or the one that the
+-- next addition has, and how many additions it has
 pub record Batches (old new : PassSeen) (items : List Item) (batched : Batched) : Type 0 where
   pub commits : Commits old new (batch_by old.number batched.first items) batched.version
   pub first : batched.first ≡ additions (all_changes commits.before) + 1
@@ -119,7 +125,8 @@ pub record Batches (old new : PassSeen) (items : List Item) (batched : Batched) 
 -- why no item changed anything, and the number of the refused one, counted from 1
 abbrev pub RefusesItems : PassSeen → PassSeen → List Item → BatchFault → Type 0
 RefusesItems old new items B.NoMemory = Stays old new
-RefusesItems old new items (B.Item number fault) = IsRefused (refusal_of_items (all_changes new.seen) items) (number, fault) old new
+RefusesItems old new items (B.Item number fault) =
+    IsRefused (refusal_of_items (all_changes new.seen) items) (number, fault) old new
 
 -- the version of this number isn't retained at what is then seen, of which this is the length
 pub record IsMissing (old new : PassSeen) (number newest : ℕ) : Type 0 where

@@ -4,8 +4,8 @@ use Rattle.kn_outside.specs.Seen.{LinkSeen}
 use Rattle.kn_outside.specs.Printing.{Prints}
 use Rattle.kn_reply.specs.declared.printer.Printer.{Printer}
 
--- since the sink was seen first, this text was put: what isn't pending of it was written; or a write failed, and a front
--- of it was written, and not all
+-- since the sink was seen first, this text was put: what isn't pending of it was written; or a write failed, and a
+-- front of it was written, and not all
 abbrev pub GatheredBy : Bool → List ℕ → List ℕ → LinkSeen → LinkSeen → Type 0
 GatheredBy false pending text first seen =
     (written : List ℕ) × (text ≡ written ++ pending) × Prints true written first seen

@@ -1,5 +1,6 @@
 -- Why `serve` ends.
-use Rattle.std.proofs.Common.{◌≡◌, ℕ, ◌+◌, ◌<◌, ◌≤◌, Bool, true, false, List, [], ◌∷◌, length, map, refl, sym, ap, ◌∙◌, subst, arith, Some}
+use Rattle.std.proofs.Common.{◌≡◌, ℕ, ◌+◌, ◌<◌, ◌≤◌, Bool, true, false, List, [], ◌∷◌, length, map, refl, sym, ap, ◌∙◌}
+use Rattle.std.proofs.Common.{subst, arith, Some}
 use Rattle.std.specs.Prelude.{min, sum_by, ◌||◌, ◌^◌, ◌-◌, option_to_list}
 use Rattle.std.specs.List.{list_any}
 use Rattle.std.proofs.lemmas.List.Sums.{sum_by-cons}
@@ -21,7 +22,8 @@ use Rattle.kn_workers.specs.Workers.{Work, EachWorked, AllServed, all_quotas, ga
 use Rattle.kn_workers.proofs.ShareLaws.{shares_add_up}
 use Rattle.kn_words.specs.Orders.{Order}
 use Rattle.kn_service.specs.declared.serve_ending.ServeEnding.{ServeEnding}
-use Rattle.kn_service.specs.declared.serve_ending.ServeEnding.TheVariants.{PolicyStopped, KeysStopped, BindMemory, Unbound, WorkMemory, DoorFailed, Served}
+use Rattle.kn_service.specs.declared.serve_ending.ServeEnding.TheVariants.{PolicyStopped, KeysStopped, BindMemory}
+use Rattle.kn_service.specs.declared.serve_ending.ServeEnding.TheVariants.{Unbound, WorkMemory, DoorFailed, Served}
 use Rattle.kn_inputs.specs.Held.{IsPolicy, AreKeys}
 use Rattle.kn_inputs.specs.Inputs.{grounds_of}
 use Rattle.kn_service.specs.Serving.{AreServed, ServesOver, IsServiceRun, ServeCause, binding_of}
@@ -38,38 +40,56 @@ module _ {C R : Type 0} (door : R → DoorSeen (ServedSeen C)) where
 
   module _ (link : C → LinkSeen) (g : Grounds) (start : ℕ) (history : List Update) where
     -- a door that gave less than its quota raises the count
-    pub faults_rise : (caller faults : ℕ) (works : List (Work C R)) → EachWorked door link g start history caller works → list_any (λ (w : Work C R). gave_less door w.after) works ≡ true →
+    pub faults_rise : (caller faults : ℕ) (works : List (Work C R)) → EachWorked door link g start history caller works
+        → list_any (λ (w : Work C R). gave_less door w.after) works ≡ true →
         min (faults + 1) (2 ^ 64 - 1) ≤ with_faults door faults (map (λ work. work.after) works)
     faults_rise caller faults [] each less = absurd (cc less)
     faults_rise caller faults (work ∷ works) each less =
-        by (gave_less door work.after) refl (λ later. faults_rise (caller + 1) (min (faults + (door work.after).faults) (2 ^ 64 - 1)) works each.1 later)
+        by (gave_less door work.after) refl
+        (λ later. faults_rise (caller + 1) (min (faults + (door work.after).faults) (2 ^ 64 - 1)) works each.1
+        later)
       where
         by : (failed : Bool) → gave_less door work.after ≡ failed →
-            (list_any (λ (w : Work C R). gave_less door w.after) works ≡ true → min (min (faults + (door work.after).faults) (2 ^ 64 - 1) + 1) (2 ^ 64 - 1) ≤ with_faults door (min (faults + (door work.after).faults) (2 ^ 64 - 1)) (map (λ w. w.after) works)) →
+            (list_any (λ (w : Work C R). gave_less door w.after) works ≡ true
+            → min (min (faults + (door work.after).faults) (2 ^ 64 - 1) + 1) (2 ^ 64 - 1)
+            ≤ with_faults door (min (faults + (door work.after).faults) (2 ^ 64 - 1)) (map (λ w. w.after) works)) →
             min (faults + 1) (2 ^ 64 - 1) ≤ with_faults door faults (map (λ w. w.after) (work ∷ works))
         by true e again =
-            let given : HasGiven true (door work.before) (door work.after) = subst (λ (b : Bool). HasGiven b (door work.before) (door work.after)) e each.0.failed in
+            let given : HasGiven true (door work.before) (door work.after) =
+            subst (λ (b : Bool). HasGiven b (door work.before) (door work.after)) e each.0.failed in
             let rose : min ((door work.before).faults + 1) (2 ^ 64 - 1) ≤ (door work.after).faults = given.1 in
             let rest = faults_stay (min (faults + (door work.after).faults) (2 ^ 64 - 1)) (map (λ w. w.after) works) in
             omega (arith, rose, rest)
         by false e again =
-            let later : list_any (λ (w : Work C R). gave_less door w.after) works ≡ true = subst (λ (b : Bool). b || list_any (λ (w : Work C R). gave_less door w.after) works ≡ true) e less in
+            let later : list_any (λ (w : Work C R). gave_less door w.after) works ≡ true =
+            subst (λ (b : Bool). b || list_any (λ (w : Work C R). gave_less door w.after) works ≡ true) e less in
             let rest = again later in
             omega (arith, rest)
 
     -- where no door gave less than its quota, as many connections were served as all quotas together
-    all_given : (caller : ℕ) (quota doors i : ℕ) (works : List (Work C R)) → EachWorked door link g start history caller works → list_any (λ (w : Work C R). gave_less door w.after) works ≡ false →
-        AreBound door quota doors i (map (λ work. work.before) works) → sum_by (λ (w : Work C R). length w.connections) works ≡ all_quotas door (map (λ work. work.before) works)
+    all_given : (caller : ℕ) (quota doors i : ℕ) (works : List (Work C R))
+        → EachWorked door link g start history caller works → list_any (λ (w : Work C R). gave_less door w.after) works
+        ≡ false →
+        AreBound door quota doors i (map (λ work. work.before) works)
+        → sum_by (λ (w : Work C R). length w.connections) works ≡ all_quotas door (map (λ work. work.before) works)
     all_given caller quota doors i [] each less bound = refl
     all_given caller quota doors i (work ∷ works) each less bound =
-        by (gave_less door work.after) refl (λ later. all_given (caller + 1) quota doors (i + 1) works each.1 later bound.1)
+        by (gave_less door work.after) refl
+        (λ later. all_given (caller + 1) quota doors (i + 1) works each.1 later bound.1)
       where
-        by : (failed : Bool) → gave_less door work.after ≡ failed → (list_any (λ (w : Work C R). gave_less door w.after) works ≡ false → sum_by (λ (w : Work C R). length w.connections) works ≡ all_quotas door (map (λ w. w.before) works)) →
-            sum_by (λ (w : Work C R). length w.connections) (work ∷ works) ≡ all_quotas door (map (λ w. w.before) (work ∷ works))
-        by true e again = absurd (cc (subst (λ (b : Bool). b || list_any (λ (w : Work C R). gave_less door w.after) works ≡ false) e less))
+        by : (failed : Bool) → gave_less door work.after ≡ failed
+            → (list_any (λ (w : Work C R). gave_less door w.after) works ≡ false
+            → sum_by (λ (w : Work C R). length w.connections) works ≡ all_quotas door (map (λ w. w.before) works)) →
+            sum_by (λ (w : Work C R). length w.connections) (work ∷ works)
+            ≡ all_quotas door (map (λ w. w.before) (work ∷ works))
+        by true e again =
+            absurd (cc (subst (λ (b : Bool). b || list_any (λ (w : Work C R). gave_less door w.after) works ≡ false) e
+            less))
         by false e again =
-            let later : list_any (λ (w : Work C R). gave_less door w.after) works ≡ false = subst (λ (b : Bool). b || list_any (λ (w : Work C R). gave_less door w.after) works ≡ false) e less in
-            let given : HasGiven false (door work.before) (door work.after) = subst (λ (b : Bool). HasGiven b (door work.before) (door work.after)) e each.0.failed in
+            let later : list_any (λ (w : Work C R). gave_less door w.after) works ≡ false =
+            subst (λ (b : Bool). b || list_any (λ (w : Work C R). gave_less door w.after) works ≡ false) e less in
+            let given : HasGiven false (door work.before) (door work.after) =
+            subst (λ (b : Bool). HasGiven b (door work.before) (door work.after)) e each.0.failed in
             let all : (door work.after).given ≡ (door work.after).quota = given.0 in
             let rest = again later in
             let none = bound.0.none_given in
@@ -82,7 +102,8 @@ module _ {C R : Type 0} (door : R → DoorSeen (ServedSeen C)) where
   map_length f [] = refl
   map_length f (x ∷ xs) = let rest = map_length f xs in omega (arith, rest)
 
-  module _ (link : C → LinkSeen) (g : Grounds) (v w : PassSeen) (doors doors' : List R) (end : ServeEnd) (all : AllServed door link g v w doors doors' end) where
+  module _ (link : C → LinkSeen) (g : Grounds) (v w : PassSeen) (doors doors' : List R) (end : ServeEnd)
+      (all : AllServed door link g v w doors doors' end) where
     -- as many doors as before
     pub doors_stay : length doors' ≡ length doors
     doors_stay = ap (λ (l : List R). length l) (sym all.after) ∙ map_length (λ (work : Work C R). work.after) all.works
@@ -93,16 +114,23 @@ module _ {C R : Type 0} (door : R → DoorSeen (ServedSeen C)) where
         subst (λ (l : List R). Rose faults (with_faults door faults l)) all.after
         (faults_rise link g (length v.seen) w.seen (v.splits + 1) faults all.works all.each (sym all.failed ∙ failed))
 
-    pub all_finished : (quota count : ℕ) → 0 < count → length doors ≡ count → AreBound door quota count 0 doors → end.failed ≡ false → end.finished ≡ quota
+    pub all_finished : (quota count : ℕ) → 0 < count → length doors ≡ count → AreBound door quota count 0 doors
+        → end.failed ≡ false → end.finished ≡ quota
     all_finished quota count some many bound failed =
-        let before : AreBound door quota count 0 (map (λ (work : Work C R). work.before) all.works) = subst (AreBound door quota count 0) (sym all.before) bound in
-        all.finished ∙ all_given link g (length v.seen) w.seen (v.splits + 1) quota count 0 all.works all.each (sym all.failed ∙ failed) before
+        let before : AreBound door quota count 0 (map (λ (work : Work C R). work.before) all.works) =
+        subst (AreBound door quota count 0) (sym all.before) bound in
+        all.finished ∙ all_given link g (length v.seen) w.seen (v.splits + 1) quota count 0 all.works all.each
+        (sym all.failed ∙ failed) before
         ∙ ap (λ (l : List R). all_quotas door l) all.before ∙ shares_add_up door quota count doors some many bound
 
   -- what an address came to over files that were read behind one that was read
-  module _ (link : C → LinkSeen) (f mid f' : FilesSeen) (n n' : NetSeen R) (order : Order) (bytes : List ℕ) (keys : KeyFile) (policy : IsPolicy f order.files.policy bytes)
-      (before : HasAsked (order.files.policy ∷ []) f mid) (asked : HasAsked (option_to_list order.files.keys) mid f') (known : AreKeys mid order.files.keys keys) where
-    run_there : (ending : ServeEnding) → ServesOver door link (grounds_of keys) (loaded_history (pieces_of bytes)) n n' (binding_of order) ending → IsServiceRun door link f f' n n' order ending
+  module _ (link : C → LinkSeen) (f mid f' : FilesSeen) (n n' : NetSeen R) (order : Order) (bytes : List ℕ)
+      (keys : KeyFile) (policy : IsPolicy f order.files.policy bytes)
+      (before : HasAsked (order.files.policy ∷ []) f mid) (asked : HasAsked (option_to_list order.files.keys) mid f')
+      (known : AreKeys mid order.files.keys keys) where
+    run_there : (ending : ServeEnding)
+        → ServesOver door link (grounds_of keys) (loaded_history (pieces_of bytes)) n n' (binding_of order) ending
+        → IsServiceRun door link f f' n n' order ending
     run_there ending serves = record {
       asked = asked_both (order.files.policy ∷ []) (option_to_list order.files.keys) f mid f' before asked;
       bytes = bytes;
@@ -112,7 +140,9 @@ module _ {C R : Type 0} (door : R → DoorSeen (ServedSeen C)) where
       runs = serves;
     }
 
-    pub served_there : (ending : ServeEnding) → ServesOver door link (grounds_of keys) (loaded_history (pieces_of bytes)) n n' (binding_of order) ending → ServeCause door link f f' n n' order ending
+    pub served_there : (ending : ServeEnding)
+        → ServesOver door link (grounds_of keys) (loaded_history (pieces_of bytes)) n n' (binding_of order) ending
+        → ServeCause door link f f' n n' order ending
     served_there (PolicyStopped stop) serves = absurd serves
     served_there (KeysStopped stop) serves = absurd serves
     served_there BindMemory serves = run_there BindMemory serves
@@ -122,28 +152,36 @@ module _ {C R : Type 0} (door : R → DoorSeen (ServedSeen C)) where
     served_there (Served finished version) serves = run_there (Served finished version) serves
 
   -- what was bound and given back
-  module _ (n m n' : NetSeen R) (binding : Binding) (doors : List R) (binds : m ≡ record n { bound = Some binding }) (unbinds : n' ≡ record m { rooms = doors; faults = with_faults door m.faults doors }) where
+  module _ (n m n' : NetSeen R) (binding : Binding) (doors : List R) (binds : m ≡ record n { bound = Some binding })
+      (unbinds : n' ≡ record m { rooms = doors; faults = with_faults door m.faults doors }) where
     rooms_are : n'.rooms ≡ doors
     rooms_are = ap (λ (x : NetSeen R). x.rooms) unbinds
 
     behind : n' ≡ record n { bound = Some binding; rooms = doors; faults = with_faults door n.faults doors }
-    behind = unbinds ∙ ap (λ (x : NetSeen R). record x { rooms = doors; faults = with_faults door x.faults doors }) binds
+    behind = unbinds
+        ∙ ap (λ (x : NetSeen R). record x { rooms = doors; faults = with_faults door x.faults doors }) binds
 
     net_is : n' ≡ record n { bound = Some binding; rooms = n'.rooms; faults = with_faults door n.faults n'.rooms }
-    net_is = behind ∙ ap (λ (l : List R). record n { bound = Some binding; rooms = l; faults = with_faults door n.faults l }) (sym rooms_are)
+    net_is = behind ∙ ap
+        (λ (l : List R). record n { bound = Some binding; rooms = l; faults = with_faults door n.faults l })
+        (sym rooms_are)
 
     faults_are : n'.faults ≡ with_faults door n.faults doors
     faults_are = ap (λ (x : NetSeen R). x.faults) behind
 
-    pub unserved : (link : C → LinkSeen) (g : Grounds) (past : List Update) → AreBound door binding.quota binding.doors 0 doors → length doors ≡ binding.doors → ServesOver door link g past n n' binding WorkMemory
+    pub unserved : (link : C → LinkSeen) (g : Grounds) (past : List Update)
+        → AreBound door binding.quota binding.doors 0 doors → length doors ≡ binding.doors
+        → ServesOver door link g past n n' binding WorkMemory
     unserved link g past bound count = record {
       bound = subst (AreBound door binding.quota binding.doors 0) (sym rooms_are) bound;
       count = ap (λ (l : List R). length l) rooms_are ∙ count;
       net = net_is;
     }
 
-    module _ (link : C → LinkSeen) (g : Grounds) (past : List Update) (before : List R) (v w : PassSeen) (end : ServeEnd) (at : v.seen ≡ past) (root : v.number ≡ 0) (unsplit : v.splits ≡ 0)
-        (bound : AreBound door binding.quota binding.doors 0 before) (count : length before ≡ binding.doors) (all : AllServed door link g v w before doors end) where
+    module _ (link : C → LinkSeen) (g : Grounds) (past : List Update) (before : List R) (v w : PassSeen)
+        (end : ServeEnd) (at : v.seen ≡ past) (root : v.number ≡ 0) (unsplit : v.splits ≡ 0)
+        (bound : AreBound door binding.quota binding.doors 0 before) (count : length before ≡ binding.doors)
+        (all : AllServed door link g v w before doors end) where
       are_served : AreServed door link g past n n' binding end w.seen
       are_served = record {
         doors = before;
@@ -157,13 +195,26 @@ module _ {C R : Type 0} (door : R → DoorSeen (ServedSeen C)) where
         served = subst (λ (l : List R). AllServed door link g v w before l end) (sym rooms_are) all;
       }
 
-      told_as : (failed : Bool) → end.failed ≡ failed → AreServed door link g past n n' binding (record { finished = end.finished; failed = failed }) w.seen
-      told_as failed e = subst (λ (b : Bool). AreServed door link g past n n' binding (record { finished = end.finished; failed = b }) w.seen) e are_served
+      told_as : (failed : Bool) → end.failed ≡ failed
+          → AreServed door link g past n n' binding (record { finished = end.finished; failed = failed }) w.seen
+      told_as failed e =
+          subst (λ (b : Bool). AreServed door link g past n n' binding (record { finished = end.finished; failed = b })
+          w.seen) e are_served
 
       pub served_less : end.failed ≡ true → ServesOver door link g past n n' binding DoorFailed
-      served_less failed =
-          (end.finished, w.seen, told_as true failed, subst (λ (k : ℕ). Rose n.faults k) (sym faults_are) (failed_raises link g v w before doors end all n.faults failed))
+      served_less failed = (
+        end.finished,
+        w.seen,
+        told_as true failed,
+        subst (λ (k : ℕ). Rose n.faults k) (sym faults_are)
+            (failed_raises link g v w before doors end all n.faults failed),
+      )
 
-      pub served_whole : end.failed ≡ false → 0 < binding.doors → (version : ℕ) → version ≡ length w.seen → ServesOver door link g past n n' binding (Served end.finished version)
-      served_whole failed some version last =
-          (w.seen, told_as false failed, all_finished link g v w before doors end all binding.quota binding.doors some count bound failed, last)
+      pub served_whole : end.failed ≡ false → 0 < binding.doors → (version : ℕ) → version ≡ length w.seen
+          → ServesOver door link g past n n' binding (Served end.finished version)
+      served_whole failed some version last = (
+        w.seen,
+        told_as false failed,
+        all_finished link g v w before doors end all binding.quota binding.doors some count bound failed,
+        last,
+      )

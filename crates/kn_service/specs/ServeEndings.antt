@@ -3,7 +3,8 @@ use Rattle.std.specs.Prelude.{ℕ, List, [], ◌++◌, codes, decimal, unwrap_or
 use Rattle.kn_words.specs.Orders.{Order}
 use Rattle.kn_inputs.specs.Stops.{status_of, stop_line}
 use Rattle.kn_service.specs.declared.serve_ending.ServeEnding.{ServeEnding}
-use Rattle.kn_service.specs.declared.serve_ending.ServeEnding.TheVariants.{PolicyStopped, KeysStopped, BindMemory, Unbound, WorkMemory, DoorFailed, Served}
+use Rattle.kn_service.specs.declared.serve_ending.ServeEnding.TheVariants.{PolicyStopped, KeysStopped, BindMemory}
+use Rattle.kn_service.specs.declared.serve_ending.ServeEnding.TheVariants.{Unbound, WorkMemory, DoorFailed, Served}
 
 abbrev pub status_of_serve : ServeEnding → ℕ
 status_of_serve (PolicyStopped stop) = status_of stop

@@ -1,5 +1,5 @@
-//! The command `serve`, over whatever files and net it is given: the connections of an address, served by workers side by
-//! side over the policy in a file, with the keys in another; how that ends, and the line that says so.
+//! The command `serve`, over whatever files and net it is given: the connections of an address, served by workers side
+//! by side over the policy in a file, with the keys in another; how that ends, and the line that says so.
 #![tactic(auto)]
 
 mod serve_ending;

@@ -1,6 +1,8 @@
 -- The calls of one session: what refuses each, and what it makes of the session (keynoted's own; the calls are those of
 -- keynote(3)).
-use Rattle.std.specs.Prelude.{ℕ, ◌≡◌, ◌≤◌, ◌⊎◌, ◌+◌, ⊤, Bool, true, false, ◌==◌, ◌&&◌, not, nat_le, nat_lt, List, [], ◌∷◌, ◌++◌, length, filter, Option, Some, None, option_map, Result, Ok, Err, is_none, if◌then◌else◌}
+use Rattle.std.specs.Prelude.{ℕ, ◌≡◌, ◌≤◌, ◌⊎◌, ◌+◌, ⊤, Bool, true, false, ◌==◌, ◌&&◌, not, nat_le, nat_lt, List, []}
+use Rattle.std.specs.Prelude.{◌∷◌, ◌++◌, length, filter, Option, Some, None, option_map, Result, Ok, Err, is_none}
+use Rattle.std.specs.Prelude.{if◌then◌else◌}
 use Rattle.std.specs.List.{list_any}
 use Rattle.std.specs.Str.{bytes_eq}
 use Rattle.kn_base.specs.declared.limits.TheConstants.{PRIVATE_ASSERTIONS, PRIVATE_BYTES, REQUESTERS, PRINCIPAL_BYTES}
@@ -21,7 +23,8 @@ use Rattle.kn_session.specs.declared.call.Applied.{Applied}
 use Rattle.kn_session.specs.declared.call.Applied.TheVariants as A
 use Rattle.kn_session.specs.declared.call.Call.{Call as Called}
 use Rattle.kn_session.specs.declared.call.Call.TheVariants as Q
-use Rattle.kn_session.specs.Sessions.{Session, OpenSessions, session_in, with_changed, without_session, fault_if, standing_fault, end_standing}
+use Rattle.kn_session.specs.Sessions.{Session, OpenSessions, session_in, with_changed, without_session, fault_if}
+use Rattle.kn_session.specs.Sessions.{standing_fault, end_standing}
 
 -- Faults: of each call the first that applies.
 
@@ -34,7 +37,8 @@ abbrev pub private_fault : List ℕ → Assertion → Session → Option Session
 private_fault text assertion session =
     fault_if (bytes_eq assertion.authorizer policy) F.ByPolicy (
     fault_if (nat_le PRIVATE_ASSERTIONS (length session.privates)) (F.Privates (length session.privates)) (
-    fault_if (nat_lt PRIVATE_BYTES (private_bytes session + length text)) (F.PrivateBytes (private_bytes session)) None))
+    fault_if (nat_lt PRIVATE_BYTES (private_bytes session + length text)) (F.PrivateBytes (private_bytes session))
+    None))
 
 -- a private assertion of this id is there
 abbrev pub has_private : ℕ → Session → Bool
@@ -67,7 +71,8 @@ is_named requesters text = list_any (bytes_eq (normal_form text)) requesters
 abbrev pub auth_fault : List ℕ → Session → Option SessionFault
 auth_fault text session =
     fault_if (not (is_principal text)) F.Principal (
-    fault_if (not (is_named session.requesters text) && nat_le REQUESTERS (length session.requesters)) (F.Requesters (length session.requesters)) None)
+    fault_if (not (is_named session.requesters text) && nat_le REQUESTERS (length session.requesters))
+    (F.Requesters (length session.requesters)) None)
 
 abbrev pub unauth_fault : List ℕ → Session → Option SessionFault
 unauth_fault text session = fault_if (not (is_named session.requesters text)) F.Absent None
@@ -75,7 +80,8 @@ unauth_fault text session = fault_if (not (is_named session.requesters text)) F.
 -- Changes.
 
 abbrev pub add_private : List ℕ → Session → Session
-add_private text x = record x { privates = x.privates ++ record { id = x.made + 1; text = text } ∷ []; made = x.made + 1 }
+add_private text x =
+    record x { privates = x.privates ++ record { id = x.made + 1; text = text } ∷ []; made = x.made + 1 }
 
 abbrev pub take_private : ℕ → Session → Session
 take_private k x = record x { privates = filter (λ p. not (p.id == k)) x.privates }
@@ -88,7 +94,8 @@ unset_attribute name x = record x { attributes = without_attribute name x.attrib
 
 -- a requester that is there keeps its place; another one comes last
 abbrev pub add_requester : List ℕ → Session → Session
-add_requester text x = if is_named x.requesters text then x else record x { requesters = x.requesters ++ normal_form text ∷ [] }
+add_requester text x =
+    if is_named x.requesters text then x else record x { requesters = x.requesters ++ normal_form text ∷ [] }
 
 abbrev pub take_requester : List ℕ → Session → Session
 take_requester text x = record x { requesters = filter (λ r. not (bytes_eq (normal_form text) r)) x.requesters }
@@ -122,8 +129,8 @@ call_of (Q.Auth principal) = Auth principal.now
 call_of (Q.Unauth principal) = Unauth principal.now
 call_of Q.Unwatch = Unwatch
 
--- The sorts of calls: one closes its session, one adds the assertion of a text, and each other one changes a session that stays
--- open and gives nothing: it stores something, for which memory may run out, or it frees something.
+-- The sorts of calls: one closes its session, one adds the assertion of a text, and each other one changes a session
+-- that stays open and gives nothing: it stores something, for which memory may run out, or it frees something.
 pub data CallSort : Type 0 where
   Closing : CallSort
   Adding : List ℕ → CallSort
@@ -166,7 +173,8 @@ session_fault Unwatch session = standing_fault session
 abbrev pub call_fault : Call → Session → Option CallFault
 call_fault Close session = own_fault (session_fault Close session)
 call_fault Clear session = own_fault (session_fault Clear session)
-call_fault (Assert text) session = text_fault (reading_of text) (λ assertion. own_fault (private_fault text assertion session))
+call_fault (Assert text) session =
+    text_fault (reading_of text) (λ assertion. own_fault (private_fault text assertion session))
 call_fault (Retract k) session = own_fault (session_fault (Retract k) session)
 call_fault (Set name value) session = own_fault (session_fault (Set name value) session)
 call_fault (Unset name) session = own_fault (session_fault (Unset name) session)

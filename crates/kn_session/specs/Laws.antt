@@ -1,5 +1,6 @@
 -- What a session asks with, from its version and from its own assertions together; and what keeps its standing query.
-use Rattle.std.specs.Prelude.{ℕ, ◌≡◌, ◌≢◌, ◌+◌, ◌≤◌, List, [], ◌∷◌, ◌++◌, length, map, sum_by, Option, Some, option_map, option_and_then}
+use Rattle.std.specs.Prelude.{ℕ, ◌≡◌, ◌≢◌, ◌+◌, ◌≤◌, List, [], ◌∷◌, ◌++◌, length, map, sum_by, Option, Some, option_map}
+use Rattle.std.specs.Prelude.{option_and_then}
 use Rattle.std.specs.List.{AllByRecursion}
 use Rattle.kn_base.specs.declared.limits.TheConstants.{LIVE_BYTES, PRIVATE_BYTES}
 use Rattle.kn_assert.specs.Reading.{assertion_of}
@@ -33,17 +34,20 @@ TextsAreShort = (live privates : List NumberedText) → text_bytes live ≤ LIVE
 
 -- all ids differ, since a shared credential and a private assertion have ids of two sorts
 abbrev pub AllIdsDiffer : Type 0
-AllIdsDiffer = (live privates : List NumberedText) → IdsAscend 0 live → ArePrivates privates → AreDifferent (all_ids live privates)
+AllIdsDiffer = (live privates : List NumberedText) → IdsAscend 0 live → ArePrivates privates
+    → AreDifferent (all_ids live privates)
 
 -- the assertions of a view are those of its texts, in their order
 abbrev pub PrivatesAreRead : Type 0
-PrivatesAreRead = (privates : List Private) → AreReadPrivates privates → map assertion_of (map (λ p. p.text) privates) ≡ map (λ p. Some p.assertion) privates
+PrivatesAreRead = (privates : List Private) → AreReadPrivates privates
+    → map assertion_of (map (λ p. p.text) privates) ≡ map (λ p. Some p.assertion) privates
 
 -- the standing query of the session of this number, where that is open and keeps one
 abbrev pub standing_in : List Session → ℕ → Option StandingQuery
 standing_in sessions s = option_and_then (λ x. x.standing) (session_in sessions s)
 
--- It stays as it was under each call, of its own session or of another, that neither closes a session nor ends a standing query.
+-- It stays as it was under each call, of its own session or of another, that neither closes a session nor ends a
+-- standing query.
 abbrev pub CallsKeepStanding : Type 0
 CallsKeepStanding = (sessions : List Session) (s t : ℕ) (call : Call) → call ≢ Close → call ≢ Unwatch
     → standing_in (after_call sessions t call) s ≡ standing_in sessions s

@@ -1,8 +1,9 @@
 -- Where one item of a list passes a test.
-use Rattle.std.specs.Prelude.{ℕ, ◌≡◌, ◌<◌, Bool, true, not, List, length, map, filter, find, remove, slice_index_or, slice_set, Some, if◌then◌else◌}
+use Rattle.std.specs.Prelude.{ℕ, ◌≡◌, ◌<◌, Bool, true, not, List, length, map, filter, find, remove, slice_index_or}
+use Rattle.std.specs.Prelude.{slice_set, Some, if◌then◌else◌}
 
--- The item at this place passes the test, and no other one does. So it is the one found, a change of it is a change of what
--- passes, and without it the others are left.
+-- The item at this place passes the test, and no other one does. So it is the one found, a change of it is a change of
+-- what passes, and without it the others are left.
 pub record IsOneAt {X : Type 0} (p : X → Bool) (xs : List X) (i : ℕ) : Type 0 where
   pub within : i < length xs
   pub passes : (d : X) → p (slice_index_or xs i d) ≡ true

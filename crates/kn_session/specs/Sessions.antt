@@ -1,6 +1,7 @@
--- The sessions of a connection: what each holds, and how one is started and pinned (keynoted's own; the calls are those of
--- keynote(3)).
-use Rattle.std.specs.Prelude.{ℕ, ◌+◌, Bool, ◌==◌, not, nat_le, List, [], ◌∷◌, ◌++◌, length, map, filter, find, Option, Some, None, option_map, is_none, if◌then◌else◌}
+-- The sessions of a connection: what each holds, and how one is started and pinned (keynoted's own; the calls are those
+-- of keynote(3)).
+use Rattle.std.specs.Prelude.{ℕ, ◌+◌, Bool, ◌==◌, not, nat_le, List, [], ◌∷◌, ◌++◌, length, map, filter, find, Option}
+use Rattle.std.specs.Prelude.{Some, None, option_map, is_none, if◌then◌else◌}
 use Rattle.kn_base.specs.declared.limits.TheConstants.{SESSIONS}
 use Rattle.kn_env.specs.Attributes.{Attribute}
 use Rattle.kn_history.specs.declared.update.Update.{Update}
@@ -8,8 +9,8 @@ use Rattle.kn_history.specs.History.{NumberedText}
 use Rattle.kn_session.specs.declared.fault.SessionFault.{SessionFault}
 use Rattle.kn_session.specs.declared.fault.SessionFault.TheVariants as F
 
--- A query that a session keeps: the history of the version that it holds of, and the session's own assertions, attributes and
--- requesters as they were when it was kept, with the names of the compliance values.
+-- A query that a session keeps: the history of the version that it holds of, and the session's own assertions,
+-- attributes and requesters as they were when it was kept, with the names of the compliance values.
 pub record StandingQuery : Type 0 where
   pub pinned : List Update
   pub privates : List NumberedText
@@ -63,7 +64,17 @@ fault_in s (Some session) fault = fault session
 
 -- a new session
 abbrev pub started_session : ℕ → List Update → Session
-started_session number past = record { number = number; pinned = past; privates = []; made = 0; attributes = []; requesters = []; standing = None }
+started_session number past =
+    record {
+      number = number;
+      pinned = past;
+      privates = [];
+      made = 0;
+      attributes = [];
+      requesters = [];
+      standing =
+          None;
+    }
 
 -- one more session, where so many were started before it
 abbrev pub with_started : ℕ → List Session → List Update → List Session

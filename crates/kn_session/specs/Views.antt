@@ -40,8 +40,8 @@ AreReadPrivates privates = AllByRecursion IsReadPrivate privates
 abbrev pub ids_of : List NumberedText → List ℕ
 ids_of texts = map (λ c. c.id) texts
 
--- texts that may be a session's private assertions: not too many, short enough together, with ids from 1 of which no two are
--- equal
+-- texts that may be a session's private assertions: not too many, short enough together, with ids from 1 of which no
+-- two are equal
 pub record ArePrivates (texts : List NumberedText) : Type 0 where
   pub few : length texts ≤ PRIVATE_ASSERTIONS
   pub short : text_bytes texts ≤ PRIVATE_BYTES

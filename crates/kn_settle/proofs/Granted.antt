@@ -1,5 +1,6 @@
 -- What a row that was read says of settling.
-use Rattle.std.proofs.Common.{◌≡◌, ◌<◌, ◌≤◌, ◌-◌, ◌++◌, [], ◌∷◌, ℕ, List, length, min, slice_index, slice_set, sym, ap, ◌∙◌, subst, arith}
+use Rattle.std.proofs.Common.{◌≡◌, ◌<◌, ◌≤◌, ◌-◌, ◌++◌, [], ◌∷◌, ℕ, List, length, min, slice_index, slice_set, sym, ap}
+use Rattle.std.proofs.Common.{◌∙◌, subst, arith}
 use Rattle.kn_proof.specs.declared.row.Row.{Row as ProofRow}
 use Rattle.kn_system.specs.Equations.{SystemEquations, row_at}
 use Rattle.kn_system.specs.Form.{form_level}
@@ -7,21 +8,32 @@ use Rattle.kn_system.specs.Lawful.{IsGranted}
 use Rattle.kn_system.specs.Settled.{IsSettled, IsGrant, unsettled}
 
 -- a row that was read gives its authorizer the level
-pub grant_read : (s : SystemEquations) (v p by ceiling form found : ℕ) (levels : List ℕ) → by < length s.rows → p ≡ (row_at s.rows by).authorizer → slice_index levels p ≤ 0
-    → ceiling ≡ (row_at s.rows by).ceiling → form ≡ form_level (s.levels - 1) levels (row_at s.rows by).formula → found ≡ min ceiling form → v ≤ found → IsGrant s v levels by
+pub grant_read : (s : SystemEquations) (v p by ceiling form found : ℕ) (levels : List ℕ) → by < length s.rows
+    → p ≡ (row_at s.rows by).authorizer → slice_index levels p ≤ 0
+    → ceiling ≡ (row_at s.rows by).ceiling → form ≡ form_level (s.levels - 1) levels (row_at s.rows by).formula
+    → found ≡ min ceiling form → v ≤ found → IsGrant s v levels by
 grant_read s v p by ceiling form found levels l own none c f m enough = record {
   named = l;
-  fresh = let same : slice_index levels p ≡ slice_index levels (row_at s.rows by).authorizer = ap (slice_index levels) own in omega arith;
+  fresh = let same : slice_index levels p ≡ slice_index levels (row_at s.rows by).authorizer =
+      ap (slice_index levels) own in omega arith;
   supported = omega arith;
 }
 
 -- the levels and the rows after it are settled
-pub settled_read : (s : SystemEquations) (v p by : ℕ) (levels : List ℕ) (rows after : List ProofRow) → p ≡ (row_at s.rows by).authorizer
-    → after ≡ rows ++ (record { principal = p; value = v; by = by }) ∷ [] → IsGranted s v levels rows by → IsSettled s v (slice_set levels p v) after
+pub settled_read : (s : SystemEquations) (v p by : ℕ) (levels : List ℕ) (rows after : List ProofRow)
+    → p ≡ (row_at s.rows by).authorizer
+    → after ≡ rows ++ (record { principal = p; value = v; by = by }) ∷ [] → IsGranted s v levels rows by
+    → IsSettled s v (slice_set levels p v) after
 settled_read s v p by levels rows after own pushed h =
-    let same : after ≡ rows ++ (record { principal = (row_at s.rows by).authorizer; value = v; by = by }) ∷ [] = pushed ∙ ap (λ (q : ℕ). rows ++ (record { principal = q; value = v; by = by }) ∷ []) own in
-    subst (λ (q : ℕ). IsSettled s v (slice_set levels q v) after) (sym own) (subst (λ (rs : List ProofRow). IsSettled s v (slice_set levels (row_at s.rows by).authorizer v) rs) (sym same) h.settled)
+    let same : after ≡ rows ++ (record { principal = (row_at s.rows by).authorizer; value = v; by = by }) ∷ [] = pushed
+    ∙ ap (λ (q : ℕ). rows ++ (record { principal = q; value = v; by = by }) ∷ []) own in
+    subst (λ (q : ℕ). IsSettled s v (slice_set levels q v) after) (sym own)
+    (subst (λ (rs : List ProofRow). IsSettled s v (slice_set levels (row_at s.rows by).authorizer v) rs) (sym same)
+    h.settled)
 
 -- and fewer are left
-pub fewer_read : (s : SystemEquations) (v p by : ℕ) (levels : List ℕ) (rows : List ProofRow) → p ≡ (row_at s.rows by).authorizer → IsGranted s v levels rows by → unsettled (slice_set levels p v) < unsettled levels
-fewer_read s v p by levels rows own h = subst (λ (q : ℕ). unsettled (slice_set levels q v) < unsettled levels) (sym own) h.fewer
+pub fewer_read : (s : SystemEquations) (v p by : ℕ) (levels : List ℕ) (rows : List ProofRow)
+    → p ≡ (row_at s.rows by).authorizer → IsGranted s v levels rows by
+    → unsettled (slice_set levels p v) < unsettled levels
+fewer_read s v p by levels rows own h =
+    subst (λ (q : ℕ). unsettled (slice_set levels q v) < unsettled levels) (sym own) h.fewer

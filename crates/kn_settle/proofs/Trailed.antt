@@ -1,7 +1,10 @@
 -- Numbers above 0, and the trail that tells where they stand.
-use Rattle.std.proofs.Common.{◌≡◌, ℕ, zero, suc, ◌+◌, ◌<◌, Bool, true, false, Option, None, Some, List, [], ◌∷◌, ◌++◌, length, length-append, replicate, take, slice_get, slice_index, slice_set, refl, sym, ap, ◌∙◌, subst, inl, inr, arith}
+use Rattle.std.proofs.Common.{◌≡◌, ℕ, zero, suc, ◌+◌, ◌<◌, Bool, true, false, Option, None, Some, List, [], ◌∷◌, ◌++◌}
+use Rattle.std.proofs.Common.{length, length-append, replicate, take, slice_get, slice_index, slice_set, refl, sym, ap}
+use Rattle.std.proofs.Common.{◌∙◌, subst, inl, inr, arith}
 use Rattle.std.proofs.lemmas.Bool.{cases_eq, cases_lt, false≢true}
-use Rattle.std.proofs.lemmas.List.{ext_get_or, get_or-replicate, get_or-set_same, get_or-set_other, get_or_past, length-replicate, length-set, replicate_more}
+use Rattle.std.proofs.lemmas.List.{ext_get_or, get_or-replicate, get_or-set_same, get_or-set_other, get_or_past}
+use Rattle.std.proofs.lemmas.List.{length-replicate, length-set, replicate_more}
 use Rattle.kn_settle.specs.Counters.{IsIn}
 use Rattle.kn_settle.proofs.Counted.{in-or-last, in-pushed, pushed-is}
 use Rattle.kn_settle.specs.Blank.{AreTrailed, IsBlank, Sizes}
@@ -13,7 +16,8 @@ is-some (Some x) = true
 pub no-item : {A : Type 0} (x : A) → None ≡ Some x → ⊥
 no-item x e = false≢true (ap is-some e)
 
-pub trailed-set : (xs trail : List ℕ) (p x : ℕ) → p < length xs → AreTrailed xs trail → AreTrailed (slice_set xs p x) (trail ++ p ∷ [])
+pub trailed-set : (xs trail : List ℕ) (p x : ℕ) → p < length xs → AreTrailed xs trail
+    → AreTrailed (slice_set xs p x) (trail ++ p ∷ [])
 trailed-set xs trail p x within h = record {
   inside = λ i q e.
       let size : length (slice_set xs p x) ≡ length xs = length-set xs p x in
@@ -32,7 +36,8 @@ trailed-set xs trail p x within h = record {
 }
 
 -- where a number above 0 stands already, the trail need not grow
-pub trailed-again : (xs trail : List ℕ) (p x : ℕ) → 0 < slice_index xs p → AreTrailed xs trail → AreTrailed (slice_set xs p x) trail
+pub trailed-again : (xs trail : List ℕ) (p x : ℕ) → 0 < slice_index xs p → AreTrailed xs trail
+    → AreTrailed (slice_set xs p x) trail
 trailed-again xs trail p x had h = record {
   inside = λ i q e.
       let size : length (slice_set xs p x) ≡ length xs = length-set xs p x in
@@ -40,8 +45,10 @@ trailed-again xs trail p x had h = record {
       omega (arith, l, size);
   told = λ q some.
       elim (cases_eq q p) [
-        | inl same ↦ h.told q (let e : slice_index xs q ≡ slice_index xs p = ap (slice_index xs) same in omega (arith, e, had))
-        | inr differs ↦ let other : slice_index (slice_set xs p x) q ≡ slice_index xs q = get_or-set_other xs p q x 0 differs in h.told q (omega (arith, some, other))
+        | inl same ↦ h.told q (let e : slice_index xs q ≡ slice_index xs p = ap (slice_index xs) same in
+            omega (arith, e, had))
+        | inr differs ↦ let other : slice_index (slice_set xs p x) q ≡ slice_index xs q =
+            get_or-set_other xs p q x 0 differs in h.told q (omega (arith, some, other))
       ];
 }
 
@@ -49,15 +56,18 @@ trailed-again xs trail p x had h = record {
 pub trailed-last : (xs trail rest : List ℕ) (p : ℕ) → trail ≡ rest ++ p ∷ [] → AreTrailed xs trail → p < length xs
 trailed-last xs trail rest p e h = h.inside (length rest) p (ap (λ t. slice_get t (length rest)) e ∙ pushed-is rest p)
 
-pub trailed-pop : (xs trail rest : List ℕ) (p : ℕ) → trail ≡ rest ++ p ∷ [] → AreTrailed xs trail → AreTrailed (slice_set xs p 0) rest
+pub trailed-pop : (xs trail rest : List ℕ) (p : ℕ) → trail ≡ rest ++ p ∷ [] → AreTrailed xs trail
+    → AreTrailed (slice_set xs p 0) rest
 trailed-pop xs trail rest p e h =
     let within : p < length xs = trailed-last xs trail rest p e h in
     let size : length (slice_set xs p 0) ≡ length xs = length-set xs p 0 in
     record {
-      inside = λ i q at. let l : q < length xs = h.inside i q (ap (λ t. slice_get t i) e ∙ in-pushed rest i q p at) in omega (arith, l, size);
+      inside = λ i q at. let l : q < length xs = h.inside i q (ap (λ t. slice_get t i) e ∙ in-pushed rest i q p at) in
+          omega (arith, l, size);
       told = λ q some.
           elim (cases_eq q p) [
-            | inl same ↦ let none : slice_index (slice_set xs p 0) q ≡ 0 = ap (slice_index (slice_set xs p 0)) same ∙ get_or-set_same xs p 0 0 within in absurd (omega (arith, none, some))
+            | inl same ↦ let none : slice_index (slice_set xs p 0) q ≡ 0 = ap (slice_index (slice_set xs p 0)) same
+                ∙ get_or-set_same xs p 0 0 within in absurd (omega (arith, none, some))
             | inr differs ↦
                 let other : slice_index (slice_set xs p 0) q ≡ slice_index xs q = get_or-set_other xs p q 0 0 differs in
                 let old : IsIn trail q = h.told q (omega (arith, some, other)) in
@@ -73,8 +83,10 @@ pub trailed-none : (xs trail : List ℕ) (n : ℕ) → trail ≡ [] → length x
 trailed-none xs trail n e size h =
     ext_get_or 0 xs (replicate n 0) (size ∙ sym (length-replicate n 0)) (λ p l.
     (elim (cases_lt 0 (slice_index xs p)) [
-      | inl some ↦ let at : IsIn trail p = h.told p some in absurd (no-item p (ap (λ t. slice_get t at.0) (sym e) ∙ at.1))
-      | inr none ↦ let zero_there : slice_index xs p ≡ 0 = omega (arith, none) in zero_there ∙ sym (get_or-replicate n p 0 0 (omega (arith, l, size)))
+      | inl some ↦ let at : IsIn trail p = h.told p some in
+          absurd (no-item p (ap (λ t. slice_get t at.0) (sym e) ∙ at.1))
+      | inr none ↦ let zero_there : slice_index xs p ≡ 0 = omega (arith, none) in zero_there
+          ∙ sym (get_or-replicate n p 0 0 (omega (arith, l, size)))
     ]))
 
 -- and where all is 0 the trail may be empty
@@ -85,7 +97,8 @@ trailed-start xs trail n e t = record {
       let none : slice_index xs p ≡ 0 = ap (λ ys. slice_index ys p) e ∙
       (elim (cases_lt p n) [
         | inl within ↦ get_or-replicate n p 0 0 within
-        | inr past ↦ get_or_past (replicate n 0) p 0 (let size : length {A = ℕ} (replicate n 0) ≡ n = length-replicate n 0 in omega (arith, size, past))
+        | inr past ↦ get_or_past (replicate n 0) p 0 (let size : length {A = ℕ} (replicate n 0) ≡ n =
+            length-replicate n 0 in omega (arith, size, past))
       ]) in
       absurd (omega (arith, none, some));
 }
@@ -96,10 +109,12 @@ taken m zero x = refl
 taken zero (suc n) x = refl
 taken (suc m) (suc n) x = ap (λ l. x ∷ l) (taken m n x)
 
-pub same-taken : {X : Type 0} → (xs : List X) (m n : ℕ) (x : X) → xs ≡ replicate m x → take n xs ≡ replicate (length (take n xs)) x
+pub same-taken : {X : Type 0} → (xs : List X) (m n : ℕ) (x : X) → xs ≡ replicate m x
+    → take n xs ≡ replicate (length (take n xs)) x
 same-taken xs m n x e = subst (λ l. take n l ≡ replicate (length (take n l)) x) (sym e) (taken m n x)
 
-pub same-pushed : {X : Type 0} → (xs next : List X) (x : X) → next ≡ xs ++ x ∷ [] → xs ≡ replicate (length xs) x → next ≡ replicate (length next) x
+pub same-pushed : {X : Type 0} → (xs next : List X) (x : X) → next ≡ xs ++ x ∷ [] → xs ≡ replicate (length xs) x
+    → next ≡ replicate (length next) x
 same-pushed xs next x e h =
     let size : length next ≡ length xs + 1 = ap length e ∙ length-append xs (x ∷ []) in
     e ∙ ap (λ l. l ++ x ∷ []) h ∙ replicate_more (length xs) x ∙ ap (λ n. replicate n x) (sym size)
@@ -114,7 +129,8 @@ sizes-same p q n m v w a b c =
     ∙ ap (λ x. sizes q x v) b
     ∙ ap (λ x. sizes q m x) c
 
-pub blank-same : (p q n m v w : ℕ) (values reached counts counted : List ℕ) (buckets : List (List ℕ)) → p ≡ q → n ≡ m → v ≡ w → IsBlank p n v values reached counts counted buckets → IsBlank q m w values reached counts counted buckets
+pub blank-same : (p q n m v w : ℕ) (values reached counts counted : List ℕ) (buckets : List (List ℕ)) → p ≡ q → n ≡ m
+    → v ≡ w → IsBlank p n v values reached counts counted buckets → IsBlank q m w values reached counts counted buckets
 blank-same p q n m v w values reached counts counted buckets a b c h = record {
   values_none = h.values_none ∙ ap (λ x. replicate x 0) a;
   reached_none = h.reached_none;

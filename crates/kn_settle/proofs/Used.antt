@@ -1,5 +1,7 @@
 -- The uses of a principal, one after another: which are marked while it is visited.
-use Rattle.std.proofs.Common.{◌≡◌, ◌≢◌, ℕ, zero, suc, ◌+◌, ◌-◌, ◌*◌, ◌<◌, ◌≤◌, Bool, true, false, cond, eqb, nat_lt, Option, None, Some, List, [], ◌∷◌, length, take, get_or, slice_get, slice_index, refl, sym, ap, ◌∙◌, subst, inl, inr, arith}
+use Rattle.std.proofs.Common.{◌≡◌, ◌≢◌, ℕ, zero, suc, ◌+◌, ◌-◌, ◌*◌, ◌<◌, ◌≤◌, Bool, true, false, cond, eqb, nat_lt}
+use Rattle.std.proofs.Common.{Option, None, Some, List, [], ◌∷◌, length, take, get_or, slice_get, slice_index, refl}
+use Rattle.std.proofs.Common.{sym, ap, ◌∙◌, subst, inl, inr, arith}
 use Rattle.std.proofs.lemmas.Bool.{cases_lt, cases_eq, false≢true}
 use Rattle.std.proofs.lemmas.Bool.Decides.{nat_tests}
 use Rattle.std.proofs.lemmas.List.{get_or_past}
@@ -9,10 +11,12 @@ use Rattle.kn_system.specs.Counts.{IsWithin}
 use Rattle.kn_system.specs.Equations.{SystemEquations, node_total}
 use Rattle.kn_system.specs.Nodes.{pieces_of, uses_from, uses_of}
 use Rattle.kn_system.proofs.KeptRows.{length-pieces_of}
-use Rattle.kn_settle.specs.Counters.{AreVisited, AreWaiting, AreWhole, IsClimbed, IsCounted, IsPending, is_marked, piece_at, rank, trues}
+use Rattle.kn_settle.specs.Counters.{AreVisited, AreWaiting, AreWhole, IsClimbed, IsCounted, IsPending, is_marked}
+use Rattle.kn_settle.specs.Counters.{piece_at, rank, trues}
 
 -- where a principal stands, there is a use
-use-found-from : (p i m : ℕ) (ps : List Piece) → m < length ps → get_or ps m (Who 0) ≡ Who p → slice_get (uses_from p i ps) (length (uses_from p i (take m ps))) ≡ Some (i + m)
+use-found-from : (p i m : ℕ) (ps : List Piece) → m < length ps → get_or ps m (Who 0) ≡ Who p
+    → slice_get (uses_from p i ps) (length (uses_from p i (take m ps))) ≡ Some (i + m)
 use-found-from p i m [] l e = absurd (omega arith)
 use-found-from p i zero (Who q ∷ ps) l e =
     let same : q ≡ p = ap who e in
@@ -29,12 +33,18 @@ use-found-from p i zero (Gate k n ∷ ps) l e = absurd (false≢true (ap is_who 
     is_who (Who x) = true
     is_who (Gate k n) = false
 use-found-from p i (suc m) (Who q ∷ ps) l e =
-    let rest : slice_get (uses_from p (suc i) ps) (length (uses_from p (suc i) (take m ps))) ≡ Some (suc i + m) = use-found-from p (suc i) m ps (omega arith) e in
+    let rest : slice_get (uses_from p (suc i) ps) (length (uses_from p (suc i) (take m ps))) ≡ Some (suc i + m) =
+    use-found-from p (suc i) m ps (omega arith) e in
     let next : suc i + m ≡ i + suc m = omega arith in
-    let all : slice_get (uses_from p (suc i) ps) (length (uses_from p (suc i) (take m ps))) ≡ Some (i + suc m) = rest ∙ ap (λ n. Some n) next in
-    elim (eqb q p) as (λ b. slice_get (cond b (i ∷ uses_from p (suc i) ps) (uses_from p (suc i) ps)) (length (cond b (i ∷ uses_from p (suc i) (take m ps)) (uses_from p (suc i) (take m ps)))) ≡ Some (i + suc m)) [ true ↦ all | false ↦ all ]
+    let all : slice_get (uses_from p (suc i) ps) (length (uses_from p (suc i) (take m ps))) ≡ Some (i + suc m) = rest
+    ∙ ap (λ n. Some n) next in
+    elim (eqb q p) as
+    (λ b. slice_get (cond b (i ∷ uses_from p (suc i) ps) (uses_from p (suc i) ps))
+    (length (cond b (i ∷ uses_from p (suc i) (take m ps)) (uses_from p (suc i) (take m ps)))) ≡ Some (i + suc m))
+    [ true ↦ all | false ↦ all ]
 use-found-from p i (suc m) (Gate k n ∷ ps) l e =
-    let rest : slice_get (uses_from p (suc i) ps) (length (uses_from p (suc i) (take m ps))) ≡ Some (suc i + m) = use-found-from p (suc i) m ps (omega arith) e in
+    let rest : slice_get (uses_from p (suc i) ps) (length (uses_from p (suc i) (take m ps))) ≡ Some (suc i + m) =
+    use-found-from p (suc i) m ps (omega arith) e in
     let next : suc i + m ≡ i + suc m = omega arith in
     rest ∙ ap (λ x. Some x) next
 
@@ -45,7 +55,9 @@ record IsPlace (p i : ℕ) (ps : List Piece) (k j m : ℕ) : Type 0 where
   who : get_or ps m (Who 0) ≡ Who p
   before : length (uses_from p i (take m ps)) ≡ k
 
-place-next : (p i : ℕ) (x : Piece) (ps : List Piece) (k j m n : ℕ) → ((m : ℕ) → length (uses_from p i (x ∷ take m ps)) ≡ n + length (uses_from p (suc i) (take m ps))) → IsPlace p (suc i) ps k j m → IsPlace p i (x ∷ ps) (n + k) j (suc m)
+place-next : (p i : ℕ) (x : Piece) (ps : List Piece) (k j m n : ℕ)
+    → ((m : ℕ) → length (uses_from p i (x ∷ take m ps)) ≡ n + length (uses_from p (suc i) (take m ps)))
+    → IsPlace p (suc i) ps k j m → IsPlace p i (x ∷ ps) (n + k) j (suc m)
 place-next p i x ps k j m n count h = record {
   at = omega (arith, h.at);
   inside = omega (arith, h.inside);
@@ -57,35 +69,48 @@ abbrev from-some : Option ℕ → ℕ
 from-some None = 0
 from-some (Some y) = y
 
-use-place-who : (p i q : ℕ) (ps : List Piece) (k j : ℕ) (b : Bool) → ((l : ℕ) → slice_get (uses_from p (suc i) ps) l ≡ Some j → (m : ℕ) × IsPlace p (suc i) ps l j m) → eqb q p ≡ b → slice_get (cond b (i ∷ uses_from p (suc i) ps) (uses_from p (suc i) ps)) k ≡ Some j → (m : ℕ) × IsPlace p i (Who q ∷ ps) k j m
+use-place-who : (p i q : ℕ) (ps : List Piece) (k j : ℕ) (b : Bool)
+    → ((l : ℕ) → slice_get (uses_from p (suc i) ps) l ≡ Some j → (m : ℕ) × IsPlace p (suc i) ps l j m) → eqb q p ≡ b
+    → slice_get (cond b (i ∷ uses_from p (suc i) ps) (uses_from p (suc i) ps)) k ≡ Some j → (m : ℕ)
+    × IsPlace p i (Who q ∷ ps) k j m
 use-place-who p i q ps zero j true next e h =
     let same : q ≡ p = grind (arith, nat_tests) in
     let here : j ≡ i = sym (ap from-some h) in
     (0, record { at = omega (arith, here); inside = omega arith; who = ap (λ x. Who x) same; before = refl })
 use-place-who p i q ps (suc k) j true next e h =
     let r = next k h in
-    let count : (m : ℕ) → length (uses_from p i (Who q ∷ take m ps)) ≡ 1 + length (uses_from p (suc i) (take m ps)) = (λ m. ap (λ b. length (cond b (i ∷ uses_from p (suc i) (take m ps)) (uses_from p (suc i) (take m ps)))) e ∙ (omega arith)) in
+    let count : (m : ℕ) → length (uses_from p i (Who q ∷ take m ps)) ≡ 1 + length (uses_from p (suc i) (take m ps)) =
+    (λ m. ap (λ b. length (cond b (i ∷ uses_from p (suc i) (take m ps)) (uses_from p (suc i) (take m ps)))) e
+    ∙ (omega arith)) in
     let more : 1 + k ≡ suc k = omega arith in
     (suc r.0, subst (λ c. IsPlace p i (Who q ∷ ps) c j (suc r.0)) more (place-next p i (Who q) ps k j r.0 1 count r.1))
 use-place-who p i q ps k j false next e h =
     let r = next k h in
-    let count : (m : ℕ) → length (uses_from p i (Who q ∷ take m ps)) ≡ 0 + length (uses_from p (suc i) (take m ps)) = (λ m. ap (λ b. length (cond b (i ∷ uses_from p (suc i) (take m ps)) (uses_from p (suc i) (take m ps)))) e ∙ (omega arith)) in
+    let count : (m : ℕ) → length (uses_from p i (Who q ∷ take m ps)) ≡ 0 + length (uses_from p (suc i) (take m ps)) =
+    (λ m. ap (λ b. length (cond b (i ∷ uses_from p (suc i) (take m ps)) (uses_from p (suc i) (take m ps)))) e
+    ∙ (omega arith)) in
     let more : 0 + k ≡ k = omega arith in
     (suc r.0, subst (λ c. IsPlace p i (Who q ∷ ps) c j (suc r.0)) more (place-next p i (Who q) ps k j r.0 0 count r.1))
 
-use-place-from : (p i : ℕ) (ps : List Piece) (k j : ℕ) → slice_get (uses_from p i ps) k ≡ Some j → (m : ℕ) × IsPlace p i ps k j m
+use-place-from : (p i : ℕ) (ps : List Piece) (k j : ℕ) → slice_get (uses_from p i ps) k ≡ Some j → (m : ℕ)
+    × IsPlace p i ps k j m
 use-place-from p i [] k j h = absurd (cc)
-use-place-from p i (Who q ∷ ps) k j h = use-place-who p i q ps k j (eqb q p) (λ l. use-place-from p (suc i) ps l j) refl h
+use-place-from p i (Who q ∷ ps) k j h =
+    use-place-who p i q ps k j (eqb q p) (λ l. use-place-from p (suc i) ps l j) refl h
 use-place-from p i (Gate l n ∷ ps) k j h =
     let r = use-place-from p (suc i) ps k j h in
-    let more : 0 + k ≡ k = omega arith in
-    (suc r.0, subst (λ c. IsPlace p i (Gate l n ∷ ps) c j (suc r.0)) more (place-next p i (Gate l n) ps k j r.0 0 (λ m. omega arith) r.1))
+    let more : 0 + k ≡ k = omega arith in (
+      suc r.0,
+      subst (λ c. IsPlace p i (Gate l n ∷ ps) c j (suc r.0)) more
+          (place-next p i (Gate l n) ps k j r.0 0 (λ m. omega arith) r.1),
+    )
 
 pub length-uses : (p i : ℕ) (ps : List Piece) → length (uses_from p i ps) ≤ length ps
 length-uses p i [] = omega arith
 length-uses p i (Who q ∷ ps) =
     let rest = length-uses p (suc i) ps in
-    elim (eqb q p) as (λ b. length (cond b (i ∷ uses_from p (suc i) ps) (uses_from p (suc i) ps)) ≤ suc (length ps)) [ true ↦ omega (arith, rest) | false ↦ omega (arith, rest) ]
+    elim (eqb q p) as (λ b. length (cond b (i ∷ uses_from p (suc i) ps) (uses_from p (suc i) ps)) ≤ suc (length ps))
+    [ true ↦ omega (arith, rest) | false ↦ omega (arith, rest) ]
 length-uses p i (Gate k n ∷ ps) = let rest = length-uses p (suc i) ps in omega (arith, rest)
 
 get-within : (xs : List ℕ) (k j : ℕ) → slice_get xs k ≡ Some j → k < length xs
@@ -116,14 +141,17 @@ use_read s p k j e =
       most = get-within (uses_of p (pieces_of s.rows)) k j e;
     }
 
-pub use_found : (s : SystemEquations) (p i : ℕ) → i < node_total s.rows → piece_at s i ≡ Who p → slice_get (uses_of p (pieces_of s.rows)) (rank s p i) ≡ Some i
+pub use_found : (s : SystemEquations) (p i : ℕ) → i < node_total s.rows → piece_at s i ≡ Who p
+    → slice_get (uses_of p (pieces_of s.rows)) (rank s p i) ≡ Some i
 use_found s p i l e =
     let z : 0 + i ≡ i = omega arith in
     use-found-from p 0 i (pieces_of s.rows) (omega (arith, l, length-pieces_of s.rows)) e ∙ ap (λ n. Some n) z
 
 -- two uses of one rank are one
-use_same : (s : SystemEquations) (p k i j : ℕ) → i < node_total s.rows → piece_at s i ≡ Who p → rank s p i ≡ k → slice_get (uses_of p (pieces_of s.rows)) k ≡ Some j → i ≡ j
-use_same s p k i j l e r h = ap from-some (sym (use_found s p i l e) ∙ ap (slice_get (uses_of p (pieces_of s.rows))) r ∙ h)
+use_same : (s : SystemEquations) (p k i j : ℕ) → i < node_total s.rows → piece_at s i ≡ Who p → rank s p i ≡ k
+    → slice_get (uses_of p (pieces_of s.rows)) k ≡ Some j → i ≡ j
+use_same s p k i j l e r h = ap from-some (sym (use_found s p i l e) ∙ ap (slice_get (uses_of p (pieces_of s.rows))) r
+    ∙ h)
 
 pub who_same : (q p : ℕ) → Who q ≡ Who p → q ≡ p
 who_same q p e = ap who e
@@ -140,26 +168,30 @@ gate_no_who s i k n q e f = false≢true (ap is_who (sym e ∙ f))
     is_who (Gate l m) = false
 
 -- the next use is yet to be marked
-pub visit-pending : (s : SystemEquations) (p k j : ℕ) (levels : List ℕ) (m : List Bool) (counts : List ℕ) → IsUse s p k j → IsCounted s m counts (node_total s.rows) → AreVisited s p k levels m → IsPending s m counts j
+pub visit-pending : (s : SystemEquations) (p k j : ℕ) (levels : List ℕ) (m : List Bool) (counts : List ℕ)
+    → IsUse s p k j → IsCounted s m counts (node_total s.rows) → AreVisited s p k levels m → IsPending s m counts j
 visit-pending s p k j levels m counts kth counted visited = record {
   counts_but = record {
     marks_fit = counted.marks_fit;
     counts_fit = counted.counts_fit;
     counted = counted.counted;
     agreed = λ i l n e differs. counted.agreed i l n e (λ same.
-        let past : piece_at s i ≡ Who 0 = get_or_past (pieces_of s.rows) i (Who 0) (omega (arith, same, length-pieces_of s.rows)) in
+        let past : piece_at s i ≡ Who 0 =
+        get_or_past (pieces_of s.rows) i (Who 0) (omega (arith, same, length-pieces_of s.rows)) in
         gate_no_who s i l n 0 e past);
   };
   inside = kth.inside;
   unmarked =
       let own : eqb p p ≡ true = grind (arith, nat_tests) in
       let less : nat_lt (rank s p j) k ≡ false = (let r = kth.ranked in grind (arith, nat_tests)) in
-      visited j p kth.inside kth.leaf ∙ ap (λ b. cond b (nat_lt (rank s p j) k) (nat_lt 0 (slice_index levels p))) own ∙ less;
+      visited j p kth.inside kth.leaf ∙ ap (λ b. cond b (nat_lt (rank s p j) k) (nat_lt 0 (slice_index levels p))) own
+      ∙ less;
   ready = λ l n e. absurd (gate_no_who s j l n p e kth.leaf);
 }
 
 -- and is marked then
-pub visited-next : (s : SystemEquations) (p k j old new : ℕ) (levels : List ℕ) (m after : List Bool) → IsUse s p k j → slice_get (uses_of p (pieces_of s.rows)) k ≡ Some j → AreVisited s p k levels m → IsClimbed s m after j old new
+pub visited-next : (s : SystemEquations) (p k j old new : ℕ) (levels : List ℕ) (m after : List Bool) → IsUse s p k j
+    → slice_get (uses_of p (pieces_of s.rows)) k ≡ Some j → AreVisited s p k levels m → IsClimbed s m after j old new
     → AreVisited s p (k + 1) levels after
 visited-next s p k j old new levels m after kth found visited climbed = λ i q l e.
     elim (cases_eq i j) [
@@ -168,7 +200,8 @@ visited-next s p k j old new levels m after kth found visited climbed = λ i q l
           let own : eqb q p ≡ true = grind (arith, nat_tests) in
           let at_rank : rank s p i ≡ k = ap (rank s p) same ∙ kth.ranked in
           let less : nat_lt (rank s p i) (k + 1) ≡ true = grind (arith, nat_tests) in
-          ap (is_marked after) same ∙ climbed.own ∙ sym (ap (λ b. cond b (nat_lt (rank s p i) (k + 1)) (nat_lt 0 (slice_index levels q))) own ∙ less)
+          ap (is_marked after) same ∙ climbed.own
+          ∙ sym (ap (λ b. cond b (nat_lt (rank s p i) (k + 1)) (nat_lt 0 (slice_index levels q))) own ∙ less)
       | inr differs ↦
           climbed.leaves i q e differs ∙ visited i q l e ∙
           (elim (cases_eq q p) [
@@ -176,23 +209,31 @@ visited-next s p k j old new levels m after kth found visited climbed = λ i q l
                 let own : eqb q p ≡ true = grind (arith, nat_tests) in
                 let leaf : piece_at s i ≡ Who p = e ∙ ap (λ x. Who x) who in
                 let other : rank s p i ≢ k = (λ r. differs (use_same s p k i j l leaf r found)) in
-                let same_test : nat_lt (rank s p i) k ≡ nat_lt (rank s p i) (k + 1) = (elim (cases_lt (rank s p i) k) [ inl a ↦ grind (arith, nat_tests) | inr b ↦ let above : k < rank s p i = omega (arith, b, other) in grind (arith, nat_tests) ]) in
+                let same_test : nat_lt (rank s p i) k ≡ nat_lt (rank s p i) (k + 1) =
+                (elim (cases_lt (rank s p i) k) [
+                  | inl a ↦ grind (arith, nat_tests)
+                  | inr b ↦ let above : k
+                      < rank s p i = omega (arith, b, other) in grind (arith, nat_tests)
+                ]) in
                 ap (λ x. cond (eqb q p) x (nat_lt 0 (slice_index levels q))) same_test
             | inr stranger ↦
                 let no : eqb q p ≡ false = grind (arith, nat_tests) in
-                ap (λ b. cond b (nat_lt (rank s p i) k) (nat_lt 0 (slice_index levels q))) no ∙ sym (ap (λ b. cond b (nat_lt (rank s p i) (k + 1)) (nat_lt 0 (slice_index levels q))) no)
+                ap (λ b. cond b (nat_lt (rank s p i) k) (nat_lt 0 (slice_index levels q))) no
+                ∙ sym (ap (λ b. cond b (nat_lt (rank s p i) (k + 1)) (nat_lt 0 (slice_index levels q))) no)
           ])
     ]
 
 -- once there is no further use all is marked
-pub visited-all : (s : SystemEquations) (p k : ℕ) (levels : List ℕ) (m : List Bool) → 0 < slice_index levels p → slice_get (uses_of p (pieces_of s.rows)) k ≡ None → AreVisited s p k levels m → AreWhole s levels m
+pub visited-all : (s : SystemEquations) (p k : ℕ) (levels : List ℕ) (m : List Bool) → 0 < slice_index levels p
+    → slice_get (uses_of p (pieces_of s.rows)) k ≡ None → AreVisited s p k levels m → AreWhole s levels m
 visited-all s p k levels m some none visited = λ i q l e.
     visited i q l e ∙
     (elim (cases_eq q p) [
       | inl who ↦
           let own : eqb q p ≡ true = grind (arith, nat_tests) in
           let leaf : piece_at s i ≡ Who p = e ∙ ap (λ x. Who x) who in
-          let low : rank s p i < length (uses_of p (pieces_of s.rows)) = get-within (uses_of p (pieces_of s.rows)) (rank s p i) i (use_found s p i l leaf) in
+          let low : rank s p i < length (uses_of p (pieces_of s.rows)) =
+          get-within (uses_of p (pieces_of s.rows)) (rank s p i) i (use_found s p i l leaf) in
           let past : length (uses_of p (pieces_of s.rows)) ≤ k = get-past (uses_of p (pieces_of s.rows)) k none in
           let yes_first : nat_lt (rank s p i) k ≡ true = grind (arith, nat_tests) in
           let level : slice_index levels q ≡ slice_index levels p = ap (slice_index levels) who in
@@ -204,7 +245,8 @@ visited-all s p k levels m some none visited = λ i q l e.
     ])
 
 -- whatever the marks were, so a visit of a principal is underway
-pub record IsVisiting (s : SystemEquations) (v p k : ℕ) (levels : List ℕ) (marks m : List Bool) (counts : List ℕ) (buckets : List (List ℕ)) (old new : ℕ) : Type 0 where
+pub record IsVisiting (s : SystemEquations) (v p k : ℕ) (levels : List ℕ) (marks m : List Bool) (counts : List ℕ)
+    (buckets : List (List ℕ)) (old new : ℕ) : Type 0 where
   pub counted : IsCounted s m counts (node_total s.rows)
   pub visited : AreVisited s p k levels m
   pub waits : AreWaiting s v levels m buckets

@@ -1,6 +1,7 @@
--- Counting the parts of gates while principals are settled (keynoted's own): which nodes are marked, what gates have counted,
--- and which rows wait for their level.
-use Rattle.std.specs.Prelude.{ℕ, ◌+◌, ◌-◌, ◌*◌, ◌==◌, ◌≡◌, ◌≢◌, ◌<◌, ◌≤◌, Bool, true, false, nat_le, nat_lt, min, Some, List, [], ◌∷◌, length, take, slice_get, slice_index, slice_index_or, if◌then◌else◌}
+-- Counting the parts of gates while principals are settled (keynoted's own): which nodes are marked, what gates have
+-- counted, and which rows wait for their level.
+use Rattle.std.specs.Prelude.{ℕ, ◌+◌, ◌-◌, ◌*◌, ◌==◌, ◌≡◌, ◌≢◌, ◌<◌, ◌≤◌, Bool, true, false, nat_le, nat_lt, min, Some}
+use Rattle.std.specs.Prelude.{List, [], ◌∷◌, length, take, slice_get, slice_index, slice_index_or, if◌then◌else◌}
 use Rattle.kn_system.specs.declared.links.Up.{Up}
 use Rattle.kn_system.specs.declared.links.Up.TheVariants.{Node, Row}
 use Rattle.kn_system.specs.declared.rows.Piece.{Piece}
@@ -54,7 +55,8 @@ FitsBelow s i (Row r) = r < length s.rows
 pub record IsCounted (s : SystemEquations) (marks : List Bool) (counts : List ℕ) (j : ℕ) : Type 0 where
   pub marks_fit : length marks ≡ node_total s.rows
   pub counts_fit : length counts ≡ node_total s.rows
-  pub counted : (i k n : ℕ) → piece_at s i ≡ Gate k n → slice_index counts i ≡ min k (under (is_node i) marks (ups_of_rows s.rows))
+  pub counted : (i k n : ℕ) → piece_at s i ≡ Gate k n
+      → slice_index counts i ≡ min k (under (is_node i) marks (ups_of_rows s.rows))
   pub agreed : (i k n : ℕ) → piece_at s i ≡ Gate k n → i ≢ j → is_marked marks i ≡ nat_le k (slice_index counts i)
 
 -- all is counted, but node j is yet to be marked
@@ -66,7 +68,8 @@ pub record IsPending (s : SystemEquations) (marks : List Bool) (counts : List �
 
 -- a principal's node is marked where the principal has a level
 abbrev pub AreWhole : SystemEquations → List ℕ → List Bool → Type 0
-AreWhole s levels marks = (i q : ℕ) → i < node_total s.rows → piece_at s i ≡ Who q → is_marked marks i ≡ nat_lt 0 (slice_index levels q)
+AreWhole s levels marks = (i q : ℕ) → i < node_total s.rows → piece_at s i ≡ Who q
+    → is_marked marks i ≡ nat_lt 0 (slice_index levels q)
 
 -- how many uses of a principal stand before a node
 abbrev pub rank : SystemEquations → ℕ → ℕ → ℕ
@@ -75,7 +78,8 @@ rank s p i = length (uses_of p (take i (pieces_of s.rows)))
 -- so it is, but of the principal p the first k uses alone are marked
 abbrev pub AreVisited : SystemEquations → ℕ → ℕ → List ℕ → List Bool → Type 0
 AreVisited s p k levels marks =
-    (i q : ℕ) → i < node_total s.rows → piece_at s i ≡ Who q → is_marked marks i ≡ (if q == p then nat_lt (rank s p i) k else nat_lt 0 (slice_index levels q))
+    (i q : ℕ) → i < node_total s.rows → piece_at s i ≡ Who q
+    → is_marked marks i ≡ (if q == p then nat_lt (rank s p i) k else nat_lt 0 (slice_index levels q))
 
 abbrev pub bucket_at : List (List ℕ) → ℕ → List ℕ
 bucket_at buckets w = slice_index_or buckets w []
@@ -90,12 +94,15 @@ pub record IsReady (s : SystemEquations) (marks : List Bool) (w r : ℕ) : Type 
 abbrev pub IsIn : List ℕ → ℕ → Type 0
 IsIn bucket r = (i : ℕ) × (slice_get bucket i ≡ Some r)
 
--- each row whose formula is marked, and whose authorizer has no level yet, waits in the bucket of v or of its ceiling, if lower
-pub record AreWaiting (s : SystemEquations) (v : ℕ) (levels : List ℕ) (marks : List Bool) (buckets : List (List ℕ)) : Type 0 where
+-- each row whose formula is marked, and whose authorizer has no level yet, waits in the bucket of v or of its ceiling,
+-- if lower
+pub record AreWaiting (s : SystemEquations) (v : ℕ) (levels : List ℕ) (marks : List Bool) (buckets : List (List ℕ)) :
+    Type 0 where
   pub size : length buckets ≡ s.levels
   pub good : (w i r : ℕ) → slice_get (bucket_at buckets w) i ≡ Some r → IsReady s marks w r
   pub waiting :
-      (r : ℕ) → r < length s.rows → 1 ≤ under (is_row r) marks (ups_of_rows s.rows) → slice_index levels (row_at s.rows r).authorizer ≡ 0
+      (r : ℕ) → r < length s.rows → 1 ≤ under (is_row r) marks (ups_of_rows s.rows)
+      → slice_index levels (row_at s.rows r).authorizer ≡ 0
       → IsIn (bucket_at buckets (min v (row_at s.rows r).ceiling)) r
 
 -- buckets only grow at the end
@@ -103,7 +110,8 @@ abbrev pub AreLonger : List (List ℕ) → List (List ℕ) → Type 0
 AreLonger old new = (w i r : ℕ) → slice_get (bucket_at old w) i ≡ Some r → slice_get (bucket_at new w) i ≡ Some r
 
 -- what stands between visits
-pub record IsCounting (s : SystemEquations) (v : ℕ) (levels : List ℕ) (marks : List Bool) (counts : List ℕ) (buckets : List (List ℕ)) : Type 0 where
+pub record IsCounting (s : SystemEquations) (v : ℕ) (levels : List ℕ) (marks : List Bool) (counts : List ℕ)
+    (buckets : List (List ℕ)) : Type 0 where
   pub counted : IsCounted s marks counts (node_total s.rows)
   pub whole : AreWhole s levels marks
   pub waits : AreWaiting s v levels marks buckets

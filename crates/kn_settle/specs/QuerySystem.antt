@@ -1,5 +1,6 @@
 -- The system that a base is in a query: its rows with the ceilings of the query, and the requesters of the query.
-use Rattle.std.specs.Prelude.{ℕ, zero, suc, ◌==◌, ◌<◌, Bool, true, false, List, [], ◌∷◌, length, slice_index, if◌then◌else◌}
+use Rattle.std.specs.Prelude.{ℕ, zero, suc, ◌==◌, ◌<◌, Bool, true, false, List, [], ◌∷◌, length, slice_index}
+use Rattle.std.specs.Prelude.{if◌then◌else◌}
 use Rattle.kn_system.specs.Rows.{SystemRow}
 use Rattle.kn_system.specs.Equations.{SystemEquations}
 
@@ -17,7 +18,8 @@ flags_from requesters p (suc n) = is_among p requesters ∷ flags_from requester
 abbrev pub capped_from : List ℕ → ℕ → List SystemRow → List SystemRow
 capped_from ceilings i [] = []
 capped_from ceilings i (row ∷ rows) =
-    (record { authorizer = row.authorizer; ceiling = slice_index ceilings i; formula = row.formula }) ∷ capped_from ceilings (suc i) rows
+    (record { authorizer = row.authorizer; ceiling = slice_index ceilings i; formula = row.formula })
+    ∷ capped_from ceilings (suc i) rows
 
 -- a base in a query
 abbrev pub query_system : SystemEquations → ℕ → List ℕ → List ℕ → SystemEquations

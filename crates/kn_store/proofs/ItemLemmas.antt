@@ -28,19 +28,22 @@ refusal-is : (past : List Numbered) (item : Item) → refusal_of (live_view past
 refusal-is past (I.Add text) = refl
 refusal-is past (I.Remove id) = refl
 
-view-item : (past : List Numbered) (item : Item) → after_item (live_view past) item ≡ live_view (past ++ numbered past item ∷ [])
+view-item : (past : List Numbered) (item : Item)
+    → after_item (live_view past) item ≡ live_view (past ++ numbered past item ∷ [])
 view-item past (I.Add text) = view-addition past text
 view-item past (I.Remove id) = view-removal past id
 
--- Of these items some in front were made changes of, and these are left: what comes of all behind `past` is what comes of the
--- others behind the changes.
-pub record AreMadeUpTo (past : List Numbered) (items : List Item) (place : ℕ) (live : LiveView) (changes : List Numbered) (left : List Item) : Type 0 where
+-- Of these items some in front were made changes of, and these are left: what comes of all behind `past` is what comes
+-- of the others behind the changes.
+pub record AreMadeUpTo (past : List Numbered) (items : List Item) (place : ℕ) (live : LiveView)
+    (changes : List Numbered) (left : List Item) : Type 0 where
   pub view : live ≡ live_view (past ++ changes)
   pub numbers : all_numbered past items ≡ changes ++ all_numbered (past ++ changes) left
   pub refusal : refusal_of_items past items ≡ refused_from (place + 1) (past ++ changes) left
   pub reads : list_all item_reads items ≡ list_all item_reads left
 
-pub none_made : (past : List Numbered) (items : List Item) (live : LiveView) → live ≡ live_view past → AreMadeUpTo past items 0 live [] items
+pub none_made : (past : List Numbered) (items : List Item) (live : LiveView) → live ≡ live_view past
+    → AreMadeUpTo past items 0 live [] items
 none_made past items live is = record {
   view = is ∙ ap live_view (sym (append-nil past));
   numbers = ap (λ l. all_numbered l items) (sym (append-nil past));
@@ -48,24 +51,31 @@ none_made past items live is = record {
   reads = refl;
 }
 
-module _ (past : List Numbered) (items : List Item) (place : ℕ) (live : LiveView) (changes : List Numbered) (left : List Item) (item : Item) (rest : List Item)
+module _ (past : List Numbered) (items : List Item) (place : ℕ) (live : LiveView) (changes : List Numbered)
+    (left : List Item) (item : Item) (rest : List Item)
     (so_far : AreMadeUpTo past items place live changes left) (taken : left ≡ item ∷ rest) where
-  refused_next : refusal_of_items past items ≡ found_at (place + 1) (refusal_of_item (past ++ changes) item) (refused_from (place + 1 + 1) ((past ++ changes) ++ numbered (past ++ changes) item ∷ []) rest)
+  refused_next : refusal_of_items past items ≡ found_at (place + 1) (refusal_of_item (past ++ changes) item)
+      (refused_from (place + 1 + 1) ((past ++ changes) ++ numbered (past ++ changes) item ∷ []) rest)
   refused_next = so_far.refusal ∙ ap (refused_from (place + 1) (past ++ changes)) taken
 
   refusal_here : refusal_of live item ≡ refusal_of_item (past ++ changes) item
   refusal_here = ap (λ v. refusal_of v item) so_far.view ∙ refusal-is (past ++ changes) item
 
-  pub refused_item : (fault : StoreFault) → refusal_of live item ≡ Some fault → refusal_of_items past items ≡ Some (place + 1, fault)
+  pub refused_item : (fault : StoreFault) → refusal_of live item ≡ Some fault
+      → refusal_of_items past items ≡ Some (place + 1, fault)
   refused_item fault refused =
       refused_next
-      ∙ ap (λ o. found_at (place + 1) o (refused_from (place + 1 + 1) ((past ++ changes) ++ numbered (past ++ changes) item ∷ []) rest)) (sym refusal_here ∙ refused)
+      ∙ ap (λ o. found_at (place + 1) o
+      (refused_from (place + 1 + 1) ((past ++ changes) ++ numbered (past ++ changes) item ∷ []) rest))
+      (sym refusal_here ∙ refused)
 
-  pub one_more_made : (next : LiveView) (change : Numbered) → next ≡ after_item live item → change ≡ change_of live item → refusal_of live item ≡ None
+  pub one_more_made : (next : LiveView) (change : Numbered) → next ≡ after_item live item → change ≡ change_of live item
+      → refusal_of live item ≡ None
       → item_reads item ≡ true → AreMadeUpTo past items (place + 1) next (changes ++ change ∷ []) rest
   one_more_made next change after is accepted reads =
       let behind = past ++ changes in
-      let number : change ≡ numbered behind item = is ∙ ap (λ v. change_of v item) so_far.view ∙ change-is behind item in
+      let number : change ≡ numbered behind item = is ∙ ap (λ v. change_of v item) so_far.view
+      ∙ change-is behind item in
       let longer : behind ++ numbered behind item ∷ [] ≡ past ++ (changes ++ change ∷ []) =
       ap (λ c. behind ++ c ∷ []) (sym number) ∙ append_assoc past changes (change ∷ []) in
       record {
@@ -77,17 +87,20 @@ module _ (past : List Numbered) (items : List Item) (place : ℕ) (live : LiveVi
             ∙ sym (append_assoc changes (change ∷ []) (all_numbered (past ++ (changes ++ change ∷ [])) rest));
         refusal =
             refused_next
-            ∙ ap (λ o. found_at (place + 1) o (refused_from (place + 1 + 1) (behind ++ numbered behind item ∷ []) rest)) (sym refusal_here ∙ accepted)
+            ∙ ap (λ o. found_at (place + 1) o (refused_from (place + 1 + 1) (behind ++ numbered behind item ∷ []) rest))
+            (sym refusal_here ∙ accepted)
             ∙ ap (λ l. refused_from (place + 1 + 1) l rest) longer;
         reads = so_far.reads ∙ ap (list_all item_reads) taken ∙ rw reads refl;
       }
 
 -- All of them were made changes of.
-module _ (past : List Numbered) (items : List Item) (place : ℕ) (live : LiveView) (changes : List Numbered) (left : List Item)
+module _ (past : List Numbered) (items : List Item) (place : ℕ) (live : LiveView) (changes : List Numbered)
+    (left : List Item)
     (so_far : AreMadeUpTo past items place live changes left) (none : left ≡ []) where
   pub changes_are : changes ≡ numbered_from (additions past + 1) items
   changes_are =
-      sym (append-nil changes) ∙ ap (λ l. changes ++ all_numbered (past ++ changes) l) (sym none) ∙ sym so_far.numbers ∙ ids-go_on past items
+      sym (append-nil changes) ∙ ap (λ l. changes ++ all_numbered (past ++ changes) l) (sym none) ∙ sym so_far.numbers
+      ∙ ids-go_on past items
 
   pub none_refused : refusal_of_items past items ≡ None
   none_refused = so_far.refusal ∙ ap (refused_from (place + 1) (past ++ changes)) none
@@ -95,17 +108,21 @@ module _ (past : List Numbered) (items : List Item) (place : ℕ) (live : LiveVi
   all_read : list_all item_reads items ≡ true
   all_read = so_far.reads ∙ ap (list_all item_reads) none
 
-  pub batch_follows : (caller : ℕ) → 1 ≤ length items → length items ≤ 256 → update_may_follow past (batch_by caller (additions past + 1) items) ≡ true
+  pub batch_follows : (caller : ℕ) → 1 ≤ length items → length items ≤ 256
+      → update_may_follow past (batch_by caller (additions past + 1) items) ≡ true
   batch_follows caller some few =
       batch-follows caller past items
       ∙ rw (none_refused, all_read, le-leb 1 (length items) some, le-leb (length items) 256 few) refl
 
 -- The items, one by one.
 
-pub taken_at : (items : List Item) (place : ℕ) (item : Item) → slice_get items place ≡ Some item → drop place items ≡ item ∷ drop (place + 1) items
+pub taken_at : (items : List Item) (place : ℕ) (item : Item) → slice_get items place ≡ Some item
+    → drop place items ≡ item ∷ drop (place + 1) items
 taken_at items place item there =
     drop_more items place item (slice_get_within items place item there)
     ∙ ap (λ x. x ∷ drop (place + 1) items) (get_or_from_slice_get items place item item there)
 
-pub left_behind : (items after : List Item) (place : ℕ) (other : Item) → after ≡ slice_set items place other → drop (place + 1) items ≡ drop (place + 1) after
-left_behind items after place other is = sym (ap (drop (place + 1)) is ∙ drop-set-lt (place + 1) items place other (omega arith))
+pub left_behind : (items after : List Item) (place : ℕ) (other : Item) → after ≡ slice_set items place other
+    → drop (place + 1) items ≡ drop (place + 1) after
+left_behind items after place other is =
+    sym (ap (drop (place + 1)) is ∙ drop-set-lt (place + 1) items place other (omega arith))

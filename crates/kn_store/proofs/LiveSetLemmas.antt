@@ -1,5 +1,6 @@
 -- One more live credential, and one fewer, in what is kept of them.
-use Rattle.std.proofs.Common.{◌≡◌, ℕ, ◌+◌, ◌-◌, ◌<◌, ◌≤◌, ◌==◌, Bool, true, false, not, cond, List, [], ◌∷◌, ◌++◌, length, filter, refl, sym, ap, ◌∙◌, subst, arith, length-append}
+use Rattle.std.proofs.Common.{◌≡◌, ℕ, ◌+◌, ◌-◌, ◌<◌, ◌≤◌, ◌==◌, Bool, true, false, not, cond, List, [], ◌∷◌, ◌++◌}
+use Rattle.std.proofs.Common.{length, filter, refl, sym, ap, ◌∙◌, subst, arith, length-append}
 use Rattle.std.specs.Prelude.{Option, Some, None}
 use Rattle.std.specs.List.{list_any, All}
 use Rattle.std.proofs.lemmas.Bool.{ltb-false, leb-false, lt-leb, le-leb, eq-eqb, or_right, or_left}
@@ -19,7 +20,8 @@ use Rattle.kn_pages.specs.Pages.{joined, with_item, without_item}
 use Rattle.kn_pages.proofs.PageLemmas.{joined-with_item, sized-with_item, sized-without_item}
 use Rattle.kn_store.proofs.LiveLemmas.{IsCut, ascend-push, ascend-without, filter-one}
 
-tested : (b : Bool) (fault : StoreFault) (rest : Option StoreFault) → cond b (Some fault) rest ≡ None → (b ≡ false) × (rest ≡ None)
+tested : (b : Bool) (fault : StoreFault) (rest : Option StoreFault) → cond b (Some fault) rest ≡ None → (b ≡ false)
+    × (rest ≡ None)
 tested true fault rest h = cc
 tested false fault rest h = (refl, h)
 
@@ -50,13 +52,22 @@ module _ (s : Inside) (pages : List (List NumberedText)) (most : ℕ) (c : Numbe
   longer = ap joined is ∙ joined-with_item most s.pages c
 
   pub added_set : 1 ≤ most → most ≤ CREDENTIALS_PAGE → IsLiveSet s → refusal_of_size (view_of_set s) size ≡ None
-      → IsLiveSet (record { pages = pages; count = s.count + 1; bytes = s.bytes + size; changes = s.changes + 1; logged = s.logged + size; added = s.added + 1 })
+      → IsLiveSet (record {
+        pages = pages;
+        count = s.count + 1;
+        bytes = s.bytes + size;
+        changes = s.changes + 1;
+        logged = s.logged + size;
+        added = s.added + 1;
+      })
   added_set some few kept none =
       let within = accepted (view_of_set s) size none in
       let count = length-append (joined s.pages) (c ∷ []) in
       let bytes = sum_by_push (λ (x : NumberedText). length x.text) (joined s.pages) c in
-      let higher = All-weaker (λ (x : NumberedText). x.id ≤ s.added) (λ x. x.id ≤ s.added + 1) (λ x le. omega arith) (joined s.pages) kept.newest in
-      let below = All-weaker (λ (x : NumberedText). x.id ≤ s.added) (λ x. x.id < c.id) (λ x le. omega arith) (joined s.pages) kept.newest in
+      let higher = All-weaker (λ (x : NumberedText). x.id ≤ s.added) (λ x. x.id ≤ s.added + 1) (λ x le. omega arith)
+      (joined s.pages) kept.newest in
+      let below = All-weaker (λ (x : NumberedText). x.id ≤ s.added) (λ x. x.id < c.id) (λ x le. omega arith)
+      (joined s.pages) kept.newest in
       let kept_count = kept.count in
       let kept_bytes = kept.bytes in
       let room = within.count in
@@ -77,7 +88,14 @@ module _ (s : Inside) (pages : List (List NumberedText)) (most : ℕ) (c : Numbe
       }
 
   pub added_view : (text : List ℕ) → text ≡ c.text
-      → view_of_set (record { pages = pages; count = s.count + 1; bytes = s.bytes + size; changes = s.changes + 1; logged = s.logged + size; added = s.added + 1 })
+      → view_of_set (record {
+        pages = pages;
+        count = s.count + 1;
+        bytes = s.bytes + size;
+        changes = s.changes + 1;
+        logged = s.logged + size;
+        added = s.added + 1;
+      })
       ≡ with_addition (view_of_set s) text
   added_view text same = rw (same, longer, long, ← next) refl
 
@@ -85,7 +103,8 @@ module _ (s : Inside) (pages : List (List NumberedText)) (most : ℕ) (c : Numbe
 
 left_of : (P : NumberedText → Type 0) (xs ys : List NumberedText) → All P (xs ++ ys) → All P xs
 left_of P [] ys all = All-nil P
-left_of P (x ∷ xs) ys all = All-cons P x xs (All-head P x (xs ++ ys) all) (left_of P xs ys (All-tail P x (xs ++ ys) all))
+left_of P (x ∷ xs) ys all =
+    All-cons P x xs (All-head P x (xs ++ ys) all) (left_of P xs ys (All-tail P x (xs ++ ys) all))
 
 right_of : (P : NumberedText → Type 0) (xs ys : List NumberedText) → All P (xs ++ ys) → All P ys
 right_of P [] ys all = all
@@ -117,12 +136,20 @@ module _ (s : Inside) (pages : List (List NumberedText)) (id page place size : �
   pub removed_count : IsLiveSet s → 1 ≤ s.count
   removed_count kept = let kept_count = kept.count in let here = count_is in omega arith
 
-  all_others : (P : NumberedText → Type 0) → All P (cut.front ++ cut.credential ∷ cut.back) → All P (cut.front ++ cut.back)
+  all_others : (P : NumberedText → Type 0) → All P (cut.front ++ cut.credential ∷ cut.back)
+      → All P (cut.front ++ cut.back)
   all_others P all = All-append P cut.front cut.back (left_of P cut.front (cut.credential ∷ cut.back) all)
       (All-tail P cut.credential cut.back (right_of P cut.front (cut.credential ∷ cut.back) all))
 
   pub removed_set : IsLiveSet s → s.changes < UPDATES
-      → IsLiveSet (record { pages = pages; count = s.count - 1; bytes = s.bytes - size; changes = s.changes + 1; logged = s.logged; added = s.added })
+      → IsLiveSet (record {
+        pages = pages;
+        count = s.count - 1;
+        bytes = s.bytes - size;
+        changes = s.changes + 1;
+        logged = s.logged;
+        added = s.added;
+      })
   removed_set kept room =
       let counted = count_is in
       let sized = bytes_is in
@@ -134,7 +161,8 @@ module _ (s : Inside) (pages : List (List NumberedText)) (id page place size : �
       record {
         pages = rw is (sized-without_item CREDENTIALS_PAGE s.pages page place kept.pages);
         ids = rw shorter (ascend-without 0 cut.front cut.credential cut.back (subst (IdsAscend 0) cut.whole kept.ids));
-        newest = rw shorter (all_others (λ x. x.id ≤ s.added) (subst (All (λ x. x.id ≤ s.added)) cut.whole kept.newest));
+        newest = rw shorter
+            (all_others (λ x. x.id ≤ s.added) (subst (All (λ x. x.id ≤ s.added)) cut.whole kept.newest));
         count = rw shorter (omega arith);
         bytes = rw shorter (omega arith);
         count_limit = omega arith;
@@ -145,7 +173,14 @@ module _ (s : Inside) (pages : List (List NumberedText)) (id page place size : �
       }
 
   pub removed_view : IsLiveSet s
-      → view_of_set (record { pages = pages; count = s.count - 1; bytes = s.bytes - size; changes = s.changes + 1; logged = s.logged; added = s.added })
+      → view_of_set (record {
+        pages = pages;
+        count = s.count - 1;
+        bytes = s.bytes - size;
+        changes = s.changes + 1;
+        logged = s.logged;
+        added = s.added;
+      })
       ≡ with_removal (view_of_set s) id
   removed_view kept =
       let left : filter (λ (x : NumberedText). not (x.id == id)) (joined s.pages) ≡ cut.front ++ cut.back =
@@ -156,18 +191,24 @@ module _ (s : Inside) (pages : List (List NumberedText)) (id page place size : �
 
 -- What a removal is refused for.
 
-present : (pages : List (List NumberedText)) (id page place : ℕ) → IsCut pages id page place → list_any (λ (x : NumberedText). x.id == id) (joined pages) ≡ true
+present : (pages : List (List NumberedText)) (id page place : ℕ) → IsCut pages id page place
+    → list_any (λ (x : NumberedText). x.id == id) (joined pages) ≡ true
 present pages id page place cut =
     ap (list_any (λ (x : NumberedText). x.id == id)) cut.whole
     ∙ list_any-append (λ (x : NumberedText). x.id == id) cut.front (cut.credential ∷ cut.back)
-    ∙ or_right (list_any (λ (x : NumberedText). x.id == id) cut.front) (list_any (λ (x : NumberedText). x.id == id) (cut.credential ∷ cut.back))
-    (or_left (cut.credential.id == id) (list_any (λ (x : NumberedText). x.id == id) cut.back) (eq-eqb cut.credential.id id cut.same))
+    ∙ or_right (list_any (λ (x : NumberedText). x.id == id) cut.front)
+    (list_any (λ (x : NumberedText). x.id == id) (cut.credential ∷ cut.back))
+    (or_left (cut.credential.id == id) (list_any (λ (x : NumberedText). x.id == id) cut.back)
+    (eq-eqb cut.credential.id id cut.same))
 
-pub removal_accepted : (s : Inside) (id page place : ℕ) → IsCut s.pages id page place → s.changes < UPDATES → refusal_of_removal (view_of_set s) id ≡ None
+pub removal_accepted : (s : Inside) (id page place : ℕ) → IsCut s.pages id page place → s.changes < UPDATES
+    → refusal_of_removal (view_of_set s) id ≡ None
 removal_accepted s id page place cut room = rw (present s.pages id page place cut, lt-leb UPDATES s.changes room) refl
 
-pub refused_full : (s : Inside) (id page place : ℕ) → IsCut s.pages id page place → UPDATES ≤ s.changes → refusal_of_removal (view_of_set s) id ≡ Some (HistoryFull s.changes)
+pub refused_full : (s : Inside) (id page place : ℕ) → IsCut s.pages id page place → UPDATES ≤ s.changes
+    → refusal_of_removal (view_of_set s) id ≡ Some (HistoryFull s.changes)
 refused_full s id page place cut full = rw (present s.pages id page place cut, le-leb UPDATES s.changes full) refl
 
-pub refused_unknown : (s : Inside) (id : ℕ) → list_any (λ (x : NumberedText). x.id == id) (joined s.pages) ≡ false → refusal_of_removal (view_of_set s) id ≡ Some (Unknown id)
+pub refused_unknown : (s : Inside) (id : ℕ) → list_any (λ (x : NumberedText). x.id == id) (joined s.pages) ≡ false
+    → refusal_of_removal (view_of_set s) id ≡ Some (Unknown id)
 refused_unknown s id absent = rw absent refl

@@ -1,4 +1,5 @@
--- The cut: where those that have u in the first levels have it in the second, each formula that reaches u does so there.
+-- The cut: where those that have u in the first levels have it in the second, each formula that reaches u does so
+-- there.
 use Rattle.std.proofs.Common.{◌≡◌, ℕ, suc, zero, ◌+◌, ◌<◌, ◌≤◌, List, [], ◌∷◌, slice_index, take, drop, inl, inr, arith}
 use Rattle.std.proofs.lemmas.Bool.{cases_lt}
 use Rattle.std.proofs.lemmas.List.{get_or-take, get_or-drop, get_or_past, length-take}
@@ -9,7 +10,8 @@ use Rattle.kn_system.specs.Form.{form_levels}
 use Rattle.kn_system.specs.Order.{Carries}
 use Rattle.kn_system.proofs.Reached.{threshold-carried, threshold-le}
 
-pub Carries-cons : (u x y : ℕ) (xs ys : List ℕ) → (u ≤ x → u ≤ y) → Carries u xs ys → (i : ℕ) → u ≤ slice_index (x ∷ xs) i → u ≤ slice_index (y ∷ ys) i
+pub Carries-cons : (u x y : ℕ) (xs ys : List ℕ) → (u ≤ x → u ≤ y) → Carries u xs ys → (i : ℕ)
+    → u ≤ slice_index (x ∷ xs) i → u ≤ slice_index (y ∷ ys) i
 Carries-cons u x y xs ys first rest zero l = first l
 Carries-cons u x y xs ys first rest (suc i) l = rest i l
 
@@ -25,7 +27,8 @@ Carries-take u n xs ys h c = λ i l.
 Carries-drop : (u n : ℕ) (xs ys : List ℕ) → Carries u xs ys → Carries u (drop n xs) (drop n ys)
 Carries-drop u n xs ys c = λ i l. rw get_or-drop (c (n + i) (rw get_or-drop at l))
 
-pub form_levels-carried : (u top : ℕ) (xs ys : List ℕ) → 0 < u → Carries u xs ys → (ps : List Piece) → Carries u (form_levels top xs ps) (form_levels top ys ps)
+pub form_levels-carried : (u top : ℕ) (xs ys : List ℕ) → 0 < u → Carries u xs ys → (ps : List Piece)
+    → Carries u (form_levels top xs ps) (form_levels top ys ps)
 form_levels-carried u top xs ys h c [] = λ i l. l
 form_levels-carried u top xs ys h c (Who p ∷ ps) =
     let rest = form_levels-carried u top xs ys h c ps in
@@ -38,15 +41,19 @@ form_levels-carried u top xs ys h c (Gate k n ∷ ps) =
     (threshold-carried top k u h (take n before) (take n after) (Carries-take u n before after h rest))
     (Carries-drop u n before after rest)
 
-le-cons : (top x : ℕ) (xs : List ℕ) → x ≤ top → ((i : ℕ) → slice_index xs i ≤ top) → (i : ℕ) → slice_index (x ∷ xs) i ≤ top
+le-cons : (top x : ℕ) (xs : List ℕ) → x ≤ top → ((i : ℕ) → slice_index xs i ≤ top) → (i : ℕ)
+    → slice_index (x ∷ xs) i ≤ top
 le-cons top x xs first rest zero = first
 le-cons top x xs first rest (suc i) = rest i
 
 -- where no level is above the top, no formula's is
-pub form_levels-le : (top : ℕ) (xs : List ℕ) → ((i : ℕ) → slice_index xs i ≤ top) → (ps : List Piece) (i : ℕ) → slice_index (form_levels top xs ps) i ≤ top
+pub form_levels-le : (top : ℕ) (xs : List ℕ) → ((i : ℕ) → slice_index xs i ≤ top) → (ps : List Piece) (i : ℕ)
+    → slice_index (form_levels top xs ps) i ≤ top
 form_levels-le top xs low [] i = omega arith
-form_levels-le top xs low (Who p ∷ ps) i = le-cons top (slice_index xs p) (form_levels top xs ps) (low p) (form_levels-le top xs low ps) i
+form_levels-le top xs low (Who p ∷ ps) i =
+    le-cons top (slice_index xs p) (form_levels top xs ps) (low p) (form_levels-le top xs low ps) i
 form_levels-le top xs low (Gate k n ∷ ps) i =
     let behind : List ℕ = form_levels top xs ps in
     let rest : (j : ℕ) → slice_index behind j ≤ top = form_levels-le top xs low ps in
-    le-cons top (threshold top k (take n behind)) (drop n behind) (threshold-le top k (take n behind)) (λ j. rw get_or-drop (rest (n + j))) i
+    le-cons top (threshold top k (take n behind)) (drop n behind) (threshold-le top k (take n behind))
+    (λ j. rw get_or-drop (rest (n + j))) i

@@ -1,5 +1,6 @@
 -- A well-formed system stays so as principals and rows are added.
-use Rattle.std.proofs.Common.{◌≡◌, ℕ, zero, suc, ◌+◌, ◌<◌, ◌≤◌, ◌^◌, Bool, true, false, List, [], ◌∷◌, ◌++◌, length, slice_index_or, arith}
+use Rattle.std.proofs.Common.{◌≡◌, ℕ, zero, suc, ◌+◌, ◌<◌, ◌≤◌, ◌^◌, Bool, true, false, List, [], ◌∷◌, ◌++◌, length}
+use Rattle.std.proofs.Common.{slice_index_or, arith}
 use Rattle.std.proofs.lemmas.List.Elements.{All-weaker, All-push}
 use Rattle.kn_system.specs.declared.rows.Piece.{Piece}
 use Rattle.kn_system.specs.declared.rows.Piece.TheVariants.{Who, Gate}
@@ -26,21 +27,26 @@ IsSystemRow-more levels n m l row h = record {
 }
 
 -- with more principals
-pub IsSystem-more_principals : (levels : ℕ) (before after : List Bool) (rows : List SystemRow) → length before ≤ length after → length after ≤ 2 ^ 24 → slice_index_or after 0 true ≡ false
-    → IsSystem (record { levels = levels; requesters = before; rows = rows }) → IsSystem (record { levels = levels; requesters = after; rows = rows })
+pub IsSystem-more_principals : (levels : ℕ) (before after : List Bool) (rows : List SystemRow)
+    → length before ≤ length after → length after ≤ 2 ^ 24 → slice_index_or after 0 true ≡ false
+    → IsSystem (record { levels = levels; requesters = before; rows = rows })
+    → IsSystem (record { levels = levels; requesters = after; rows = rows })
 IsSystem-more_principals levels before after rows more fit policy h = record {
   levels_fit = h.levels_fit;
   principals_fit = (omega (arith, h.principals_fit.0), fit);
   policy = policy;
   nodes_fit = h.nodes_fit;
-  rows_fit = All-weaker (IsSystemRow levels (length before)) (IsSystemRow levels (length after)) (IsSystemRow-more levels (length before) (length after) more) rows h.rows_fit;
+  rows_fit = All-weaker (IsSystemRow levels (length before)) (IsSystemRow levels (length after))
+      (IsSystemRow-more levels (length before) (length after) more) rows h.rows_fit;
 }
 
-pub node_total-push : (rows : List SystemRow) (row : SystemRow) → node_total (rows ++ row ∷ []) ≡ node_total rows + length row.formula
+pub node_total-push : (rows : List SystemRow) (row : SystemRow)
+    → node_total (rows ++ row ∷ []) ≡ node_total rows + length row.formula
 node_total-push [] row = omega arith
 node_total-push (first ∷ rows) row = let rest = node_total-push rows row in omega arith
 
-pub leaf_total-push : (rows : List SystemRow) (row : SystemRow) → leaf_total (rows ++ row ∷ []) ≡ leaf_total rows + leaf_count row.formula
+pub leaf_total-push : (rows : List SystemRow) (row : SystemRow)
+    → leaf_total (rows ++ row ∷ []) ≡ leaf_total rows + leaf_count row.formula
 leaf_total-push [] row = omega arith
 leaf_total-push (first ∷ rows) row = let rest = leaf_total-push rows row in omega arith
 
@@ -57,8 +63,10 @@ leaf_total-le (row ∷ rows) =
     omega arith
 
 -- with one more row
-pub IsSystem-more_rows : (levels : ℕ) (requesters : List Bool) (rows : List SystemRow) (row : SystemRow) → IsSystemRow levels (length requesters) row → node_total rows + length row.formula < 2 ^ 24
-    → IsSystem (record { levels = levels; requesters = requesters; rows = rows }) → IsSystem (record { levels = levels; requesters = requesters; rows = rows ++ row ∷ [] })
+pub IsSystem-more_rows : (levels : ℕ) (requesters : List Bool) (rows : List SystemRow) (row : SystemRow)
+    → IsSystemRow levels (length requesters) row → node_total rows + length row.formula < 2 ^ 24
+    → IsSystem (record { levels = levels; requesters = requesters; rows = rows })
+    → IsSystem (record { levels = levels; requesters = requesters; rows = rows ++ row ∷ [] })
 IsSystem-more_rows levels requesters rows row one fit h = record {
   levels_fit = h.levels_fit;
   principals_fit = h.principals_fit;
@@ -68,7 +76,8 @@ IsSystem-more_rows levels requesters rows row one fit h = record {
 }
 
 -- no row has more nodes than all together
-pub node_total-ge : (rows : List SystemRow) (i : ℕ) (d : SystemRow) → i < length rows → length (slice_index_or rows i d).formula ≤ node_total rows
+pub node_total-ge : (rows : List SystemRow) (i : ℕ) (d : SystemRow) → i < length rows
+    → length (slice_index_or rows i d).formula ≤ node_total rows
 node_total-ge [] i d l = absurd (omega arith)
 node_total-ge (row ∷ rows) zero d l = omega arith
 node_total-ge (row ∷ rows) (suc i) d l = let rest = node_total-ge rows i d (omega arith) in omega arith

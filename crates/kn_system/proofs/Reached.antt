@@ -1,5 +1,6 @@
 -- Thresholds: which levels they reach.
-use Rattle.std.proofs.Common.{◌≡◌, ℕ, suc, zero, ◌<◌, ◌≤◌, Bool, true, false, List, [], ◌∷◌, cond, refl, sym, ap, ◌∙◌, inl, inr, arith}
+use Rattle.std.proofs.Common.{◌≡◌, ℕ, suc, zero, ◌<◌, ◌≤◌, Bool, true, false, List, [], ◌∷◌, cond, refl, sym, ap, ◌∙◌}
+use Rattle.std.proofs.Common.{inl, inr, arith}
 use Rattle.std.proofs.lemmas.Bool.Decides.{nat_tests}
 use Rattle.std.proofs.lemmas.Bool.{le-leb, leb-true, cases_lt, false≢true}
 use Rattle.kn_base.specs.Threshold.{greatest, reaching, is_reached, threshold}
@@ -12,7 +13,8 @@ greatest-le (suc n) p =
     let below = greatest-le n p in
     elim (p (suc n)) as (λ b. cond b (suc n) (greatest n p) ≤ suc n) [ true ↦ omega arith | false ↦ omega arith ]
 
-passes_at : (n : ℕ) (p : ℕ → Bool) (b : Bool) → p (suc n) ≡ b → (0 < greatest n p → p (greatest n p) ≡ true) → 0 < cond b (suc n) (greatest n p) → p (cond b (suc n) (greatest n p)) ≡ true
+passes_at : (n : ℕ) (p : ℕ → Bool) (b : Bool) → p (suc n) ≡ b → (0 < greatest n p → p (greatest n p) ≡ true)
+    → 0 < cond b (suc n) (greatest n p) → p (cond b (suc n) (greatest n p)) ≡ true
 passes_at n p true e below h = e
 passes_at n p false e below h = below h
 
@@ -21,7 +23,8 @@ pub greatest-passes : (n : ℕ) (p : ℕ → Bool) → 0 < greatest n p → p (g
 greatest-passes zero p h = absurd (omega arith)
 greatest-passes (suc n) p h = passes_at n p (p (suc n)) refl (greatest-passes n p) h
 
-ge_at : (n : ℕ) (p : ℕ → Bool) (u : ℕ) (b : Bool) → p (suc n) ≡ b → (u ≤ n → u ≤ greatest n p) → u ≤ suc n → p u ≡ true → u ≤ cond b (suc n) (greatest n p)
+ge_at : (n : ℕ) (p : ℕ → Bool) (u : ℕ) (b : Bool) → p (suc n) ≡ b → (u ≤ n → u ≤ greatest n p) → u ≤ suc n → p u ≡ true
+    → u ≤ cond b (suc n) (greatest n p)
 ge_at n p u true e below l h = l
 ge_at n p u false e below l h =
     elim (cases_lt n u) [
@@ -59,7 +62,8 @@ threshold-ge top k u xs l h = greatest-ge top (is_reached k xs) u l (le-leb k (r
 pub threshold-reached : (top k u : ℕ) (xs : List ℕ) → 0 < u → u ≤ threshold top k xs → k ≤ reaching u xs
 threshold-reached top k u xs h l =
     let t : ℕ = threshold top k xs in
-    let reached : k ≤ reaching t xs = leb-true k (reaching t xs) (greatest-passes top (is_reached k xs) (omega arith)) in
+    let reached : k ≤ reaching t xs =
+    leb-true k (reaching t xs) (greatest-passes top (is_reached k xs) (omega arith)) in
     let fewer : reaching t xs ≤ reaching u xs = reaching-higher u t l xs in
     omega arith
 
@@ -68,7 +72,8 @@ pub threshold-le : (top k : ℕ) (xs : List ℕ) → threshold top k xs ≤ top
 threshold-le top k xs = greatest-le top (is_reached k xs)
 
 -- where those that have u in the first have it in the second, a threshold that reaches u does so there
-pub threshold-carried : (top k u : ℕ) → 0 < u → (xs ys : List ℕ) → Carries u xs ys → u ≤ threshold top k xs → u ≤ threshold top k ys
+pub threshold-carried : (top k u : ℕ) → 0 < u → (xs ys : List ℕ) → Carries u xs ys → u ≤ threshold top k xs
+    → u ≤ threshold top k ys
 threshold-carried top k u h xs ys c l =
     let reached : k ≤ reaching u xs = threshold-reached top k u xs h l in
     let as_many : reaching u xs ≤ reaching u ys = reaching-carried u h xs ys c in

@@ -21,7 +21,8 @@ reaching-next v [] = refl
 reaching-next v (x ∷ xs) = let rest = reaching-next v xs in grind (arith, nat_tests)
 
 -- the greatest level that enough reach is the threshold
-pub threshold-is : (top need level : ℕ) (xs : List ℕ) → level ≤ top → (0 < level → need ≤ reaching level xs) → ((u : ℕ) → level < u → u ≤ top → reaching u xs < need) → level ≡ threshold top need xs
+pub threshold-is : (top need level : ℕ) (xs : List ℕ) → level ≤ top → (0 < level → need ≤ reaching level xs)
+    → ((u : ℕ) → level < u → u ≤ top → reaching u xs < need) → level ≡ threshold top need xs
 threshold-is top need level xs low enough few =
     let t : ℕ = threshold top need xs in
     let most : t ≤ top = threshold-le top need xs in
@@ -39,5 +40,6 @@ threshold-is top need level xs low enough few =
     omega arith
 
 -- so many more reach a level than the next as the tally says
-pub reaching-at : (tally : List ℕ) (level above : ℕ) (xs : List ℕ) → level < 64 → AreTallied tally xs → above ≡ reaching (level + 1) xs → above + slice_index tally level ≡ reaching level xs
+pub reaching-at : (tally : List ℕ) (level above : ℕ) (xs : List ℕ) → level < 64 → AreTallied tally xs
+    → above ≡ reaching (level + 1) xs → above + slice_index tally level ≡ reaching level xs
 reaching-at tally level above xs fits tallied e = omega (arith, tallied level fits, reaching-next level xs)

@@ -1,5 +1,6 @@
 -- A query over numbered principals: what a system is seen as (keynoted's own).
-use Rattle.std.specs.Prelude.{ℕ, ◌≡◌, ◌+◌, ◌<◌, ◌≤◌, ◌^◌, Bool, true, false, List, [], ◌∷◌, All, length, slice_index_or, slice_set}
+use Rattle.std.specs.Prelude.{ℕ, ◌≡◌, ◌+◌, ◌<◌, ◌≤◌, ◌^◌, Bool, true, false, List, [], ◌∷◌, All, length, slice_index_or}
+use Rattle.std.specs.Prelude.{slice_set}
 use Rattle.kn_base.specs.declared.limits.TheConstants.{FEWEST_COMPLIANCE_VALUES, MOST_COMPLIANCE_VALUES}
 use Rattle.kn_system.specs.Rows.{SystemRow}
 use Rattle.kn_system.specs.Form.{leaf_count}
@@ -17,7 +18,9 @@ row_at rows i = slice_index_or rows i (record { authorizer = 0; ceiling = 0; for
 
 -- the rows, where this one has another ceiling
 abbrev pub recapped : List SystemRow → ℕ → ℕ → List SystemRow
-recapped rows i ceiling = slice_set rows i (record { authorizer = (row_at rows i).authorizer; ceiling = ceiling; formula = (row_at rows i).formula })
+recapped rows i ceiling =
+    slice_set rows i
+    (record { authorizer = (row_at rows i).authorizer; ceiling = ceiling; formula = (row_at rows i).formula })
 
 -- a row's numbers are in range, and its formula is one over the principals
 pub record IsSystemRow (levels principals : ℕ) (row : SystemRow) : Type 0 where
@@ -40,7 +43,8 @@ abbrev pub leaf_total : List SystemRow → ℕ
 leaf_total [] = 0
 leaf_total (row ∷ rows) = leaf_count row.formula + leaf_total rows
 
--- Levels, principals and formulas are within their limits, the policy, principal 0, is no requester, and each row is one.
+-- Levels, principals and formulas are within their limits, the policy, principal 0, is no requester, and each row is
+-- one.
 pub record IsSystem (s : SystemEquations) : Type 0 where
   pub levels_fit : (FEWEST_COMPLIANCE_VALUES ≤ s.levels) × (s.levels ≤ MOST_COMPLIANCE_VALUES)
   pub principals_fit : (1 ≤ length s.requesters) × (length s.requesters ≤ 2 ^ 24)

@@ -1,5 +1,6 @@
 -- Which pieces spell formulas, how deep these are, and how levels are counted (keynoted's own).
-use Rattle.std.specs.Prelude.{ℕ, zero, suc, ◌+◌, ◌-◌, ◌≡◌, ◌<◌, ◌≤◌, ◌==◌, List, [], ◌∷◌, take, drop, max, slice_index, if◌then◌else◌}
+use Rattle.std.specs.Prelude.{ℕ, zero, suc, ◌+◌, ◌-◌, ◌≡◌, ◌<◌, ◌≤◌, ◌==◌, List, [], ◌∷◌, take, drop, max, slice_index}
+use Rattle.std.specs.Prelude.{if◌then◌else◌}
 use Rattle.kn_system.specs.declared.rows.Piece.{Piece}
 use Rattle.kn_system.specs.declared.rows.Piece.TheVariants.{Who, Gate}
 
@@ -16,7 +17,8 @@ abbrev pub greatest_of : List ℕ → ℕ
 greatest_of [] = 0
 greatest_of (x ∷ xs) = max x (greatest_of xs)
 
--- how many levels the formulas that pieces spell have: a principal is one, and a gate one above the deepest of its parts
+-- how many levels the formulas that pieces spell have: a principal is one, and a gate one above the deepest of its
+-- parts
 abbrev pub form_depths : List Piece → List ℕ
 form_depths [] = []
 form_depths (Who p ∷ ps) = 1 ∷ form_depths ps

@@ -7,7 +7,8 @@ use Rattle.kn_system.specs.Rows.{SystemRow}
 
 -- the row that is kept with the nodes of all formulas
 abbrev pub kept_row : List Piece → StoredRow → SystemRow
-kept_row pieces row = record { authorizer = row.authorizer; ceiling = row.ceiling; formula = take row.size (drop row.start pieces) }
+kept_row pieces row =
+    record { authorizer = row.authorizer; ceiling = row.ceiling; formula = take row.size (drop row.start pieces) }
 
 abbrev pub kept_rows : List Piece → List StoredRow → List SystemRow
 kept_rows pieces rows = map (kept_row pieces) rows

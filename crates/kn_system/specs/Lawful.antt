@@ -1,5 +1,6 @@
 -- The laws of the rounds and of the least levels.
-use Rattle.std.specs.Prelude.{ℕ, ◌≡◌, ◌<◌, ◌-◌, Bool, List, [], ◌∷◌, ◌++◌, All, length, slice_index, slice_index_or, slice_set, if◌then◌else◌}
+use Rattle.std.specs.Prelude.{ℕ, ◌≡◌, ◌<◌, ◌-◌, Bool, List, [], ◌∷◌, ◌++◌, All, length, slice_index, slice_index_or}
+use Rattle.std.specs.Prelude.{slice_set, if◌then◌else◌}
 use Rattle.kn_proof.specs.declared.row.Row.{Row as ProofRow}
 use Rattle.kn_system.specs.Equations.{SystemEquations, IsSystem, row_at}
 use Rattle.kn_system.specs.Least.{round_at, round, at_first, rounds, least_levels}
@@ -27,12 +28,14 @@ RoundsAreMonotone = (s : SystemEquations) (xs ys : List ℕ) → Below xs ys →
 -- rounds from the start stay at or below all levels that no round raises
 abbrev pub RoundsStayBelow : Type 0
 RoundsStayBelow =
-    (s : SystemEquations) (n : ℕ) (others : List ℕ) → Below (round s others) others → Below (rounds s n (at_first s)) others
+    (s : SystemEquations) (n : ℕ) (others : List ℕ) → Below (round s others) others
+    → Below (rounds s n (at_first s)) others
 
 -- rounds from the start may stop where one of them changes nothing
 abbrev pub RoundsMayStop : Type 0
 RoundsMayStop =
-    (s : SystemEquations) (n : ℕ) → round s (rounds s n (at_first s)) ≡ rounds s n (at_first s) → rounds s n (at_first s) ≡ least_levels s
+    (s : SystemEquations) (n : ℕ) → round s (rounds s n (at_first s)) ≡ rounds s n (at_first s)
+    → rounds s n (at_first s) ≡ least_levels s
 
 -- levels that a round leaves stay after any number of them
 abbrev pub FixedPointsStay : Type 0
@@ -46,7 +49,8 @@ pub record IsByPrincipal (s : SystemEquations) (i : ℕ) (requester : Bool) : Ty
 -- levels at first and after a round are given principal by principal
 abbrev pub RoundsAreByPrincipal : Type 0
 RoundsAreByPrincipal =
-    (s : SystemEquations) (i : ℕ) (d : Bool) → i < length s.requesters → IsByPrincipal s i (slice_index_or s.requesters i d)
+    (s : SystemEquations) (i : ℕ) (d : Bool) → i < length s.requesters
+    → IsByPrincipal s i (slice_index_or s.requesters i d)
 
 -- levels that fit a system: one for each principal, each below the number of levels
 pub record AreLevels (s : SystemEquations) (levels : List ℕ) : Type 0 where
@@ -67,16 +71,19 @@ pub record IsDetermined (s : SystemEquations) (rows : List ProofRow) (claimed : 
   pub claim : claimed ≡ slice_index (least_levels s) 0
 
 abbrev pub ProofDeterminesLevel : Type 0
-ProofDeterminesLevel = (s : SystemEquations) (rows : List ProofRow) (claimed : ℕ) → IsProof s rows claimed → IsDetermined s rows claimed
+ProofDeterminesLevel = (s : SystemEquations) (rows : List ProofRow) (claimed : ℕ) → IsProof s rows claimed
+    → IsDetermined s rows claimed
 
 -- a proof has one row for each principal that has its least level by a row
 abbrev pub ProofsHaveOneRowEach : Type 0
 ProofsHaveOneRowEach =
-    (s : SystemEquations) (rows : List ProofRow) (claimed : ℕ) → IsProof s rows claimed → HasOneRowEach s (least_levels s) rows
+    (s : SystemEquations) (rows : List ProofRow) (claimed : ℕ) → IsProof s rows claimed
+    → HasOneRowEach s (least_levels s) rows
 
 -- the policy's least level has a proof
 abbrev pub ProofExists : Type 0
-ProofExists = (s : SystemEquations) → IsSystem s → (rows : List ProofRow) × IsProof s rows (slice_index (least_levels s) 0)
+ProofExists = (s : SystemEquations) → IsSystem s → (rows : List ProofRow)
+    × IsProof s rows (slice_index (least_levels s) 0)
 
 -- one more row of a proof gives its principal its level
 pub record GoesOn (s : SystemEquations) (levels : List ℕ) (rows : List ProofRow) (row : ProofRow) : Type 0 where
@@ -86,7 +93,8 @@ pub record GoesOn (s : SystemEquations) (levels : List ℕ) (rows : List ProofRo
 -- a row that may stand after rows may follow them
 abbrev pub ProofsGoOn : Type 0
 ProofsGoOn =
-    (s : SystemEquations) (levels : List ℕ) (rows : List ProofRow) (row : ProofRow) → AreSteps s levels rows → IsStep s (levels_after levels rows) row
+    (s : SystemEquations) (levels : List ℕ) (rows : List ProofRow) (row : ProofRow) → AreSteps s levels rows
+    → IsStep s (levels_after levels rows) row
     → GoesOn s levels rows row
 
 -- before any row nothing above the top is open
@@ -95,22 +103,26 @@ SettlingStarts = (s : SystemEquations) → IsSystem s → IsSettled s (s.levels 
 
 -- after a row gives its authorizer the level, and a row of the proof says so
 pub record IsGranted (s : SystemEquations) (v : ℕ) (levels : List ℕ) (rows : List ProofRow) (i : ℕ) : Type 0 where
-  pub settled : IsSettled s v (slice_set levels (row_at s.rows i).authorizer v) (rows ++ (record { principal = (row_at s.rows i).authorizer; value = v; by = i }) ∷ [])
+  pub settled : IsSettled s v (slice_set levels (row_at s.rows i).authorizer v)
+      (rows ++ (record { principal = (row_at s.rows i).authorizer; value = v; by = i }) ∷ [])
   pub fewer : unsettled (slice_set levels (row_at s.rows i).authorizer v) < unsettled levels
 
 -- a row that gives its authorizer the level may do so
 abbrev pub SettlingGrants : Type 0
 SettlingGrants =
-    (s : SystemEquations) (v : ℕ) (levels : List ℕ) (rows : List ProofRow) (i : ℕ) → IsSystem s → 0 < v → IsSettled s v levels rows → IsGrant s v levels i
+    (s : SystemEquations) (v : ℕ) (levels : List ℕ) (rows : List ProofRow) (i : ℕ) → IsSystem s → 0 < v
+    → IsSettled s v levels rows → IsGrant s v levels i
     → IsGranted s v levels rows i
 
 -- where no row gives the level, the next lower one may be settled
 abbrev pub SettlingGoesDown : Type 0
 SettlingGoesDown =
-    (s : SystemEquations) (v : ℕ) (levels : List ℕ) (rows : List ProofRow) → IsSettled s v levels rows → HasNoneBefore s v levels (length s.rows)
+    (s : SystemEquations) (v : ℕ) (levels : List ℕ) (rows : List ProofRow) → IsSettled s v levels rows
+    → HasNoneBefore s v levels (length s.rows)
     → IsSettled s (v - 1) levels rows
 
 -- above the lowest level all is settled: the rows are a proof
 abbrev pub SettlingEnds : Type 0
 SettlingEnds =
-    (s : SystemEquations) (levels : List ℕ) (rows : List ProofRow) → IsSettled s 0 levels rows → IsProof s rows (slice_index levels 0)
+    (s : SystemEquations) (levels : List ℕ) (rows : List ProofRow) → IsSettled s 0 levels rows
+    → IsProof s rows (slice_index levels 0)

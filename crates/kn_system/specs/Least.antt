@@ -1,5 +1,6 @@
 -- The rounds of the equations and their least levels (RFC 2704, section 5).
-use Rattle.std.specs.Prelude.{ℕ, suc, zero, ◌+◌, ◌-◌, ◌*◌, ◌==◌, Bool, List, [], ◌∷◌, length, map, min, max, if◌then◌else◌}
+use Rattle.std.specs.Prelude.{ℕ, suc, zero, ◌+◌, ◌-◌, ◌*◌, ◌==◌, Bool, List, [], ◌∷◌, length, map, min, max}
+use Rattle.std.specs.Prelude.{if◌then◌else◌}
 use Rattle.kn_system.specs.Form.{form_level}
 use Rattle.kn_system.specs.Rows.{SystemRow}
 use Rattle.kn_system.specs.Equations.{SystemEquations}

@@ -1,4 +1,5 @@
--- The nodes of a system's formulas in one list, what each is a part of, and where each principal stands (keynoted's own).
+-- The nodes of a system's formulas in one list, what each is a part of, and where each principal stands (keynoted's
+-- own).
 use Rattle.std.specs.Prelude.{ℕ, zero, suc, ◌≡◌, ◌==◌, List, [], ◌∷◌, ◌++◌, length, replicate, if◌then◌else◌}
 use Rattle.kn_system.specs.declared.links.NodeSort.{NodeSort}
 use Rattle.kn_system.specs.declared.links.NodeSort.TheVariants.{Leaf, Gate as GateNode}

@@ -32,7 +32,8 @@ pub record IsGrant (s : SystemEquations) (v : ℕ) (levels : List ℕ) (i : ℕ)
 
 -- this row doesn't give the level v to an authorizer without a level
 abbrev pub GivesNothing : SystemEquations → ℕ → List ℕ → ℕ → Type 0
-GivesNothing s v levels i = slice_index levels (row_at s.rows i).authorizer ≡ 0 → worth (s.levels - 1) levels (row_at s.rows i) < v
+GivesNothing s v levels i = slice_index levels (row_at s.rows i).authorizer ≡ 0
+    → worth (s.levels - 1) levels (row_at s.rows i) < v
 
 -- nor does any row before n
 abbrev pub HasNoneBefore : SystemEquations → ℕ → List ℕ → ℕ → Type 0

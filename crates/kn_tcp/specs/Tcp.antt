@@ -6,7 +6,8 @@ use Rattle.kn_workers.specs.Doors.{DoorSeen}
 use Rattle.kn_workers.specs.Nets.{NetSeen}
 use Rattle.kn_workers.specs.declared.binding.Binding.{Binding}
 
--- a door that keeps its numbers alone: its quota, how many connections it gave, how many were finished, and how many calls failed
+-- a door that keeps its numbers alone: its quota, how many connections it gave, how many were finished, and how many
+-- calls failed
 pub record CountedDoor : Type 0 where
   pub quota : ℕ
   pub given : ℕ

@@ -1,5 +1,6 @@
 -- Replies to requests about the connection itself, and to what is no request.
-use Rattle.std.proofs.Common.{◌≡◌, ◌≢◌, ℕ, suc, ◌+◌, ◌*◌, ◌≤◌, ◌<◌, Bool, true, false, List, [], ◌∷◌, ◌++◌, length, Option, Some, None, refl, sym, ap, ◌∙◌, arith, inl, inr}
+use Rattle.std.proofs.Common.{◌≡◌, ◌≢◌, ℕ, suc, ◌+◌, ◌*◌, ◌≤◌, ◌<◌, Bool, true, false, List, [], ◌∷◌, ◌++◌, length}
+use Rattle.std.proofs.Common.{Option, Some, None, refl, sym, ap, ◌∙◌, arith, inl, inr}
 use Rattle.std.specs.Prelude.{◌⊎◌, Result, Ok, Err, IfOk, option_map, nat_lt, not, ◌&&◌}
 use Rattle.std.specs.Str.{bytes_eq}
 use Rattle.std.proofs.lemmas.Bool.Decides.{nat_tests}
@@ -18,7 +19,8 @@ use Rattle.kn_transcript.specs.Judging.{IsBehind, IsTaken, Judges}
 use Rattle.kn_transcript.proofs.Permitted.{permits_cases, own_permitted}
 use Rattle.kn_transcript.proofs.Judged.{refused_ok, done_ok, taken_by}
 
-module _ (past : List Update) (left : List ℕ) {X E : Type 0} (result : Result X E) (view : X → Option (List ℕ)) (now : State) where
+module _ (past : List Update) (left : List ℕ) {X E : Type 0} (result : Result X E) (view : X
+    → Option (List ℕ)) (now : State) where
   -- BYE is answered
   pub bye_judged : IfOk result (λ found. IsBehind left (reply_text Done) (view found))
       → IfOk result (λ found. Judges past now (Controls Leave) left past now (view found))
@@ -52,7 +54,8 @@ neither true = refl
 neither false = refl
 
 right_secret : (byte : ℕ) (bytes : List ℕ) → is_secret (byte ∷ bytes) (byte ∷ bytes) ≡ true
-right_secret byte bytes = let same : bytes_eq (byte ∷ bytes) (byte ∷ bytes) ≡ true = (bytes_eq-Decides (byte ∷ bytes) (byte ∷ bytes)).1 refl in
+right_secret byte bytes = let same : bytes_eq (byte ∷ bytes) (byte ∷ bytes) ≡ true =
+    (bytes_eq-Decides (byte ∷ bytes) (byte ∷ bytes)).1 refl in
     both (nat_lt 0 (length (byte ∷ bytes))) (bytes_eq (byte ∷ bytes) (byte ∷ bytes)) (positive (length bytes)) same
 
 right_permitted : (past : List Update) (old : State) (bytes : List ℕ) → is_secret bytes bytes ≡ true
@@ -97,15 +100,22 @@ module _ (past : List Update) (old : State) (bytes left : List ℕ) where
       → (reply ≡ No R.Admin) ⊎ ((reply ≡ Done) × (bytes ≢ []))
   wrong_only reply rest other some taken =
       let g = taken.permitted.grounds in
-      elim (permits_cases g 0 (history_behind past (shown bytes) reply) old (shown bytes) reply other some taken.permitted.permitted) [
-        | inr does ↦ inr (does.answered, λ none. filled g (ap (λ (x : List ℕ). refuse_if (not (is_secret g.secret x)) R.Admin None) (sym none) ∙ does.accepted))
+      elim (permits_cases g 0 (history_behind past (shown bytes) reply) old (shown bytes) reply other some
+      taken.permitted.permitted) [
+        | inr does ↦ inr (
+          does.answered,
+          λ none. filled g (ap (λ (x : List ℕ). refuse_if (not (is_secret g.secret x)) R.Admin None) (sym none)
+              ∙ does.accepted),
+        )
         | inl r ↦ inl (r.told ∙ ap (λ (x : Refusal). No x) (sym (by (is_secret g.secret bytes) r.refusal r.first)))
       ]
     where
       filled : (g : Grounds) → refuse_if (not (is_secret g.secret [])) R.Admin None ≡ None → ⊥
-      filled g e = let never = never_secret g.secret in absurd (let f = ap (λ (b : Bool). refuse_if (not b) R.Admin None) (sym never) ∙ e in cc f)
+      filled g e = let never = never_secret g.secret in
+          absurd (let f = ap (λ (b : Bool). refuse_if (not b) R.Admin None) (sym never) ∙ e in cc f)
 
-      by : (b : Bool) (refusal : Refusal) → option_or (refuse_if (not b) R.Admin None) None ≡ Some refusal → R.Admin ≡ refusal
+      by : (b : Bool) (refusal : Refusal) → option_or (refuse_if (not b) R.Admin None) None ≡ Some refusal
+          → R.Admin ≡ refusal
       by true refusal e = absurd (cc e)
       by false refusal e = cc
 
@@ -119,10 +129,12 @@ module _ (past : List Update) (old : State) (bytes left : List ℕ) where
       none_secret : is_secret [] bytes ≡ false
       none_secret = refl
 
-      by : (o : Option (List ℕ)) → IsBehind left (reply_text (No R.Admin)) o → Judges past old (shown bytes) left past old o
+      by : (o : Option (List ℕ)) → IsBehind left (reply_text (No R.Admin)) o
+          → Judges past old (shown bytes) left past old o
       by (Some rest) cut =
           taken_by past old (shown bytes) left past old (No R.Admin) rest tt
-          (own_permitted past old (shown bytes) R.Admin 0 (omega arith) (ap (λ (b : Bool). refuse_if (not b) R.Admin None) none_secret)) refl cut
+          (own_permitted past old (shown bytes) R.Admin 0 (omega arith)
+          (ap (λ (b : Bool). refuse_if (not b) R.Admin None) none_secret)) refl cut
       by None missing = λ reply rest other some taken.
           elim (wrong_only reply rest other some taken) [
             | inl is ↦ missing rest (taken.cut ∙ ap (λ (x : Reply). reply_text x ++ rest) is)
@@ -136,7 +148,8 @@ module _ (past : List Update) (old : State) (bytes left : List ℕ) where
 pub cut_of : {X : Type 0} (view : X → List ℕ) (left text : List ℕ) (found : Option X) (rest : X) → found ≡ Some rest
     → IsBehind left text (option_map view found) → left ≡ text ++ view rest
 cut_of view left text None rest is behind = absurd (cc is)
-cut_of {X} view left text (Some other) rest is behind = let same : other ≡ rest = cc in behind ∙ ap (λ (x : X). text ++ view x) same
+cut_of {X} view left text (Some other) rest is behind = let same : other ≡ rest = cc in behind
+    ∙ ap (λ (x : X). text ++ view x) same
 
 -- that it doesn't
 pub missing_of : {X : Type 0} (view : X → List ℕ) (left text : List ℕ) (found : Option X) → found ≡ None

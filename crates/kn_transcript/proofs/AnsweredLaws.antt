@@ -1,5 +1,6 @@
 -- Requests that were answered, one more at a time.
-use Rattle.std.proofs.Common.{◌≡◌, ℕ, Bool, true, false, cond, List, [], ◌∷◌, ◌++◌, length, filter, refl, sym, ap, ◌∙◌, subst, append_assoc, append-nil}
+use Rattle.std.proofs.Common.{◌≡◌, ℕ, Bool, true, false, cond, List, [], ◌∷◌, ◌++◌, length, filter, refl, sym, ap, ◌∙◌}
+use Rattle.std.proofs.Common.{subst, append_assoc, append-nil}
 use Rattle.std.specs.Prelude.{count_by}
 use Rattle.std.specs.List.{list_any}
 use Rattle.std.proofs.lemmas.List.{map_push, flat_map_more, length_push}
@@ -33,12 +34,14 @@ follows-push past old [] history state request reply new is permitted = (
 follows-push past old (a ∷ answered) history state request reply new (mid, first, later) permitted = (
   mid,
   first,
-  follows-push (history_behind past (shape_of a.request) a.reply) mid answered history state request reply new later permitted,
+  follows-push (history_behind past (shape_of a.request) a.reply) mid answered history state request reply new later
+      permitted,
 )
 
 pub requests-push : (answered : List Answered) (request : Request) (reply : Reply)
     → requests_in (answered ++ record { request = request; reply = reply } ∷ []) ≡ requests_in answered ++ request ∷ []
-requests-push answered request reply = map_push (λ (a : Answered). a.request) answered (record { request = request; reply = reply })
+requests-push answered request reply =
+    map_push (λ (a : Answered). a.request) answered (record { request = request; reply = reply })
 
 texts-push : (answered : List Answered) (request : Request) (reply : Reply)
     → text_in (answered ++ record { request = request; reply = reply } ∷ []) ≡ text_in answered ++ reply_text reply
@@ -46,7 +49,8 @@ texts-push answered request reply =
     sym (flat_map_more (λ (a : Answered). reply_text a.reply) [] answered (record { request = request; reply = reply }))
 
 -- count_by goes over a list from its front, so that one more element is told by `filter`
-count-push : {X : Type 0} (p : X → Bool) (xs : List X) (x : X) → count_by p (xs ++ x ∷ []) ≡ counted (count_by p xs) (p x)
+count-push : {X : Type 0} (p : X → Bool) (xs : List X) (x : X)
+    → count_by p (xs ++ x ∷ []) ≡ counted (count_by p xs) (p x)
 count-push {X = X} p xs x =
     sym (length-filter p (xs ++ x ∷ [])) ∙ ap length (filter-append p xs (x ∷ []))
     ∙ by (p x) (filter p xs) ∙ ap (λ (n : ℕ). counted n (p x)) (length-filter p xs)
@@ -66,7 +70,8 @@ first-come past replies progress book left answers state = record {
   values = answers;
 }
 
-module _ (past : List Update) (replies : List ℕ) (answered : List Answered) (old : Progress) (come : HasComeTo past replies answered old) where
+module _ (past : List Update) (replies : List ℕ) (answered : List Answered) (old : Progress)
+    (come : HasComeTo past replies answered old) where
   -- and another one
   pub come-on : (request : Request) (new : Progress) (a : IsAnsweredBy old request new)
       → HasComeTo past replies (answered ++ record { request = request; reply = a.takes.reply } ∷ []) new
@@ -74,21 +79,27 @@ module _ (past : List Update) (replies : List ℕ) (answered : List Answered) (o
       let reply = a.takes.reply in
       let taken = a.takes.taken in
       record {
-        judged = subst (λ (rs : List Request). list_any is_foreign rs ≡ false) (sym (requests-push answered request reply))
+        judged = subst (λ (rs : List Request). list_any is_foreign rs ≡ false)
+            (sym (requests-push answered request reply))
             (any-push is_foreign (requests_in answered) request come.judged a.judged);
         texts =
             come.texts ∙ ap (λ (l : List ℕ). text_in answered ++ l) taken.cut
             ∙ sym (append_assoc (text_in answered) (reply_text reply) new.left.now)
             ∙ ap (λ (l : List ℕ). l ++ new.left.now) (sym (texts-push answered request reply));
-        each = All-push (λ (a : Answered). HasText a.reply) answered (record { request = request; reply = reply }) come.each taken.text;
+        each = All-push (λ (a : Answered). HasText a.reply) answered (record { request = request; reply = reply })
+            come.each taken.text;
         follows =
-            subst (λ (h : List Update). Follows past first_state (answered ++ record { request = request; reply = reply } ∷ []) h (state_of new.connection))
+            subst (λ (h : List Update).
+            Follows past first_state (answered ++ record { request = request; reply = reply } ∷ []) h
+            (state_of new.connection))
             (sym a.takes.behind)
-            (follows-push past first_state answered old.book (state_of old.connection) request reply (state_of new.connection)
+            (follows-push past first_state answered old.book (state_of old.connection) request reply
+            (state_of new.connection)
             come.follows taken.permitted);
         values =
             a.values ∙ ap (λ (n : ℕ). counted n (is_value reply)) come.values
-            ∙ sym (count-push (λ (a : Answered). is_value a.reply) answered (record { request = request; reply = reply }));
+            ∙ sym (count-push (λ (a : Answered). is_value a.reply) answered
+            (record { request = request; reply = reply }));
       }
 
   -- these requests of the script were answered, and these are left

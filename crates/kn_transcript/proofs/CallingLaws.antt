@@ -1,5 +1,6 @@
 -- Replies to calls of a session.
-use Rattle.std.proofs.Common.{◌≡◌, ℕ, ◌≤◌, ◌<◌, ◌^◌, Bool, true, List, Option, Some, None, refl, sym, ap, ◌∙◌, arith, inl, inr, subst}
+use Rattle.std.proofs.Common.{◌≡◌, ℕ, ◌≤◌, ◌<◌, ◌^◌, Bool, true, List, Option, Some, None, refl, sym, ap, ◌∙◌, arith}
+use Rattle.std.proofs.Common.{inl, inr, subst}
 use Rattle.std.specs.Prelude.{◌⊎◌, Result, IfOk, option_and_then, IsSomeAnd}
 use Rattle.kn_history.specs.declared.update.Update.{Update}
 use Rattle.kn_session.specs.declared.fault.SessionFault.{SessionFault}
@@ -53,21 +54,25 @@ no_update past (A.Added k) s call = refl
 
 -- the answer of a session is that of the one that is found
 answer_found : (found : Option Session) (session : Session) (reply : Reply) (call : Call) → found ≡ Some session
-    → IsSomeAnd found (λ x. reply ≡ reply_of_call (call_answer call x)) → reply ≡ reply_of_call (call_answer call session)
+    → IsSomeAnd found (λ x. reply ≡ reply_of_call (call_answer call x))
+    → reply ≡ reply_of_call (call_answer call session)
 answer_found None session reply call e is = absurd (cc e)
 answer_found (Some x) session reply call e is =
     let same : x ≡ session = cc in is ∙ ap (λ (y : Session). reply_of_call (call_answer call y)) same
 
 found_answer : (found : Option Session) (session : Session) (reply : Reply) (call : Call) → found ≡ Some session
-    → reply ≡ reply_of_call (call_answer call session) → IsSomeAnd found (λ x. reply ≡ reply_of_call (call_answer call x))
+    → reply ≡ reply_of_call (call_answer call session)
+    → IsSomeAnd found (λ x. reply ≡ reply_of_call (call_answer call x))
 found_answer None session reply call e is = absurd (cc e)
 found_answer (Some x) session reply call e is =
     let same : session ≡ x = cc in is ∙ ap (λ (y : Session). reply_of_call (call_answer call y)) same
 
-module _ (past : List Update) (a b : OpenSessions) (is_admin : Bool) (s : ℕ) (call : Call) (left : List ℕ) {X E : Type 0}
+module _ (past : List Update) (a b : OpenSessions) (is_admin : Bool) (s : ℕ) (call : Call)
+    (left : List ℕ) {X E : Type 0}
     (result : Result X E) (view : X → Option (List ℕ)) where
   abbrev JudgedTo : OpenSessions → Type 0
-  JudgedTo x = IfOk result (λ found. Judges past (state_with a is_admin) (Calls s call) left past (state_with x is_admin) (view found))
+  JudgedTo x = IfOk result
+      (λ found. Judges past (state_with a is_admin) (Calls s call) left past (state_with x is_admin) (view found))
 
   pub call_done : (applied : Applied) → Accepts a b s call applied
       → IfOk result (λ found. IsBehind left (reply_text (reply_of_call applied)) (view found)) → JudgedTo b
@@ -96,11 +101,14 @@ module _ (past : List Update) (a b : OpenSessions) (is_admin : Bool) (s : ℕ) (
       refused (inr why) = ap (λ (f : Option CallFault). option_and_then refusal_of_call f) why ∙ sym is
 
 -- the fault of a call, told as a refusal
-pub call_untaken : (past : List Update) (a b : OpenSessions) (is_admin : Bool) (s : ℕ) (call : Call) (left : List ℕ) {X E : Type 0}
-    (result : Result X E) (view : X → Option (List ℕ)) (fault : CallFault) (refusal : Option Refusal) → Refuses a b s call fault
+pub call_untaken : (past : List Update) (a b : OpenSessions) (is_admin : Bool) (s : ℕ) (call : Call)
+    (left : List ℕ) {X E : Type 0}
+    (result : Result X E) (view : X → Option (List ℕ)) (fault : CallFault) (refusal : Option Refusal)
+    → Refuses a b s call fault
     → refusal ≡ refusal_of_call fault
     → IfOk result (λ found. (due : Refusal) × (refusal ≡ Some due) × IsBehind left (reply_text (No due)) (view found))
-    → IfOk result (λ found. Judges past (state_with a is_admin) (Calls s call) left past (state_with b is_admin) (view found))
+    → IfOk result (λ found. Judges past (state_with a is_admin) (Calls s call) left past (state_with b is_admin)
+    (view found))
 call_untaken past a b is_admin s call left result view fault refusal k told behind =
     told_by result view left refusal
     (λ found. Judges past (state_with a is_admin) (Calls s call) left past (state_with b is_admin) (view found)) behind

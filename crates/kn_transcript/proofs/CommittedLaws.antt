@@ -1,5 +1,6 @@
 -- An update that was made: what its reply is, and that nothing refuses it.
-use Rattle.std.proofs.Common.{◌≡◌, ℕ, ◌+◌, true, ◌&&◌, List, [], ◌∷◌, ◌++◌, length, map, Option, Some, None, Result, Ok, refl, sym, ap, ◌∙◌, subst, length-append}
+use Rattle.std.proofs.Common.{◌≡◌, ℕ, ◌+◌, true, ◌&&◌, List, [], ◌∷◌, ◌++◌, length, map, Option, Some, None, Result, Ok}
+use Rattle.std.proofs.Common.{refl, sym, ap, ◌∙◌, subst, length-append}
 use Rattle.std.specs.Prelude.{◌==◌, is_none, is_some, nat_le, option_map}
 use Rattle.std.specs.List.{list_all}
 use Rattle.std.proofs.lemmas.Bool.{and_parts, eqb-true}
@@ -10,7 +11,8 @@ use Rattle.kn_history.specs.declared.item.Item.{Item}
 use Rattle.kn_history.specs.declared.update.Change.TheVariants.{Add, Remove}
 use Rattle.kn_history.specs.declared.update.Numbered.{Numbered}
 use Rattle.kn_history.specs.declared.update.Update.{Update}
-use Rattle.kn_history.specs.History.{all_changes, additions, next_id, refusal_of, refusal_of_text, refusal_of_id, is_well_numbered}
+use Rattle.kn_history.specs.History.{all_changes, additions, next_id, refusal_of, refusal_of_text, refusal_of_id}
+use Rattle.kn_history.specs.History.{is_well_numbered}
 use Rattle.kn_history.specs.History.{may_follow, all_may_follow, update_may_follow, addition_by, removal_by}
 use Rattle.kn_history.specs.Batches.{numbered_from, batch_by, refusal_of_items, items_may_follow, item_reads}
 use Rattle.kn_history.proofs.Batches.{batch-follows}
@@ -32,7 +34,8 @@ one_follows : (past : List Numbered) (caller : ℕ) (c : Numbered)
     → (refusal_of past c.change c.id ≡ None) × (is_well_numbered past c.change c.id ≡ true)
 one_follows past caller c follows =
     let made : all_may_follow past (c ∷ []) ≡ true =
-    (and_parts (nat_le 1 (length (c ∷ [])) && nat_le (length (c ∷ [])) CHANGES) (all_may_follow past (c ∷ [])) follows).1 in
+    (and_parts (nat_le 1 (length (c ∷ [])) && nat_le (length (c ∷ [])) CHANGES) (all_may_follow past (c ∷ []))
+    follows).1 in
     let here : may_follow past c ≡ true =
     (and_parts (may_follow past c) (all_may_follow (past ++ c ∷ []) []) made).0 in
     let parts = and_parts (is_none (refusal_of past c.change c.id)) (is_well_numbered past c.change c.id) here in
@@ -42,8 +45,11 @@ pub addition_follows : (past : List Numbered) (caller : ℕ) (text : List ℕ) (
     → update_may_follow past (addition_by caller text id) ≡ true
     → (refusal_of_text past text ≡ None) × (id ≡ additions past + 1)
 addition_follows past caller text id follows =
-    let facts = one_follows past caller (record { change = Add text; id = id }) follows in
-    (facts.0, eqb-true id (additions past + 1) (and_parts (id == additions past + 1) (is_some (assertion_of text)) facts.1).0)
+    let facts = one_follows past caller (record { change = Add text; id = id }) follows in (
+      facts.0,
+      eqb-true id (additions past + 1)
+          (and_parts (id == additions past + 1) (is_some (assertion_of text)) facts.1).0,
+    )
 
 pub removal_follows : (past : List Numbered) (caller id : ℕ) → update_may_follow past (removal_by caller id) ≡ true
     → refusal_of_id past id ≡ None
@@ -120,8 +126,10 @@ module _ (past : List Update) where
         let follows : update_may_follow (all_changes past) (batch_by 0 (next_id past) asked) ≡ true =
         subst (λ (h : List Update). update_may_follow (all_changes h) (batch_by 0 (next_id h) asked) ≡ true) (sym front)
         b.accepted in (
-          b.told ∙ ap (λ (n : ℕ). Batched (next_id b.before) (additions (numbered_from (next_id b.before) asked)) n) size
-              ∙ ap (λ (h : List Update). Batched (next_id h) (additions (numbered_from (next_id h) asked)) (length past + 1))
+          b.told ∙ ap (λ (n : ℕ). Batched (next_id b.before) (additions (numbered_from (next_id b.before) asked)) n)
+              size
+              ∙ ap (λ (h : List Update). Batched (next_id h) (additions (numbered_from (next_id h) asked))
+              (length past + 1))
               (sym front),
           items_follow (all_changes past) 0 asked follows,
         )

@@ -1,5 +1,6 @@
 -- Transcripts follow the daemon, and their values are least.
-use Rattle.std.proofs.Common.{◌≡◌, ◌≤◌, ℕ, List, [], ◌∷◌, ◌++◌, map, Option, Some, None, refl, sym, ap, subst, option_to_list}
+use Rattle.std.proofs.Common.{◌≡◌, ◌≤◌, ℕ, List, [], ◌∷◌, ◌++◌, map, Option, Some, None, refl, sym, ap, subst}
+use Rattle.std.proofs.Common.{option_to_list}
 use Rattle.std.specs.Prelude.{IsSomeAnd}
 use Rattle.std.proofs.lemmas.List.{append-nil}
 use Rattle.kn_trees.specs.declared.assertion.Assertion.{Assertion}
@@ -13,7 +14,8 @@ use Rattle.kn_session.specs.declared.call.Applied.TheVariants as A
 use Rattle.kn_session.specs.Calls.{Call, call_answer}
 use Rattle.kn_reply.specs.Replies.{Reply, Value}
 use Rattle.kn_daemon.specs.Shapes.{Shape, Calls, Updates, Looks, Asks, Controls, AtFault, AddText, DropId, ApplyBlock}
-use Rattle.kn_daemon.specs.Shapes.{ForNew, ForOpen, ForRetained, ForStanding, ForLog, WithProof, WithCritical, ToKeep, shape_of}
+use Rattle.kn_daemon.specs.Shapes.{ForNew, ForOpen, ForRetained, ForStanding, ForLog, WithProof, WithCritical, ToKeep}
+use Rattle.kn_daemon.specs.Shapes.{shape_of}
 use Rattle.kn_env.specs.Values.{values_of}
 use Rattle.kn_daemon.specs.Daemon.{Grounds, State, Permits, Answers, session_of, equations_of, reply_of_call}
 use Rattle.kn_daemon.specs.Linearized.{Exchange, update_by}
@@ -27,7 +29,8 @@ with_one : (past : List Update) (update : Option Update) → past ++ option_to_l
 with_one past None = append-nil past
 with_one past (Some update) = refl
 
-pub runs-are_followed : (g : Grounds) (past : List Update) (old : State) (exchanges : List Exchange) (history : List Update) (new : State)
+pub runs-are_followed : (g : Grounds) (past : List Update) (old : State) (exchanges : List Exchange)
+    (history : List Update) (new : State)
     → ((text : List ℕ) (assertion : Assertion) → g.verdict text assertion ≤ AUTH_FAULTS)
     → RunsAlone g 0 past old exchanges history new → Follows past old (map answered_of exchanges) history new
 runs-are_followed g past old [] history new few runs = runs
@@ -67,10 +70,12 @@ no_value (Some x) call index name version rows is = by (call_answer call x) is
     by A.Done e = cc
     by (A.Added k) e = cc
 
-value_asked : (past : List Update) (state : State) (shape : Shape) (index : ℕ) (name : List ℕ) (version : ℕ) (rows : List NamedRow)
+value_asked : (past : List Update) (state : State) (shape : Shape) (index : ℕ) (name : List ℕ) (version : ℕ)
+    (rows : List NamedRow)
     → Answers 0 past state shape (Value index name version rows) → IsAsked state shape index
 unfolding index_of
-value_asked past state (Calls s call) index name version rows is = absurd (no_value (session_of state s) call index name version rows is)
+value_asked past state (Calls s call) index name version rows is =
+    absurd (no_value (session_of state s) call index name version rows is)
 value_asked past state (Updates (AddText text)) index name version rows is = absurd (let e = is.2 in cc e)
 value_asked past state (Updates (DropId k)) index name version rows is = absurd (let e = is.1 in cc e)
 value_asked past state (Updates (ApplyBlock block)) index name version rows is = absurd (let e = is.2.told in cc e)
@@ -98,10 +103,12 @@ value_asked past state (AtFault fault) index name version rows is = absurd is
 
 pub values-are_least : (past : List Update) (old : State) (front behind : List Answered) (request : Request) (index : ℕ)
     (name : List ℕ) (version : ℕ) (rows : List NamedRow) (history : List Update) (new : State)
-    → Follows past old (front ++ record { request = request; reply = Value index name version rows } ∷ behind) history new
+    → Follows past old (front ++ record { request = request; reply = Value index name version rows } ∷ behind) history
+    new
     → IsLeastBehind past old front request index
 values-are_least past old [] behind request index name version rows history new (mid, p, later) =
-    let a = value_asked (history_behind past (shape_of request) (Value index name version rows)) old (shape_of request) index name
+    let a = value_asked (history_behind past (shape_of request) (Value index name version rows)) old (shape_of request)
+    index name
     version rows p.permitted.answered in
     record {
       history = past;
@@ -117,7 +124,8 @@ values-are_least past old [] behind request index name version rows history new 
       least = a.least;
     }
 values-are_least past old (x ∷ front) behind request index name version rows history new (mid, p, later) =
-    let l = values-are_least (history_behind past (shape_of x.request) x.reply) mid front behind request index name version rows
+    let l = values-are_least (history_behind past (shape_of x.request) x.reply) mid front behind request index name
+    version rows
     history new later in
     record {
       history = l.history;

@@ -1,5 +1,7 @@
 -- What an authenticator may say of the items of a batch.
-use Rattle.std.proofs.Common.{◌≡◌, ◌⊎◌, ℕ, zero, suc, ◌+◌, ◌≤◌, ◌<◌, Bool, true, false, List, [], ◌∷◌, ◌++◌, length, take, Option, Some, None, refl, sym, ap, ◌∙◌, arith, inl, inr, subst, append_assoc, length-append}
+use Rattle.std.proofs.Common.{◌≡◌, ◌⊎◌, ℕ, zero, suc, ◌+◌, ◌≤◌, ◌<◌, Bool, true, false, List, [], ◌∷◌, ◌++◌, length}
+use Rattle.std.proofs.Common.{take, Option, Some, None, refl, sym, ap, ◌∙◌, arith, inl, inr, subst, append_assoc}
+use Rattle.std.proofs.Common.{length-append}
 use Rattle.std.specs.Prelude.{◌==◌, ◌||◌, not, slice_get, option_map, IsSome, if◌then◌else◌}
 use Rattle.std.specs.List.{list_any, AllByRecursion}
 use Rattle.std.specs.Str.{bytes_eq}
@@ -20,7 +22,8 @@ use Rattle.kn_daemon.specs.Daemon.{Grounds, item_refusal, found_item, refusal_fr
 use Rattle.kn_daemon.proofs.Reading.{reading-admits_item}
 use Rattle.kn_transcript.specs.declared.fault.TheConstants.{AUTH_FAULTS}
 use Rattle.kn_transcript.specs.declared.items.ReadItems.{ReadItems}
-use Rattle.kn_transcript.specs.Verdicts.{IsAuthFault, adds_text, is_new_behind, adds_anew, HasReading, IsFirstUnread, AreRead}
+use Rattle.kn_transcript.specs.Verdicts.{IsAuthFault, adds_text, is_new_behind, adds_anew, HasReading, IsFirstUnread}
+use Rattle.kn_transcript.specs.Verdicts.{AreRead}
 use Rattle.kn_transcript.proofs.VerdictLaws.{HasFaults}
 
 -- Items in their order.
@@ -37,7 +40,8 @@ behind_admitted g number (item ∷ front) rest e =
     by : (o : Option ItemRefusal) → found_item number o (refusal_from g (number + 1) front) ≡ None
         → (refusal_from g (number + 1) front ≡ None
         → refusal_from g (number + 1) (front ++ rest) ≡ refusal_from g (number + 1 + length front) rest)
-        → found_item number o (refusal_from g (number + 1) (front ++ rest)) ≡ refusal_from g (number + length (item ∷ front)) rest
+        → found_item number o (refusal_from g (number + 1) (front ++ rest))
+        ≡ refusal_from g (number + length (item ∷ front)) rest
     by None e later =
         let more : number + 1 + length front ≡ number + length (item ∷ front) = omega arith in
         later e ∙ ap (λ (n : ℕ). refusal_from g n rest) more
@@ -72,7 +76,8 @@ repeated_admitted g number [] text e any = absurd (cc any)
 repeated_admitted g number (item ∷ front) text e any =
     by (item_refusal g item) refl e (λ none there. repeated_admitted g (number + 1) front text none there)
   where
-    by : (o : Option ItemRefusal) → item_refusal g item ≡ o → found_item number o (refusal_from g (number + 1) front) ≡ None
+    by : (o : Option ItemRefusal) → item_refusal g item ≡ o
+        → found_item number o (refusal_from g (number + 1) front) ≡ None
         → (refusal_from g (number + 1) front ≡ None → list_any (adds_text text) front ≡ true
         → item_refusal g (AddText text) ≡ None)
         → item_refusal g (AddText text) ≡ None
@@ -90,7 +95,8 @@ item_verdict n above =
 
 -- what is said of a text that has a reading
 said : (g : Grounds) (text : List ℕ) → IsSome (assertion_of text)
-    → (a : Assertion) × (assertion_of text ≡ Some a) × (item_refusal g (AddText text) ≡ refusal_at_verdict I.Auth (g.verdict text a))
+    → (a : Assertion) × (assertion_of text ≡ Some a)
+    × (item_refusal g (AddText text) ≡ refusal_at_verdict I.Auth (g.verdict text a))
 said g text reads = by (assertion_of text) refl reads
   where
     by : (o : Option Assertion) → assertion_of text ≡ o → IsSome o
@@ -155,7 +161,8 @@ get_at (y ∷ front) x rest = get_at front x rest
 new_text : (g : Grounds) (front rest : List BatchItem) (item : BatchItem) → refusal_from g 1 front ≡ None
     → IsUnadmitted g item → adds_anew (front ++ item ∷ rest) (length front) ≡ true
 new_text g front rest item before u =
-    ap (λ (l : List BatchItem). is_new_behind l (slice_get (front ++ item ∷ rest) (length front))) (take_at front (item ∷ rest) (length front) refl)
+    ap (λ (l : List BatchItem). is_new_behind l (slice_get (front ++ item ∷ rest) (length front)))
+    (take_at front (item ∷ rest) (length front) refl)
     ∙ ap (is_new_behind front) (get_at front item rest ∙ ap (λ (i : BatchItem). Some i) u.item_is)
     ∙ by (list_any (adds_text u.text) front) refl
   where
@@ -176,7 +183,8 @@ first_verdict g few front [] behind count before reads size = inr refl
 first_verdict g few front (item ∷ items) behind count before reads size =
     elim (admitted_or g few item reads.0) [
       | inl none ↦ later none
-          (first_verdict g few (front ++ item ∷ []) items behind count (admitted none) reads.1 (omega (arith, size, longer)))
+          (first_verdict g few (front ++ item ∷ []) items behind count (admitted none) reads.1
+          (omega (arith, size, longer)))
       | inr u ↦ inl (
         R.Item (length front + 1) (I.Auth u.fault),
         record {
@@ -187,7 +195,8 @@ first_verdict g few front (item ∷ items) behind count before reads size =
           is_fault = u.is_fault;
           told_is = refl;
         },
-        ap (λ (o : Option ItemRefusal). found_item (length front + 1) o (refusal_from g (length front + 1 + 1) items)) u.refused,
+        ap (λ (o : Option ItemRefusal). found_item (length front + 1) o (refusal_from g (length front + 1 + 1) items))
+            u.refused,
       )
     ]
   where
@@ -200,7 +209,8 @@ first_verdict g few front (item ∷ items) behind count before reads size =
     here : item_refusal g item ≡ None
         → refusal_from g (length front + 1) (item ∷ items) ≡ refusal_from g (length (front ++ item ∷ []) + 1) items
     here none =
-        ap (λ (o : Option ItemRefusal). found_item (length front + 1) o (refusal_from g (length front + 1 + 1) items)) none
+        ap (λ (o : Option ItemRefusal). found_item (length front + 1) o (refusal_from g (length front + 1 + 1) items))
+        none
         ∙ ap (λ (n : ℕ). refusal_from g (n + 1) items) (sym longer)
 
     admitted : item_refusal g item ≡ None → refusal_from g 1 (front ++ item ∷ []) ≡ None
@@ -210,7 +220,8 @@ first_verdict g few front (item ∷ items) behind count before reads size =
         behind_admitted g 1 front (item ∷ []) before ∙ one
 
     later : item_refusal g item ≡ None
-        → ((told : Refusal) × IsVerdictAt ((front ++ item ∷ []) ++ (items ++ behind)) count told × (refusal_from g (length (front ++ item ∷ []) + 1) items ≡ Some told))
+        → ((told : Refusal) × IsVerdictAt ((front ++ item ∷ []) ++ (items ++ behind)) count told
+        × (refusal_from g (length (front ++ item ∷ []) + 1) items ≡ Some told))
         ⊎ (refusal_from g (length (front ++ item ∷ []) + 1) items ≡ None)
         → ((told : Refusal) × IsVerdictAt (front ++ (item ∷ items ++ behind)) count told
         × (refusal_from g (length front + 1) (item ∷ items) ≡ Some told))
@@ -242,7 +253,8 @@ module _ (items : List BatchItem) (read : ReadItems) (r : AreRead items read) wh
       by (Some inner) (item, rest, is, refused) =
           let number : 1 + length r.front ≡ length read.items + 1 = omega (arith, count_is) in
           ap (refusal_from g (1 + length r.front)) is
-          ∙ ap (λ (o : Option ItemRefusal). found_item (1 + length r.front) o (refusal_from g (1 + length r.front + 1) rest)) (refused g)
+          ∙ ap (λ (o : Option ItemRefusal). found_item (1 + length r.front) o
+          (refusal_from g (1 + length r.front + 1) rest)) (refused g)
           ∙ ap (λ (n : ℕ). Some (R.Item n inner)) number
 
   zero_count : length read.items ≡ 0 + length r.front
@@ -273,7 +285,8 @@ module _ (items : List BatchItem) (read : ReadItems) (r : AreRead items read) wh
       → refusal_from g 1 items ≡ unread_refusal (length read.items) read.refusal
   silent_refusal g silent = behind_read g (admitted 1 r.front r.readings)
     where
-      admitted : (number : ℕ) (front : List BatchItem) → AllByRecursion HasReading front → refusal_from g number front ≡ None
+      admitted : (number : ℕ) (front : List BatchItem) → AllByRecursion HasReading front
+          → refusal_from g number front ≡ None
       admitted number [] reads = refl
       admitted number (item ∷ front) reads =
           ap (λ (o : Option ItemRefusal). found_item number o (refusal_from g (number + 1) front))
@@ -292,7 +305,8 @@ refusing_few text fault few other a = by (bytes_eq other text)
     by false = omega arith
 
 module _ (text : List ℕ) (fault : ℕ) (is_fault : IsAuthFault fault) where
-  other_admitted : (item : BatchItem) → HasReading item → adds_text text item ≡ false → item_refusal (refusing text fault) item ≡ None
+  other_admitted : (item : BatchItem) → HasReading item → adds_text text item ≡ false
+      → item_refusal (refusing text fault) item ≡ None
   other_admitted item reads other = zero_admits (refusing text fault) item reads (λ t a is. silent t is)
     where
       silent : (t : List ℕ) → item ≡ AddText t → (if bytes_eq t text then fault else 0) ≡ 0
@@ -313,20 +327,23 @@ module _ (text : List ℕ) (fault : ℕ) (is_fault : IsAuthFault fault) where
   or_both true b e = absurd (cc e)
 
   -- it refuses the first item that adds the text
-  refused_at : (number : ℕ) (front behind : List BatchItem) (place : ℕ) → place < length front → AllByRecursion HasReading front
+  refused_at : (number : ℕ) (front behind : List BatchItem) (place : ℕ) → place < length front
+      → AllByRecursion HasReading front
       → slice_get (front ++ behind) place ≡ Some (AddText text)
       → list_any (adds_text text) (take place (front ++ behind)) ≡ false
       → refusal_from (refusing text fault) number (front ++ behind) ≡ Some (R.Item (number + place) (I.Auth fault))
   refused_at number [] behind place within reads there new = absurd (omega (arith, within))
   refused_at number (item ∷ front) behind zero within reads there new =
       let same : number ≡ number + 0 = omega arith in
-      ap (λ (o : Option ItemRefusal). found_item number o (refusal_from (refusing text fault) (number + 1) (front ++ behind)))
+      ap (λ (o : Option ItemRefusal).
+      found_item number o (refusal_from (refusing text fault) (number + 1) (front ++ behind)))
       (text_refused item reads.0 (same_Some item (AddText text) there))
       ∙ ap (λ (n : ℕ). Some (R.Item n (I.Auth fault))) same
   refused_at number (item ∷ front) behind (suc place) within reads there new =
       let both = or_both (adds_text text item) (list_any (adds_text text) (take place (front ++ behind))) new in
       let more : number + 1 + place ≡ number + suc place = omega arith in
-      ap (λ (o : Option ItemRefusal). found_item number o (refusal_from (refusing text fault) (number + 1) (front ++ behind)))
+      ap (λ (o : Option ItemRefusal).
+      found_item number o (refusal_from (refusing text fault) (number + 1) (front ++ behind)))
       (other_admitted item reads.0 both.0)
       ∙ refused_at (number + 1) front behind place (omega (arith, within)) reads.1 there both.1
       ∙ ap (λ (n : ℕ). Some (R.Item n (I.Auth fault))) more
@@ -337,7 +354,8 @@ pub may_refuse : (items : List BatchItem) (read : ReadItems) → AreRead items r
     → (g : Grounds) × HasFaults g × (refusal_from g 1 items ≡ Some (R.Item (place + 1) (I.Auth fault)))
 may_refuse items read r place fault within anew is_fault = by (slice_get items place) refl anew
   where
-    at : (text : List ℕ) → slice_get items place ≡ Some (AddText text) → list_any (adds_text text) (take place items) ≡ false
+    at : (text : List ℕ) → slice_get items place ≡ Some (AddText text)
+        → list_any (adds_text text) (take place items) ≡ false
         → (g : Grounds) × HasFaults g × (refusal_from g 1 items ≡ Some (R.Item (place + 1) (I.Auth fault)))
     at text there new =
         let size = count_is items read r in

@@ -9,7 +9,8 @@ use Rattle.kn_daemon.specs.Daemon.{Grounds, State, Answers, own_refusal, placed_
 use Rattle.kn_transcript.specs.Followed.{IsPermitted, history_behind}
 use Rattle.kn_transcript.specs.Texts.{HasText}
 use Rattle.kn_transcript.specs.Judging.{IsBehind, Judges}
-use Rattle.kn_transcript.proofs.Permitted.{OnlyReply, DoesReply, grounds_at, is_acceptance, own_only, own_permitted, placed_only, placed_permitted, done_only, done_permitted}
+use Rattle.kn_transcript.proofs.Permitted.{OnlyReply, DoesReply, grounds_at, is_acceptance, own_only, own_permitted}
+use Rattle.kn_transcript.proofs.Permitted.{placed_only, placed_permitted, done_only, done_permitted}
 
 module _ (past : List Update) (old : State) (shape : Shape) (left : List ℕ) (history : List Update) (new : State) where
   -- a permitted reply stands there
@@ -27,7 +28,8 @@ module _ (past : List Update) (old : State) (shape : Shape) (left : List ℕ) (h
       none rest (taken.cut ∙ ap (λ (r : Reply). reply_text r ++ rest) same)
 
   -- the only one that is permitted stands there or doesn't
-  pub judged_by : (due : Reply) → HasText due → IsPermitted past old shape due new → history ≡ history_behind past shape due
+  pub judged_by : (due : Reply) → HasText due → IsPermitted past old shape due new
+      → history ≡ history_behind past shape due
       → OnlyReply past old shape due → (found : Option (List ℕ)) → IsBehind left (reply_text due) found
       → Judges past old shape left history new found
   judged_by due text permitted behind only None none = missed_by due only none
@@ -43,13 +45,16 @@ judged_ok past old shape left history new view due text permitted behind only (O
     judged_by past old shape left history new due text permitted behind only (view found) is
 judged_ok past old shape left history new view due text permitted behind only (Err e) is = is
 
-module _ (past : List Update) (old : State) (shape : Shape) (left : List ℕ) {X E : Type 0} (view : X → Option (List ℕ)) where
+module _ (past : List Update) (old : State) (shape : Shape) (left : List ℕ) {X E : Type 0} (view : X
+    → Option (List ℕ)) where
   -- the state refuses the request
-  pub refused_ok : (refusal : Refusal) → ((g : Grounds) → own_refusal g old shape ≡ Some refusal) → (result : Result X E)
+  pub refused_ok : (refusal : Refusal) → ((g : Grounds) → own_refusal g old shape ≡ Some refusal)
+      → (result : Result X E)
       → IfOk result (λ found. IsBehind left (reply_text (No refusal)) (view found))
       → IfOk result (λ found. Judges past old shape left past old (view found))
   refused_ok refusal own result is =
-      judged_ok past old shape left past old view (No refusal) tt (own_permitted past old shape refusal 0 (omega arith) (own (grounds_at 0)))
+      judged_ok past old shape left past old view (No refusal) tt
+      (own_permitted past old shape refusal 0 (omega arith) (own (grounds_at 0)))
       refl (λ g. own_only past old shape refusal g (own g)) result is
 
   -- the history does
@@ -82,10 +87,12 @@ module _ (past : List Update) (old : State) (shape : Shape) (left : List ℕ) {X
 -- the same text, told in another way
 pub as_text : {X E : Type 0} (result : Result X E) (view : X → Option (List ℕ)) (left a b : List ℕ) → a ≡ b
     → IfOk result (λ found. IsBehind left a (view found)) → IfOk result (λ found. IsBehind left b (view found))
-as_text result view left a b same is = subst (λ (l : List ℕ). IfOk result (λ found. IsBehind left l (view found))) same is
+as_text result view left a b same is =
+    subst (λ (l : List ℕ). IfOk result (λ found. IsBehind left l (view found))) same is
 
 -- a refusal that was looked for, unless memory ran out
-pub told_by : {X E : Type 0} (result : Result X E) (view : X → Option (List ℕ)) (left : List ℕ) (refusal : Option Refusal) (Q : X → Type 0)
+pub told_by : {X E : Type 0} (result : Result X E) (view : X → Option (List ℕ)) (left : List ℕ)
+    (refusal : Option Refusal) (Q : X → Type 0)
     → IfOk result (λ found. (due : Refusal) × (refusal ≡ Some due) × IsBehind left (reply_text (No due)) (view found))
     → ((due : Refusal) (r : Result X E) → refusal ≡ Some due
     → IfOk r (λ found. IsBehind left (reply_text (No due)) (view found)) → IfOk r Q)

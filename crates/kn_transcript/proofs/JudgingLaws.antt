@@ -8,7 +8,8 @@ use Rattle.kn_daemon.specs.Daemon.{State}
 use Rattle.kn_transcript.specs.Judging.{Judges}
 
 -- what is judged of this shape, told of the request
-pub judged_as : (past : List Update) (old : State) (shape : Shape) (asked other : Asked) (left : List ℕ) (history : List Update)
+pub judged_as : (past : List Update) (old : State) (shape : Shape) (asked other : Asked) (left : List ℕ)
+    (history : List Update)
     (new : State) {X E : Type 0} (result : Result X E) (view : X → Option (List ℕ))
     → shape ≡ shape_in_code asked → asked ≡ other
     → IfOk result (λ found. Judges past old (shape_in_code other) left history new (view found))

@@ -1,5 +1,6 @@
 -- The requests that a script means, as far as they were taken.
-use Rattle.std.proofs.Common.{◌≡◌, ◌<◌, ◌≤◌, ℕ, zero, suc, Bool, true, false, cond, List, [], ◌∷◌, ◌++◌, length, take, refl, sym, ap, ◌∙◌, arith, append_assoc, append-nil, take_all, take_at}
+use Rattle.std.proofs.Common.{◌≡◌, ◌<◌, ◌≤◌, ℕ, zero, suc, Bool, true, false, cond, List, [], ◌∷◌, ◌++◌, length, take}
+use Rattle.std.proofs.Common.{refl, sym, ap, ◌∙◌, arith, append_assoc, append-nil, take_all, take_at}
 use Rattle.std.specs.List.{list_any}
 use Rattle.std.proofs.lemmas.List.{length_push}
 use Rattle.kn_base.specs.declared.limits.TheConstants.{REQUESTS}
@@ -12,7 +13,8 @@ use Rattle.kn_transcript.specs.Progress.{AreMeant}
 behind_one : Request → List Request → List Request
 behind_one request others = cond (is_last request) [] (up_to_end others)
 
-one-first : (request : Request) (others : List Request) → up_to_end (request ∷ others) ≡ request ∷ behind_one request others
+one-first : (request : Request) (others : List Request)
+    → up_to_end (request ∷ others) ≡ request ∷ behind_one request others
 unfolding behind_one
 one-first request others = by (is_last request)
   where
@@ -42,7 +44,8 @@ module _ (script : List ℕ) (requests : List Request) (goes_on : list_any is_la
           read = g.whole;
           cut =
               ap (λ (rs : List Request). take REQUESTS (up_to_end rs)) (append_assoc requests (request ∷ []) g.others)
-              ∙ ap (take REQUESTS) (goes-on requests (request ∷ g.others) goes_on ∙ ap (λ (rs : List Request). requests ++ rs) (one-first request g.others))
+              ∙ ap (take REQUESTS) (goes-on requests (request ∷ g.others) goes_on
+              ∙ ap (λ (rs : List Request). requests ++ rs) (one-first request g.others))
               ∙ cut.1;
         },
       )
@@ -58,13 +61,15 @@ module _ (script : List ℕ) (requests : List Request) (goes_on : list_any is_la
         read = g.whole;
         cut =
             ap (λ (rs : List Request). take REQUESTS (up_to_end rs)) (append_assoc requests (request ∷ []) g.others)
-            ∙ ap (take REQUESTS) (goes-on requests (request ∷ g.others) goes_on ∙ ap (λ (rs : List Request). requests ++ rs) (ends-at request g.others last))
+            ∙ ap (take REQUESTS) (goes-on requests (request ∷ g.others) goes_on
+            ∙ ap (λ (rs : List Request). requests ++ rs) (ends-at request g.others last))
             ∙ take_all REQUESTS (requests ++ request ∷ []) (omega (arith, size, few))
             ∙ sym (append-nil (requests ++ request ∷ []));
       }
 
   -- no more are left
-  pub meant-spent : (rest : List ℕ) → AreRequests script requests rest → length requests ≤ REQUESTS → AreMeant script requests []
+  pub meant-spent : (rest : List ℕ) → AreRequests script requests rest → length requests ≤ REQUESTS
+      → AreMeant script requests []
   meant-spent rest read few =
       record {
         all = requests;

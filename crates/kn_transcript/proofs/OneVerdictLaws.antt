@@ -1,5 +1,6 @@
 -- A transcript has one verdict: two ways along it are one as far as both go.
-use Rattle.std.proofs.Common.{◌≡◌, ◌≢◌, ◌⊎◌, ◌+◌, ◌<◌, ◌^◌, ℕ, Bool, true, false, cond, ◌||◌, List, [], ◌∷◌, ◌++◌, length, filter, refl, sym, ap, ◌∙◌, arith, subst, inl, inr, append_assoc, length-append}
+use Rattle.std.proofs.Common.{◌≡◌, ◌≢◌, ◌⊎◌, ◌+◌, ◌<◌, ◌^◌, ℕ, Bool, true, false, cond, ◌||◌, List, [], ◌∷◌, ◌++◌}
+use Rattle.std.proofs.Common.{length, filter, refl, sym, ap, ◌∙◌, arith, subst, inl, inr, append_assoc, length-append}
 use Rattle.std.specs.Prelude.{Result, Ok, Err}
 use Rattle.std.specs.List.{list_any, AllByRecursion}
 use Rattle.std.proofs.lemmas.List.{append_cancel_left}
@@ -39,7 +40,8 @@ place_at behind left history state count values =
     record { behind = behind; left = left; history = history; state = state; count = count; values = values }
 
 -- these requests and replies lead from here to there
-record Leads (past : List Update) (old : State) (meant : List Request) (replies : List ℕ) (count values : ℕ) (answered : List Answered) (p : Place) : Type 0 where
+record Leads (past : List Update) (old : State) (meant : List Request) (replies : List ℕ) (count values : ℕ)
+    (answered : List Answered) (p : Place) : Type 0 where
   cut : meant ≡ requests_in answered ++ p.behind
   judged : list_any is_foreign (requests_in answered) ≡ false
   texts : replies ≡ text_in answered ++ p.left
@@ -68,8 +70,10 @@ or-right : (a b : Bool) → (a || b) ≡ false → b ≡ false
 or-right true b e = absurd (cc e)
 or-right false b e = e
 
-passes-by : (past : List Update) (old : State) (meant : List Request) (replies : List ℕ) (count values : ℕ) (a : Answered) (answered : List Answered) (p q : Place)
-    → Leads past old meant replies count values (a ∷ answered) p → Leads past old meant replies count values [] q → Passes q
+passes-by : (past : List Update) (old : State) (meant : List Request) (replies : List ℕ) (count values : ℕ)
+    (a : Answered) (answered : List Answered) (p q : Place)
+    → Leads past old meant replies count values (a ∷ answered) p → Leads past old meant replies count values [] q
+    → Passes q
 passes-by past old meant replies count values a answered p q l m = record {
   a = a;
   others = requests_in answered ++ p.behind;
@@ -81,10 +85,12 @@ passes-by past old meant replies count values a answered p q l m = record {
   left = sym m.texts ∙ l.texts ∙ append_assoc (reply_text a.reply) (text_in answered) p.left;
   permitted =
       subst (λ (h : List Update). IsPermitted h q.state (shape_of a.request) a.reply l.follows.0) (sym m.follows.0)
-      (subst (λ (s : State). IsPermitted past s (shape_of a.request) a.reply l.follows.0) (sym m.follows.1) l.follows.1);
+      (subst (λ (s : State). IsPermitted past s (shape_of a.request) a.reply l.follows.0) (sym m.follows.1)
+      l.follows.1);
 }
 
-same-place : (past : List Update) (old : State) (meant : List Request) (replies : List ℕ) (count values : ℕ) (p q : Place)
+same-place : (past : List Update) (old : State) (meant : List Request) (replies : List ℕ) (count values : ℕ)
+    (p q : Place)
     → Leads past old meant replies count values [] p → Leads past old meant replies count values [] q → p ≡ q
 same-place past old meant replies count values p q l m =
     let a : p.behind ≡ q.behind = sym l.cut ∙ m.cut in
@@ -105,9 +111,11 @@ worth-of : ℕ → Bool → ℕ
 worth-of values b = values + cond b 1 0
 
 -- the way from behind the first reply
-shorter : (past : List Update) (old : State) (meant : List Request) (replies : List ℕ) (count values : ℕ) (a : Answered) (answered : List Answered) (p : Place)
+shorter : (past : List Update) (old : State) (meant : List Request) (replies : List ℕ) (count values : ℕ) (a : Answered)
+    (answered : List Answered) (p : Place)
     → (l : Leads past old meant replies count values (a ∷ answered) p)
-    → Leads (history_behind past (shape_of a.request) a.reply) l.follows.0 (requests_in answered ++ p.behind) (text_in answered ++ p.left)
+    → Leads (history_behind past (shape_of a.request) a.reply) l.follows.0 (requests_in answered ++ p.behind)
+    (text_in answered ++ p.left)
     (count + 1) (worth-of values (is_value a.reply)) answered p
 unfolding worth-of values_in
 shorter past old meant replies count values a answered p l = record {
@@ -131,18 +139,24 @@ shorter past old meant replies count values a answered p l = record {
 Meets : Place → Place → Type 0
 Meets p q = (p ≡ q) ⊎ (Passes p ⊎ Passes q)
 
-meet : (past : List Update) (old : State) (meant : List Request) (replies : List ℕ) (count values : ℕ) (xs ys : List Answered) (p q : Place) → length replies < 2 ^ 64
+meet : (past : List Update) (old : State) (meant : List Request) (replies : List ℕ) (count values : ℕ)
+    (xs ys : List Answered) (p q : Place) → length replies < 2 ^ 64
     → Leads past old meant replies count values xs p → Leads past old meant replies count values ys q → Meets p q
 unfolding Meets
-meet past old meant replies count values [] [] p q small l m = inl (same-place past old meant replies count values p q l m)
-meet past old meant replies count values [] (b ∷ ys) p q small l m = inr (inl (passes-by past old meant replies count values b ys q p m l))
-meet past old meant replies count values (a ∷ xs) [] p q small l m = inr (inr (passes-by past old meant replies count values a xs p q l m))
+meet past old meant replies count values [] [] p q small l m =
+    inl (same-place past old meant replies count values p q l m)
+meet past old meant replies count values [] (b ∷ ys) p q small l m =
+    inr (inl (passes-by past old meant replies count values b ys q p m l))
+meet past old meant replies count values (a ∷ xs) [] p q small l m =
+    inr (inr (passes-by past old meant replies count values a xs p q l m))
 meet past old meant replies count values (a ∷ xs) (b ∷ ys) p q small l m =
     let cut : a.request ∷ (requests_in xs ++ p.behind) ≡ b.request ∷ (requests_in ys ++ q.behind) = sym l.cut ∙ m.cut in
     let request : a.request ≡ b.request = cc cut in
     let others : requests_in xs ++ p.behind ≡ requests_in ys ++ q.behind = cc cut in
-    let first : replies ≡ reply_text a.reply ++ (text_in xs ++ p.left) = l.texts ∙ append_assoc (reply_text a.reply) (text_in xs) p.left in
-    let second : replies ≡ reply_text b.reply ++ (text_in ys ++ q.left) = m.texts ∙ append_assoc (reply_text b.reply) (text_in ys) q.left in
+    let first : replies ≡ reply_text a.reply ++ (text_in xs ++ p.left) = l.texts
+    ∙ append_assoc (reply_text a.reply) (text_in xs) p.left in
+    let second : replies ≡ reply_text b.reply ++ (text_in ys ++ q.left) = m.texts
+    ∙ append_assoc (reply_text b.reply) (text_in ys) q.left in
     let text : reply_text a.reply ≡ reply_text b.reply =
     replies_apart replies a.reply b.reply small (record { more = text_in xs ++ p.left; text = l.each.0; cut = first })
     (record { more = text_in ys ++ q.left; text = m.each.0; cut = second }) in
@@ -151,19 +165,27 @@ meet past old meant replies count values (a ∷ xs) (b ∷ ys) p q small l m =
     (sym first ∙ second ∙ ap (λ (t : List ℕ). t ++ (text_in ys ++ q.left)) (sym text)) in
     let permitted : IsPermitted past old (shape_of a.request) b.reply m.follows.0 =
     subst (λ (r : Request). IsPermitted past old (shape_of r) b.reply m.follows.0) (sym request) m.follows.1 in
-    let outcome = one_outcome past old (shape_of a.request) a.reply b.reply l.follows.0 m.follows.0 l.follows.1 permitted text in
-    let value = one_value past old (shape_of a.request) a.reply b.reply l.follows.0 m.follows.0 l.follows.1 permitted text in
+    let outcome = one_outcome past old (shape_of a.request) a.reply b.reply l.follows.0 m.follows.0 l.follows.1
+    permitted text in
+    let value = one_value past old (shape_of a.request) a.reply b.reply l.follows.0 m.follows.0 l.follows.1 permitted
+    text in
     let history : history_behind past (shape_of b.request) b.reply ≡ history_behind past (shape_of a.request) a.reply =
     ap (λ (r : Request). history_behind past (shape_of r) b.reply) (sym request) ∙ sym outcome.0 in
     let size = ap length first ∙ length-append (reply_text a.reply) (text_in xs ++ p.left) in
-    meet (history_behind past (shape_of a.request) a.reply) l.follows.0 (requests_in xs ++ p.behind) (text_in xs ++ p.left)
+    meet (history_behind past (shape_of a.request) a.reply) l.follows.0 (requests_in xs ++ p.behind)
+    (text_in xs ++ p.left)
     (count + 1) (worth-of values (is_value a.reply)) xs ys p q (omega (arith, size, small))
     (shorter past old meant replies count values a xs p l)
-    (subst (λ (v : Bool). Leads (history_behind past (shape_of a.request) a.reply) l.follows.0 (requests_in xs ++ p.behind) (text_in xs ++ p.left) (count + 1) (worth-of values v) ys q) (sym value)
-    (subst (λ (h : List Update). Leads h l.follows.0 (requests_in xs ++ p.behind) (text_in xs ++ p.left) (count + 1) (worth-of values (is_value b.reply)) ys q) history
-    (subst (λ (s : State). Leads (history_behind past (shape_of b.request) b.reply) s (requests_in xs ++ p.behind) (text_in xs ++ p.left) (count + 1) (worth-of values (is_value b.reply)) ys q) (sym outcome.1)
-    (subst (λ (rs : List Request). Leads (history_behind past (shape_of b.request) b.reply) m.follows.0 rs (text_in xs ++ p.left) (count + 1) (worth-of values (is_value b.reply)) ys q) (sym others)
-    (subst (λ (t : List ℕ). Leads (history_behind past (shape_of b.request) b.reply) m.follows.0 (requests_in ys ++ q.behind) t (count + 1) (worth-of values (is_value b.reply)) ys q) (sym rest)
+    (subst (λ (v : Bool). Leads (history_behind past (shape_of a.request) a.reply) l.follows.0
+    (requests_in xs ++ p.behind) (text_in xs ++ p.left) (count + 1) (worth-of values v) ys q) (sym value)
+    (subst (λ (h : List Update). Leads h l.follows.0 (requests_in xs ++ p.behind) (text_in xs ++ p.left) (count + 1)
+    (worth-of values (is_value b.reply)) ys q) history
+    (subst (λ (s : State). Leads (history_behind past (shape_of b.request) b.reply) s (requests_in xs ++ p.behind)
+    (text_in xs ++ p.left) (count + 1) (worth-of values (is_value b.reply)) ys q) (sym outcome.1)
+    (subst (λ (rs : List Request). Leads (history_behind past (shape_of b.request) b.reply) m.follows.0 rs
+    (text_in xs ++ p.left) (count + 1) (worth-of values (is_value b.reply)) ys q) (sym others)
+    (subst (λ (t : List ℕ). Leads (history_behind past (shape_of b.request) b.reply) m.follows.0
+    (requests_in ys ++ q.behind) t (count + 1) (worth-of values (is_value b.reply)) ys q) (sym rest)
     (shorter past old meant replies count values b ys q m))))))
 
 -- Verdicts.
@@ -172,7 +194,8 @@ Begins : List ℕ → Type 0
 Begins left = (reply : Reply) × BeginsWith left reply
 
 Misses : Place → Request → Type 0
-Misses p request = (reply : Reply) (new : State) → BeginsWith p.left reply → IsPermitted p.history p.state (shape_of request) reply new → ⊥
+Misses p request = (reply : Reply) (new : State) → BeginsWith p.left reply
+    → IsPermitted p.history p.state (shape_of request) reply new → ⊥
 
 record StopsAt (p : Place) (n : ℕ) : Type 0 where
   request : Request
@@ -214,7 +237,8 @@ unfolding Begins
 begun-empty left empty b = some_text b.0 b.1.more (sym b.1.cut ∙ empty)
 
 -- no request is there
-nothing-behind : (p : Place) (request : Request) (others : List Request) → p.behind ≡ [] → p.behind ≡ request ∷ others → ⊥
+nothing-behind : (p : Place) (request : Request) (others : List Request) → p.behind ≡ [] → p.behind ≡ request ∷ others
+    → ⊥
 nothing-behind p request others e f = cc (e, f)
 
 one-request : (p : Place) (a b : Request) (xs ys : List Request) → p.behind ≡ a ∷ xs → p.behind ≡ b ∷ ys → a ≡ b
@@ -248,7 +272,8 @@ one-foreign p n m s t foreign =
     absurd (cc (same, judged, foreign))
 
 -- and there it has one
-one-stop : (size : ℕ) (p : Place) (verdict other : Result (ℕ × ℕ) TranscriptFault) → Stops size p verdict → Stops size p other → verdict ≡ other
+one-stop : (size : ℕ) (p : Place) (verdict other : Result (ℕ × ℕ) TranscriptFault) → Stops size p verdict
+    → Stops size p other → verdict ≡ other
 unfolding Stops Begins
 one-stop size p (Ok a) (Ok b) s t =
     let x : a.0 ≡ b.0 = s.2 ∙ sym t.2 in let y : a.1 ≡ b.1 = s.3 ∙ sym t.3 in
@@ -260,7 +285,8 @@ one-stop size p (Ok a) (Err (F.Rest at)) s t = absurd (t.1 s.1)
 one-stop size p (Ok a) (Err (F.Foreign n)) s t = absurd (nothing-behind p t.0.request t.0.others s.0 t.0.cut)
 one-stop size p (Ok a) (Err F.NoMemory) s t = absurd t
 one-stop size p (Err (F.Missing n)) (Ok b) s t = absurd (nothing-behind p s.0.at.request s.0.at.others t.0 s.0.at.cut)
-one-stop size p (Err (F.Missing n)) (Err (F.Missing m)) s t = ap (λ (k : ℕ). Err (F.Missing k)) (both p n m s.0.at t.0.at)
+one-stop size p (Err (F.Missing n)) (Err (F.Missing m)) s t =
+    ap (λ (k : ℕ). Err (F.Missing k)) (both p n m s.0.at t.0.at)
 one-stop size p (Err (F.Missing n)) (Err (F.Text m)) s t = absurd (t.1 s.1)
 one-stop size p (Err (F.Missing n)) (Err (F.Wrong m)) s t = absurd (begun-empty p.left s.1 t.1)
 one-stop size p (Err (F.Missing n)) (Err (F.Rest at)) s t = absurd (t.1 s.1)
@@ -270,20 +296,24 @@ one-stop size p (Err (F.Text n)) (Ok b) s t = absurd (nothing-behind p s.0.at.re
 one-stop size p (Err (F.Text n)) (Err (F.Missing m)) s t = absurd (s.1 t.1)
 one-stop size p (Err (F.Text n)) (Err (F.Text m)) s t = ap (λ (k : ℕ). Err (F.Text k)) (both p n m s.0.at t.0.at)
 one-stop size p (Err (F.Text n)) (Err (F.Wrong m)) s t = absurd (s.2 t.1)
-one-stop size p (Err (F.Text n)) (Err (F.Rest at)) s t = absurd (nothing-behind p s.0.at.request s.0.at.others t.0 s.0.at.cut)
+one-stop size p (Err (F.Text n)) (Err (F.Rest at)) s t =
+    absurd (nothing-behind p s.0.at.request s.0.at.others t.0 s.0.at.cut)
 one-stop size p (Err (F.Text n)) (Err (F.Foreign m)) s t = absurd (one-foreign p m n t.0 s.0 t.1)
 one-stop size p (Err (F.Text n)) (Err F.NoMemory) s t = absurd t
 one-stop size p (Err (F.Wrong n)) (Ok b) s t = absurd (nothing-behind p s.0.at.request s.0.at.others t.0 s.0.at.cut)
 one-stop size p (Err (F.Wrong n)) (Err (F.Missing m)) s t = absurd (begun-empty p.left t.1 s.1)
 one-stop size p (Err (F.Wrong n)) (Err (F.Text m)) s t = absurd (t.2 s.1)
 one-stop size p (Err (F.Wrong n)) (Err (F.Wrong m)) s t = ap (λ (k : ℕ). Err (F.Wrong k)) (both p n m s.0.at t.0.at)
-one-stop size p (Err (F.Wrong n)) (Err (F.Rest at)) s t = absurd (nothing-behind p s.0.at.request s.0.at.others t.0 s.0.at.cut)
+one-stop size p (Err (F.Wrong n)) (Err (F.Rest at)) s t =
+    absurd (nothing-behind p s.0.at.request s.0.at.others t.0 s.0.at.cut)
 one-stop size p (Err (F.Wrong n)) (Err (F.Foreign m)) s t = absurd (one-foreign p m n t.0 s.0 t.1)
 one-stop size p (Err (F.Wrong n)) (Err F.NoMemory) s t = absurd t
 one-stop size p (Err (F.Rest at)) (Ok b) s t = absurd (s.1 t.1)
 one-stop size p (Err (F.Rest at)) (Err (F.Missing m)) s t = absurd (s.1 t.1)
-one-stop size p (Err (F.Rest at)) (Err (F.Text m)) s t = absurd (nothing-behind p t.0.at.request t.0.at.others s.0 t.0.at.cut)
-one-stop size p (Err (F.Rest at)) (Err (F.Wrong m)) s t = absurd (nothing-behind p t.0.at.request t.0.at.others s.0 t.0.at.cut)
+one-stop size p (Err (F.Rest at)) (Err (F.Text m)) s t =
+    absurd (nothing-behind p t.0.at.request t.0.at.others s.0 t.0.at.cut)
+one-stop size p (Err (F.Rest at)) (Err (F.Wrong m)) s t =
+    absurd (nothing-behind p t.0.at.request t.0.at.others s.0 t.0.at.cut)
 one-stop size p (Err (F.Rest at)) (Err (F.Rest m)) s t =
     let x = s.2 in let y = t.2 in let same : at ≡ m = omega (arith, x, y) in ap (λ (k : ℕ). Err (F.Rest k)) same
 one-stop size p (Err (F.Rest at)) (Err (F.Foreign m)) s t = absurd (nothing-behind p t.0.request t.0.others s.0 t.0.cut)
@@ -307,11 +337,20 @@ record Ends (past : List Update) (script replies : List ℕ) (verdict : Result (
   stops : Stops (length replies) p verdict
 
 module _ (past : List Update) (script replies : List ℕ) where
-  ends-of : (verdict : Result (ℕ × ℕ) TranscriptFault) → HasVerdict past script replies verdict → Ends past script replies verdict
+  ends-of : (verdict : Result (ℕ × ℕ) TranscriptFault) → HasVerdict past script replies verdict
+      → Ends past script replies verdict
   unfolding Stops Begins Misses values_in
   ends-of (Ok told) v = record {
     answered = v.answered;
-    p = record { behind = []; left = []; history = v.history; state = v.state; count = length v.answered; values = values_in v.answered };
+    p = record {
+      behind = [];
+      left = [];
+      history = v.history;
+      state = v.state;
+      count = length v.answered;
+      values =
+          values_in v.answered;
+    };
     followed = v.followed;
     count = refl;
     values = refl;
@@ -321,22 +360,49 @@ module _ (past : List Update) (script replies : List ℕ) where
       let r = v.reached in
       record {
         answered = r.answered;
-        p = record { behind = v.request ∷ r.others; left = []; history = r.history; state = r.state; count = length r.answered; values = values_in r.answered };
+        p = record {
+          behind = v.request ∷ r.others;
+          left = [];
+          history = r.history;
+          state = r.state;
+          count =
+              length r.answered;
+          values = values_in r.answered;
+        };
         followed = r.followed;
         count = refl;
         values = refl;
-        stops = (record { at = record { request = v.request; others = r.others; cut = refl; place = r.place }; judged = v.judged }, refl);
+        stops = (
+          record {
+            at = record { request = v.request; others = r.others; cut = refl; place = r.place };
+            judged =
+                v.judged;
+          },
+          refl,
+        );
       }
   ends-of (Err (F.Text n)) v =
       let r = v.at.reached in
       record {
         answered = r.answered;
-        p = record { behind = v.at.request ∷ r.others; left = v.left; history = r.history; state = r.state; count = length r.answered; values = values_in r.answered };
+        p = record {
+          behind = v.at.request ∷ r.others;
+          left = v.left;
+          history = r.history;
+          state = r.state;
+          count =
+              length r.answered;
+          values = values_in r.answered;
+        };
         followed = r.followed;
         count = refl;
         values = refl;
         stops = (
-          record { at = record { request = v.at.request; others = r.others; cut = refl; place = r.place }; judged = v.at.judged },
+          record {
+            at = record { request = v.at.request; others = r.others; cut = refl; place = r.place };
+            judged =
+                v.at.judged;
+          },
           v.some,
           λ b. v.none b.0 b.1,
         );
@@ -345,19 +411,39 @@ module _ (past : List Update) (script replies : List ℕ) where
       let r = v.at.reached in
       record {
         answered = r.answered;
-        p = record { behind = v.at.request ∷ r.others; left = v.left; history = r.history; state = r.state; count = length r.answered; values = values_in r.answered };
+        p = record {
+          behind = v.at.request ∷ r.others;
+          left = v.left;
+          history = r.history;
+          state = r.state;
+          count =
+              length r.answered;
+          values = values_in r.answered;
+        };
         followed = r.followed;
         count = refl;
         values = refl;
         stops = (
-          record { at = record { request = v.at.request; others = r.others; cut = refl; place = r.place }; judged = v.at.judged },
+          record {
+            at = record { request = v.at.request; others = r.others; cut = refl; place = r.place };
+            judged =
+                v.at.judged;
+          },
           v.some,
           v.none,
         );
       }
   ends-of (Err (F.Rest at)) v = record {
     answered = v.answered;
-    p = record { behind = []; left = v.left; history = v.history; state = v.state; count = length v.answered; values = values_in v.answered };
+    p = record {
+      behind = [];
+      left = v.left;
+      history = v.history;
+      state = v.state;
+      count = length v.answered;
+      values =
+          values_in v.answered;
+    };
     followed = v.followed;
     count = refl;
     values = refl;
@@ -370,7 +456,15 @@ module _ (past : List Update) (script replies : List ℕ) where
       let r = v.reached in
       record {
         answered = r.answered;
-        p = record { behind = v.request ∷ r.others; left = v.left; history = r.history; state = r.state; count = length r.answered; values = values_in r.answered };
+        p = record {
+          behind = v.request ∷ r.others;
+          left = v.left;
+          history = r.history;
+          state = r.state;
+          count =
+              length r.answered;
+          values = values_in r.answered;
+        };
         followed = r.followed;
         count = refl;
         values = refl;
@@ -378,7 +472,8 @@ module _ (past : List Update) (script replies : List ℕ) where
       }
   ends-of (Err F.NoMemory) v = absurd v
 
-  leads-of : (requests : List Request) (verdict : Result (ℕ × ℕ) TranscriptFault) (e : Ends past script replies verdict) → e.followed.requests ≡ requests
+  leads-of : (requests : List Request) (verdict : Result (ℕ × ℕ) TranscriptFault) (e : Ends past script replies verdict)
+      → e.followed.requests ≡ requests
       → Leads past first_state (meant_of requests) replies 0 0 e.answered e.p
   leads-of requests verdict e same =
       let count = e.count in
@@ -393,16 +488,19 @@ module _ (past : List Update) (script replies : List ℕ) where
         worth = omega (arith, values);
       }
 
-  pub verdict-once : (verdict other : Result (ℕ × ℕ) TranscriptFault) → length replies < 2 ^ 64 → HasVerdict past script replies verdict
+  pub verdict-once : (verdict other : Result (ℕ × ℕ) TranscriptFault) → length replies < 2 ^ 64
+      → HasVerdict past script replies verdict
       → HasVerdict past script replies other → verdict ≡ other
   unfolding Meets
   verdict-once verdict other small v w =
       let e = ends-of verdict v in
       let f = ends-of other w in
-      let same = (one_reading script f.followed.requests e.followed.requests f.followed.rest e.followed.rest f.followed.read e.followed.read).0 in
+      let same = (one_reading script f.followed.requests e.followed.requests f.followed.rest e.followed.rest
+      f.followed.read e.followed.read).0 in
       elim (meet past first_state (meant_of e.followed.requests) replies 0 0 e.answered f.answered e.p f.p small
       (leads-of e.followed.requests verdict e refl) (leads-of e.followed.requests other f same)) [
-        | inl at ↦ one-stop (length replies) f.p verdict other (subst (λ (p : Place). Stops (length replies) p verdict) at e.stops) f.stops
+        | inl at ↦ one-stop (length replies) f.p verdict other
+            (subst (λ (p : Place). Stops (length replies) p verdict) at e.stops) f.stops
         | inr on ↦ elim on [
           | inl x ↦ absurd (stopped (length replies) e.p verdict e.stops x)
           | inr x ↦ absurd (stopped (length replies) f.p other f.stops x)

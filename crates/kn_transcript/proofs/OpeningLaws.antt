@@ -1,5 +1,6 @@
 -- Replies to requests that start a session, or pin one.
-use Rattle.std.proofs.Common.{◌≡◌, ℕ, ◌+◌, ◌≤◌, Bool, true, List, length, Option, Some, None, is_some, refl, sym, ap, ◌∙◌, arith, subst}
+use Rattle.std.proofs.Common.{◌≡◌, ℕ, ◌+◌, ◌≤◌, Bool, true, List, length, Option, Some, None, is_some, refl, sym, ap}
+use Rattle.std.proofs.Common.{◌∙◌, arith, subst}
 use Rattle.std.specs.Prelude.{Result, IfOk, IsSome, nat_le, is_none}
 use Rattle.std.proofs.lemmas.Bool.Decides.{nat_tests}
 use Rattle.kn_base.specs.declared.limits.TheConstants.{SESSIONS}
@@ -23,7 +24,8 @@ use Rattle.kn_transcript.proofs.CallingLaws.{state_with, none_found}
 look_behind : (past : List Update) (look : Look) (reply : Reply) → history_behind past (Looks look) reply ≡ past
 look_behind past look reply = ap (with_update past) (no-update 0 (Looks look) reply refl)
 
-module _ (past : List Update) (left : List ℕ) {X E : Type 0} (result : Result X E) (view : X → Option (List ℕ)) (now : State) where
+module _ (past : List Update) (left : List ℕ) {X E : Type 0} (result : Result X E) (view : X
+    → Option (List ℕ)) (now : State) where
   abbrev Keeps : Look → Type 0
   Keeps look = IfOk result (λ found. Judges past now (Looks look) left past now (view found))
 
@@ -36,7 +38,8 @@ module _ (past : List Update) (left : List ℕ) {X E : Type 0} (result : Result 
       refuses : refusal_by (start_fault now.sessions) ≡ Some (R.Limit W.Sessions count)
       refuses =
           let test : nat_le SESSIONS (length now.sessions) ≡ true = grind (arith, nat_tests, same, full) in
-          subst (λ (n : ℕ). refusal_by (start_fault now.sessions) ≡ Some (R.Limit W.Sessions n)) (sym same) (rw test refl)
+          subst (λ (n : ℕ). refusal_by (start_fault now.sessions) ≡ Some (R.Limit W.Sessions n)) (sym same)
+          (rw test refl)
 
   -- the session isn't open
   pub pin_unknown : (s : ℕ) (fault : SessionFault) → fault_in s (session_of now s) (λ x. None) ≡ Some fault
@@ -54,14 +57,16 @@ module _ (past : List Update) (left : List ℕ) {X E : Type 0} (result : Result 
   -- the version isn't retained
   pub pin_at_missing : (s version newest : ℕ) (session : Session) → session_of now s ≡ Some session
       → retained_version past version ≡ None → newest ≡ length past
-      → IfOk result (λ found. IsBehind left (reply_text (No (R.Retained newest))) (view found)) → Keeps (ForRetained s version)
+      → IfOk result (λ found. IsBehind left (reply_text (No (R.Retained newest))) (view found))
+      → Keeps (ForRetained s version)
   pin_at_missing s version newest session found missing at behind =
       placed_ok past now (Looks (ForRetained s version)) left view (R.Retained newest) (λ g. rw found refl)
       (ap (λ (o : Option (List Update)). refuse_if (is_none o) (R.Retained (length past)) None) missing
       ∙ ap (λ (n : ℕ). Some (R.Retained n)) (sym at))
       (λ g reply other does. never reply does.answered) result behind
     where
-      never : (reply : Reply) → IsSome (retained_version (history_behind past (Looks (ForRetained s version)) reply) version)
+      never : (reply : Reply)
+          → IsSome (retained_version (history_behind past (Looks (ForRetained s version)) reply) version)
           × (reply ≡ PinnedAt version (length (history_behind past (Looks (ForRetained s version)) reply))) → ⊥
       never reply is =
           let here = look_behind past (ForRetained s version) reply in
@@ -72,7 +77,8 @@ module _ (past : List Update) (left : List ℕ) {X E : Type 0} (result : Result 
 module _ (past : List Update) (left : List ℕ) {X E : Type 0} (result : Result X E) (view : X → Option (List ℕ))
     (a b : OpenSessions) (is_admin : Bool) where
   abbrev Changes : Look → Type 0
-  Changes look = IfOk result (λ found. Judges past (state_with a is_admin) (Looks look) left past (state_with b is_admin) (view found))
+  Changes look = IfOk result
+      (λ found. Judges past (state_with a is_admin) (Looks look) left past (state_with b is_admin) (view found))
 
   -- the session was started
   pub open_started : (s version : ℕ) (made : List Update) → made ≡ past → version ≡ length past
@@ -86,7 +92,8 @@ module _ (past : List Update) (left : List ℕ) {X E : Type 0} (result : Result 
       (λ g. ap refusal_by accepted) refl refl (rw (number, at) refl)
       (ap (λ (x : OpenSessions). state_with x is_admin) after ∙ ap started seen)
       (λ g reply other does. does.answered
-      ∙ ap (λ (x : List Update). Started (a.started + 1) (length x)) (look_behind past ForNew reply) ∙ rw (number, at) refl)
+      ∙ ap (λ (x : List Update). Started (a.started + 1) (length x)) (look_behind past ForNew reply)
+      ∙ rw (number, at) refl)
       result behind
 
   -- the session was pinned
@@ -95,7 +102,8 @@ module _ (past : List Update) (left : List ℕ) {X E : Type 0} (result : Result 
       → IfOk result (λ found. IsBehind left (reply_text (Number version)) (view found)) → Changes (ForOpen s)
   pin_done s version made seen at accepted after behind =
       let pinned : List Update → State = λ u. state_with (with_open_session a s (pin_at u)) is_admin in
-      done_ok past (state_with a is_admin) (Looks (ForOpen s)) left view (Number version) (state_with b is_admin) tt refl
+      done_ok past (state_with a is_admin) (Looks (ForOpen s)) left view (Number version) (state_with b is_admin) tt
+      refl
       (λ g. ap refusal_by accepted) refl refl (rw at refl)
       (ap (λ (x : OpenSessions). state_with x is_admin) after ∙ ap pinned seen)
       (λ g reply other does. does.answered
@@ -103,11 +111,14 @@ module _ (past : List Update) (left : List ℕ) {X E : Type 0} (result : Result 
       result behind
 
   -- the session was pinned to the retained version
-  pub pin_at_done : (s version newest : ℕ) (made : List Update) → retained_version past version ≡ Some made → newest ≡ length past
+  pub pin_at_done : (s version newest : ℕ) (made : List Update) → retained_version past version ≡ Some made
+      → newest ≡ length past
       → fault_in s (session_in a.sessions s) (λ x. None) ≡ None → b ≡ with_open_session a s (pin_at made)
-      → IfOk result (λ found. IsBehind left (reply_text (PinnedAt version newest)) (view found)) → Changes (ForRetained s version)
+      → IfOk result (λ found. IsBehind left (reply_text (PinnedAt version newest)) (view found))
+      → Changes (ForRetained s version)
   pin_at_done s version newest made retained at accepted after behind =
-      done_ok past (state_with a is_admin) (Looks (ForRetained s version)) left view (PinnedAt version newest) (state_with b is_admin)
+      done_ok past (state_with a is_admin) (Looks (ForRetained s version)) left view (PinnedAt version newest)
+      (state_with b is_admin)
       tt refl (λ g. ap refusal_by accepted)
       (ap (λ (o : Option (List Update)). refuse_if (is_none o) (R.Retained (length past)) None) retained) refl
       (ap is_some retained, ap (PinnedAt version) at)
@@ -117,9 +128,11 @@ module _ (past : List Update) (left : List ℕ) {X E : Type 0} (result : Result 
       ∙ ap (PinnedAt version) (sym at)) result behind
 
   -- the session isn't open, and nothing has changed
-  pub pin_refused : (s : ℕ) (fault : SessionFault) → b ≡ a → fault_in s (session_in a.sessions s) (λ x. None) ≡ Some fault
+  pub pin_refused : (s : ℕ) (fault : SessionFault) → b ≡ a
+      → fault_in s (session_in a.sessions s) (λ x. None) ≡ Some fault
       → IfOk result (λ found. IsBehind left (reply_text (No R.Session)) (view found)) → Changes (ForOpen s)
   pin_refused s fault same why behind =
       subst (λ (x : OpenSessions). IfOk result (λ found.
-      Judges past (state_with a is_admin) (Looks (ForOpen s)) left past (state_with x is_admin) (view found))) (sym same)
+      Judges past (state_with a is_admin) (Looks (ForOpen s)) left past (state_with x is_admin) (view found)))
+      (sym same)
       (pin_unknown past left result view (state_with a is_admin) s fault why behind)

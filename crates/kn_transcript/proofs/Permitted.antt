@@ -1,12 +1,14 @@
 -- What is permitted on some grounds, and what is on all.
-use Rattle.std.proofs.Common.{◌≡◌, ◌≢◌, ◌⊎◌, ℕ, ◌≤◌, Bool, true, false, List, [], Option, Some, None, refl, sym, ap, ◌∙◌, arith, inl, inr}
+use Rattle.std.proofs.Common.{◌≡◌, ◌≢◌, ◌⊎◌, ℕ, ◌≤◌, Bool, true, false, List, [], Option, Some, None, refl, sym, ap}
+use Rattle.std.proofs.Common.{◌∙◌, arith, inl, inr}
 use Rattle.std.specs.Option.{option_or}
 use Rattle.kn_history.specs.declared.update.Update.{Update}
 use Rattle.kn_reply.specs.declared.refusal.Refusal.{Refusal}
 use Rattle.kn_reply.specs.Replies.{Reply, Done, Started, Number, PrivateAdded, Added, Value, Batched, PinnedAt, Log}
 use Rattle.kn_reply.specs.Replies.{News, Critical, No, NoMemory}
 use Rattle.kn_daemon.specs.Shapes.{Shape}
-use Rattle.kn_daemon.specs.Daemon.{Grounds, State, Permits, Does, Answers, own_refusal, placed_refusal, first_refusal, changed}
+use Rattle.kn_daemon.specs.Daemon.{Grounds, State, Permits, Does, Answers, own_refusal, placed_refusal, first_refusal}
+use Rattle.kn_daemon.specs.Daemon.{changed}
 use Rattle.kn_transcript.specs.declared.fault.TheConstants.{AUTH_FAULTS}
 use Rattle.kn_transcript.specs.Followed.{IsPermitted, history_behind}
 
@@ -39,7 +41,8 @@ is_acceptance (No refusal) = false
 is_acceptance NoMemory = false
 
 -- a request is refused, accepted, or runs out of memory
-pub permits_cases : (g : Grounds) (caller : ℕ) (past : List Update) (old : State) (shape : Shape) (reply : Reply) (new : State)
+pub permits_cases : (g : Grounds) (caller : ℕ) (past : List Update) (old : State) (shape : Shape) (reply : Reply)
+    (new : State)
     → reply ≢ NoMemory → Permits g caller past old shape reply new
     → IsRefusal g past old shape reply new ⊎ Does g caller past old shape reply new
 permits_cases g caller past old shape Done new some p = inr p
@@ -58,7 +61,8 @@ permits_cases g caller past old shape (No refusal) new some p =
 permits_cases g caller past old shape NoMemory new some p = absurd (some refl)
 
 -- what a daemon does it may reply
-pub does_permitted : (g : Grounds) (caller : ℕ) (past : List Update) (old : State) (shape : Shape) (reply : Reply) (new : State)
+pub does_permitted : (g : Grounds) (caller : ℕ) (past : List Update) (old : State) (shape : Shape) (reply : Reply)
+    (new : State)
     → is_acceptance reply ≡ true → Does g caller past old shape reply new → Permits g caller past old shape reply new
 does_permitted g caller past old shape Done new is d = d
 does_permitted g caller past old shape (Started s version) new is d = d
@@ -96,7 +100,8 @@ module _ (past : List Update) (old : State) (shape : Shape) where
         | inr does ↦ absurd (let none = does.accepted in cc (own, none))
         | inl r ↦
             let first : Some refusal ≡ Some r.refusal =
-            sym (ap (λ (o : Option Refusal). option_or o (placed_refusal (history_behind past shape reply) shape)) own) ∙ r.first in
+            sym (ap (λ (o : Option Refusal). option_or o (placed_refusal (history_behind past shape reply) shape)) own)
+            ∙ r.first in
             let same : refusal ≡ r.refusal = cc in
             r.told ∙ ap (λ (x : Refusal). No x) (sym same)
       ]
@@ -118,7 +123,8 @@ module _ (past : List Update) (old : State) (shape : Shape) where
       elim (permits_cases g 0 (history_behind past shape reply) old shape reply other some p) [
         | inr does ↦ absurd (never reply other does)
         | inl r ↦
-            let here : history_behind past shape reply ≡ past = ap (λ (x : Reply). history_behind past shape x) r.told in
+            let here : history_behind past shape reply ≡ past =
+            ap (λ (x : Reply). history_behind past shape x) r.told in
             let first : Some refusal ≡ Some r.refusal =
             sym (ap (λ (o : Option Refusal). option_or o (placed_refusal past shape)) own ∙ placed)
             ∙ ap (λ (x : List Update). first_refusal g x old shape) (sym here) ∙ r.first in
@@ -142,14 +148,16 @@ module _ (past : List Update) (old : State) (shape : Shape) where
       elim (permits_cases g 0 (history_behind past shape reply) old shape reply other some p) [
         | inr does ↦ answers reply other does
         | inl r ↦
-            let here : history_behind past shape reply ≡ past = ap (λ (x : Reply). history_behind past shape x) r.told in
+            let here : history_behind past shape reply ≡ past =
+            ap (λ (x : Reply). history_behind past shape x) r.told in
             let first : None ≡ Some r.refusal =
             sym (ap (λ (o : Option Refusal). option_or o (placed_refusal past shape)) own ∙ placed)
             ∙ ap (λ (x : List Update). first_refusal g x old shape) (sym here) ∙ r.first in
             absurd (cc first)
       ]
 
-  pub done_permitted : (due : Reply) (new : State) → is_acceptance due ≡ true → own_refusal (grounds_at 0) old shape ≡ None
+  pub done_permitted : (due : Reply) (new : State) → is_acceptance due ≡ true
+      → own_refusal (grounds_at 0) old shape ≡ None
       → Answers 0 (history_behind past shape due) old shape due
       → new ≡ changed (history_behind past shape due) old shape → IsPermitted past old shape due new
   done_permitted due new is own answered next = record {

@@ -1,5 +1,7 @@
 -- The items of a batch in code, place by place.
-use Rattle.std.proofs.Common.{◌≡◌, ◌≢◌, ℕ, ◌+◌, ◌<◌, ◌≤◌, Bool, true, false, List, [], ◌∷◌, ◌++◌, length, map, take, drop, get_or, Option, Some, None, refl, sym, ap, ◌∙◌, arith, inl, inr, subst, append-nil, take_all}
+use Rattle.std.proofs.Common.{◌≡◌, ◌≢◌, ℕ, ◌+◌, ◌<◌, ◌≤◌, Bool, true, false, List, [], ◌∷◌, ◌++◌, length, map, take}
+use Rattle.std.proofs.Common.{drop, get_or, Option, Some, None, refl, sym, ap, ◌∙◌, arith, inl, inr, subst, append-nil}
+use Rattle.std.proofs.Common.{take_all}
 use Rattle.std.specs.Prelude.{◌||◌, not, slice_get, option_map, Result, Ok, Err, IfOk}
 use Rattle.std.specs.List.{list_any, AllByRecursion}
 use Rattle.std.proofs.lemmas.Bool.{cases_lt}
@@ -17,7 +19,8 @@ use Rattle.kn_reply.specs.Logs.{item_of}
 use Rattle.kn_reply.specs.Replies.{No, reply_text}
 use Rattle.kn_daemon.specs.Daemon.{Grounds, item_refusal}
 use Rattle.kn_transcript.specs.declared.items.ReadItems.{ReadItems}
-use Rattle.kn_transcript.specs.Verdicts.{IsAuthFault, IsBehindVerdict, verdict_refusal, adds_text, is_new_behind, adds_anew, HasReading, IsUnread, AreRead}
+use Rattle.kn_transcript.specs.Verdicts.{IsAuthFault, IsBehindVerdict, verdict_refusal, adds_text, is_new_behind}
+use Rattle.kn_transcript.specs.Verdicts.{adds_anew, HasReading, IsUnread, AreRead}
 
 any_map : {X Y : Type 0} (f : X → Y) (p : Y → Bool) (xs : List X) → list_any p (map f xs) ≡ list_any (λ x. p (f x)) xs
 any_map f p [] = refl
@@ -29,7 +32,8 @@ module _ (items : List ItemInCode) (i : ℕ) (d : ItemInCode) (within : i < leng
 
   -- an addition is new where none in front of it adds its text
   pub anew_added : (text : List ℕ) → item_in_code (get_or items i d) ≡ AddText text
-      → adds_anew (map item_in_code items) i ≡ not (list_any (λ item. adds_text text (item_in_code item)) (take i items))
+      → adds_anew (map item_in_code items) i
+      ≡ not (list_any (λ item. adds_text text (item_in_code item)) (take i items))
   anew_added text is =
       ap (is_new_behind (take i (map item_in_code items))) (there ∙ ap (λ (x : BatchItem). Some x) is)
       ∙ ap (λ (l : List BatchItem). not (list_any (adds_text text) l)) (take-map item_in_code i items)
@@ -40,7 +44,8 @@ module _ (items : List ItemInCode) (i : ℕ) (d : ItemInCode) (within : i < leng
       ap (is_new_behind (take i (map item_in_code items))) (there ∙ ap (λ (x : BatchItem). Some x) is)
 
   -- items that are read, and one more
-  one_more : map item_in_code (take (i + 1) items) ≡ map item_in_code (take i items) ++ item_in_code (get_or items i d) ∷ []
+  one_more : map item_in_code (take (i + 1) items) ≡ map item_in_code (take i items) ++ item_in_code (get_or items i d)
+      ∷ []
   one_more =
       ap (map item_in_code) (take_more items i d within)
       ∙ map-append item_in_code (take i items) (get_or items i d ∷ [])
@@ -66,7 +71,8 @@ module _ (items : List ItemInCode) (i : ℕ) (d : ItemInCode) (within : i < leng
       ∙ sym (map-append item_of (map item_in_code (take i items)) (item_in_code (get_or items i d) ∷ []))
       ∙ ap (map item_of) (sym one_more)
 
-  pub readings_more : AllByRecursion HasReading (map item_in_code (take i items)) → HasReading (item_in_code (get_or items i d))
+  pub readings_more : AllByRecursion HasReading (map item_in_code (take i items))
+      → HasReading (item_in_code (get_or items i d))
       → AllByRecursion HasReading (map item_in_code (take (i + 1) items))
   readings_more before here =
       subst (AllByRecursion HasReading) (sym one_more)
@@ -86,7 +92,8 @@ module _ (items : List ItemInCode) (i : ℕ) (d : ItemInCode) (within : i < leng
     first = (item_in_code (get_or items i d), map item_in_code (drop (i + 1) items), refl, by unread);
   }
     where
-      by : IsUnread (item_in_code (get_or items i d)) (Some inner) → (g : Grounds) → item_refusal g (item_in_code (get_or items i d)) ≡ Some inner
+      by : IsUnread (item_in_code (get_or items i d)) (Some inner) → (g : Grounds)
+          → item_refusal g (item_in_code (get_or items i d)) ≡ Some inner
       by (inl none) g = absurd (cc none)
       by (inr refused) g = refused g
 
@@ -95,7 +102,8 @@ module _ (items : List ItemInCode) (i : ℕ) (d : ItemInCode) (within : i < leng
       → read ≡ map item_of (map item_in_code (take i items))
       → AllByRecursion HasReading (map item_in_code (take i items))
       → IsUnread (item_in_code (get_or items i d)) refusal
-      → IfOk result (λ r. (inner : ItemRefusal) × (refusal ≡ Some inner) × (r ≡ record { items = read; refusal = Some inner }))
+      → IfOk result (λ r. (inner : ItemRefusal) × (refusal ≡ Some inner)
+      × (r ≡ record { items = read; refusal = Some inner }))
       → IfOk result (AreRead (map item_in_code items))
   read_ended (Err e) read refusal before each unread ended = ended
   read_ended (Ok r) read refusal before each unread (inner, some, is) =
@@ -175,7 +183,8 @@ none_behind view item left None is none = none
 none_behind view item left (Some other) is behind = absurd (cc is)
 
 pub some_behind : {X : Type 0} (view : X → List ℕ) (item : Option ℕ) (left : List ℕ) (found : Option X) (rest : X)
-    → found ≡ Some rest → IsBehindVerdict item left (option_map view found) → IsBehindVerdict item left (Some (view rest))
+    → found ≡ Some rest → IsBehindVerdict item left (option_map view found)
+    → IsBehindVerdict item left (Some (view rest))
 some_behind view item left None rest is behind = absurd (cc is)
 some_behind {X} view item left (Some other) rest is behind =
     let same : other ≡ rest = cc in subst (λ (x : X). IsBehindVerdict item left (Some (view x))) same behind

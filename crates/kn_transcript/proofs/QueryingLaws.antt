@@ -1,5 +1,6 @@
 -- Replies to QUERY.
-use Rattle.std.proofs.Common.{◌≡◌, ℕ, ◌<◌, List, [], ◌∷◌, ◌++◌, length, Option, Some, None, refl, sym, ap, ◌∙◌, subst, arith, inl, inr}
+use Rattle.std.proofs.Common.{◌≡◌, ℕ, ◌<◌, List, [], ◌∷◌, ◌++◌, length, Option, Some, None, refl, sym, ap, ◌∙◌, subst}
+use Rattle.std.proofs.Common.{arith, inl, inr}
 use Rattle.std.specs.Prelude.{Bool, false, Result, Ok, Err, IfOk, IsSomeAnd, IsTrue, ◌↔◌, slice_index_or}
 use Rattle.std.proofs.lemmas.Option.{same_Some}
 use Rattle.std.proofs.lemmas.Bool.{false≢true}
@@ -13,7 +14,8 @@ use Rattle.kn_session.specs.Sessions.{Session, fault_in}
 use Rattle.kn_reply.specs.declared.refusal.Refusal.TheVariants as R
 use Rattle.kn_reply.specs.Replies.{Reply, Value, No, reply_text}
 use Rattle.kn_daemon.specs.Shapes.{Asks, WithProof}
-use Rattle.kn_daemon.specs.Daemon.{Grounds, State, IsAnswered, IsAnswer, in_session, refusal_of_names, refusal_of_question}
+use Rattle.kn_daemon.specs.Daemon.{Grounds, State, IsAnswered, IsAnswer, in_session, refusal_of_names}
+use Rattle.kn_daemon.specs.Daemon.{refusal_of_question}
 use Rattle.kn_daemon.specs.Daemon.{session_of, own_refusal}
 use Rattle.kn_daemon.proofs.Updates.{no-update}
 use Rattle.kn_verify.proofs.Accepted.{answers_are_proved}

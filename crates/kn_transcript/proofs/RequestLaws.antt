@@ -1,5 +1,6 @@
 -- The reply to a request, judged with `NOMEM` too, and the request's fault.
-use Rattle.std.proofs.Common.{◌≡◌, ◌≢◌, ◌⊎◌, ℕ, true, false, List, ◌++◌, codes, Option, Some, None, refl, sym, ap, ◌∙◌, arith, subst, inl, inr}
+use Rattle.std.proofs.Common.{◌≡◌, ◌≢◌, ◌⊎◌, ℕ, true, false, List, ◌++◌, codes, Option, Some, None, refl, sym, ap, ◌∙◌}
+use Rattle.std.proofs.Common.{arith, subst, inl, inr}
 use Rattle.std.specs.Prelude.{Result, Ok, Err, IfOk}
 use Rattle.kn_history.specs.declared.update.Update.{Update}
 use Rattle.kn_wire.specs.Requests.{Request}
@@ -13,7 +14,8 @@ use Rattle.kn_transcript.specs.declared.progress.Progress.{Progress}
 use Rattle.kn_transcript.specs.Followed.{IsPermitted}
 use Rattle.kn_transcript.specs.Accepted.{is_foreign, is_value}
 use Rattle.kn_transcript.specs.Judging.{state_of, Takes, Judges, JudgesReply}
-use Rattle.kn_transcript.specs.Progress.{IsAnsweredBy, IsMissed, IsFaultAt, IsRequestJudged, IsBehindReply, IsMovedOn, NoneIsPermitted, begins_with_value, counted}
+use Rattle.kn_transcript.specs.Progress.{IsAnsweredBy, IsMissed, IsFaultAt, IsRequestJudged, IsBehindReply, IsMovedOn}
+use Rattle.kn_transcript.specs.Progress.{NoneIsPermitted, begins_with_value, counted}
 use Rattle.kn_transcript.proofs.Permitted.{grounds_at}
 
 memory_or_not : (reply : Reply) → (reply ≡ NoMemory) ⊎ (reply ≢ NoMemory)
@@ -82,7 +84,8 @@ module _ (past : List Update) (old : State) (shape : Shape) (left : List ℕ) wh
       elim (memory_or_not reply) [
         | inr some ↦ judged reply rest other some taken
         | inl is ↦
-            let permitted : IsPermitted past old shape NoMemory other = subst (λ (r : Reply). IsPermitted past old shape r other) is taken.permitted in
+            let permitted : IsPermitted past old shape NoMemory other =
+            subst (λ (r : Reply). IsPermitted past old shape r other) is taken.permitted in
             let yes = permitted.permitted.0 in
             absurd (cc (yes, may))
       ]
@@ -93,7 +96,8 @@ pub others_ok : (past : List Update) (old : State) (shape : Shape) (left : List 
     → ((rest : List ℕ) → left ≢ codes "NOMEM\n" ++ rest)
     → IfOk result (λ found. Judges past old shape left history new (view found))
     → IfOk result (λ found. JudgesReply past old shape left history new (view found))
-others_ok past old shape left history new (Ok found) view none judged = others_judged past old shape left history new (view found) none judged
+others_ok past old shape left history new (Ok found) view none judged =
+    others_judged past old shape left history new (view found) none judged
 others_ok past old shape left history new (Err e) view none judged = judged
 
 -- The fault of a request, and what follows behind its reply.
@@ -105,7 +109,8 @@ module _ (old mid new : Progress) (request : Request) (number : ℕ) (judged : i
   none_permitted history state none reply other begins permitted =
       none reply begins.more other (record { text = begins.text; cut = begins.cut; permitted = permitted })
 
-  fault_at : NoneIsPermitted old request → (fault : TranscriptFault) → IsMissed mid.left.now number fault → IsFaultAt old request number fault
+  fault_at : NoneIsPermitted old request → (fault : TranscriptFault) → IsMissed mid.left.now number fault
+      → IsFaultAt old request number fault
   fault_at none (F.Missing n) missed = (judged, subst (λ (l : List ℕ). IsMissed l number (F.Missing n)) left missed)
   fault_at none (F.Text n) missed = (judged, subst (λ (l : List ℕ). IsMissed l number (F.Text n)) left missed)
   fault_at none (F.Wrong n) missed = (judged, subst (λ (l : List ℕ). IsMissed l number (F.Wrong n)) left missed, none)
@@ -114,7 +119,9 @@ module _ (old mid new : Progress) (request : Request) (number : ℕ) (judged : i
   fault_at none F.NoMemory missed = absurd missed
 
   module _ (answers : mid.answers ≡ old.answers) where
-    answered_by : (rest : List ℕ) → Takes old.book (state_of old.connection) (shape_of request) old.left.now rest mid.book (state_of mid.connection)
+    answered_by : (rest : List ℕ)
+        → Takes old.book (state_of old.connection) (shape_of request) old.left.now rest mid.book
+        (state_of mid.connection)
         → IsBehindReply mid rest new → IsAnsweredBy old request new
     answered_by rest takes behind =
         let connection : state_of mid.connection ≡ state_of new.connection = ap state_of (sym behind.connection) in
@@ -125,7 +132,8 @@ module _ (old mid new : Progress) (request : Request) (number : ℕ) (judged : i
             taken = record {
               text = takes.taken.text;
               cut = takes.taken.cut ∙ ap (λ (l : List ℕ). reply_text takes.reply ++ l) (sym behind.left);
-              permitted = subst (λ (s : State). IsPermitted old.book (state_of old.connection) (shape_of request) takes.reply s) connection takes.taken.permitted;
+              permitted = subst (λ (s : State). IsPermitted old.book (state_of old.connection) (shape_of request)
+                  takes.reply s) connection takes.taken.permitted;
             };
             behind = behind.book ∙ takes.behind;
           };
@@ -135,7 +143,8 @@ module _ (old mid new : Progress) (request : Request) (number : ℕ) (judged : i
         }
 
     pub moved_on : {X : Type 0} (found : Option (List ℕ)) (result : Result X TranscriptFault)
-        → JudgesReply old.book (state_of old.connection) (shape_of request) old.left.now mid.book (state_of mid.connection) found
+        → JudgesReply old.book (state_of old.connection) (shape_of request) old.left.now mid.book
+        (state_of mid.connection) found
         → IsMovedOn mid found number new result → IsRequestJudged old request number new result
     moved_on None (Ok done) none moved = absurd moved
     moved_on None (Err fault) none moved = fault_at (none_permitted mid.book (state_of mid.connection) none) fault moved

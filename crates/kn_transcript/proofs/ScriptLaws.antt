@@ -9,7 +9,8 @@ use Rattle.kn_transcript.specs.declared.fault.TranscriptFault.{TranscriptFault}
 use Rattle.kn_transcript.specs.declared.progress.Progress.{Progress}
 use Rattle.kn_transcript.specs.Progress.{IsAnsweredBy, IsFaultAt, IsNextJudged, IsNextOfScript}
 
-module _ (script : List ℕ) (requests : List Request) (number : ℕ) (was old : Progress) (from : ℕ) (held : Held) (new : Progress) (after : Held)
+module _ (script : List ℕ) (requests : List Request) (number : ℕ) (was old : Progress) (from : ℕ) (held : Held)
+    (new : Progress) (after : Held)
     (same : old ≡ was) (fed : IsFed script from held requests) where
   pub one_taken : (last : Bool) → IsNextJudged number old held new after (Ok (Some last))
       → IsNextOfScript script requests number was from after new (Ok (Some last))

@@ -1,5 +1,6 @@
 -- Sessions along replies that are permitted: what holds of each of them.
-use Rattle.std.proofs.Common.{◌≡◌, ℕ, ◌+◌, ◌≤◌, Option, None, Some, Bool, true, false, cond, ◌==◌, List, [], ◌∷◌, ◌++◌, length, map, filter, find, sym, ap, subst, arith, refl, add-zero}
+use Rattle.std.proofs.Common.{◌≡◌, ℕ, ◌+◌, ◌≤◌, Option, None, Some, Bool, true, false, cond, ◌==◌, List, [], ◌∷◌, ◌++◌}
+use Rattle.std.proofs.Common.{length, map, filter, find, sym, ap, subst, arith, refl, add-zero}
 use Rattle.std.specs.List.{AllByRecursion}
 use Rattle.kn_env.specs.Values.{values_of}
 use Rattle.kn_principal.specs.Principals.{normal_form}
@@ -23,12 +24,14 @@ pub record Keeps (P Q : Session → Type 0) (past : List Update) : Type 0 where
   pub calls : (call : Call) (x : Session) → P x → Q (call_change call x)
   pub starts : (number : ℕ) → Q (started_session number past)
   pub pins : (x : Session) → P x → Q (pin_at past x)
-  pub pins_back : (n : ℕ) (version : List Update) (x : Session) → retained_version past n ≡ Some version → P x → Q (pin_at version x)
+  pub pins_back : (n : ℕ) (version : List Update) (x : Session) → retained_version past n ≡ Some version → P x
+      → Q (pin_at version x)
   pub moves : (x : Session) → P x → Q (move_standing past x)
   pub watches : (values : List (List ℕ)) (x : Session) → P x → Q (watch_with values x)
 
 module _ (P Q : Session → Type 0) where
-  all-map : (p : Session → Bool) (change : Session → Session) → ((x : Session) → P x → Q (change x)) → ((x : Session) → P x → Q x)
+  all-map : (p : Session → Bool) (change : Session → Session) → ((x : Session) → P x → Q (change x))
+      → ((x : Session) → P x → Q x)
       → (xs : List Session) → AllByRecursion P xs → AllByRecursion Q (map (λ x. cond (p x) (change x) x) xs)
   all-map p change each stays [] h = tt
   all-map p change each stays (x ∷ xs) h = (by (p x), all-map p change each stays xs h.1)
@@ -41,7 +44,8 @@ module _ (P Q : Session → Type 0) where
   all-weaker stays [] h = tt
   all-weaker stays (x ∷ xs) h = (stays x h.0, all-weaker stays xs h.1)
 
-  all-filter : (p : Session → Bool) → ((x : Session) → P x → Q x) → (xs : List Session) → AllByRecursion P xs → AllByRecursion Q (filter p xs)
+  all-filter : (p : Session → Bool) → ((x : Session) → P x → Q x) → (xs : List Session) → AllByRecursion P xs
+      → AllByRecursion Q (filter p xs)
   all-filter p stays [] h = tt
   all-filter p stays (x ∷ xs) h = by (p x) (all-filter p stays xs h.1)
     where
@@ -49,24 +53,32 @@ module _ (P Q : Session → Type 0) where
       by true rest = (stays x h.0, rest)
       by false rest = rest
 
-  all-push : ((x : Session) → P x → Q x) → (xs : List Session) (y : Session) → AllByRecursion P xs → Q y → AllByRecursion Q (xs ++ y ∷ [])
+  all-push : ((x : Session) → P x → Q x) → (xs : List Session) (y : Session) → AllByRecursion P xs → Q y
+      → AllByRecursion Q (xs ++ y ∷ [])
   all-push stays [] y h last = (last, tt)
   all-push stays (x ∷ xs) y h last = (stays x h.0, all-push stays xs y h.1 last)
 
   module _ (past : List Update) (keeps : Keeps P Q past) where
-    all-called : (s : ℕ) (call : Call) (xs : List Session) → AllByRecursion P xs → AllByRecursion Q (after_call xs s call)
+    all-called : (s : ℕ) (call : Call) (xs : List Session) → AllByRecursion P xs
+        → AllByRecursion Q (after_call xs s call)
     all-called s C.Close xs h = all-filter _ keeps.stays xs h
     all-called s call xs h = all-map (λ x. x.number == s) (call_change call) (keeps.calls call) keeps.stays xs h
 
-    all-looked : (state : State) (look : Look) → AllByRecursion P state.sessions → AllByRecursion Q (looked past state look).sessions
-    all-looked state ForNew h = all-push keeps.stays state.sessions (started_session (state.started + 1) past) h (keeps.starts (state.started + 1))
+    all-looked : (state : State) (look : Look) → AllByRecursion P state.sessions
+        → AllByRecursion Q (looked past state look).sessions
+    all-looked state ForNew h =
+        all-push keeps.stays state.sessions (started_session (state.started + 1) past) h
+        (keeps.starts (state.started + 1))
     all-looked state (ForOpen s) h = all-map (λ x. x.number == s) (pin_at past) keeps.pins keeps.stays state.sessions h
     all-looked state (ForRetained s version) h = by (retained_version past version) refl
       where
-        by : (found : Option (List Update)) → retained_version past version ≡ found → AllByRecursion Q (pinned_to state s found).sessions
+        by : (found : Option (List Update)) → retained_version past version ≡ found
+            → AllByRecursion Q (pinned_to state s found).sessions
         by None e = all-weaker keeps.stays state.sessions h
-        by (Some v) e = all-map (λ x. x.number == s) (pin_at v) (λ x. keeps.pins_back version v x e) keeps.stays state.sessions h
-    all-looked state (ForStanding s) h = all-map (λ x. x.number == s) (move_standing past) keeps.moves keeps.stays state.sessions h
+        by (Some v) e = all-map (λ x. x.number == s) (pin_at v) (λ x. keeps.pins_back version v x e) keeps.stays
+            state.sessions h
+    all-looked state (ForStanding s) h =
+        all-map (λ x. x.number == s) (move_standing past) keeps.moves keeps.stays state.sessions h
     all-looked state (ForLog n) h = all-weaker keeps.stays state.sessions h
 
     all-questioned : (state : State) (question : Question) (s : ℕ) (names : List ℕ) → AllByRecursion P state.sessions
@@ -77,14 +89,16 @@ module _ (P Q : Session → Type 0) where
       where
         by : (values : Option (List (List ℕ))) → AllByRecursion Q (kept state s values).sessions
         by None = all-weaker keeps.stays state.sessions h
-        by (Some values) = all-map (λ x. x.number == s) (watch_with values) (keeps.watches values) keeps.stays state.sessions h
+        by (Some values) =
+            all-map (λ x. x.number == s) (watch_with values) (keeps.watches values) keeps.stays state.sessions h
 
     all-controlled : (state : State) (control : Control) → AllByRecursion P state.sessions
         → AllByRecursion Q (controlled state control).sessions
     all-controlled state (ShowSecret bytes) h = all-weaker keeps.stays state.sessions h
     all-controlled state Leave h = all-weaker keeps.stays state.sessions h
 
-    all-changed : (state : State) (shape : Shape) → AllByRecursion P state.sessions → AllByRecursion Q (changed past state shape).sessions
+    all-changed : (state : State) (shape : Shape) → AllByRecursion P state.sessions
+        → AllByRecursion Q (changed past state shape).sessions
     all-changed state (Calls s call) h = all-called s call state.sessions h
     all-changed state (Looks look) h = all-looked state look h
     all-changed state (Asks question s names) h = all-questioned state question s names h
@@ -140,7 +154,8 @@ made-keeps n past = record {
   watches = λ values x few. omega (arith, few);
 }
 
-started-looked : (past : List Update) (state : State) (look : Look) → (looked past state look).started ≤ state.started + 1
+started-looked : (past : List Update) (state : State) (look : Look)
+    → (looked past state look).started ≤ state.started + 1
 started-looked past state ForNew = omega arith
 started-looked past state (ForOpen s) = omega arith
 started-looked past state (ForRetained s version) = by (retained_version past version)
@@ -151,7 +166,8 @@ started-looked past state (ForRetained s version) = by (retained_version past ve
 started-looked past state (ForStanding s) = omega arith
 started-looked past state (ForLog n) = omega arith
 
-started-questioned : (state : State) (question : Question) (s : ℕ) (names : List ℕ) → (questioned state question s names).started ≤ state.started + 1
+started-questioned : (state : State) (question : Question) (s : ℕ) (names : List ℕ)
+    → (questioned state question s names).started ≤ state.started + 1
 started-questioned state WithProof s names = omega arith
 started-questioned state WithCritical s names = omega arith
 started-questioned state ToKeep s names = by (values_of names)
@@ -164,37 +180,45 @@ started-controlled : (state : State) (control : Control) → (controlled state c
 started-controlled state (ShowSecret bytes) = omega arith
 started-controlled state Leave = omega arith
 
-started-changed : (past : List Update) (state : State) (shape : Shape) → (changed past state shape).started ≤ state.started + 1
+started-changed : (past : List Update) (state : State) (shape : Shape)
+    → (changed past state shape).started ≤ state.started + 1
 started-changed past state (Calls s call) = omega arith
 started-changed past state (Looks look) = started-looked past state look
 started-changed past state (Asks question s names) = started-questioned state question s names
 started-changed past state (Controls control) = started-controlled state control
 started-changed past state shape = omega arith
 
-started-permitted : (g : Grounds) (caller : ℕ) (past : List Update) (old : State) (shape : Shape) (reply : Reply) (new : State)
+started-permitted : (g : Grounds) (caller : ℕ) (past : List Update) (old : State) (shape : Shape) (reply : Reply)
+    (new : State)
     → Permits g caller past old shape reply new → new.started ≤ old.started + 1
-started-permitted g caller past old shape (No refusal) new p = let same = ap (λ (s : State). s.started) p.1 in omega (arith, same)
-started-permitted g caller past old shape NoMemory new p = let same = ap (λ (s : State). s.started) p.1 in omega (arith, same)
+started-permitted g caller past old shape (No refusal) new p = let same = ap (λ (s : State). s.started) p.1 in
+    omega (arith, same)
+started-permitted g caller past old shape NoMemory new p = let same = ap (λ (s : State). s.started) p.1 in
+    omega (arith, same)
 started-permitted g caller past old shape reply new p =
-    let same = ap (λ (s : State). s.started) p.next in let few = started-changed past old shape in omega (arith, same, few)
+    let same = ap (λ (s : State). s.started) p.next in let few = started-changed past old shape in
+    omega (arith, same, few)
 
 record AreFew (n : ℕ) (state : State) : Type 0 where
   started : state.started ≤ n
   made : AllByRecursion (IsMade n) state.sessions
 
-few-followed : (n : ℕ) (past : List Update) (old : State) (answered : List Answered) (history : List Update) (new : State)
+few-followed : (n : ℕ) (past : List Update) (old : State) (answered : List Answered) (history : List Update)
+    (new : State)
     → AreFew n old → Follows past old answered history new → AreFew (n + length answered) new
 few-followed n past old [] history new few follows =
     subst (λ (k : ℕ). AreFew k new) (sym (add-zero n)) (subst (AreFew n) (sym follows.1) few)
 few-followed n past old (a ∷ answered) history new few (mid, permitted, later) =
     let behind = history_behind past (shape_of a.request) a.reply in
-    let started = started-permitted permitted.grounds 0 behind old (shape_of a.request) a.reply mid permitted.permitted in
+    let started = started-permitted permitted.grounds 0 behind old (shape_of a.request) a.reply mid
+    permitted.permitted in
     let before = few.started in
     let rest =
     few-followed (n + 1) behind mid answered history new
     (record {
       started = omega (arith, started, before);
-      made = all-permitted (IsMade n) (IsMade (n + 1)) behind (made-keeps n behind) permitted.grounds 0 old (shape_of a.request) a.reply mid few.made permitted.permitted;
+      made = all-permitted (IsMade n) (IsMade (n + 1)) behind (made-keeps n behind) permitted.grounds 0 old
+          (shape_of a.request) a.reply mid few.made permitted.permitted;
     }) later in
     subst (λ (k : ℕ). AreFew k new) (omega arith) rest
 

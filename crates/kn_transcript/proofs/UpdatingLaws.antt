@@ -1,5 +1,6 @@
 -- Replies to ADD and DROP.
-use Rattle.std.proofs.Common.{◌≡◌, ◌⊎◌, ℕ, zero, suc, ◌+◌, ◌≤◌, Bool, true, false, List, [], ◌∷◌, ◌++◌, length, Option, Some, None, refl, sym, ap, ◌∙◌, arith, inl, inr, subst, length-append}
+use Rattle.std.proofs.Common.{◌≡◌, ◌⊎◌, ℕ, zero, suc, ◌+◌, ◌≤◌, Bool, true, false, List, [], ◌∷◌, ◌++◌, length, Option}
+use Rattle.std.proofs.Common.{Some, None, refl, sym, ap, ◌∙◌, arith, inl, inr, subst, length-append}
 use Rattle.std.specs.Prelude.{Result, IfOk, ◌==◌, not, option_and_then}
 use Rattle.std.proofs.lemmas.Bool.Decides.{nat_tests}
 use Rattle.kn_trees.specs.declared.assertion.Assertion.{Assertion}
@@ -8,12 +9,15 @@ use Rattle.kn_fields.specs.declared.fault.ReadFault.{ReadFault}
 use Rattle.kn_fields.specs.declared.fault.ReadFault.TheVariants as F
 use Rattle.kn_history.specs.declared.update.Update.{Update}
 use Rattle.kn_history.specs.declared.fault.StoreFault.{StoreFault}
-use Rattle.kn_history.specs.History.{all_changes, next_id, refusal_of_text as fault_of_text, refusal_of_id as fault_of_id, addition_by, removal_by, RefusesChange, UpdateFollows}
+use Rattle.kn_history.specs.History.{all_changes, next_id, refusal_of_text as fault_of_text}
+use Rattle.kn_history.specs.History.{refusal_of_id as fault_of_id, addition_by, removal_by, RefusesChange}
+use Rattle.kn_history.specs.History.{UpdateFollows}
 use Rattle.kn_reply.specs.declared.refusal.Refusal.{Refusal}
 use Rattle.kn_reply.specs.declared.refusal.Refusal.TheVariants as R
 use Rattle.kn_reply.specs.Replies.{Number, Added, No, reply_text}
 use Rattle.kn_daemon.specs.Shapes.{AddText, DropId, Updates}
-use Rattle.kn_daemon.specs.Daemon.{Grounds, State, own_refusal, refusal_of_update, refusal_of_text, refusal_of_store, refusal_of_verdict, refuse_if}
+use Rattle.kn_daemon.specs.Daemon.{Grounds, State, own_refusal, refusal_of_update, refusal_of_text, refusal_of_store}
+use Rattle.kn_daemon.specs.Daemon.{refusal_of_verdict, refuse_if}
 use Rattle.kn_daemon.proofs.Reading.{fault-refuses, reading-goes_on}
 use Rattle.kn_transcript.specs.declared.fault.TheConstants.{AUTH_FAULTS}
 use Rattle.kn_transcript.specs.Judging.{IsBehind, Judges}
@@ -33,7 +37,8 @@ verdict_refuses n above =
 pub store_told : (found : Option StoreFault) (fault : StoreFault) (told : Option Refusal) (due : Refusal)
     → RefusesChange found fault → told ≡ refusal_of_store fault → told ≡ Some due
     → option_and_then refusal_of_store found ≡ Some due
-store_told found fault told due (inl none) is some = absurd (let gone = is ∙ ap refusal_of_store none in cc (gone, some))
+store_told found fault told due (inl none) is some =
+    absurd (let gone = is ∙ ap refusal_of_store none in cc (gone, some))
 store_told found fault told due (inr same) is some = ap (option_and_then refusal_of_store) same ∙ sym is ∙ some
 
 -- one found fault, and no fault
@@ -41,7 +46,8 @@ both_found : {X : Type 0} (o : Option X) (x : X) → o ≡ Some x → o ≡ None
 both_found o x some none = cc (some, none)
 
 -- a refusal told is one that is found
-found_by : (found : Option StoreFault) (due : Refusal) → option_and_then refusal_of_store found ≡ Some due → found ≡ None → ⊥
+found_by : (found : Option StoreFault) (due : Refusal) → option_and_then refusal_of_store found ≡ Some due
+    → found ≡ None → ⊥
 found_by found due told none = let gone = ap (option_and_then refusal_of_store) none in cc (told, gone)
 
 -- a text's refusal by an authenticator
@@ -54,18 +60,22 @@ module _ (past : List Update) (old : State) (text left : List ℕ) (admin : old.
   shown g o is = ap (λ (b : Bool). refuse_if (not b) R.Admin (refusal_of_update g (AddText text))) admin ∙ is
 
   -- the text has a fault
-  pub add_unread : {X E : Type 0} (result : Result X E) (view : X → Option (List ℕ)) (fault : ReadFault) (told : Option Refusal)
+  pub add_unread : {X E : Type 0} (result : Result X E) (view : X → Option (List ℕ)) (fault : ReadFault)
+      (told : Option Refusal)
       → (fault ≡ F.NoMemory) ⊎ (fault_of text ≡ Some fault) → told ≡ refusal_of_text fault
       → IfOk result (λ found. (due : Refusal) × (told ≡ Some due) × IsBehind left (reply_text (No due)) (view found))
       → IfOk result (λ found. Judges past old (Updates (AddText text)) left past old (view found))
   add_unread result view fault told why is behind =
-      told_by result view left told (λ found. Judges past old (Updates (AddText text)) left past old (view found)) behind
-      (λ due r some there. refused_ok past old (Updates (AddText text)) left view due (λ g. shown g (Some due) (refuses g due some why)) r there)
+      told_by result view left told (λ found. Judges past old (Updates (AddText text)) left past old (view found))
+      behind
+      (λ due r some there. refused_ok past old (Updates (AddText text)) left view due
+      (λ g. shown g (Some due) (refuses g due some why)) r there)
     where
       refuses : (g : Grounds) (due : Refusal) → told ≡ Some due → (fault ≡ F.NoMemory) ⊎ (fault_of text ≡ Some fault)
           → refusal_of_update g (AddText text) ≡ Some due
       refuses g due some (inl none) = absurd (let gone = is ∙ ap refusal_of_text none in cc (gone, some))
-      refuses g due some (inr faulty) = fault-refuses text fault (λ a. refusal_of_verdict (g.verdict text a)) faulty ∙ sym is ∙ some
+      refuses g due some (inr faulty) = fault-refuses text fault (λ a. refusal_of_verdict (g.verdict text a)) faulty
+          ∙ sym is ∙ some
 
   module _ (a : Assertion) (reads : assertion_of text ≡ Some a) where
     said : (g : Grounds) → refusal_of_update g (AddText text) ≡ refusal_of_verdict (g.verdict text a)
@@ -96,13 +106,19 @@ module _ (past : List Update) (old : State) (text left : List ℕ) (admin : old.
         by (suc n) is within =
             let some : 1 ≤ suc n = omega arith in
             let few : suc n ≤ AUTH_FAULTS = omega (arith, is, within) in
-            inl (R.Auth (suc n), (suc n, (some, few), refl), said g ∙ ap refusal_of_verdict is ∙ verdict_refuses (suc n) some)
+            inl (
+              R.Auth (suc n),
+              (suc n, (some, few), refl),
+              said g ∙ ap refusal_of_verdict is
+                  ∙ verdict_refuses (suc n) some,
+            )
 
     module _ (none : NoneStands past old (Updates (AddText text)) left IsVerdict) {X E : Type 0} (result : Result X E)
         (view : X → Option (List ℕ)) where
       -- the text was added
       pub add_made : (ready : List ℕ) (history : List Update) (id version : ℕ) → ready ≡ text
-          → history ≡ past ++ addition_by 0 ready (next_id past) ∷ [] → UpdateFollows past (addition_by 0 ready (next_id past))
+          → history ≡ past ++ addition_by 0 ready (next_id past) ∷ []
+          → UpdateFollows past (addition_by 0 ready (next_id past))
           → id ≡ next_id past → version ≡ length history
           → IfOk result (λ found. IsBehind left (reply_text (Added id version)) (view found))
           → IfOk result (λ found. Judges past old (Updates (AddText text)) left history old (view found))
@@ -110,8 +126,10 @@ module _ (past : List Update) (old : State) (text left : List ℕ) (admin : old.
           let u = addition_by 0 text (next_id past) in
           let here : history ≡ past ++ u ∷ [] =
           made ∙ ap (λ (t : List ℕ). past ++ addition_by 0 t (next_id past) ∷ []) same in
-          let accepted : UpdateFollows past u = subst (λ (t : List ℕ). UpdateFollows past (addition_by 0 t (next_id past))) same follows in
-          let size : version ≡ length past + 1 = at ∙ ap (λ (h : List Update). length h) here ∙ length-append past (u ∷ []) in
+          let accepted : UpdateFollows past u =
+          subst (λ (t : List ℕ). UpdateFollows past (addition_by 0 t (next_id past))) same follows in
+          let size : version ≡ length past + 1 = at ∙ ap (λ (h : List Update). length h) here
+          ∙ length-append past (u ∷ []) in
           let unrefused = (addition_follows (all_changes past) 0 text (next_id past) accepted).0 in
           update_made past old (AddText text) left IsVerdict admin none result view history (Added id version) tt refl
           (said (grounds_at 0)) (may none) (ap (option_and_then refusal_of_store) unrefused)
@@ -120,23 +138,31 @@ module _ (past : List Update) (old : State) (text left : List ℕ) (admin : old.
           (λ reply is. (added_only past text reply is).0 ∙ rw (number, size) refl) behind
 
       -- the history refuses it
-      pub add_refused : (ready : List ℕ) (history : List Update) (fault : StoreFault) (told : Option Refusal) → ready ≡ text
-          → history ≡ past → RefusesChange (fault_of_text (all_changes past) ready) fault → told ≡ refusal_of_store fault
-          → IfOk result (λ found. (due : Refusal) × (told ≡ Some due) × IsBehind left (reply_text (No due)) (view found))
+      pub add_refused : (ready : List ℕ) (history : List Update) (fault : StoreFault) (told : Option Refusal)
+          → ready ≡ text
+          → history ≡ past → RefusesChange (fault_of_text (all_changes past) ready) fault
+          → told ≡ refusal_of_store fault
+          → IfOk result (λ found. (due : Refusal) × (told ≡ Some due)
+          × IsBehind left (reply_text (No due)) (view found))
           → IfOk result (λ found. Judges past old (Updates (AddText text)) left history old (view found))
       add_refused ready history fault told same kept why is behind =
-          told_by result view left told (λ found. Judges past old (Updates (AddText text)) left history old (view found)) behind
+          told_by result view left told
+          (λ found. Judges past old (Updates (AddText text)) left history old (view found)) behind
           (λ due r some there. at due r some there)
         where
-          at : (due : Refusal) (r : Result X E) → told ≡ Some due → IfOk r (λ found. IsBehind left (reply_text (No due)) (view found))
+          at : (due : Refusal) (r : Result X E) → told ≡ Some due
+              → IfOk r (λ found. IsBehind left (reply_text (No due)) (view found))
               → IfOk r (λ found. Judges past old (Updates (AddText text)) left history old (view found))
           at due r some there =
               let why' : RefusesChange (fault_of_text (all_changes past) text) fault =
               subst (λ (t : List ℕ). RefusesChange (fault_of_text (all_changes past) t) fault) same why in
               let placed = store_told (fault_of_text (all_changes past) text) fault told due why' is some in
-              subst (λ (h : List Update). IfOk r (λ found. Judges past old (Updates (AddText text)) left h old (view found))) (sym kept)
-              (update_placed past old (AddText text) left IsVerdict admin none r view due (said (grounds_at 0)) (may none) placed
-              (λ reply done. found_by (fault_of_text (all_changes past) text) due placed (added_only past text reply done).1)
+              subst (λ (h : List Update).
+              IfOk r (λ found. Judges past old (Updates (AddText text)) left h old (view found))) (sym kept)
+              (update_placed past old (AddText text) left IsVerdict admin none r view due (said (grounds_at 0))
+              (may none) placed
+              (λ reply done. found_by (fault_of_text (all_changes past) text) due placed
+              (added_only past text reply done).1)
               there)
 
 module _ (past : List Update) (old : State) (id : ℕ) (left : List ℕ) (admin : old.is_admin ≡ true) {X E : Type 0}
@@ -154,7 +180,8 @@ module _ (past : List Update) (old : State) (id : ℕ) (left : List ℕ) (admin 
       → IfOk result (λ found. IsBehind left (reply_text (Number version)) (view found))
       → IfOk result (λ found. Judges past old (Updates (DropId id)) left history old (view found))
   drop_made history version made follows at behind =
-      let size : version ≡ length past + 1 = at ∙ ap (λ (h : List Update). length h) made ∙ length-append past (removal_by 0 id ∷ []) in
+      let size : version ≡ length past + 1 = at ∙ ap (λ (h : List Update). length h) made
+      ∙ length-append past (removal_by 0 id ∷ []) in
       let unrefused = removal_follows (all_changes past) 0 id follows in
       update_made past old (DropId id) left Never admin never result view history (Number version) tt refl refl
       (λ g few. inr refl) (ap (option_and_then refusal_of_store) unrefused) made
@@ -167,13 +194,17 @@ module _ (past : List Update) (old : State) (id : ℕ) (left : List ℕ) (admin 
       → IfOk result (λ found. (due : Refusal) × (told ≡ Some due) × IsBehind left (reply_text (No due)) (view found))
       → IfOk result (λ found. Judges past old (Updates (DropId id)) left history old (view found))
   drop_refused history fault told kept why is behind =
-      told_by result view left told (λ found. Judges past old (Updates (DropId id)) left history old (view found)) behind
+      told_by result view left told (λ found. Judges past old (Updates (DropId id)) left history old (view found))
+      behind
       (λ due r some there. at due r some there)
     where
-      at : (due : Refusal) (r : Result X E) → told ≡ Some due → IfOk r (λ found. IsBehind left (reply_text (No due)) (view found))
+      at : (due : Refusal) (r : Result X E) → told ≡ Some due
+          → IfOk r (λ found. IsBehind left (reply_text (No due)) (view found))
           → IfOk r (λ found. Judges past old (Updates (DropId id)) left history old (view found))
       at due r some there =
           let placed = store_told (fault_of_id (all_changes past) id) fault told due why is some in
-          subst (λ (h : List Update). IfOk r (λ found. Judges past old (Updates (DropId id)) left h old (view found))) (sym kept)
+          subst (λ (h : List Update). IfOk r (λ found. Judges past old (Updates (DropId id)) left h old (view found)))
+          (sym kept)
           (update_placed past old (DropId id) left Never admin never r view due refl (λ g few. inr refl) placed
-          (λ reply done. found_by (fault_of_id (all_changes past) id) due placed (removed_only past id reply done).1) there)
+          (λ reply done. found_by (fault_of_id (all_changes past) id) due placed (removed_only past id reply done).1)
+          there)

@@ -4,7 +4,8 @@ use Rattle.kn_proof.specs.declared.reply.ReadReply.{ReadReply}
 use Rattle.kn_proof.specs.declared.fault.ProofFault.{ProofFault}
 use Rattle.kn_proof.specs.Reading.{HasHead, IsFirstFault, IsReplyText}
 use Rattle.kn_proof.proofs.Only.{reply_without_fault}
-use Rattle.kn_reply.specs.Replies.{Reply, Done, Started, Number, PrivateAdded, Added, Value, Batched, PinnedAt, Log, News, Critical, No, NoMemory, reply_text}
+use Rattle.kn_reply.specs.Replies.{Reply, Done, Started, Number, PrivateAdded, Added, Value, Batched, PinnedAt, Log}
+use Rattle.kn_reply.specs.Replies.{News, Critical, No, NoMemory, reply_text}
 use Rattle.kn_transcript.specs.Texts.{HasText}
 use Rattle.kn_transcript.specs.Fronts.{IsBehindOne, AreApart}
 use Rattle.kn_transcript.specs.Kinds.{Proved, IsTextOf, kind_of}
@@ -24,10 +25,18 @@ value_read text read is = record {
 read_value : (text : List ℕ) → IsTextOf Proved text → (read : ReadReply) × IsReplyText text read
 read_value text is = go is.reply is.has is.is is.same
   where
-    go : (reply : Reply) → HasText reply → kind_of reply ≡ Proved → text ≡ reply_text reply → (read : ReadReply) × IsReplyText text read
+    go : (reply : Reply) → HasText reply → kind_of reply ≡ Proved → text ≡ reply_text reply → (read : ReadReply)
+        × IsReplyText text read
     go (Value index name version rows) has proved same = (
       record { value = index; name = name; version = version; rows = rows },
-      record { spelled = same; name = has.name_is; value = has.index_is; version = has.version_is; count = has.count; each = has.each },
+      record {
+        spelled = same;
+        name = has.name_is;
+        value = has.index_is;
+        version = has.version_is;
+        count = has.count;
+        each = has.each;
+      },
     )
     go Done has proved same = absurd (cc)
     go (Started s version) has proved same = absurd (cc)
@@ -49,14 +58,17 @@ value_ends left text rest is cut =
     subst (λ (l : List ℕ). IsThroughEnd l text rest) (sym cut) (value_through_end text rest read.0 read.1)
 
 pub value_apart : AreApart (IsTextOf Proved)
-value_apart a b r s is is' e = cut_end_once (a ++ r) a b r s (value_ends (a ++ r) a r is refl) (value_ends (a ++ r) b s is' e)
+value_apart a b r s is is' e =
+    cut_end_once (a ++ r) a b r s (value_ends (a ++ r) a r is refl) (value_ends (a ++ r) b s is' e)
 
 -- without a line END there is none
-pub value_none : (left : List ℕ) → ((text rest : List ℕ) → IsThroughEnd left text rest → ⊥) → IsBehindOne (IsTextOf Proved) left None
+pub value_none : (left : List ℕ) → ((text rest : List ℕ) → IsThroughEnd left text rest → ⊥)
+    → IsBehindOne (IsTextOf Proved) left None
 value_none left none text rest is e = none text rest (value_ends left text rest is e)
 
 module _ (left front rest : List ℕ) (through : IsThroughEnd left front rest) where
-  pub value_some : (index : ℕ) (name : List ℕ) (version : ℕ) → HasHead front index name version → IsBehindOne (IsTextOf Proved) left (Some rest)
+  pub value_some : (index : ℕ) (name : List ℕ) (version : ℕ) → HasHead front index name version
+      → IsBehindOne (IsTextOf Proved) left (Some rest)
   value_some index name version head = (front, value_read front head.reply head.read, through.cut)
 
   pub value_faulty : (fault : ProofFault) → IsFirstFault front fault → IsBehindOne (IsTextOf Proved) left None

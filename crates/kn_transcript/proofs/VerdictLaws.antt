@@ -1,5 +1,6 @@
 -- A reply judged where what an authenticator says of a text may be the reply.
-use Rattle.std.proofs.Common.{◌≡◌, ◌≢◌, ◌⊎◌, ℕ, ◌≤◌, Bool, true, false, List, ◌++◌, Option, Some, None, refl, ap, ◌∙◌, arith, inl, inr, subst}
+use Rattle.std.proofs.Common.{◌≡◌, ◌≢◌, ◌⊎◌, ℕ, ◌≤◌, Bool, true, false, List, ◌++◌, Option, Some, None, refl, ap, ◌∙◌}
+use Rattle.std.proofs.Common.{arith, inl, inr, subst}
 use Rattle.std.specs.Prelude.{Result, Ok, Err, IfOk, not}
 use Rattle.kn_trees.specs.declared.assertion.Assertion.{Assertion}
 use Rattle.kn_history.specs.declared.update.Update.{Update}
@@ -12,7 +13,8 @@ use Rattle.kn_transcript.specs.declared.fault.TheConstants.{AUTH_FAULTS}
 use Rattle.kn_transcript.specs.Followed.{IsPermitted, history_behind}
 use Rattle.kn_transcript.specs.Texts.{HasText}
 use Rattle.kn_transcript.specs.Judging.{IsBehind, Judges}
-use Rattle.kn_transcript.proofs.Permitted.{OnlyAt, grounds_at, is_acceptance, own_only, own_permitted, placed_only, placed_permitted, done_only, done_permitted}
+use Rattle.kn_transcript.proofs.Permitted.{OnlyAt, grounds_at, is_acceptance, own_only, own_permitted, placed_only}
+use Rattle.kn_transcript.proofs.Permitted.{placed_permitted, done_only, done_permitted}
 use Rattle.kn_transcript.proofs.Judged.{taken_by, refused_ok}
 
 -- what an authenticator says of each text is the number of a fault
@@ -41,7 +43,8 @@ module _ (past : List Update) (old : State) (shape : Shape) (left : List ℕ) (V
       stands : (told : Reply) → reply ≡ told → left ≡ reply_text told ++ rest
       stands told same = taken.cut ∙ ap (λ (r : Reply). reply_text r ++ rest) same
 
-  pub judged_or : (history : List Update) (new : State) → {X E : Type 0} → (result : Result X E) (view : X → Option (List ℕ))
+  pub judged_or : (history : List Update) (new : State) → {X E : Type 0}
+      → (result : Result X E) (view : X → Option (List ℕ))
       → NoneStands → (due : Reply) → HasText due → IsPermitted past old shape due new
       → history ≡ history_behind past shape due → OnlyOr due
       → IfOk result (λ found. IsBehind left (reply_text due) (view found))
@@ -91,7 +94,8 @@ module _ (past : List Update) (old : State) (update : Updating) (left : List ℕ
         → RefusesOr (Some refusal) → IfOk result (λ found. IsBehind left (reply_text (No refusal)) (view found)) → Keeps
     update_refused refusal zero may behind =
         judged_or past old (Updates update) left V past old result view none (No refusal) tt
-        (own_permitted past old (Updates update) refusal 0 (omega arith) (own_of (grounds_at 0) (Some refusal) zero)) refl
+        (own_permitted past old (Updates update) refusal 0 (omega arith) (own_of (grounds_at 0) (Some refusal) zero))
+        refl
         (only_or (Some refusal) (No refusal) may (λ g own. own_only past old (Updates update) refusal g own)) behind
 
     -- the history refuses it

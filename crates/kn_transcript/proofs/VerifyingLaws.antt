@@ -1,5 +1,6 @@
 -- A transcript that is being verified, and its end.
-use Rattle.std.proofs.Common.{◌≡◌, ◌⊎◌, ◌+◌, ◌<◌, ◌≤◌, ℕ, true, false, List, [], ◌∷◌, ◌++◌, length, refl, sym, ap, ◌∙◌, arith, subst, inl, inr, length-append}
+use Rattle.std.proofs.Common.{◌≡◌, ◌⊎◌, ◌+◌, ◌<◌, ◌≤◌, ℕ, true, false, List, [], ◌∷◌, ◌++◌, length, refl, sym, ap, ◌∙◌}
+use Rattle.std.proofs.Common.{arith, subst, inl, inr, length-append}
 use Rattle.std.specs.Prelude.{Result, Ok, Err, IfOk, IfErr}
 use Rattle.std.specs.List.{list_any}
 use Rattle.std.proofs.lemmas.List.{length-map, length_push}
@@ -26,11 +27,13 @@ use Rattle.kn_transcript.proofs.AnsweredLaws.{first-come, come-on, followed, req
 use Rattle.kn_transcript.proofs.MeantLaws.{meant-at, meant-last, meant-spent, meant-most}
 use Rattle.kn_transcript.proofs.SmallLaws.{follows-small}
 
-pub begun : (past : List Update) (script replies : List ℕ) (held : Held) (progress : Progress) → held ≡ Bytes [] → progress.book ≡ past
+pub begun : (past : List Update) (script replies : List ℕ) (held : Held) (progress : Progress) → held ≡ Bytes []
+    → progress.book ≡ past
     → progress.left.now ≡ replies → progress.answers ≡ 0 → state_of progress.connection ≡ first_state
     → IsBeingVerified past script replies 0 held [] progress
 begun past script replies held progress empty book left answers state = record {
-  fed = subst (λ (h : Held). IsFed script 0 h []) (sym empty) (record { within = omega arith; begins = λ more. refl; not_shut = refl });
+  fed = subst (λ (h : Held). IsFed script 0 h []) (sym empty)
+      (record { within = omega arith; begins = λ more. refl; not_shut = refl });
   goes_on = refl;
   come = first-come past replies progress book left answers state;
 }
@@ -47,14 +50,16 @@ requests-length answered = length-map answered (λ (a : Answered). a.request)
 module _ (past : List Update) (script replies : List ℕ) where
   -- all requests are answered
   pub concluded : (answered : List Answered) (progress : Progress) → HasComeTo past replies answered progress
-      → AreMeant script (requests_in answered) [] → (result : Result Verified TranscriptFault) → IsConcluded replies progress result
+      → AreMeant script (requests_in answered) [] → (result : Result Verified TranscriptFault)
+      → IsConcluded replies progress result
       → IsTold past script replies result
   concluded answered progress come meant (Ok v) (empty, answers, version) = (
     record {
       answered = answered;
       history = progress.book;
       state = state_of progress.connection;
-      followed = subst (λ (l : List ℕ). IsFollowed past script replies answered [] l progress.book (state_of progress.connection)) empty
+      followed = subst (λ (l : List ℕ). IsFollowed past script replies answered [] l progress.book
+          (state_of progress.connection)) empty
           (followed past replies answered progress come script [] meant);
       values = answers ∙ come.values;
       updates = version;
@@ -81,7 +86,8 @@ module _ (past : List Update) (script replies : List ℕ) where
   concluded answered progress come meant (Err (F.Foreign n)) is = absurd is
   concluded answered progress come meant (Err F.NoMemory) is = absurd is
 
-  module _ (from : ℕ) (held : Held) (answered : List Answered) (old : Progress) (count : ℕ) (v : IsBeingVerified past script replies from held answered old)
+  module _ (from : ℕ) (held : Held) (answered : List Answered) (old : Progress) (count : ℕ)
+      (v : IsBeingVerified past script replies from held answered old)
       (size : length answered ≡ count) where
     -- there is room for one more request
     pub has-room : count < REQUESTS → HasRoom (state_of old.connection)
@@ -100,12 +106,14 @@ module _ (past : List Update) (script replies : List ℕ) where
     pub shorter : length old.left.now ≤ length replies
     shorter = let sizes = ap length v.come.texts ∙ length-append (text_in answered) old.left.now in omega (arith, sizes)
 
-    module _ (fed : ℕ) (after : Held) (request : Request) (t : TakesRequest script (requests_in answered) fed after request) (few : count < REQUESTS) where
+    module _ (fed : ℕ) (after : Held) (request : Request)
+        (t : TakesRequest script (requests_in answered) fed after request) (few : count < REQUESTS) where
       reached : IsReached past script replies request (count + 1) old.left.now
       reached =
           let most = requests-length answered in
           let meant =
-          meant-at script (requests_in answered) v.goes_on request (taken-first script (requests_in answered ++ request ∷ []) fed after t.begins)
+          meant-at script (requests_in answered) v.goes_on request
+          (taken-first script (requests_in answered ++ request ∷ []) fed after t.begins)
           (omega (arith, most, size, few)) in
           record {
             answered = answered;
@@ -122,7 +130,8 @@ module _ (past : List Update) (script replies : List ℕ) where
       unfolding reached
       faulty (F.Missing n) (judged, (is, empty)) =
           inr (subst (λ (k : ℕ). IsJudged past script replies k []) (sym is)
-          (subst (λ (l : List ℕ). IsJudged past script replies (count + 1) l) empty (record { request = request; reached = reached; judged = judged })))
+          (subst (λ (l : List ℕ). IsJudged past script replies (count + 1) l) empty
+          (record { request = request; reached = reached; judged = judged })))
       faulty (F.Text n) (judged, (is, some, none)) =
           inr (subst (λ (k : ℕ). IsFaultyTranscript past script replies (F.Text k)) (sym is)
           (record {
@@ -150,12 +159,15 @@ module _ (past : List Update) (script replies : List ℕ) where
         size-next = length_push answered (record { request = request; reply = a.takes.reply }) ∙ ap (λ n. n + 1) size
 
         -- it doesn't end the script
-        pub goes-further : is_last request ≡ false → IsBeingVerified past script replies fed after (answered ++ record { request = request; reply = a.takes.reply } ∷ []) new
+        pub goes-further : is_last request ≡ false
+            → IsBeingVerified past script replies fed after
+            (answered ++ record { request = request; reply = a.takes.reply } ∷ []) new
         goes-further more =
             let same = sym (requests-push answered request a.takes.reply) in
             record {
               fed = subst (IsFed script fed after) same (fed-on script (requests_in answered) fed after request t more);
-              goes_on = subst (λ (rs : List Request). list_any is_last rs ≡ false) same (any-push is_last (requests_in answered) request v.goes_on more);
+              goes_on = subst (λ (rs : List Request). list_any is_last rs ≡ false) same
+                  (any-push is_last (requests_in answered) request v.goes_on more);
               come = come-on past replies answered old v.come request new a;
             }
 
@@ -164,31 +176,40 @@ module _ (past : List Update) (script replies : List ℕ) where
             → IsTold past script replies result
         ended last result is =
             let most = requests-length answered in
-            concluded (answered ++ record { request = request; reply = a.takes.reply } ∷ []) new (come-on past replies answered old v.come request new a)
+            concluded (answered ++ record { request = request; reply = a.takes.reply } ∷ []) new
+            (come-on past replies answered old v.come request new a)
             (subst (λ (rs : List Request). AreMeant script rs []) (sym (requests-push answered request a.takes.reply))
-            (meant-last script (requests_in answered) v.goes_on request (taken-first script (requests_in answered ++ request ∷ []) fed after t.begins)
+            (meant-last script (requests_in answered) v.goes_on request
+            (taken-first script (requests_in answered ++ request ∷ []) fed after t.begins)
             (omega (arith, most, size, few)) last))
             result is
 
         pub shorter-next : length new.left.now ≤ length replies
         shorter-next =
             let c = come-on past replies answered old v.come request new a in
-            let sizes = ap length c.texts ∙ length-append (text_in (answered ++ record { request = request; reply = a.takes.reply } ∷ [])) new.left.now in
+            let sizes = ap length c.texts
+            ∙ length-append (text_in (answered ++ record { request = request; reply = a.takes.reply } ∷ []))
+            new.left.now in
             omega (arith, sizes)
 
     -- no request is left
-    pub dry : (fed : ℕ) (after : Held) (new : Progress) → IsSpent script (requests_in answered) fed after → new ≡ old → count ≤ REQUESTS
-        → (result : Result Verified TranscriptFault) → IsConcluded replies new result → IsTold past script replies result
+    pub dry : (fed : ℕ) (after : Held) (new : Progress) → IsSpent script (requests_in answered) fed after → new ≡ old
+        → count ≤ REQUESTS
+        → (result : Result Verified TranscriptFault) → IsConcluded replies new result
+        → IsTold past script replies result
     dry fed after new spent same few result is =
         let most = requests-length answered in
         concluded answered old v.come
-        (meant-spent script (requests_in answered) v.goes_on _ (spent-all script (requests_in answered) fed after spent) (omega (arith, most, size, few)))
+        (meant-spent script (requests_in answered) v.goes_on _ (spent-all script (requests_in answered) fed after spent)
+        (omega (arith, most, size, few)))
         result (subst (λ (p : Progress). IsConcluded replies p result) same is)
 
     -- as many were answered as a connection has
-    pub full : count ≡ REQUESTS → (result : Result Verified TranscriptFault) → IsConcluded replies old result → IsTold past script replies result
+    pub full : count ≡ REQUESTS → (result : Result Verified TranscriptFault) → IsConcluded replies old result
+        → IsTold past script replies result
     full all result is =
         concluded answered old v.come
-        (meant-most script (requests_in answered) v.goes_on (taken-first script (requests_in answered) from held v.fed.begins)
+        (meant-most script (requests_in answered) v.goes_on
+        (taken-first script (requests_in answered) from held v.fed.begins)
         (requests-length answered ∙ size ∙ all))
         result is

@@ -1,8 +1,12 @@
 -- How numbers are written, and which digits are a number.
-use Rattle.std.proofs.Common.{◌≡◌, ◌≢◌, ◌⊎◌, ℕ, zero, suc, ◌+◌, ◌-◌, ◌*◌, ◌/◌, ◌%◌, ◌^◌, ◌<◌, ◌≤◌, true, false, not, ◌&&◌, ◌||◌, ◌==◌, nat_le, List, Some, None, [], ◌∷◌, ◌++◌, length, get_or, refl, sym, ap, ◌∙◌, arith, subst, inl, inr, append_assoc, ltb}
+use Rattle.std.proofs.Common.{◌≡◌, ◌≢◌, ◌⊎◌, ℕ, zero, suc, ◌+◌, ◌-◌, ◌*◌, ◌/◌, ◌%◌, ◌^◌, ◌<◌, ◌≤◌, true, false, not}
+use Rattle.std.proofs.Common.{◌&&◌, ◌||◌, ◌==◌, nat_le, List, Some, None, [], ◌∷◌, ◌++◌, length, get_or, refl, sym, ap}
+use Rattle.std.proofs.Common.{◌∙◌, arith, subst, inl, inr, append_assoc, ltb}
 use Rattle.std.specs.List.{list_all, list_any}
 use Rattle.std.specs.Fmt.{decimal, digits, digits_onto, digit_glyph}
-use Rattle.std.proofs.lemmas.Bool.{and_parts, and_from, or_cases, or_left, or_right, leb-true, le-leb, eqb-true, eqb-false, ne_eqb, eq-eqb, lt-ltb, cond-true, cond-false, cases_eq, not-true, not_from_false, false≢true, le-ltb, ltb-false, cases_Bool}
+use Rattle.std.proofs.lemmas.Bool.{and_parts, and_from, or_cases, or_left, or_right, leb-true, le-leb, eqb-true}
+use Rattle.std.proofs.lemmas.Bool.{eqb-false, ne_eqb, eq-eqb, lt-ltb, cond-true, cond-false, cases_eq, not-true}
+use Rattle.std.proofs.lemmas.Bool.{not_from_false, false≢true, le-ltb, ltb-false, cases_Bool}
 use Rattle.std.proofs.lemmas.List.{append-nil, nil_from_length}
 use Rattle.std.proofs.lemmas.Fmt.{decimal_digit, digits_value-decimal, decimal-digits_value, decimal_injective}
 use Rattle.std.proofs.lemmas.Option.{none-some, same_Some}
@@ -20,7 +24,8 @@ pub record IsDigit (b : ℕ) : Type 0 where
   pub high : b ≤ 57
 
 pub digit_means : (b : ℕ) → is_digit b ≡ true → IsDigit b
-digit_means b e = let parts = and_parts (nat_le 48 b) (nat_le b 57) e in record { low = leb-true 48 b parts.0; high = leb-true b 57 parts.1 }
+digit_means b e = let parts = and_parts (nat_le 48 b) (nat_le b 57) e in
+    record { low = leb-true 48 b parts.0; high = leb-true b 57 parts.1 }
 
 pub digit_is : (b : ℕ) → 48 ≤ b → b ≤ 57 → is_digit b ≡ true
 digit_is b low high = and_from (nat_le 48 b) (nat_le b 57) (le-leb 48 b low) (le-leb b 57 high)
@@ -29,9 +34,11 @@ glyph_is : (n : ℕ) → digit_glyph false (n % 10) ≡ 48 + n % 10
 glyph_is n = cond-true (ltb (n % 10) 10) _ _ (lt-ltb (n % 10) 10 (omega arith))
 
 -- the last k digits of n stand before acc
-step : (k n : ℕ) (acc : List ℕ) → n / 10 ≢ 0 → digits_onto (suc k) 10 false n acc ≡ digits_onto k 10 false (n / 10) ((48 + n % 10) ∷ acc)
+step : (k n : ℕ) (acc : List ℕ) → n / 10 ≢ 0
+    → digits_onto (suc k) 10 false n acc ≡ digits_onto k 10 false (n / 10) ((48 + n % 10) ∷ acc)
 step k n acc some =
-    cond-false (n / 10 == 0) _ _ (ne_eqb (n / 10) 0 some) ∙ ap (λ (d : ℕ). digits_onto k 10 false (n / 10) (d ∷ acc)) (glyph_is n)
+    cond-false (n / 10 == 0) _ _ (ne_eqb (n / 10) 0 some)
+    ∙ ap (λ (d : ℕ). digits_onto k 10 false (n / 10) (d ∷ acc)) (glyph_is n)
 
 last : (k n : ℕ) (acc : List ℕ) → n / 10 ≡ 0 → digits_onto (suc k) 10 false n acc ≡ (48 + n % 10) ∷ acc
 last k n acc none =
@@ -46,7 +53,8 @@ pub record AreLastDigits (k n : ℕ) (acc text : List ℕ) : Type 0 where
   pub some : 0 < k → 0 < length ds
   pub leading : get_or ds 0 0 ≡ 48 → (length ds ≡ k) ⊎ ((length ds ≡ 1) × (n ≡ 0))
 
-all_more : (ds : List ℕ) (b : ℕ) → list_all is_digit ds ≡ true → is_digit b ≡ true → list_all is_digit (ds ++ b ∷ []) ≡ true
+all_more : (ds : List ℕ) (b : ℕ) → list_all is_digit ds ≡ true → is_digit b ≡ true
+    → list_all is_digit (ds ++ b ∷ []) ≡ true
 all_more [] b all is = rw is refl
 all_more (d ∷ ds) b all is =
     let parts = and_parts (is_digit d) (list_all is_digit ds) all in
@@ -61,7 +69,16 @@ first_more [] b some = absurd (omega (arith, some))
 first_more (d ∷ ds) b some = refl
 
 pub are_last_digits : (k n : ℕ) (acc : List ℕ) → AreLastDigits k n acc (digits_onto k 10 false n acc)
-are_last_digits zero n acc = record { ds = []; cut = refl; all = refl; few = omega arith; some = λ p. absurd (omega (arith, p)); leading = λ e. inl refl }
+are_last_digits zero n acc =
+    record {
+      ds = [];
+      cut = refl;
+      all = refl;
+      few = omega arith;
+      some = λ p. absurd (omega (arith, p));
+      leading =
+          λ e. inl refl;
+    }
 are_last_digits (suc k) n acc = elim (cases_eq (n / 10) 0) [
   | inl none ↦ record {
     ds = (48 + n % 10) ∷ [];
@@ -84,7 +101,8 @@ are_last_digits (suc k) n acc = elim (cases_eq (n / 10) 0) [
       }
 ]
   where
-    leads : (k : ℕ) (ds : List ℕ) (b m : ℕ) → m ≢ 0 → length ds ≤ k → (0 < k → 0 < length ds) → (get_or ds 0 0 ≡ 48 → (length ds ≡ k) ⊎ ((length ds ≡ 1) × (m ≡ 0)))
+    leads : (k : ℕ) (ds : List ℕ) (b m : ℕ) → m ≢ 0 → length ds ≤ k → (0 < k → 0 < length ds)
+        → (get_or ds 0 0 ≡ 48 → (length ds ≡ k) ⊎ ((length ds ≡ 1) × (m ≡ 0)))
         → get_or (ds ++ b ∷ []) 0 0 ≡ 48 → (length (ds ++ b ∷ []) ≡ suc k) ⊎ ((length (ds ++ b ∷ []) ≡ 1) × (n ≡ 0))
     leads zero [] b m more few some leading e = inl refl
     leads (suc k) [] b m more few some leading e = absurd (omega (arith, some (omega arith)))
@@ -126,14 +144,17 @@ pub written_means : (text : List ℕ) → list_all is_digit text ≡ true → ha
 unfolding digits
 written_means [] all e = absurd (false≢true e)
 written_means (b ∷ ds) all e =
-    let outer = and_parts (nat_le 1 (length (b ∷ ds)) && nat_le (length (b ∷ ds)) 64) (length (b ∷ ds) == 1 || (length (b ∷ ds) == 64 || not (b == 48))) e in
-    let few = leb-true (length (b ∷ ds)) 64 (and_parts (nat_le 1 (length (b ∷ ds))) (nat_le (length (b ∷ ds)) 64) outer.0).1 in
+    let outer = and_parts (nat_le 1 (length (b ∷ ds)) && nat_le (length (b ∷ ds)) 64)
+    (length (b ∷ ds) == 1 || (length (b ∷ ds) == 64 || not (b == 48))) e in
+    let few = leb-true (length (b ∷ ds)) 64
+    (and_parts (nat_le 1 (length (b ∷ ds))) (nat_le (length (b ∷ ds)) 64) outer.0).1 in
     let parts = and_parts (is_digit b) (list_all is_digit ds) all in
     let digit = digit_means b parts.0 in
     let low = digit.low in
     let high = digit.high in
     elim (or_cases (length (b ∷ ds) == 1) (length (b ∷ ds) == 64 || not (b == 48)) outer.1) [
-      | inl one ↦ short b ds low high parts.1 few (inl (nil_from_length ds (let l = eqb-true (length (b ∷ ds)) 1 one in omega (arith, l))))
+      | inl one ↦ short b ds low high parts.1 few
+          (inl (nil_from_length ds (let l = eqb-true (length (b ∷ ds)) 1 one in omega (arith, l))))
       | inr other ↦ elim (or_cases (length (b ∷ ds) == 64) (not (b == 48)) other) [
         | inl full ↦ record {
           number = folded 1 (b ∷ ds);
@@ -147,12 +168,14 @@ written_means (b ∷ ds) all e =
       ]
     ]
   where
-    short : (b : ℕ) (ds : List ℕ) → 48 ≤ b → b ≤ 57 → list_all is_digit ds ≡ true → length (b ∷ ds) ≤ 64 → (ds ≡ []) ⊎ (b ≢ 48) → Written (b ∷ ds)
+    short : (b : ℕ) (ds : List ℕ) → 48 ≤ b → b ≤ 57 → list_all is_digit ds ≡ true → length (b ∷ ds) ≤ 64 → (ds ≡ [])
+        ⊎ (b ≢ 48) → Written (b ∷ ds)
     short b ds low high all few (inl none) = record {
       number = b - 48;
       same =
           let back : 48 + (b - 48) ≡ b = omega (arith, low) in
-          ap (λ (l : List ℕ). b ∷ l) none ∙ sym (decimal_digit (b - 48) (omega (arith, low, high)) ∙ ap (λ (d : ℕ). d ∷ []) back);
+          ap (λ (l : List ℕ). b ∷ l) none
+          ∙ sym (decimal_digit (b - 48) (omega (arith, low, high)) ∙ ap (λ (d : ℕ). d ∷ []) back);
     }
     short b ds low high all few (inr some) =
         let here : 48 + (b - 48) % 10 ≡ b = omega (arith, low, high) in
@@ -180,22 +203,29 @@ written_is n =
       form = formed d.ds d.few (d.some (omega arith)) d.leading;
     })
   where
-    formed : (ds : List ℕ) → length ds ≤ 64 → 0 < length ds → (get_or ds 0 0 ≡ 48 → (length ds ≡ 64) ⊎ ((length ds ≡ 1) × (n ≡ 0))) → has_form ds ≡ true
+    formed : (ds : List ℕ) → length ds ≤ 64 → 0 < length ds
+        → (get_or ds 0 0 ≡ 48 → (length ds ≡ 64) ⊎ ((length ds ≡ 1) × (n ≡ 0))) → has_form ds ≡ true
     formed ds few some leading =
-        and_from (nat_le 1 (length ds) && nat_le (length ds) 64) (length ds == 1 || (length ds == 64 || not (get_or ds 0 0 == 48)))
-        (and_from (nat_le 1 (length ds)) (nat_le (length ds) 64) (le-leb 1 (length ds) (omega (arith, some))) (le-leb (length ds) 64 few))
+        and_from (nat_le 1 (length ds) && nat_le (length ds) 64)
+        (length ds == 1 || (length ds == 64 || not (get_or ds 0 0 == 48)))
+        (and_from (nat_le 1 (length ds)) (nat_le (length ds) 64) (le-leb 1 (length ds) (omega (arith, some)))
+        (le-leb (length ds) 64 few))
         (elim (cases_eq (get_or ds 0 0) 48) [
           | inl nought ↦ elim (leading nought) [
-            | inl full ↦ or_right (length ds == 1) (length ds == 64 || not (get_or ds 0 0 == 48)) (or_left (length ds == 64) (not (get_or ds 0 0 == 48)) (eq-eqb (length ds) 64 full))
-            | inr one ↦ or_left (length ds == 1) (length ds == 64 || not (get_or ds 0 0 == 48)) (eq-eqb (length ds) 1 one.0)
+            | inl full ↦ or_right (length ds == 1) (length ds == 64 || not (get_or ds 0 0 == 48))
+                (or_left (length ds == 64) (not (get_or ds 0 0 == 48)) (eq-eqb (length ds) 64 full))
+            | inr one ↦ or_left (length ds == 1) (length ds == 64 || not (get_or ds 0 0 == 48))
+                (eq-eqb (length ds) 1 one.0)
           ]
           | inr other ↦ or_right (length ds == 1) (length ds == 64 || not (get_or ds 0 0 == 48))
-              (or_right (length ds == 64) (not (get_or ds 0 0 == 48)) (not_from_false (get_or ds 0 0 == 48) (ne_eqb (get_or ds 0 0) 48 other)))
+              (or_right (length ds == 64) (not (get_or ds 0 0 == 48))
+              (not_from_false (get_or ds 0 0 == 48) (ne_eqb (get_or ds 0 0) 48 other)))
         ])
 
 -- There is one way to cut digits off that no digit follows.
 
-pub digits_once : (a b r s : List ℕ) → list_all is_digit a ≡ true → list_all is_digit b ≡ true → begins_with_digit r ≡ false → begins_with_digit s ≡ false
+pub digits_once : (a b r s : List ℕ) → list_all is_digit a ≡ true → list_all is_digit b ≡ true
+    → begins_with_digit r ≡ false → begins_with_digit s ≡ false
     → a ++ r ≡ b ++ s → (a ≡ b) × (r ≡ s)
 digits_once [] [] r s all all' end end' e = (refl, e)
 digits_once [] (y ∷ b) r s all all' end end' e =
@@ -205,20 +235,25 @@ digits_once (x ∷ a) [] r s all all' end end' e =
 digits_once (x ∷ a) (y ∷ b) r s all all' end end' e =
     let first : x ≡ y = cc in
     let rest : a ++ r ≡ b ++ s = cc in
-    let same = digits_once a b r s (and_parts (is_digit x) (list_all is_digit a) all).1 (and_parts (is_digit y) (list_all is_digit b) all').1 end end' rest in
+    let same = digits_once a b r s (and_parts (is_digit x) (list_all is_digit a) all).1
+    (and_parts (is_digit y) (list_all is_digit b) all').1 end end' rest in
     let more : a ≡ b = same.0 in
     (cc, same.1)
 
-pub number_once : (n m : ℕ) (r s : List ℕ) → begins_with_digit r ≡ false → begins_with_digit s ≡ false → decimal n ++ r ≡ decimal m ++ s → (decimal n ≡ decimal m) × (r ≡ s)
-number_once n m r s end end' e = digits_once (decimal n) (decimal m) r s (written_is n).all (written_is m).all end end' e
+pub number_once : (n m : ℕ) (r s : List ℕ) → begins_with_digit r ≡ false → begins_with_digit s ≡ false
+    → decimal n ++ r ≡ decimal m ++ s → (decimal n ≡ decimal m) × (r ≡ s)
+number_once n m r s end end' e =
+    digits_once (decimal n) (decimal m) r s (written_is n).all (written_is m).all end end' e
 
 -- what is left behind the digits at the front is behind a number, where they are one
-pub behind_digits : (left ds rest : List ℕ) → left ≡ ds ++ rest → list_all is_digit ds ≡ true → begins_with_digit rest ≡ false → has_form ds ≡ true
+pub behind_digits : (left ds rest : List ℕ) → left ≡ ds ++ rest → list_all is_digit ds ≡ true
+    → begins_with_digit rest ≡ false → has_form ds ≡ true
     → IsBehindNumber left (Some rest)
 behind_digits left ds rest cut all end form =
     let w = written_means ds all form in (w.number, cut ∙ ap (λ (l : List ℕ). l ++ rest) w.same, end)
 
-pub behind_none : (left ds rest : List ℕ) → left ≡ ds ++ rest → list_all is_digit ds ≡ true → begins_with_digit rest ≡ false → has_form ds ≡ false
+pub behind_none : (left ds rest : List ℕ) → left ≡ ds ++ rest → list_all is_digit ds ≡ true
+    → begins_with_digit rest ≡ false → has_form ds ≡ false
     → IsBehindNumber left None
 behind_none left ds rest cut all end form = λ number more other e.
     let same = digits_once ds (decimal number) rest more all (written_is number).all end other (sym cut ∙ e) in
@@ -226,14 +261,19 @@ behind_none left ds rest cut all end form = λ number more other e.
 
 -- A number through the byte that ends it.
 
-module _ (most end : ℕ) (left digits behind : List ℕ) (small : most < 2 ^ 64) (below : end < 48) (cut : left ≡ digits ++ end ∷ behind)
+module _ (most end : ℕ) (left digits behind : List ℕ) (small : most < 2 ^ 64) (below : end < 48)
+    (cut : left ≡ digits ++ end ∷ behind)
     (first : list_any (λ b. b == end) digits ≡ false) where
   -- these are the digits of a number that stands there
-  digits_are : (number : ℕ) (rest : List ℕ) → IsNumberAt most end left number rest → (digits ≡ decimal number) × (number < 2 ^ 64)
+  digits_are : (number : ℕ) (rest : List ℕ) → IsNumberAt most end left number rest → (digits ≡ decimal number)
+      × (number < 2 ^ 64)
   digits_are number rest at =
       let low = at.small in
-      let few : number < 2 ^ 64 = omega (arith, low, small) in
-      ((cut_once end digits (decimal number) behind rest first (numeral_lacks end (decimal number) below (decimal_numeral number few)) (sym cut ∙ at.cut)).0, few)
+      let few : number < 2 ^ 64 = omega (arith, low, small) in (
+        (cut_once end digits (decimal number) behind rest first
+            (numeral_lacks end (decimal number) below (decimal_numeral number few)) (sym cut ∙ at.cut)).0,
+        few,
+      )
 
   pub no_numeral : is_numeral digits ≡ false → HasNoNumber most end left
   no_numeral other number rest at =
@@ -244,26 +284,36 @@ module _ (most end : ℕ) (left digits behind : List ℕ) (small : most < 2 ^ 64
   no_small above number rest at =
       let same = digits_are number rest at in
       let value : digits_value digits ≡ number = ap digits_value same.0 ∙ digits_value-decimal own number same.1 in
-      none-some (digits_value digits) (above ∙ cond-false (ltb most (digits_value digits)) None (Some (digits_value digits))
+      none-some (digits_value digits) (above
+      ∙ cond-false (ltb most (digits_value digits)) None (Some (digits_value digits))
       (le-ltb most (digits_value digits) (let low = at.small in omega (arith, low, value))))
 
-  pub number_at : (number : ℕ) → is_numeral digits ≡ true → Some number ≡ digits_within most digits → IsNumberAt most end left number behind
+  pub number_at : (number : ℕ) → is_numeral digits ≡ true → Some number ≡ digits_within most digits
+      → IsNumberAt most end left number behind
   number_at number numeral read = elim (cases_Bool (ltb most (digits_value digits))) [
-    | inl above ↦ absurd (none-some number (sym (read ∙ cond-true (ltb most (digits_value digits)) None (Some (digits_value digits)) above)))
+    | inl above ↦ absurd
+        (none-some number
+        (sym (read ∙ cond-true (ltb most (digits_value digits)) None (Some (digits_value digits)) above)))
     | inr within ↦
-        let value : number ≡ digits_value digits = same_Some number (digits_value digits) (read ∙ cond-false (ltb most (digits_value digits)) None (Some (digits_value digits)) within) in
+        let value : number ≡ digits_value digits =
+        same_Some number (digits_value digits) (read
+        ∙ cond-false (ltb most (digits_value digits)) None (Some (digits_value digits)) within) in
         let low : digits_value digits ≤ most = ltb-false most (digits_value digits) within in
         let p = numeral_parts digits numeral in
         record {
           small = omega (arith, value, low);
-          cut = cut ∙ ap (λ (l : List ℕ). l ++ end ∷ behind) (sym (ap decimal value ∙ decimal-digits_value own digits p.digits p.some p.leading (omega (arith, low, small))));
+          cut = cut ∙ ap (λ (l : List ℕ). l ++ end ∷ behind)
+              (sym (ap decimal value
+              ∙ decimal-digits_value own digits p.digits p.some p.leading (omega (arith, low, small))));
         }
   ]
 
 -- numbers that stand there are one
-pub number_apart : (most end n m : ℕ) (r s : List ℕ) → most < 2 ^ 64 → end < 48 → n ≤ most → m ≤ most → decimal n ++ end ∷ r ≡ decimal m ++ end ∷ s → (n ≡ m) × (r ≡ s)
+pub number_apart : (most end n m : ℕ) (r s : List ℕ) → most < 2 ^ 64 → end < 48 → n ≤ most → m ≤ most
+    → decimal n ++ end ∷ r ≡ decimal m ++ end ∷ s → (n ≡ m) × (r ≡ s)
 number_apart most end n m r s small below low low' e =
     let few : n < 2 ^ 64 = omega (arith, low, small) in
     let few' : m < 2 ^ 64 = omega (arith, low', small) in
-    let same = cut_once end (decimal n) (decimal m) r s (numeral_lacks end (decimal n) below (decimal_numeral n few)) (numeral_lacks end (decimal m) below (decimal_numeral m few')) e in
+    let same = cut_once end (decimal n) (decimal m) r s (numeral_lacks end (decimal n) below (decimal_numeral n few))
+    (numeral_lacks end (decimal m) below (decimal_numeral m few')) e in
     (decimal_injective n m few few' same.0, same.1)

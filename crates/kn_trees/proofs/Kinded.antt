@@ -7,7 +7,8 @@ use Rattle.kn_trees.specs.declared.program.Expr.{Expr}
 use Rattle.kn_trees.specs.declared.program.Link2.{Link2}
 use Rattle.kn_trees.specs.declared.program.Operation.{Operation}
 use Rattle.kn_trees.specs.declared.program.Comparison.{Comparison}
-use Rattle.kn_trees.specs.declared.program.Expr.TheVariants.{Truth, Whole, Text, Name, Not, Minus, Number, Deref, And, Or, Compare, Chain}
+use Rattle.kn_trees.specs.declared.program.Expr.TheVariants.{Truth, Whole, Text, Name, Not, Minus, Number, Deref, And}
+use Rattle.kn_trees.specs.declared.program.Expr.TheVariants.{Or, Compare, Chain}
 use Rattle.kn_trees.specs.declared.program.Expr.TheFolds.{fold-Link2}
 use Rattle.kn_trees.specs.declared.program.Program.{Program, out-Program}
 use Rattle.kn_trees.specs.declared.program.Clause.{Clause}
@@ -17,9 +18,13 @@ use Rattle.kn_trees.specs.declared.signs.Joint.TheVariants as J
 use Rattle.kn_trees.specs.declared.signs.Leaf.{Leaf}
 use Rattle.kn_trees.specs.declared.signs.Leaf.TheVariants as L
 use Rattle.kn_trees.specs.Signs.{joined, leaf_of}
-use Rattle.kn_trees.specs.ExprKinds.{is_truth, is_whole, is_text, are_compared, gives, chain_kind, kind_step, link_step, kind_of}
-use Rattle.kn_trees.specs.Kinds.{program_step, clause_step, then_step, is_well_kinded, is_clause_well_kinded, is_then_well_kinded}
-use Rattle.kn_trees.proofs.Folds.{fold-Truth, fold-Whole, fold-Text, fold-Name, fold-Not, fold-Minus, fold-Number, fold-Deref, fold-And, fold-Or, fold-Compare, fold-Link, fold-Chain, fold-Top, fold-Value, fold-Block, fold-one_clause, fold-whole_program}
+use Rattle.kn_trees.specs.ExprKinds.{is_truth, is_whole, is_text, are_compared, gives, chain_kind, kind_step, link_step}
+use Rattle.kn_trees.specs.ExprKinds.{kind_of}
+use Rattle.kn_trees.specs.Kinds.{program_step, clause_step, then_step, is_well_kinded, is_clause_well_kinded}
+use Rattle.kn_trees.specs.Kinds.{is_then_well_kinded}
+use Rattle.kn_trees.proofs.Folds.{fold-Truth, fold-Whole, fold-Text, fold-Name, fold-Not, fold-Minus, fold-Number}
+use Rattle.kn_trees.proofs.Folds.{fold-Deref, fold-And, fold-Or, fold-Compare, fold-Link, fold-Chain, fold-Top}
+use Rattle.kn_trees.proofs.Folds.{fold-Value, fold-Block, fold-one_clause, fold-whole_program}
 
 abbrev Found : Type 0
 Found = Option Kind
@@ -67,7 +72,8 @@ pub kind_of-Or : (parts : List Expr) → kind_of (Or parts) ≡ gives (list_all 
 unfolding kind_of
 kind_of-Or parts = fold-Or Found Linked kind_step link_step parts
 
-pub kind_of-joined : (joint : Joint) (parts : List Expr) → kind_of (joined joint parts) ≡ gives (list_all is_truth (map kind_of parts)) K.Truth
+pub kind_of-joined : (joint : Joint) (parts : List Expr)
+    → kind_of (joined joint parts) ≡ gives (list_all is_truth (map kind_of parts)) K.Truth
 kind_of-joined J.And parts = kind_of-And parts
 kind_of-joined J.Or parts = kind_of-Or parts
 
@@ -88,12 +94,16 @@ kinds_of-links : (links : List Link2) → map (fold-Link2 Found Linked kind_step
 unfolding kind_of
 kinds_of-links [] = refl
 kinds_of-links (link ∷ links) =
-    let one : fold-Link2 Found Linked kind_step link_step link ≡ (link.sign, kind_of link.right) = fold-Link Found Linked kind_step link_step link in
-    ap (λ l. l ∷ map (fold-Link2 Found Linked kind_step link_step) links) one ∙ ap (λ ls. (link.sign, kind_of link.right) ∷ ls) (kinds_of-links links)
+    let one : fold-Link2 Found Linked kind_step link_step link ≡ (link.sign, kind_of link.right) =
+    fold-Link Found Linked kind_step link_step link in
+    ap (λ l. l ∷ map (fold-Link2 Found Linked kind_step link_step) links) one
+    ∙ ap (λ ls. (link.sign, kind_of link.right) ∷ ls) (kinds_of-links links)
 
-pub kind_of-Chain : (first : Expr) (links : List Link2) → kind_of (Chain first links) ≡ chain_kind (kind_of first) (kinds_of links)
+pub kind_of-Chain : (first : Expr) (links : List Link2)
+    → kind_of (Chain first links) ≡ chain_kind (kind_of first) (kinds_of links)
 unfolding kind_of
-kind_of-Chain first links = fold-Chain Found Linked kind_step link_step first links ∙ ap (chain_kind (kind_of first)) (kinds_of-links links)
+kind_of-Chain first links = fold-Chain Found Linked kind_step link_step first links
+    ∙ ap (chain_kind (kind_of first)) (kinds_of-links links)
 
 pub is_then_well_kinded-Top : is_then_well_kinded Top ≡ true
 unfolding is_then_well_kinded
@@ -112,13 +122,16 @@ pub is_clause_well_kinded-parts : (clause : Clause)
 unfolding is_then_well_kinded is_clause_well_kinded
 is_clause_well_kinded-parts clause = fold-one_clause Bool Bool Bool then_step clause_step program_step clause
 
-all_are : (clauses : List Clause) → list_all (λ right. right) (map is_clause_well_kinded clauses) ≡ list_all is_clause_well_kinded clauses
+all_are : (clauses : List Clause) → list_all (λ right. right) (map is_clause_well_kinded clauses)
+    ≡ list_all is_clause_well_kinded clauses
 all_are [] = refl
 all_are (clause ∷ clauses) = ap (λ b. is_clause_well_kinded clause && b) (all_are clauses)
 
-pub is_well_kinded-clauses : (program : Program) → is_well_kinded program ≡ list_all is_clause_well_kinded (out-Program program).clauses
+pub is_well_kinded-clauses : (program : Program)
+    → is_well_kinded program ≡ list_all is_clause_well_kinded (out-Program program).clauses
 unfolding is_well_kinded is_clause_well_kinded
-is_well_kinded-clauses program = fold-whole_program Bool Bool Bool then_step clause_step program_step program ∙ all_are (out-Program program).clauses
+is_well_kinded-clauses program = fold-whole_program Bool Bool Bool then_step clause_step program_step program
+    ∙ all_are (out-Program program).clauses
 
 pub ruleset kinds = (
   kind_of-Truth,

@@ -1,17 +1,21 @@
 -- How many levels an expression or a program has, by its parts.
 use Rattle.std.proofs.Common.{◌≡◌, ℕ, ℤ, ◌+◌, max, Bool, List, [], ◌∷◌, map, refl, ap, ◌∙◌}
 use Rattle.kn_trees.specs.Formulas.{greatest_of}
-use Rattle.kn_trees.specs.Levels.{expr_levels, link_levels, expr_depth, program_levels, clause_levels, then_levels, program_depth, clause_depth, then_depth}
+use Rattle.kn_trees.specs.Levels.{expr_levels, link_levels, expr_depth, program_levels, clause_levels, then_levels}
+use Rattle.kn_trees.specs.Levels.{program_depth, clause_depth, then_depth}
 use Rattle.kn_trees.specs.declared.program.Expr.{Expr}
 use Rattle.kn_trees.specs.declared.program.Link2.{Link2}
 use Rattle.kn_trees.specs.declared.program.Comparison.{Comparison}
-use Rattle.kn_trees.specs.declared.program.Expr.TheVariants.{Truth, Whole, Text, Name, Not, Minus, Number, Deref, And, Or, Compare, Chain}
+use Rattle.kn_trees.specs.declared.program.Expr.TheVariants.{Truth, Whole, Text, Name, Not, Minus, Number, Deref, And}
+use Rattle.kn_trees.specs.declared.program.Expr.TheVariants.{Or, Compare, Chain}
 use Rattle.kn_trees.specs.declared.program.Expr.TheFolds.{fold-Link2}
 use Rattle.kn_trees.specs.declared.program.Program.{Program, roll-Program}
 use Rattle.kn_trees.specs.declared.program.Then.TheFolds.{fold-roll-Program}
 use Rattle.kn_trees.specs.declared.program.Clause.{Clause}
 use Rattle.kn_trees.specs.declared.program.Then.TheVariants.{Top, Value, Block}
-use Rattle.kn_trees.proofs.Folds.{fold-Truth, fold-Whole, fold-Text, fold-Name, fold-Not, fold-Minus, fold-Number, fold-Deref, fold-And, fold-Or, fold-Compare, fold-Link, fold-Chain, fold-Top, fold-Value, fold-Block, fold-one_clause}
+use Rattle.kn_trees.proofs.Folds.{fold-Truth, fold-Whole, fold-Text, fold-Name, fold-Not, fold-Minus, fold-Number}
+use Rattle.kn_trees.proofs.Folds.{fold-Deref, fold-And, fold-Or, fold-Compare, fold-Link, fold-Chain, fold-Top}
+use Rattle.kn_trees.proofs.Folds.{fold-Value, fold-Block, fold-one_clause}
 
 pub depth-Truth : (value : Bool) → expr_depth (Truth value) ≡ 1
 unfolding expr_depth
@@ -53,7 +57,8 @@ pub depth-Or : (parts : List Expr) → expr_depth (Or parts) ≡ 1 + greatest_of
 unfolding expr_depth
 depth-Or parts = fold-Or ℕ ℕ expr_levels link_levels parts
 
-pub depth-Compare : (sign : Comparison) (left right : Expr) → expr_depth (Compare sign left right) ≡ 1 + max (expr_depth left) (expr_depth right)
+pub depth-Compare : (sign : Comparison) (left right : Expr)
+    → expr_depth (Compare sign left right) ≡ 1 + max (expr_depth left) (expr_depth right)
 unfolding expr_depth
 depth-Compare sign left right = fold-Compare ℕ ℕ expr_levels link_levels sign left right
 
@@ -65,13 +70,17 @@ links_are : (links : List Link2) → map (fold-Link2 ℕ ℕ expr_levels link_le
 unfolding expr_depth
 links_are [] = refl
 links_are (link ∷ links) =
-    let one : fold-Link2 ℕ ℕ expr_levels link_levels link ≡ 1 + expr_depth link.right = fold-Link ℕ ℕ expr_levels link_levels link in
-    ap (λ n. n ∷ map (fold-Link2 ℕ ℕ expr_levels link_levels) links) one ∙ ap (λ ns. (1 + expr_depth link.right) ∷ ns) (links_are links)
+    let one : fold-Link2 ℕ ℕ expr_levels link_levels link ≡ 1 + expr_depth link.right =
+    fold-Link ℕ ℕ expr_levels link_levels link in
+    ap (λ n. n ∷ map (fold-Link2 ℕ ℕ expr_levels link_levels) links) one
+    ∙ ap (λ ns. (1 + expr_depth link.right) ∷ ns) (links_are links)
 
-pub depth-Chain : (first : Expr) (links : List Link2) → expr_depth (Chain first links) ≡ 1 + max (expr_depth first) (greatest_of (link_depths links))
+pub depth-Chain : (first : Expr) (links : List Link2)
+    → expr_depth (Chain first links) ≡ 1 + max (expr_depth first) (greatest_of (link_depths links))
 unfolding expr_depth
 depth-Chain first links =
-    fold-Chain ℕ ℕ expr_levels link_levels first links ∙ ap (λ ns. 1 + max (expr_depth first) (greatest_of ns)) (links_are links)
+    fold-Chain ℕ ℕ expr_levels link_levels first links
+    ∙ ap (λ ns. 1 + max (expr_depth first) (greatest_of ns)) (links_are links)
 
 pub depth-Top : then_depth Top ≡ 1
 unfolding then_depth
@@ -89,6 +98,7 @@ pub depth-clause : (clause : Clause) → clause_depth clause ≡ 1 + max (expr_d
 unfolding then_depth clause_depth
 depth-clause clause = fold-one_clause ℕ ℕ ℕ then_levels clause_levels program_levels clause
 
-pub depth-program : (clauses : List Clause) → program_depth (roll-Program (record { clauses = clauses })) ≡ 1 + greatest_of (map clause_depth clauses)
+pub depth-program : (clauses : List Clause) → program_depth (roll-Program (record { clauses = clauses })) ≡ 1
+    + greatest_of (map clause_depth clauses)
 unfolding program_depth clause_depth
 depth-program clauses = fold-roll-Program ℕ ℕ ℕ then_levels clause_levels program_levels (record { clauses = clauses })

@@ -1,8 +1,10 @@
 -- Trees by their places and kinds, as a forest grows.
-use Rattle.std.proofs.Common.{◌≡◌, false, ℕ, suc, ◌+◌, ◌-◌, ◌<◌, List, [], ◌∷◌, ◌++◌, length, map, take, drop, get_or, slice_get, Some, refl, sym, ap, subst, ◌∙◌, arith, length-append}
+use Rattle.std.proofs.Common.{◌≡◌, false, ℕ, suc, ◌+◌, ◌-◌, ◌<◌, List, [], ◌∷◌, ◌++◌, length, map, take, drop, get_or}
+use Rattle.std.proofs.Common.{slice_get, Some, refl, sym, ap, subst, ◌∙◌, arith, length-append}
 use mathlib.Core.List.{map-map}
 use Rattle.std.specs.List.{All, zip}
-use Rattle.std.proofs.lemmas.List.{drop-map, drop_at, get_or-map, get_or_at, get_or_push, length-map, length_push, map_push, take-map, take_at}
+use Rattle.std.proofs.lemmas.List.{drop-map, drop_at, get_or-map, get_or_at, get_or_push, length-map, length_push}
+use Rattle.std.proofs.lemmas.List.{map_push, take-map, take_at}
 use Rattle.std.proofs.lemmas.Option.{get_or_from_slice_get, slice_get_within}
 use Rattle.std.proofs.lemmas.List.Elements.{All-head, All-push, All-tail, All-take}
 use Rattle.kn_trees.specs.ExprKinds.{kind_of}
@@ -23,7 +25,8 @@ IsRoot-append trees more root here = record {
 }
 
 -- roots stay where trees are added
-pub roots-append : (trees more : List Expr) (roots : List Root) → All (IsRoot trees) roots → All (IsRoot (trees ++ more)) roots
+pub roots-append : (trees more : List Expr) (roots : List Root) → All (IsRoot trees) roots
+    → All (IsRoot (trees ++ more)) roots
 roots-append trees more roots here = λ k d h. IsRoot-append trees more (get_or roots k d) (here k d h)
 
 pub trees_at-append : (trees more : List Expr) (roots : List Root) → All (IsRoot trees) roots
@@ -58,7 +61,8 @@ pub kinds-trees_at : (trees : List Expr) (roots : List Root) → All (IsRoot tre
     → map (λ root. root.kind) roots ≡ map kind_of (trees_at trees roots)
 kinds-trees_at trees roots here =
     let tree : Root → Expr = λ root. tree_at trees root.place in
-    map-same (λ root. root.kind) (λ root. kind_of (tree root)) roots (λ k d h. (here k d h).kind) ∙ sym (map-map kind_of tree roots)
+    map-same (λ root. root.kind) (λ root. kind_of (tree root)) roots (λ k d h. (here k d h).kind)
+    ∙ sym (map-map kind_of tree roots)
 
 pub kinds-links_of : (trees : List Expr) (signs : List Operation) (roots : List Root) → All (IsRoot trees) roots
     → zip signs (map (λ root. root.kind) roots) ≡ kinds_of (links_of signs (trees_at trees roots))
@@ -70,19 +74,22 @@ kinds-links_of trees (sign ∷ signs) (root ∷ roots) here =
     ∙ ap (λ links. (sign, kind_of (tree_at trees root.place)) ∷ links) (kinds-links_of trees signs roots rest)
 
 -- the trees of some roots, and of those above them
-pub trees-parts : (trees : List Expr) (roots : List Root) (from : ℕ) (front parts : List Expr) → trees_at trees roots ≡ front ++ parts
+pub trees-parts : (trees : List Expr) (roots : List Root) (from : ℕ) (front parts : List Expr)
+    → trees_at trees roots ≡ front ++ parts
     → from ≡ length roots - length parts
     → (trees_at trees (take from roots) ≡ front) × (trees_at trees (drop from roots) ≡ parts)
 trees-parts trees roots from front parts same at =
     let f : Root → Expr = λ root. tree_at trees root.place in
-    let all : length (trees_at trees roots) ≡ length front + length parts = ap length same ∙ length-append front parts in
+    let all : length (trees_at trees roots) ≡ length front + length parts = ap length same
+    ∙ length-append front parts in
     let here : length front ≡ from = omega (arith, length-map roots f) in (
       sym (take-map f from roots) ∙ ap (take from) same ∙ take_at front parts from here,
       sym (drop-map f from roots) ∙ ap (drop from) same ∙ drop_at front parts from here,
     )
 
 -- the tree that was added is put in place of those from a place on
-module _ (trees : List Expr) (tree : Expr) (roots new : List Root) (at : ℕ) (root : Root) (last : root.place ≡ length trees)
+module _ (trees : List Expr) (tree : Expr) (roots new : List Root) (at : ℕ) (root : Root)
+    (last : root.place ≡ length trees)
     (here : All (IsRoot trees) roots) (put : new ≡ take at roots ++ root ∷ []) where
   pub roots-put : root.kind ≡ kind_of tree → All (IsRoot (trees ++ tree ∷ [])) new
   roots-put right =
@@ -107,10 +114,13 @@ module _ (trees : List Expr) (roots : List Root) (at : ℕ) (root : Root) (is : 
   pub root-found : All (IsRoot trees) roots → IsRoot trees root
   root-found here = subst (IsRoot trees) same_root (here at root inside)
 
-  pub tree-found : (front rest : List Expr) (tree : Expr) → trees_at trees roots ≡ front ++ tree ∷ rest → at ≡ length roots - suc (length rest)
+  pub tree-found : (front rest : List Expr) (tree : Expr) → trees_at trees roots ≡ front ++ tree ∷ rest
+      → at ≡ length roots - suc (length rest)
       → tree_at trees root.place ≡ tree
   tree-found front rest tree same from =
       let f : Root → Expr = λ t. tree_at trees t.place in
-      let all : length (trees_at trees roots) ≡ length front + suc (length rest) = ap length same ∙ length-append front (tree ∷ rest) in
+      let all : length (trees_at trees roots) ≡ length front + suc (length rest) = ap length same
+      ∙ length-append front (tree ∷ rest) in
       let here : length front ≡ at = omega (arith, length-map roots f, inside) in
-      sym (ap f same_root) ∙ sym (get_or-map f roots at root tree inside) ∙ ap (λ ts. get_or ts at tree) same ∙ get_or_at front tree rest tree at here
+      sym (ap f same_root) ∙ sym (get_or-map f roots at root tree inside) ∙ ap (λ ts. get_or ts at tree) same
+      ∙ get_or_at front tree rest tree at here

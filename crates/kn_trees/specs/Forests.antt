@@ -1,12 +1,14 @@
 -- Expressions as one list of nodes, each of which names its parts by their places.
-use Rattle.std.specs.Prelude.{◌≡◌, ℕ, ◌+◌, ◌<◌, ◌≤◌, ◌^◌, false, List, [], ◌∷◌, ◌++◌, All, fold, length, map, slice_index_or, slice_range, Result, IfOk, OnOk, OnErr}
+use Rattle.std.specs.Prelude.{◌≡◌, ℕ, ◌+◌, ◌<◌, ◌≤◌, ◌^◌, false, List, [], ◌∷◌, ◌++◌, All, fold, length, map}
+use Rattle.std.specs.Prelude.{slice_index_or, slice_range, Result, IfOk, OnOk, OnErr}
 use Rattle.kn_base.specs.declared.span.Span.{Span}
 use Rattle.kn_trees.specs.declared.program.Expr.{Expr}
 use Rattle.kn_trees.specs.declared.program.Expr.TheVariants as E
 use Rattle.kn_trees.specs.declared.program.Link2.{Link2}
 use Rattle.kn_trees.specs.declared.forest.LinkNode.{LinkNode}
 use Rattle.kn_trees.specs.declared.forest.Node.{Node}
-use Rattle.kn_trees.specs.declared.forest.Node.TheVariants.{Truth, Whole, Text, Name, Not, Minus, Number, Deref, And, Or, Compare, Chain}
+use Rattle.kn_trees.specs.declared.forest.Node.TheVariants.{Truth, Whole, Text, Name, Not, Minus, Number, Deref, And}
+use Rattle.kn_trees.specs.declared.forest.Node.TheVariants.{Or, Compare, Chain}
 
 -- the lists of which nodes name runs
 pub record Pools : Type 0 where
@@ -71,7 +73,8 @@ IsPlaced ps place (Deref part) = part < place
 IsPlaced ps place (And span) = IsWithin (length ps.parts) span × All (λ part. part < place) (run ps.parts span)
 IsPlaced ps place (Or span) = IsWithin (length ps.parts) span × All (λ part. part < place) (run ps.parts span)
 IsPlaced ps place (Compare sign left right) = (left < place) × (right < place)
-IsPlaced ps place (Chain first span) = (first < place) × IsWithin (length ps.links) span × All (λ l. l.right < place) (run ps.links span)
+IsPlaced ps place (Chain first span) = (first < place) × IsWithin (length ps.links) span
+    × All (λ l. l.right < place) (run ps.links span)
 
 -- each node is so at its place
 abbrev pub ArePlaced : Pools → List Node → Type 0

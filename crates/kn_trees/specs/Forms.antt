@@ -5,7 +5,8 @@ use Rattle.kn_trees.specs.declared.program.Link2.{Link2}
 use Rattle.kn_trees.specs.declared.program.Expr.{Expr}
 use Rattle.kn_trees.specs.declared.program.Expr.TheVariants as E
 use Rattle.kn_trees.specs.declared.form.Form.{Form}
-use Rattle.kn_trees.specs.declared.form.Form.TheVariants.{Truth, Whole, Text, Name, Not, Minus, Number, Deref, And, Or, Compare, Chain}
+use Rattle.kn_trees.specs.declared.form.Form.TheVariants.{Truth, Whole, Text, Name, Not, Minus, Number, Deref, And, Or}
+use Rattle.kn_trees.specs.declared.form.Form.TheVariants.{Compare, Chain}
 
 -- the expression that is made of this
 abbrev pub expr_of : Form → Expr

@@ -8,7 +8,8 @@ use Rattle.kn_trees.specs.declared.program.Then.{Then}
 use Rattle.kn_trees.specs.declared.program.Then.TheOpen.{Program-F, Clause-F, Then-F}
 use Rattle.kn_trees.specs.declared.program.Then.TheOpen.Then-F.{Top, Value, Block}
 use Rattle.kn_trees.specs.declared.program.Then.TheFolds.{fold-Program, fold-Clause, fold-Then}
-pub use Rattle.kn_trees.specs.ExprKinds.{is_truth, is_whole, is_text, are_compared, gives, operation_kind, chain_kind, kind_step, link_step, kind_of}
+pub use Rattle.kn_trees.specs.ExprKinds.{is_truth, is_whole, is_text, are_compared, gives, operation_kind, chain_kind}
+pub use Rattle.kn_trees.specs.ExprKinds.{kind_step, link_step, kind_of}
 
 abbrev pub program_step : Program-F Bool Bool Bool → Bool
 program_step program = list_all (λ right. right) program.clauses

@@ -1,11 +1,12 @@
 -- How many levels expressions and programs have. Each value of their types is one level: one without parts is the only
--- one, and every other is one above the deepest of its parts. So a link of a chain is a level, and so are a program, each
--- of its clauses, and what that is worth. A walk that goes from a value into its parts is no deeper than this.
+-- one, and every other is one above the deepest of its parts. So a link of a chain is a level, and so are a program,
+-- each of its clauses, and what that is worth. A walk that goes from a value into its parts is no deeper than this.
 use Rattle.std.specs.Prelude.{ℕ, ◌+◌, max}
 use Rattle.kn_trees.specs.Formulas.{greatest_of}
 use Rattle.kn_trees.specs.declared.program.Expr.{Expr}
 use Rattle.kn_trees.specs.declared.program.Expr.TheOpen.{Expr-F, Link2-F}
-use Rattle.kn_trees.specs.declared.program.Expr.TheOpen.Expr-F.{Truth, Whole, Text, Name, Not, Minus, Number, Deref, And, Or, Compare, Chain}
+use Rattle.kn_trees.specs.declared.program.Expr.TheOpen.Expr-F.{Truth, Whole, Text, Name, Not, Minus, Number, Deref}
+use Rattle.kn_trees.specs.declared.program.Expr.TheOpen.Expr-F.{And, Or, Compare, Chain}
 use Rattle.kn_trees.specs.declared.program.Expr.TheFolds.{fold-Expr}
 use Rattle.kn_trees.specs.declared.program.Program.{Program}
 use Rattle.kn_trees.specs.declared.program.Clause.{Clause}

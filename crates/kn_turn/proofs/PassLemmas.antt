@@ -32,11 +32,14 @@ module _ {E : Type 0} (by : E → ℕ) where
   }
 
   sound_parent : (v : View E) → v.number ≡ 0 → IsSoundView by v → IsSoundView by (parent_view v)
-  sound_parent v root sound = record { own = sound.own; kept = sound.kept; root = λ _. all_up_to-later by v.splits v.seen (sound.root root) }
+  sound_parent v root sound =
+      record { own = sound.own; kept = sound.kept; root = λ _. all_up_to-later by v.splits v.seen (sound.root root) }
 
 module _ {S E : Type 0} (by : E → ℕ) where
   -- the pass that was split off
-  pub carries_child : (seat : Seat (Option S) (View E)) (v : View E) (number seen_length : ℕ) → seat.me ≡ (child_view v, []) → v.number ≡ 0 → IsSoundView by v → number ≡ v.splits + 1 → seen_length ≡ length v.seen
+  pub carries_child : (seat : Seat (Option S) (View E)) (v : View E) (number seen_length : ℕ)
+      → seat.me ≡ (child_view v, []) → v.number ≡ 0 → IsSoundView by v → number ≡ v.splits + 1
+      → seen_length ≡ length v.seen
       → Carries by seat number seen_length 0
   carries_child seat v number seen_length is root sound number_is length_is = record {
     live = ap (λ m. m.0.live) is;
@@ -50,7 +53,8 @@ module _ {S E : Type 0} (by : E → ℕ) where
   }
 
   -- the root afterwards
-  pub carries_parent : (seat old : Seat (Option S) (View E)) (number seen_length splits : ℕ) → seat.me ≡ (parent_view old.me.0, old.me.1) → old.me.0.number ≡ 0 → Carries by old number seen_length splits
+  pub carries_parent : (seat old : Seat (Option S) (View E)) (number seen_length splits : ℕ)
+      → seat.me ≡ (parent_view old.me.0, old.me.1) → old.me.0.number ≡ 0 → Carries by old number seen_length splits
       → Carries by seat number seen_length (splits + 1)
   carries_parent seat old number seen_length splits is root c = record {
     live = ap (λ m. m.0.live) is ∙ c.live;

@@ -1,5 +1,6 @@
 -- Beginnings of one list, and the longer of two.
-use Rattle.std.proofs.Common.{◌≡◌, ◌≤◌, max, nat_lt, Bool, true, false, List, [], ◌∷◌, ◌++◌, length, refl, ap, sym, ◌∙◌, arith, append_assoc, append-nil}
+use Rattle.std.proofs.Common.{◌≡◌, ◌≤◌, max, nat_lt, Bool, true, false, List, [], ◌∷◌, ◌++◌, length, refl, ap, sym, ◌∙◌}
+use Rattle.std.proofs.Common.{arith, append_assoc, append-nil}
 use Rattle.std.proofs.lemmas.Bool.Decides.{nat_tests}
 use mathlib.Core.List.{IsPrefix}
 use Rattle.kn_turn.specs.Entries.{longer, longer_if}
@@ -33,7 +34,8 @@ module _ {A : Type 0} where
   longer_by false xs ys zs is p q = (prefix_self xs, prefix_shorter ys xs zs q p (grind (arith, nat_tests)), p)
 
   -- both begin the longer one, which begins what both begin
-  pub longer_between : (xs ys zs : List A) → IsPrefix xs zs → IsPrefix ys zs → IsPrefix xs (longer xs ys) × IsPrefix ys (longer xs ys) × IsPrefix (longer xs ys) zs
+  pub longer_between : (xs ys zs : List A) → IsPrefix xs zs → IsPrefix ys zs → IsPrefix xs (longer xs ys)
+      × IsPrefix ys (longer xs ys) × IsPrefix (longer xs ys) zs
   longer_between xs ys zs p q = longer_by (nat_lt (length xs) (length ys)) xs ys zs refl p q
 
   longer_nil_by : (b : Bool) (xs : List A) → nat_lt (length xs) 0 ≡ b → longer_if b xs [] ≡ xs
@@ -43,7 +45,8 @@ module _ {A : Type 0} where
   pub longer-nil : (xs ys : List A) → ys ≡ [] → longer xs ys ≡ xs
   longer-nil xs ys e = ap (longer xs) e ∙ longer_nil_by (nat_lt (length xs) 0) xs refl
 
-  length_by : (b : Bool) (xs ys : List A) → nat_lt (length xs) (length ys) ≡ b → length (longer_if b xs ys) ≡ max (length xs) (length ys)
+  length_by : (b : Bool) (xs ys : List A) → nat_lt (length xs) (length ys) ≡ b
+      → length (longer_if b xs ys) ≡ max (length xs) (length ys)
   length_by true xs ys is = grind (arith, nat_tests)
   length_by false xs ys is = grind (arith, nat_tests)
 

@@ -1,5 +1,6 @@
 -- Sums over a list of which one place changes, and tests of two numbers that count.
-use Rattle.std.proofs.Common.{◌≡◌, ◌≢◌, ℕ, zero, suc, ◌+◌, ◌≤◌, ◌==◌, Bool, true, false, List, [], ◌∷◌, ◌++◌, set, refl, sym, ap, arith, eq-eqb, ne_eqb}
+use Rattle.std.proofs.Common.{◌≡◌, ◌≢◌, ℕ, zero, suc, ◌+◌, ◌≤◌, ◌==◌, Bool, true, false, List, [], ◌∷◌, ◌++◌, set, refl}
+use Rattle.std.proofs.Common.{sym, ap, arith, eq-eqb, ne_eqb}
 use mathlib.Core.Option.{some, some-injective, some-ne-none}
 use lib.ListN.{get_elem?}
 use Rattle.kn_turn.specs.Counts.{one_if, total}
@@ -23,7 +24,8 @@ module _ {A : Type 0} where
   total-append f [] ys = omega arith
   total-append f (x ∷ xs) ys = let h = total-append f xs ys in omega arith
 
-  pub total-set : (f : A → ℕ) (l : List A) (i : ℕ) (v w : A) → get_elem? l i ≡ some v → total f (set l i w) + f v ≡ total f l + f w
+  pub total-set : (f : A → ℕ) (l : List A) (i : ℕ) (v w : A) → get_elem? l i ≡ some v
+      → total f (set l i w) + f v ≡ total f l + f w
   total-set f [] i v w e = absurd (some-ne-none v (sym e))
   total-set f (x ∷ xs) zero v w e = let h : f x ≡ f v = ap f (some-injective x v e) in omega arith
   total-set f (x ∷ xs) (suc i) v w e = let h = total-set f xs i v w e in omega arith
@@ -38,23 +40,31 @@ module _ {A : Type 0} where
   total-at f (x ∷ xs) (suc i) v e = let h = total-at f xs i v e in omega arith
 
   -- two places count both
-  pub total-two : (f : A → ℕ) (l : List A) (i j : ℕ) (v w : A) → i ≢ j → get_elem? l i ≡ some v → get_elem? l j ≡ some w → f v + f w ≤ total f l
+  pub total-two : (f : A → ℕ) (l : List A) (i j : ℕ) (v w : A) → i ≢ j → get_elem? l i ≡ some v → get_elem? l j ≡ some w
+      → f v + f w ≤ total f l
   total-two f [] i j v w n e d = absurd (some-ne-none v (sym e))
   total-two f (x ∷ xs) zero zero v w n e d = absurd (n refl)
-  total-two f (x ∷ xs) zero (suc j) v w n e d = let h : f x ≡ f v = ap f (some-injective x v e) in let t = total-at f xs j w d in omega arith
-  total-two f (x ∷ xs) (suc i) zero v w n e d = let h : f x ≡ f w = ap f (some-injective x w d) in let t = total-at f xs i v e in omega arith
-  total-two f (x ∷ xs) (suc i) (suc j) v w n e d = let t = total-two f xs i j v w (λ is. n (ap suc is)) e d in omega arith
+  total-two f (x ∷ xs) zero (suc j) v w n e d = let h : f x ≡ f v = ap f (some-injective x v e) in
+      let t = total-at f xs j w d in omega arith
+  total-two f (x ∷ xs) (suc i) zero v w n e d = let h : f x ≡ f w = ap f (some-injective x w d) in
+      let t = total-at f xs i v e in omega arith
+  total-two f (x ∷ xs) (suc i) (suc j) v w n e d = let t = total-two f xs i j v w (λ is. n (ap suc is)) e d in
+      omega arith
 
   pub total-zero : (f : A → ℕ) (l : List A) → ((j : ℕ) (v : A) → get_elem? l j ≡ some v → f v ≡ 0) → total f l ≡ 0
   total-zero f [] h = refl
-  total-zero f (x ∷ xs) h = let here = h zero x refl in let more = total-zero f xs (λ j v e. h (suc j) v e) in omega arith
+  total-zero f (x ∷ xs) h = let here = h zero x refl in let more = total-zero f xs (λ j v e. h (suc j) v e) in
+      omega arith
 
-  pub total-le : (f g : A → ℕ) (l : List A) → ((j : ℕ) (v : A) → get_elem? l j ≡ some v → f v ≤ g v) → total f l ≤ total g l
+  pub total-le : (f g : A → ℕ) (l : List A) → ((j : ℕ) (v : A) → get_elem? l j ≡ some v → f v ≤ g v)
+      → total f l ≤ total g l
   total-le f g [] h = omega arith
-  total-le f g (x ∷ xs) h = let here = h zero x refl in let more = total-le f g xs (λ j v e. h (suc j) v e) in omega arith
+  total-le f g (x ∷ xs) h = let here = h zero x refl in let more = total-le f g xs (λ j v e. h (suc j) v e) in
+      omega arith
 
   -- the greater sum is greater by what one place has more
-  pub total-gap : (f g : A → ℕ) (l : List A) (i : ℕ) (v : A) → ((j : ℕ) (u : A) → get_elem? l j ≡ some u → f u ≤ g u) → get_elem? l i ≡ some v → total f l + g v ≤ total g l + f v
+  pub total-gap : (f g : A → ℕ) (l : List A) (i : ℕ) (v : A) → ((j : ℕ) (u : A) → get_elem? l j ≡ some u → f u ≤ g u)
+      → get_elem? l i ≡ some v → total f l + g v ≤ total g l + f v
   total-gap f g [] i v h e = absurd (some-ne-none v (sym e))
   total-gap f g (x ∷ xs) zero v h e =
       let a : f x ≡ f v = ap f (some-injective x v e) in

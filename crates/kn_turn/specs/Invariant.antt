@@ -12,7 +12,9 @@ use Rattle.kn_turn.specs.declared.view.Stage.{Stage}
 use Rattle.kn_turn.specs.declared.view.Stage.TheVariants.{Idle, Waits, Served, Holds}
 use Rattle.kn_turn.specs.Counts.{total}
 use Rattle.kn_turn.specs.Entries.{entries_of, AllNameUpTo}
-use Rattle.kn_turn.specs.Views.{ticket_count, value_count, count_of_ticket, live_count, number_count, known_entries, HasEnded, after_draw, after_serve, after_take, after_append, after_look, after_confirm, after_settle, after_give}
+use Rattle.kn_turn.specs.Views.{ticket_count, value_count, count_of_ticket, live_count, number_count, known_entries}
+use Rattle.kn_turn.specs.Views.{HasEnded, after_draw, after_serve, after_take, after_append, after_look, after_confirm}
+use Rattle.kn_turn.specs.Views.{after_settle, after_give}
 
 module _ {E : Type 0} where
   -- what the stage tells of the tickets that were passed on and drawn, and of the history
@@ -24,7 +26,8 @@ module _ {E : Type 0} where
 
   -- What holds of a pass between two calls: its own entries in what it has seen are those that it made, those of
   -- each pass that ended in it are those that were kept, and what the root has seen names no pass that wasn't split.
-  pub record IsSound (by : E → ℕ) (number : ℕ) (seen mine : List E) (ended : List (EndedPass E)) (splits : ℕ) : Type 0 where
+  pub record IsSound (by : E → ℕ) (number : ℕ) (seen mine : List E) (ended : List (EndedPass E)) (splits : ℕ) :
+      Type 0 where
     pub own : entries_of by number seen ≡ mine
     pub kept : HasEnded by seen ended
     pub root : number ≡ 0 → AllNameUpTo by splits seen
@@ -79,7 +82,8 @@ module _ {S E : Type 0} where
 
   -- the value goes out, and its list is known, of which the front is the length
   abbrev pub takes_value : (S → List E) → Step (Option S) → Sat S E → ℕ → Sat S E → Type 0
-  takes_value log st m r m' = (x : S) × (r ≡ length (log x)) × IsPrefix m.0.seen (log x) × (m' ≡ (after_take m.0 (log x), (0, Some x) ∷ m.1))
+  takes_value log st m r m' = (x : S) × (r ≡ length (log x)) × IsPrefix m.0.seen (log x)
+      × (m' ≡ (after_take m.0 (log x), (0, Some x) ∷ m.1))
 
   -- more entries join the history
   abbrev pub appends : (E → ℕ) → List E → Step (Option S) → Sat S E → ℕ → Sat S E → Type 0
@@ -87,7 +91,8 @@ module _ {S E : Type 0} where
 
   -- the history is seen, of which the front is the length
   abbrev pub looks : (E → ℕ) → Step (Option S) → Sat S E → ℕ → Sat S E → Type 0
-  looks by st m r m' = (r ≡ length m.0.taken) × (m' ≡ (after_look m.0, m.1)) × IsSoundView by m'.0 × IsPrefix m.0.seen m.0.taken
+  looks by st m r m' = (r ≡ length m.0.taken) × (m' ≡ (after_look m.0, m.1)) × IsSoundView by m'.0
+      × IsPrefix m.0.seen m.0.taken
 
   -- where the front is the length of what was seen, that is the whole history
   abbrev pub confirms : Step (Option S) → Sat S E → ℕ → Sat S E → Type 0
@@ -100,4 +105,5 @@ module _ {S E : Type 0} where
 
   -- after a join both lists are beginnings of the longer one
   abbrev pub settles : (E → ℕ) → Step (Option S) → Sat S E → ℕ → Sat S E → Type 0
-  settles by st m r m' = (m' ≡ (after_settle m.0, m.1)) × IsSoundView by m'.0 × IsPrefix m.0.seen (known_entries m.0) × IsPrefix m.0.old (known_entries m.0)
+  settles by st m r m' = (m' ≡ (after_settle m.0, m.1)) × IsSoundView by m'.0 × IsPrefix m.0.seen (known_entries m.0)
+      × IsPrefix m.0.old (known_entries m.0)

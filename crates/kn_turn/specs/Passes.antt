@@ -44,14 +44,34 @@ slots_of Holds = (0, None) ∷ []
 
 module _ {E : Type 0} where
   abbrev pub pass_of : TableId → View E → PassView E
-  pass_of turn v = record { turn = turn; number = v.number; is_idle = is_idle_at v.stage; seen = v.seen; mine = v.mine; taken = v.taken; stops = v.stops; splits = v.splits; ended = v.ended }
+  pass_of turn v = record {
+    turn = turn;
+    number = v.number;
+    is_idle = is_idle_at v.stage;
+    seen = v.seen;
+    mine = v.mine;
+    taken = v.taken;
+    stops = v.stops;
+    splits = v.splits;
+    ended = v.ended;
+  }
 
   abbrev pub IsSoundPass : (E → ℕ) → PassView E → Type 0
   IsSoundPass by p = IsSound by p.number p.seen p.mine p.ended p.splits
 
   -- the root of a turn, when it is made
   abbrev pub root_of : TableId → PassView E
-  root_of turn = record { turn = turn; number = 0; is_idle = true; seen = []; mine = []; taken = []; stops = []; splits = 0; ended = [] }
+  root_of turn = record {
+    turn = turn;
+    number = 0;
+    is_idle = true;
+    seen = [];
+    mine = [];
+    taken = [];
+    stops = [];
+    splits = 0;
+    ended = [];
+  }
 
   -- the pass after `take` gave a value with this list
   abbrev pub after_take : PassView E → List E → PassView E
@@ -59,7 +79,14 @@ module _ {E : Type 0} where
 
   -- after `append_all` of these entries: the turn was had once
   abbrev pub after_append_all : PassView E → List E → PassView E
-  after_append_all p entries = record p { seen = p.taken ++ entries; mine = p.mine ++ entries; taken = p.taken ++ entries; stops = p.stops ++ (length p.taken + length entries) ∷ [] }
+  after_append_all p entries =
+      record p {
+        seen = p.taken ++ entries;
+        mine = p.mine ++ entries;
+        taken = p.taken ++ entries;
+        stops =
+            p.stops ++ (length p.taken + length entries) ∷ [];
+      }
 
   -- after `append` of one entry
   abbrev pub after_append : PassView E → E → PassView E
@@ -79,21 +106,37 @@ module _ {E : Type 0} where
 
   -- the pass that is split from a root, and the root afterwards
   abbrev pub split_of : PassView E → PassView E
-  split_of root = record { turn = root.turn; number = root.splits + 1; is_idle = true; seen = root.seen; mine = []; taken = []; stops = []; splits = 0; ended = [] }
+  split_of root = record {
+    turn = root.turn;
+    number = root.splits + 1;
+    is_idle = true;
+    seen = root.seen;
+    mine = [];
+    taken = [];
+    stops = [];
+    splits = 0;
+    ended = [];
+  }
 
   abbrev pub after_split : PassView E → PassView E
   after_split root = record root { splits = root.splits + 1 }
 
   -- a pass after another was joined into it
   abbrev pub after_join : PassView E → PassView E → PassView E
-  after_join p gone = record p { seen = longer p.seen gone.seen; ended = p.ended ++ (gone.ended ++ record { number = gone.number; mine = gone.mine; stops = gone.stops } ∷ []) }
+  after_join p gone =
+      record p {
+        seen = longer p.seen gone.seen;
+        ended =
+            p.ended ++ (gone.ended ++ record { number = gone.number; mine = gone.mine; stops = gone.stops } ∷ []);
+      }
 
   -- a pass after it met another
   abbrev pub after_meet : PassView E → PassView E → PassView E
   after_meet p other = record p { seen = longer p.seen other.seen }
 
 -- what a pass's fields keep of its seat
-pub record Carries {S E : Type 0} (by : E → ℕ) (seat : Seat (Option S) (View E)) (number seen_length splits : ℕ) : Type 0 where
+pub record Carries {S E : Type 0} (by : E → ℕ) (seat : Seat (Option S) (View E)) (number seen_length splits : ℕ) :
+    Type 0 where
   pub live : seat.me.0.live ≡ true
   pub settled : seat.me.0.old ≡ []
   pub between : is_between_calls seat.me.0.stage ≡ true

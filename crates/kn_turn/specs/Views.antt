@@ -64,7 +64,19 @@ module _ {E : Type 0} where
 
   -- the view of the first seat, which is the root's
   abbrev pub first_view : View E
-  first_view = record { live = true; number = 0; stage = Idle; ticket = 0; taken = []; seen = []; old = []; mine = []; stops = []; splits = 0; ended = [] }
+  first_view = record {
+    live = true;
+    number = 0;
+    stage = Idle;
+    ticket = 0;
+    taken = [];
+    seen = [];
+    old = [];
+    mine = [];
+    stops = [];
+    splits = 0;
+    ended = [];
+  }
 
   abbrev pub after_draw : View E → ℕ → View E
   after_draw v t = record v { stage = Waits; ticket = t }
@@ -76,7 +88,13 @@ module _ {E : Type 0} where
   after_take v l = record v { stage = Holds; taken = l }
 
   abbrev pub after_append : View E → List E → View E
-  after_append v more = record v { taken = v.taken ++ more; seen = v.taken ++ more; mine = v.mine ++ more; stops = v.stops ++ length (v.taken ++ more) ∷ [] }
+  after_append v more = record v {
+    taken = v.taken ++ more;
+    seen = v.taken ++ more;
+    mine = v.mine ++ more;
+    stops =
+        v.stops ++ length (v.taken ++ more) ∷ [];
+  }
 
   abbrev pub after_look : View E → View E
   after_look v = record v { seen = v.taken; stops = v.stops ++ length v.taken ∷ [] }
@@ -90,18 +108,56 @@ module _ {E : Type 0} where
 
   -- the pass that is split from the root, and the root after it
   abbrev pub child_view : View E → View E
-  child_view v = record { live = true; number = v.splits + 1; stage = Idle; ticket = 0; taken = []; seen = v.seen; old = []; mine = []; stops = []; splits = 0; ended = [] }
+  child_view v = record {
+    live = true;
+    number = v.splits + 1;
+    stage = Idle;
+    ticket = 0;
+    taken = [];
+    seen = v.seen;
+    old =
+        [];
+    mine = [];
+    stops = [];
+    splits = 0;
+    ended = [];
+  }
 
   abbrev pub parent_view : View E → View E
   parent_view v = record v { splits = v.splits + 1 }
 
   -- a copy of what was seen, which is no pass
   abbrev pub note_view : View E → View E
-  note_view v = record { live = false; number = 0; stage = Idle; ticket = 0; taken = []; seen = v.seen; old = []; mine = []; stops = []; splits = 0; ended = [] }
+  note_view v = record {
+    live = false;
+    number = 0;
+    stage = Idle;
+    ticket = 0;
+    taken = [];
+    seen = v.seen;
+    old = [];
+    mine =
+        [];
+    stops = [];
+    splits = 0;
+    ended = [];
+  }
 
   -- what is left of a seat that was joined into another
   abbrev pub spent_view : View E
-  spent_view = record { live = false; number = 0; stage = Idle; ticket = 0; taken = []; seen = []; old = []; mine = []; stops = []; splits = 0; ended = [] }
+  spent_view = record {
+    live = false;
+    number = 0;
+    stage = Idle;
+    ticket = 0;
+    taken = [];
+    seen = [];
+    old = [];
+    mine = [];
+    stops = [];
+    splits = 0;
+    ended = [];
+  }
 
   abbrev pub ended_of : View E → EndedPass E
   ended_of w = record { number = w.number; mine = w.mine; stops = w.stops }

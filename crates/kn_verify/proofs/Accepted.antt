@@ -1,5 +1,6 @@
 -- What the daemon answers to a query proves its value, and what proves its value is accepted.
-use Rattle.std.proofs.Common.{◌≡◌, ℕ, ◌+◌, ◌-◌, ◌<◌, ◌≤◌, Bool, true, false, cond, List, [], ◌∷◌, ◌++◌, length, refl, sym, subst, arith}
+use Rattle.std.proofs.Common.{◌≡◌, ℕ, ◌+◌, ◌-◌, ◌<◌, ◌≤◌, Bool, true, false, cond, List, [], ◌∷◌, ◌++◌, length, refl}
+use Rattle.std.proofs.Common.{sym, subst, arith}
 use Rattle.std.specs.Str.{bytes_eq}
 use Rattle.kn_principal.specs.Principals.{policy}
 use Rattle.kn_proof.specs.declared.named.NamedRow.{NamedRow}
@@ -13,9 +14,11 @@ use Rattle.kn_verify.specs.declared.verdict.Refused.{Refused}
 use Rattle.kn_verify.specs.declared.verdict.Refused.TheVariants as R
 
 -- no row states more than the top
-rows-within : (e : Equations) (before rows : List NamedRow) (name : List ℕ) → AreRows e before rows → row_level rows name ≤ e.top
+rows-within : (e : Equations) (before rows : List NamedRow) (name : List ℕ) → AreRows e before rows
+    → row_level rows name ≤ e.top
 rows-within e before [] name stand = omega arith
-rows-within e before (row ∷ rows) name stand = by (rows-within e (before ++ row ∷ []) rows name stand.1) (bytes_eq row.principal name)
+rows-within e before (row ∷ rows) name stand =
+    by (rows-within e (before ++ row ∷ []) rows name stand.1) (bytes_eq row.principal name)
   where
     first : row.value ≤ e.top
     first = stand.0.within
@@ -37,7 +40,8 @@ level-within e rows level proof = subst (λ (n : ℕ). n ≤ e.top) proof.claim 
 
 pub answers_are_proved : AnswersAreProved
 answers_are_proved session values reply some answer =
-    let within : answer.level ≤ length values - 1 = level-within (equations_of session values) answer.rows answer.level answer.proved in (
+    let within : answer.level ≤ length values - 1 =
+    level-within (equations_of session values) answer.rows answer.level answer.proved in (
       _,
       answer.told,
       record {

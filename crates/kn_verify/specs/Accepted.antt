@@ -11,8 +11,10 @@ use Rattle.kn_verify.specs.declared.verdict.Refused.TheVariants.{NoMemory}
 
 -- what the daemon answers to a query is a VALUE reply whose rows prove its value of that query
 abbrev pub AnswersAreProved : Type 0
-AnswersAreProved = (session : Session) (values : List (List ℕ)) (reply : Reply) → 0 < length values → IsAnswer session values reply
-    → (read : ReadReply) × (reply ≡ Value read.value read.name read.version read.rows) × IsProved (equations_of session values) (length session.pinned) values read
+AnswersAreProved = (session : Session) (values : List (List ℕ)) (reply : Reply) → 0 < length values
+    → IsAnswer session values reply
+    → (read : ReadReply) × (reply ≡ Value read.value read.name read.version read.rows)
+    × IsProved (equations_of session values) (length session.pinned) values read
 
 -- a reply that proves its value is refused only when out of memory
 abbrev pub ProvedIsAccepted : Type 0

@@ -5,7 +5,8 @@ use Rattle.std.specs.Str.{bytes_eq}
 use Rattle.kn_principal.specs.Principals.{policy}
 use Rattle.kn_proof.specs.declared.named.NamedRow.{NamedRow}
 use Rattle.kn_check.specs.declared.reject.Reject.{Reject}
-use Rattle.kn_check.specs.declared.reject.Reject.TheVariants.{Range, Requester, Again, Zero, Foreign, Unsupported, Unclosed, Claim}
+use Rattle.kn_check.specs.declared.reject.Reject.TheVariants.{Range, Requester, Again, Zero, Foreign, Unsupported}
+use Rattle.kn_check.specs.declared.reject.Reject.TheVariants.{Unclosed, Claim}
 use Rattle.kn_meaning.specs.Formulas.{Levels}
 use Rattle.kn_meaning.specs.Equations.{Equations, Statement, is_requester, worth}
 use Rattle.kn_meaning.specs.Occurring.{occurring}
@@ -43,10 +44,13 @@ pub record IsWorth (e : Equations) (at : Levels) (row : NamedRow) (found : ℕ) 
 abbrev pub IsNamedRowReject : Equations → List NamedRow → ℕ → NamedRow → Reject → Type 0
 IsNamedRowReject e before k row (Range j) = (j ≡ k) × ¬ IsNamedInRange e row
 IsNamedRowReject e before k row (Requester j) = (j ≡ k) × IsNamedInRange e row × (is_requester e row.principal ≡ true)
-IsNamedRowReject e before k row (Again j) = (j ≡ k) × NamesOther e row × (list_any (λ r. bytes_eq r.principal row.principal) before ≡ true)
+IsNamedRowReject e before k row (Again j) = (j ≡ k) × NamesOther e row
+    × (list_any (λ r. bytes_eq r.principal row.principal) before ≡ true)
 IsNamedRowReject e before k row (Zero j) = (j ≡ k) × NamesFresh e before row × (row.value ≡ 0)
-IsNamedRowReject e before k row (Foreign j) = (j ≡ k) × NamesRaised e before row × Any (λ s. (s.id ≡ row.id) × (s.authorizer ≢ row.principal)) e.statements
-IsNamedRowReject e before k row (Unsupported j found) = (j ≡ k) × NamesRaised e before row × Any (IsWorth e (levels_by e before) row found) e.statements × (found < row.value)
+IsNamedRowReject e before k row (Foreign j) = (j ≡ k) × NamesRaised e before row
+    × Any (λ s. (s.id ≡ row.id) × (s.authorizer ≢ row.principal)) e.statements
+IsNamedRowReject e before k row (Unsupported j found) = (j ≡ k) × NamesRaised e before row
+    × Any (IsWorth e (levels_by e before) row found) e.statements × (found < row.value)
 IsNamedRowReject e before k row reject = ⊥
 
 -- a row is the first that may not follow those before it, for this reason
@@ -81,7 +85,8 @@ IsRejected e rows claimed reject = IsNamedRowFault e rows reject
 abbrev pub OneReason : Type 0
 OneReason =
     (e : Equations) → AreDistinct (map (λ s. s.id) e.statements)
-    → (rows : List NamedRow) (level : ℕ) (reject other : Reject) → IsRejected e rows level reject → IsRejected e rows level other → reject ≡ other
+    → (rows : List NamedRow) (level : ℕ) (reject other : Reject) → IsRejected e rows level reject
+    → IsRejected e rows level other → reject ≡ other
 
 -- and are no proof
 abbrev pub NotBoth : Type 0

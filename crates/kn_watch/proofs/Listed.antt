@@ -1,5 +1,7 @@
 -- The list of those who are flagged.
-use Rattle.std.proofs.Common.{◌≡◌, ◌⊎◌, ℕ, suc, zero, ◌+◌, ◌<◌, ◌≤◌, Bool, true, false, Some, List, [], ◌∷◌, ◌++◌, length, replicate, slice_get, slice_set, refl, sym, ap, ◌∙◌, subst, inl, inr, append-nil, arith}
+use Rattle.std.proofs.Common.{◌≡◌, ◌⊎◌, ℕ, suc, zero, ◌+◌, ◌<◌, ◌≤◌, Bool, true, false, Some, List, [], ◌∷◌, ◌++◌}
+use Rattle.std.proofs.Common.{length, replicate, slice_get, slice_set, refl, sym, ap, ◌∙◌, subst, inl, inr, append-nil}
+use Rattle.std.proofs.Common.{arith}
 use Rattle.std.proofs.lemmas.Bool.{cases_lt, cases_eq, false≢true}
 use Rattle.std.proofs.lemmas.List.{append_assoc, get_or-set_same, get_or-set_other, get_or_past, set-get_or}
 use Rattle.kn_watch.specs.Affected.{IsSubset, is_affected, sum_over}
@@ -60,7 +62,8 @@ flag-kept flags p = λ q e.
     ]
 
 -- one more of the second
-pub among-set : (flags others : List Bool) (p : ℕ) → is_affected others p ≡ true → IsSubset flags others → IsSubset (slice_set flags p true) others
+pub among-set : (flags others : List Bool) (p : ℕ) → is_affected others p ≡ true → IsSubset flags others
+    → IsSubset (slice_set flags p true) others
 among-set flags others p is h = λ q e.
     elim (cases_eq q p) [
       | inl same ↦ ap (is_affected others) same ∙ is
@@ -72,7 +75,8 @@ pub flag-again : (flags : List Bool) (p : ℕ) → is_affected flags p ≡ true 
 flag-again flags p e = sym (ap (slice_set flags p) (sym e) ∙ set-get_or flags p false)
 
 -- one more is flagged and listed
-pub found-next : (flags : List Bool) (found : List ℕ) (p : ℕ) → p < length flags → is_affected flags p ≡ false → AreFound flags found → AreFound (slice_set flags p true) (found ++ p ∷ [])
+pub found-next : (flags : List Bool) (found : List ℕ) (p : ℕ) → p < length flags → is_affected flags p ≡ false
+    → AreFound flags found → AreFound (slice_set flags p true) (found ++ p ∷ [])
 found-next flags found p l other h = record {
   flagged = λ i q e.
       elim (get-pushed found p i q e) [
@@ -88,7 +92,8 @@ found-next flags found p l other h = record {
       ];
   sums = λ f.
       let here : f (0 + p) ≡ f p = ap f (omega arith) in
-      sum_of-push f found p ∙ ap (λ n. n + f p) (h.sums f) ∙ ap (λ n. sum_over f 0 flags + n) (sym here) ∙ sym (sum_over-set f 0 flags p l other);
+      sum_of-push f found p ∙ ap (λ n. n + f p) (h.sums f) ∙ ap (λ n. sum_over f 0 flags + n) (sym here)
+      ∙ sym (sum_over-set f 0 flags p l other);
 }
 
 -- no more are listed than there are flags
@@ -106,7 +111,8 @@ pub front-next : (xs ys zs : List ℕ) → IsPrefix xs ys → IsPrefix ys zs →
 front-next xs ys zs (more, e) (rest, f) = (more ++ rest, sym (append_assoc xs more rest) ∙ ap (λ ws. ws ++ rest) e ∙ f)
 
 -- who stands in a front stays flagged
-pub front-kept : (flags next : List Bool) (found more : List ℕ) → AreFound flags found → AreFound next more → IsPrefix found more → IsSubset flags next
+pub front-kept : (flags next : List Bool) (found more : List ℕ) → AreFound flags found → AreFound next more
+    → IsPrefix found more → IsSubset flags next
 front-kept flags next found more h g (rest, e) = λ p is.
     let (i, at) = h.listed p is in
     g.flagged i p (ap (λ xs. slice_get xs i) (sym e) ∙ get-front found rest i p at)

@@ -1,5 +1,6 @@
 -- Which principals a change may affect, and how many steps they cost (keynoted's own).
-use Rattle.std.specs.Prelude.{ℕ, suc, ◌+◌, ◌-◌, ◌*◌, ◌≡◌, ◌<◌, Bool, true, false, Some, List, [], ◌∷◌, length, slice_get, slice_index_or, if◌then◌else◌}
+use Rattle.std.specs.Prelude.{ℕ, suc, ◌+◌, ◌-◌, ◌*◌, ◌≡◌, ◌<◌, Bool, true, false, Some, List, [], ◌∷◌, length}
+use Rattle.std.specs.Prelude.{slice_get, slice_index_or, if◌then◌else◌}
 use Rattle.kn_system.specs.declared.rows.Piece.TheVariants.{Who}
 use Rattle.kn_system.specs.Equations.{SystemEquations, row_at}
 use Rattle.kn_system.specs.Nodes.{pieces_of, uses_of}
@@ -16,12 +17,14 @@ UsesPrincipal row p = (i : ℕ) × (slice_get row.formula i ≡ Some (Who p))
 
 -- the authorizers of the changed rows are affected
 abbrev pub HasChanged : SystemEquations → List Changed → List Bool → Type 0
-HasChanged s changed affected = (i : ℕ) (change : Changed) → slice_get changed i ≡ Some change → is_affected affected (row_at s.rows change.row).authorizer ≡ true
+HasChanged s changed affected = (i : ℕ) (change : Changed) → slice_get changed i ≡ Some change
+    → is_affected affected (row_at s.rows change.row).authorizer ≡ true
 
 -- and, with a principal, the authorizers of all rows that use it
 abbrev pub HasUsers : SystemEquations → List Bool → Type 0
 HasUsers s affected =
-    (p r : ℕ) → is_affected affected p ≡ true → r < length s.rows → UsesPrincipal (row_at s.rows r) p → is_affected affected (row_at s.rows r).authorizer ≡ true
+    (p r : ℕ) → is_affected affected p ≡ true → r < length s.rows → UsesPrincipal (row_at s.rows r) p
+    → is_affected affected (row_at s.rows r).authorizer ≡ true
 
 -- who is among the first is among the second
 abbrev pub IsSubset : List Bool → List Bool → Type 0
@@ -54,7 +57,8 @@ affected_uses s affected = sum_over (use_count s) 0 affected
 -- how many nodes the rows have whose authorizer is affected
 abbrev pub affected_nodes : List Bool → List SystemRow → ℕ
 affected_nodes affected [] = 0
-affected_nodes affected (row ∷ rows) = (if is_affected affected row.authorizer then length row.formula else 0) + affected_nodes affected rows
+affected_nodes affected (row ∷ rows) = (if is_affected affected row.authorizer then length row.formula else 0)
+    + affected_nodes affected rows
 
 -- The most steps of a refresh. To find the affected principals: each use, with the nodes above it, and the end of each
 -- principal's uses. To raise them: each node, as often as they may rise together, and once more.

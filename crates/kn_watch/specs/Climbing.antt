@@ -5,7 +5,8 @@ use Rattle.kn_system.specs.Rows.{SystemRow}
 -- the row of a node
 abbrev pub row_of_node : List SystemRow → ℕ → ℕ
 row_of_node [] i = 0
-row_of_node (row ∷ rows) i = if nat_lt i (length row.formula) then 0 else suc (row_of_node rows (i - length row.formula))
+row_of_node (row ∷ rows) i =
+    if nat_lt i (length row.formula) then 0 else suc (row_of_node rows (i - length row.formula))
 
 -- its place in the formula
 abbrev pub place_of_node : List SystemRow → ℕ → ℕ

@@ -16,7 +16,8 @@ pub record AreFound (flags : List Bool) (found : List ℕ) : Type 0 where
 
 -- the authorizers of all rows that use the principal are affected
 abbrev pub IsSpread : SystemEquations → ℕ → List Bool → Type 0
-IsSpread s p flags = (r : ℕ) → r < length s.rows → UsesPrincipal (row_at s.rows r) p → is_affected flags (row_at s.rows r).authorizer ≡ true
+IsSpread s p flags = (r : ℕ) → r < length s.rows → UsesPrincipal (row_at s.rows r) p
+    → is_affected flags (row_at s.rows r).authorizer ≡ true
 
 -- the most steps of finding them
 abbrev pub spread_ticks : SystemEquations → List Bool → ℕ → ℕ

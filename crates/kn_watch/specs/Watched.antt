@@ -1,5 +1,6 @@
 -- A system whose least levels were found before ceilings of it changed, and before rows and principals were added.
-use Rattle.std.specs.Prelude.{ℕ, suc, ◌≡◌, ◌==◌, ◌-◌, ◌<◌, ◌≤◌, false, List, [], ◌∷◌, ◌++◌, length, replicate, slice_index, if◌then◌else◌}
+use Rattle.std.specs.Prelude.{ℕ, suc, ◌≡◌, ◌==◌, ◌-◌, ◌<◌, ◌≤◌, false, List, [], ◌∷◌, ◌++◌, length, replicate}
+use Rattle.std.specs.Prelude.{slice_index, if◌then◌else◌}
 use Rattle.kn_settle.specs.QuerySystem.{capped_from}
 use Rattle.kn_system.specs.Equations.{SystemEquations, recapped, row_at}
 use Rattle.kn_system.specs.Least.{least_levels}
@@ -17,7 +18,8 @@ former_system ceilings s = record { levels = s.levels; requesters = s.requesters
 
 -- the levels are the least ones of the system as it was, where principals behind their end have 0
 pub record IsWatchedOf (watched : WatchedLevels) (s : SystemEquations) : Type 0 where
-  pub before : watched.levels ++ replicate (length s.requesters - length watched.levels) 0 ≡ least_levels (former_system watched.ceilings s)
+  pub before : watched.levels ++ replicate (length s.requesters - length watched.levels) 0
+      ≡ least_levels (former_system watched.ceilings s)
   pub within : length watched.ceilings ≤ length s.rows
 
 -- these are the ceilings of the rows
@@ -27,7 +29,8 @@ pub record AreCeilings (rows : List SystemRow) (ceilings : List ℕ) : Type 0 wh
 
 -- the i-th row, if its ceiling isn't the one that it had
 abbrev pub change_of : List ℕ → ℕ → SystemRow → List Changed
-change_of ceilings i row = if row.ceiling == slice_index ceilings i then [] else (record { row = i; before = slice_index ceilings i }) ∷ []
+change_of ceilings i row =
+    if row.ceiling == slice_index ceilings i then [] else (record { row = i; before = slice_index ceilings i }) ∷ []
 
 -- the rows from the i-th on whose ceilings aren't those that they had
 abbrev pub changes_from : List ℕ → ℕ → List SystemRow → List Changed

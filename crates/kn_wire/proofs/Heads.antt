@@ -1,9 +1,11 @@
 -- Lines that name a block.
-use Rattle.std.proofs.Common.{◌≡◌, ◌≢◌, ℕ, inl, inr, Option, Some, None, option_map, option_and_then, List, ◌∷◌, ◌++◌, refl, sym, ap, ◌∙◌, codes}
+use Rattle.std.proofs.Common.{◌≡◌, ◌≢◌, ℕ, inl, inr, Option, Some, None, option_map, option_and_then, List, ◌∷◌, ◌++◌}
+use Rattle.std.proofs.Common.{refl, sym, ap, ◌∙◌, codes}
 use Rattle.std.specs.List.{before_first}
 use Rattle.kn_base.specs.Decimal.{decimal_of}
 use Rattle.kn_wire.specs.Lines.{blocked_of}
-use Rattle.kn_wire.specs.Requests.{Request, Add, Assert, Batch, Line, Blocked, word_of, behind_space, is_space, line_of, line_of_word, or_malformed}
+use Rattle.kn_wire.specs.Requests.{Request, Add, Assert, Batch, Line, Blocked, word_of, behind_space, is_space, line_of}
+use Rattle.kn_wire.specs.Requests.{line_of_word, or_malformed}
 use Rattle.kn_wire.specs.declared.word.Word.TheVariants as W
 use Rattle.kn_wire.proofs.LineFits.{NamesNone, whole-line, word_spelled}
 use Rattle.kn_wire.proofs.Splits.{split_line}
@@ -14,11 +16,13 @@ use Rattle.kn_wire.proofs.Splits.{split_line}
 abbrev AllBlocked : Option Line → Type 0
 AllBlocked o = o ≡ blocked_of (or_malformed o)
 
-blocked-map : {A : Type 0} (o : Option A) (n : A → ℕ) (request : A → List ℕ → Request) → AllBlocked (option_map (λ a. Blocked (n a) (request a)) o)
+blocked-map : {A : Type 0} (o : Option A) (n : A → ℕ) (request : A → List ℕ → Request)
+    → AllBlocked (option_map (λ a. Blocked (n a) (request a)) o)
 blocked-map None n request = refl
 blocked-map (Some a) n request = refl
 
-blocked-and_then : {A : Type 0} (o : Option A) (f : A → Option Line) → ((a : A) → AllBlocked (f a)) → AllBlocked (option_and_then f o)
+blocked-and_then : {A : Type 0} (o : Option A) (f : A → Option Line) → ((a : A) → AllBlocked (f a))
+    → AllBlocked (option_and_then f o)
 blocked-and_then None f each = refl
 blocked-and_then (Some a) f each = each a
 
@@ -30,16 +34,21 @@ batch_blocked text = blocked-map (decimal_of text) (λ n. n) (λ n. Batch)
 
 assert_blocked : (text : List ℕ) → AllBlocked (line_of_word W.Assert (Some text))
 assert_blocked text =
-    blocked-and_then (behind_space text) _ (λ rest. blocked-and_then (decimal_of (before_first is_space text)) _ (λ s. blocked-map (decimal_of rest) (λ n. n) (λ n. Assert s)))
+    blocked-and_then (behind_space text) _
+    (λ rest. blocked-and_then (decimal_of (before_first is_space text)) _
+    (λ s. blocked-map (decimal_of rest) (λ n. n) (λ n. Assert s)))
 
 -- what follows the command is what the line names
-pub names_add : (line text : List ℕ) → line ≡ codes "ADD " ++ text → line_of_word W.Add (Some text) ≡ blocked_of (line_of line)
+pub names_add : (line text : List ℕ) → line ≡ codes "ADD " ++ text
+    → line_of_word W.Add (Some text) ≡ blocked_of (line_of line)
 names_add line text is = add_blocked text ∙ ap (λ l. blocked_of (line_of l)) (sym is)
 
-pub names_assert : (line text : List ℕ) → line ≡ codes "ASSERT " ++ text → line_of_word W.Assert (Some text) ≡ blocked_of (line_of line)
+pub names_assert : (line text : List ℕ) → line ≡ codes "ASSERT " ++ text
+    → line_of_word W.Assert (Some text) ≡ blocked_of (line_of line)
 names_assert line text is = assert_blocked text ∙ ap (λ l. blocked_of (line_of l)) (sym is)
 
-pub names_batch : (line text : List ℕ) → line ≡ codes "BATCH " ++ text → line_of_word W.Batch (Some text) ≡ blocked_of (line_of line)
+pub names_batch : (line text : List ℕ) → line ≡ codes "BATCH " ++ text
+    → line_of_word W.Batch (Some text) ≡ blocked_of (line_of line)
 names_batch line text is = batch_blocked text ∙ ap (λ l. blocked_of (line_of l)) (sym is)
 
 -- A line that doesn't.
@@ -48,7 +57,8 @@ names_batch line text is = batch_blocked text ∙ ap (λ l. blocked_of (line_of 
 abbrev IsNoCommand : List ℕ → List ℕ → Type 0
 IsNoCommand word line = (rest : List ℕ) → line ≢ word ++ 32 ∷ rest
 
-pub names_none : (line : List ℕ) → IsNoCommand (codes "ADD") line → IsNoCommand (codes "ASSERT") line → IsNoCommand (codes "BATCH") line → None ≡ blocked_of (line_of line)
+pub names_none : (line : List ℕ) → IsNoCommand (codes "ADD") line → IsNoCommand (codes "ASSERT") line
+    → IsNoCommand (codes "BATCH") line → None ≡ blocked_of (line_of line)
 names_none line no_add no_assert no_batch = whole-line line (by (behind_space line) refl)
   where
     by : (rest : Option (List ℕ)) → behind_space line ≡ rest → NamesNone (word_of (before_first is_space line)) rest
@@ -56,7 +66,10 @@ names_none line no_add no_assert no_batch = whole-line line (by (behind_space li
     by (Some rest) behind =
         let whole = split_line line rest behind in
         inr (
-          (λ is. no_add rest (whole ∙ ap (λ (w : List ℕ). w ++ 32 ∷ rest) (word_spelled (before_first is_space line) W.Add is))),
-          (λ is. no_assert rest (whole ∙ ap (λ (w : List ℕ). w ++ 32 ∷ rest) (word_spelled (before_first is_space line) W.Assert is))),
-          (λ is. no_batch rest (whole ∙ ap (λ (w : List ℕ). w ++ 32 ∷ rest) (word_spelled (before_first is_space line) W.Batch is))),
+          (λ is. no_add rest (whole
+              ∙ ap (λ (w : List ℕ). w ++ 32 ∷ rest) (word_spelled (before_first is_space line) W.Add is))),
+          (λ is. no_assert rest (whole
+              ∙ ap (λ (w : List ℕ). w ++ 32 ∷ rest) (word_spelled (before_first is_space line) W.Assert is))),
+          (λ is. no_batch rest (whole
+              ∙ ap (λ (w : List ℕ). w ++ 32 ∷ rest) (word_spelled (before_first is_space line) W.Batch is))),
         )

@@ -1,5 +1,6 @@
 -- What holds of the items of a block in code, as parts of the block.
-use Rattle.std.proofs.Common.{◌≡◌, ◌≤◌, ◌+◌, ℕ, List, [], ◌∷◌, ◌++◌, length, map, flat_map, codes, decimal, Some, Ok, All, sym, ap, ◌∙◌, subst, arith, length-append}
+use Rattle.std.proofs.Common.{◌≡◌, ◌≤◌, ◌+◌, ℕ, List, [], ◌∷◌, ◌++◌, length, map, flat_map, codes, decimal, Some, Ok}
+use Rattle.std.proofs.Common.{All, sym, ap, ◌∙◌, subst, arith, length-append}
 use Rattle.std.proofs.lemmas.List.{length-map, map-append}
 use Rattle.std.proofs.lemmas.List.Elements.{All-nil, All-cons}
 use Rattle.kn_wire.specs.declared.items.BatchItem.{BatchItem}
@@ -18,14 +19,16 @@ text_within (Add text) limit within =
     omega arith
 text_within (Remove k) limit within = tt
 
-texts_within : (items : List BatchItem) (limit : ℕ) → length (flat_map item_text (map item_of items)) ≤ limit → All (IsWithin limit) items
+texts_within : (items : List BatchItem) (limit : ℕ) → length (flat_map item_text (map item_of items)) ≤ limit
+    → All (IsWithin limit) items
 texts_within [] limit within = All-nil (IsWithin limit)
 texts_within (item ∷ items) limit within =
     let sizes = length-append (item_text (item_of item)) (flat_map item_text (map item_of items)) in
     All-cons (IsWithin limit) item items (text_within item limit (omega arith)) (texts_within items limit (omega arith))
 
 -- no text is longer than the block
-pub items_within : (block : List ℕ) (items : List BatchItem) (limit : ℕ) → length block ≤ limit → items_of block ≡ Ok (map item_of items) → All (IsWithin limit) items
+pub items_within : (block : List ℕ) (items : List BatchItem) (limit : ℕ) → length block ≤ limit
+    → items_of block ≡ Ok (map item_of items) → All (IsWithin limit) items
 items_within block items limit within read =
     let size = ap length (read-are_items block (map item_of items) read).0.joined in
     texts_within items limit (omega arith)
@@ -43,9 +46,12 @@ items_few block items read =
     omega arith
 
 -- one more item is read
-pub begins_with_item : (block : List ℕ) (items new : List BatchItem) (item : BatchItem) (text left : List ℕ) (count : ℕ) → BeginsWith block (map item_of items) text → count ≡ length items → count + 1 ≤ 256
+pub begins_with_item : (block : List ℕ) (items new : List BatchItem) (item : BatchItem) (text left : List ℕ) (count : ℕ)
+    → BeginsWith block (map item_of items) text → count ≡ length items → count + 1 ≤ 256
     → new ≡ items ++ item ∷ [] → first_item text ≡ Some (item_of item, left) → BeginsWith block (map item_of new) left
 begins_with_item block items new item text left count begins size few pushed first =
     let same = length-map items item_of in
-    let front : map item_of new ≡ map item_of items ++ item_of item ∷ [] = ap (map item_of) pushed ∙ map-append item_of items (item ∷ []) in
-    subst (λ (l : List I.BatchItem). BeginsWith block l left) (sym front) (begins_with_more block (map item_of items) text left (item_of item) begins (omega arith) first)
+    let front : map item_of new ≡ map item_of items ++ item_of item ∷ [] = ap (map item_of) pushed
+    ∙ map-append item_of items (item ∷ []) in
+    subst (λ (l : List I.BatchItem). BeginsWith block l left) (sym front)
+    (begins_with_more block (map item_of items) text left (item_of item) begins (omega arith) first)

@@ -1,5 +1,7 @@
 -- The items of a block, read one after the other.
-use Rattle.std.proofs.Common.{◌≡◌, ◌≢◌, ℕ, zero, suc, ◌+◌, ◌-◌, ◌<◌, ◌≤◌, ◌==◌, Bool, true, false, Some, None, Result, Ok, Err, List, [], ◌∷◌, ◌++◌, length, take, drop, refl, sym, ap, ◌∙◌, arith, append_assoc, append-nil}
+use Rattle.std.proofs.Common.{◌≡◌, ◌≢◌, ℕ, zero, suc, ◌+◌, ◌-◌, ◌<◌, ◌≤◌, ◌==◌, Bool, true, false, Some, None, Result}
+use Rattle.std.proofs.Common.{Ok, Err, List, [], ◌∷◌, ◌++◌, length, take, drop, refl, sym, ap, ◌∙◌, arith, append_assoc}
+use Rattle.std.proofs.Common.{append-nil}
 use Rattle.std.specs.Prelude.{if◌then◌else◌}
 use Rattle.std.specs.List.{list_any, before_first, after_first}
 use Rattle.std.proofs.lemmas.Bool.Decides.{Decides-eqb}
@@ -26,15 +28,19 @@ begins_with_none (b ∷ text) some = record { few = omega arith; found = by (ite
     by (Ok items) = refl
     by (Err number) = refl
 
-one_item : (more number : ℕ) (text left : List ℕ) (item : BatchItem) → first_item text ≡ Some (item, left) → items_from (suc more) number text ≡ item_before item (items_from more (number + 1) left)
+one_item : (more number : ℕ) (text left : List ℕ) (item : BatchItem) → first_item text ≡ Some (item, left)
+    → items_from (suc more) number text ≡ item_before item (items_from more (number + 1) left)
 one_item more number [] left item first = cc
-one_item more number (b ∷ text) left item first = ap (λ found. items_behind number found (λ rest. items_from more (number + 1) rest)) first
+one_item more number (b ∷ text) left item first =
+    ap (λ found. items_behind number found (λ rest. items_from more (number + 1) rest)) first
 
-after_one_more : (front : List BatchItem) (item : BatchItem) (found : Result (List BatchItem) ℕ) → items_after front (item_before item found) ≡ items_after (front ++ item ∷ []) found
+after_one_more : (front : List BatchItem) (item : BatchItem) (found : Result (List BatchItem) ℕ)
+    → items_after front (item_before item found) ≡ items_after (front ++ item ∷ []) found
 after_one_more front item (Ok items) = ap (λ (l : List BatchItem). Ok l) (sym (append_assoc front (item ∷ []) items))
 after_one_more front item (Err number) = refl
 
-pub begins_with_more : (block : List ℕ) (front : List BatchItem) (text left : List ℕ) (item : BatchItem) → BeginsWith block front text → length front < 256 → first_item text ≡ Some (item, left)
+pub begins_with_more : (block : List ℕ) (front : List BatchItem) (text left : List ℕ) (item : BatchItem)
+    → BeginsWith block front text → length front < 256 → first_item text ≡ Some (item, left)
     → BeginsWith block (front ++ item ∷ []) left
 begins_with_more block front text left item begins few first =
     let size : length (front ++ item ∷ []) ≡ length front + 1 = length_push front item in
@@ -53,20 +59,24 @@ none_left zero number = refl
 none_left (suc most) number = refl
 
 -- nothing is left, so these are the items
-pub items_are : (block : List ℕ) (front : List BatchItem) (text : List ℕ) → BeginsWith block front text → text ≡ [] → items_of block ≡ Ok front
+pub items_are : (block : List ℕ) (front : List BatchItem) (text : List ℕ) → BeginsWith block front text → text ≡ []
+    → items_of block ≡ Ok front
 items_are block front text begins over =
     begins.found
     ∙ ap (λ left. items_after front (items_from (256 - length front) (length front + 1) left)) over
     ∙ ap (items_after front) (none_left (256 - length front) (length front + 1))
     ∙ ap (λ (l : List BatchItem). Ok l) (append-nil front)
 
-departs : (most number : ℕ) (text : List ℕ) → text ≢ [] → first_item text ≡ None → items_from most number text ≡ Err number
+departs : (most number : ℕ) (text : List ℕ) → text ≢ [] → first_item text ≡ None
+    → items_from most number text ≡ Err number
 departs most number [] some none = absurd (some refl)
 departs zero number (b ∷ text) some none = refl
-departs (suc most) number (b ∷ text) some none = ap (λ found. items_behind number found (λ rest. items_from most (number + 1) rest)) none
+departs (suc most) number (b ∷ text) some none =
+    ap (λ found. items_behind number found (λ rest. items_from most (number + 1) rest)) none
 
 -- no item begins what is left
-pub departs_here : (block : List ℕ) (front : List BatchItem) (text : List ℕ) (number : ℕ) → BeginsWith block front text → text ≢ [] → number ≡ length front + 1 → first_item text ≡ None
+pub departs_here : (block : List ℕ) (front : List BatchItem) (text : List ℕ) (number : ℕ) → BeginsWith block front text
+    → text ≢ [] → number ≡ length front + 1 → first_item text ≡ None
     → items_of block ≡ Err number
 departs_here block front text number begins some place none =
     begins.found
@@ -78,7 +88,8 @@ no_more number [] some = absurd (some refl)
 no_more number (b ∷ text) some = refl
 
 -- as many items as there may be are followed by a byte
-pub departs_behind : (block : List ℕ) (front : List BatchItem) (text : List ℕ) (number : ℕ) → BeginsWith block front text → text ≢ [] → number ≡ length front + 1 → 256 < number
+pub departs_behind : (block : List ℕ) (front : List BatchItem) (text : List ℕ) (number : ℕ)
+    → BeginsWith block front text → text ≢ [] → number ≡ length front + 1 → 256 < number
     → items_of block ≡ Err number
 departs_behind block front text number begins some place above =
     let most : 256 - length front ≡ 0 = omega arith in
@@ -110,14 +121,17 @@ no_item text end place all = by (list_any is_newline text) refl
   where
     by : (t : Bool) → list_any is_newline text ≡ t → first_item text ≡ None
     by true any = let within = ended-length text any in absurd (omega arith)
-    by false any = ap (λ t. if t then item_of_line (before_first is_newline text) (after_first is_newline text) else None) any
+    by false any = ap (λ t. if t then item_of_line (before_first is_newline text) (after_first is_newline text) else
+        None) any
 
-pub item_at : (text line left : List ℕ) (end : ℕ) → end ≡ line_length text → end < length text → line ≡ take end text → left ≡ drop (end + 1) text → item_of_line line left ≡ first_item text
+pub item_at : (text line left : List ℕ) (end : ℕ) → end ≡ line_length text → end < length text → line ≡ take end text
+    → left ≡ drop (end + 1) text → item_of_line line left ≡ first_item text
 item_at text line left end place within front back = by (list_any is_newline text) refl
   where
     by : (t : Bool) → list_any is_newline text ≡ t → item_of_line line left ≡ first_item text
     by true any =
         ap (λ l. item_of_line l left) (front ∙ ap (λ n. take n text) place)
         ∙ ap (λ l. item_of_line (before_first is_newline text) l) (back ∙ ap (λ n. drop (n + 1) text) place)
-        ∙ sym (ap (λ t. if t then item_of_line (before_first is_newline text) (after_first is_newline text) else None) any)
+        ∙ sym (ap (λ t. if t then item_of_line (before_first is_newline text) (after_first is_newline text) else None)
+        any)
     by false any = let all = open-length text any in absurd (omega arith)

@@ -1,5 +1,7 @@
 -- Where a text is cut.
-use Rattle.std.proofs.Common.{◌≡◌, ◌≢◌, ◌≤◌, ◌<◌, ◌+◌, ◌==◌, ℕ, suc, Bool, true, false, not, cond, Option, Some, None, option_and_then, option_map, List, [], ◌∷◌, ◌++◌, length, get_or, take, drop, refl, sym, ap, ◌∙◌, arith, eq-eqb, ltb-true, ltb-false, lt-ltb, nat_lt, ◌&&◌}
+use Rattle.std.proofs.Common.{◌≡◌, ◌≢◌, ◌≤◌, ◌<◌, ◌+◌, ◌==◌, ℕ, suc, Bool, true, false, not, cond, Option, Some, None}
+use Rattle.std.proofs.Common.{option_and_then, option_map, List, [], ◌∷◌, ◌++◌, length, get_or, take, drop, refl, sym}
+use Rattle.std.proofs.Common.{ap, ◌∙◌, arith, eq-eqb, ltb-true, ltb-false, lt-ltb, nat_lt, ◌&&◌}
 use Rattle.std.specs.Prelude.{if◌then◌else◌}
 use Rattle.std.specs.List.{list_all, before_first, after_first, position_or_len}
 use Rattle.std.proofs.lemmas.List.{drop_all}
@@ -11,23 +13,28 @@ use Rattle.kn_wire.specs.Requests.{Line, behind_space, is_space, is_return, is_w
 use Rattle.kn_wire.specs.Lines.{name_and_rest, number_and_rest}
 
 -- the place of a byte is behind the bytes that are none
-pub place_further : (text : List ℕ) (wanted at : ℕ) → at ≤ position_or_len (λ byte. byte == wanted) text → at < length text → get_or text at 0 ≢ wanted
+pub place_further : (text : List ℕ) (wanted at : ℕ) → at ≤ position_or_len (λ byte. byte == wanted) text
+    → at < length text → get_or text at 0 ≢ wanted
     → at + 1 ≤ position_or_len (λ byte. byte == wanted) text
 place_further text wanted at below within other = by (nat_lt at (position_or_len (λ byte. byte == wanted) text)) refl
   where
-    by : (t : Bool) → nat_lt at (position_or_len (λ byte. byte == wanted) text) ≡ t → at + 1 ≤ position_or_len (λ byte. byte == wanted) text
+    by : (t : Bool) → nat_lt at (position_or_len (λ byte. byte == wanted) text) ≡ t
+        → at + 1 ≤ position_or_len (λ byte. byte == wanted) text
     by true e = let l = ltb-true at (position_or_len (λ byte. byte == wanted) text) e in omega arith
     by false e =
         let l = ltb-false at (position_or_len (λ byte. byte == wanted) text) e in
         let same : position_or_len (λ byte. byte == wanted) text ≡ at = omega arith in
         let pass = passes_at_first (λ byte. byte == wanted) text 0 (omega arith) in
-        absurd (other ((Decides-eqb (get_or text at 0) wanted).0 (ap (λ k. get_or text k 0 == wanted) (sym same) ∙ pass)))
+        absurd (other ((Decides-eqb (get_or text at 0) wanted).0 (ap (λ k. get_or text k 0 == wanted) (sym same)
+        ∙ pass)))
 
-pub place_found : (text : List ℕ) (wanted at : ℕ) → at ≤ position_or_len (λ byte. byte == wanted) text → at < length text → get_or text at 0 ≡ wanted
+pub place_found : (text : List ℕ) (wanted at : ℕ) → at ≤ position_or_len (λ byte. byte == wanted) text
+    → at < length text → get_or text at 0 ≡ wanted
     → at ≡ position_or_len (λ byte. byte == wanted) text
 place_found text wanted at below within here = by (nat_lt at (position_or_len (λ byte. byte == wanted) text)) refl
   where
-    by : (t : Bool) → nat_lt at (position_or_len (λ byte. byte == wanted) text) ≡ t → at ≡ position_or_len (λ byte. byte == wanted) text
+    by : (t : Bool) → nat_lt at (position_or_len (λ byte. byte == wanted) text) ≡ t
+        → at ≡ position_or_len (λ byte. byte == wanted) text
     by true e =
         let before = ltb-true at (position_or_len (λ byte. byte == wanted) text) e in
         let fails = fails_before_first (λ byte. byte == wanted) text at 0 before in
@@ -35,16 +42,21 @@ place_found text wanted at below within here = by (nat_lt at (position_or_len (�
         cc
     by false e = let l = ltb-false at (position_or_len (λ byte. byte == wanted) text) e in omega arith
 
-pub place_none : (text : List ℕ) (wanted at : ℕ) → at ≤ position_or_len (λ byte. byte == wanted) text → length text ≤ at → at ≡ position_or_len (λ byte. byte == wanted) text
-place_none text wanted at below all = let within = prefix_len-le-length (λ byte. not (byte == wanted)) text in omega arith
+pub place_none : (text : List ℕ) (wanted at : ℕ) → at ≤ position_or_len (λ byte. byte == wanted) text → length text ≤ at
+    → at ≡ position_or_len (λ byte. byte == wanted) text
+place_none text wanted at below all = let within = prefix_len-le-length (λ byte. not (byte == wanted)) text in
+    omega arith
 
 -- what follows the first space
-pub behind_first : (text : List ℕ) → position_or_len is_space text < length text → behind_space text ≡ Some (after_first is_space text)
+pub behind_first : (text : List ℕ) → position_or_len is_space text < length text
+    → behind_space text ≡ Some (after_first is_space text)
 behind_first [] within = absurd (omega (arith, within))
 behind_first (b ∷ bs) within = by (is_space b) within (behind_first bs)
   where
-    by : (t : Bool) → cond (not t) (1 + position_or_len is_space bs) 0 < length (b ∷ bs) → (position_or_len is_space bs < length bs → behind_space bs ≡ Some (after_first is_space bs))
-        → (if t then Some bs else behind_space bs) ≡ Some (drop (cond (not t) (1 + position_or_len is_space bs) 0 + 1) (b ∷ bs))
+    by : (t : Bool) → cond (not t) (1 + position_or_len is_space bs) 0 < length (b ∷ bs)
+        → (position_or_len is_space bs < length bs → behind_space bs ≡ Some (after_first is_space bs))
+        → (if t then Some bs else behind_space bs)
+        ≡ Some (drop (cond (not t) (1 + position_or_len is_space bs) 0 + 1) (b ∷ bs))
     by true within more = refl
     by false within more =
         let place : suc (position_or_len is_space bs + 1) ≡ 1 + position_or_len is_space bs + 1 = omega arith in
@@ -54,7 +66,8 @@ pub behind_none : (text : List ℕ) → length text ≤ position_or_len is_space
 behind_none [] all = refl
 behind_none (b ∷ bs) all = by (is_space b) all (behind_none bs)
   where
-    by : (t : Bool) → length (b ∷ bs) ≤ cond (not t) (1 + position_or_len is_space bs) 0 → (length bs ≤ position_or_len is_space bs → behind_space bs ≡ None)
+    by : (t : Bool) → length (b ∷ bs) ≤ cond (not t) (1 + position_or_len is_space bs) 0
+        → (length bs ≤ position_or_len is_space bs → behind_space bs ≡ None)
         → (if t then Some bs else behind_space bs) ≡ None
     by true all more = absurd (omega (arith, all))
     by false all more = more (omega (arith, all))
@@ -68,7 +81,8 @@ without_return-kept (b ∷ []) other = last (is_return b) refl
     last true e = absurd (other [] (ap (λ (n : ℕ). n ∷ []) ((Decides-eqb b 13).0 e)))
     last false e = refl
 without_return-kept (b ∷ c ∷ xs) other =
-    ap (λ (l : List ℕ). b ∷ l) (without_return-kept (c ∷ xs) (λ front e. other (b ∷ front) (ap (λ (l : List ℕ). b ∷ l) e)))
+    ap (λ (l : List ℕ). b ∷ l)
+    (without_return-kept (c ∷ xs) (λ front e. other (b ∷ front) (ap (λ (l : List ℕ). b ∷ l) e)))
 
 -- a line without its carriage return is its front
 pub bare_front : (xs : List ℕ) → take (length (without_return xs)) xs ≡ without_return xs
@@ -98,7 +112,8 @@ before_clean [] = refl
 before_clean (b ∷ bs) = by (is_space b) refl (before_clean bs)
   where
     by : (t : Bool) → is_space b ≡ t → list_all (λ byte. not (is_space byte)) (before_first is_space bs) ≡ true
-        → list_all (λ byte. not (is_space byte)) (take (cond (not t) (1 + position_or_len is_space bs) 0) (b ∷ bs)) ≡ true
+        → list_all (λ byte. not (is_space byte)) (take (cond (not t) (1 + position_or_len is_space bs) 0) (b ∷ bs))
+        ≡ true
     by true e more = refl
     by false e more =
         let place : 1 + position_or_len is_space bs ≡ suc (position_or_len is_space bs) = omega arith in
@@ -130,19 +145,25 @@ nothing_behind text e = by (nat_lt (position_or_len is_space text) (length text)
 is_name : (text : List ℕ) → 0 < length (before_first is_space text) → is_word (before_first is_space text) ≡ true
 is_name text some = rw (lt-ltb 0 (length (before_first is_space text)) some) (before_clean text)
 
-name_and_rest_is : (text : List ℕ) → 0 < length (before_first is_space text) → name_and_rest text ≡ Some (before_first is_space text, after_first is_space text)
-name_and_rest_is text some = ap (λ t. if t then Some (before_first is_space text, after_first is_space text) else None) (is_name text some)
+name_and_rest_is : (text : List ℕ) → 0 < length (before_first is_space text)
+    → name_and_rest text ≡ Some (before_first is_space text, after_first is_space text)
+name_and_rest_is text some = ap (λ t. if t then Some (before_first is_space text, after_first is_space text) else None)
+    (is_name text some)
 
 -- a name, and what follows it
-pub name_first : (text name rest : List ℕ) → name ≡ before_first is_space text → Some rest ≡ behind_space text → 0 < length name → name_and_rest text ≡ Some (name, rest)
+pub name_first : (text name rest : List ℕ) → name ≡ before_first is_space text → Some rest ≡ behind_space text
+    → 0 < length name → name_and_rest text ≡ Some (name, rest)
 name_first text name rest e behind some =
     let size : length name ≡ length (before_first is_space text) = ap length e in
-    name_and_rest_is text (omega arith) ∙ ap (λ n. Some (n, after_first is_space text)) (sym e) ∙ ap (λ r. Some (name, r)) (behind_is text rest (sym behind))
+    name_and_rest_is text (omega arith) ∙ ap (λ n. Some (n, after_first is_space text)) (sym e)
+    ∙ ap (λ r. Some (name, r)) (behind_is text rest (sym behind))
 
-pub name_alone : (text name : List ℕ) → name ≡ before_first is_space text → None ≡ behind_space text → 0 < length name → name_and_rest text ≡ Some (name, [])
+pub name_alone : (text name : List ℕ) → name ≡ before_first is_space text → None ≡ behind_space text → 0 < length name
+    → name_and_rest text ≡ Some (name, [])
 name_alone text name e behind some =
     let size : length name ≡ length (before_first is_space text) = ap length e in
-    name_and_rest_is text (omega arith) ∙ ap (λ n. Some (n, after_first is_space text)) (sym e) ∙ ap (λ r. Some (name, r)) (nothing_behind text (sym behind))
+    name_and_rest_is text (omega arith) ∙ ap (λ n. Some (n, after_first is_space text)) (sym e)
+    ∙ ap (λ r. Some (name, r)) (nothing_behind text (sym behind))
 
 abbrev pair : ℕ → List ℕ → ℕ × List ℕ
 pair n rest = (n, rest)
@@ -164,7 +185,8 @@ pub split_line : (line rest : List ℕ) → behind_space line ≡ Some rest → 
 split_line [] rest e = cc
 split_line (b ∷ bs) rest e = by (is_space b) refl e (split_line bs rest)
   where
-    by : (t : Bool) → is_space b ≡ t → (if t then Some bs else behind_space bs) ≡ Some rest → (behind_space bs ≡ Some rest → bs ≡ before_first is_space bs ++ 32 ∷ rest)
+    by : (t : Bool) → is_space b ≡ t → (if t then Some bs else behind_space bs) ≡ Some rest
+        → (behind_space bs ≡ Some rest → bs ≡ before_first is_space bs ++ 32 ∷ rest)
         → b ∷ bs ≡ take (cond (not t) (1 + position_or_len is_space bs) 0) (b ∷ bs) ++ 32 ∷ rest
     by true is e more =
         let space : b ≡ 32 = (Decides-eqb b 32).0 is in

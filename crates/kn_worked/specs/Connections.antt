@@ -217,8 +217,8 @@ replacing_told =
     ++ codes "VALUE 1 yes 1 1\nROW 1 a1 \"POLICY\"\nEND\nLOG 1 2 3\nUPDATE 0 2\nADD 37\n" ++ credential_text
     ++ codes "\nDROP a1\nUPDATE 0 2\nADD 40\n" ++ policy_text ++ codes "\nDROP a2\nEND\nOK\n"
 
--- Alice loses what she had by the first batch and has it again by the second. Version 1 has it by the assertion that was
--- removed. The connection ends with BYE, whether or not the input has ended too.
+-- Alice loses what she had by the first batch and has it again by the second. Version 1 has it by the assertion that
+-- was removed. The connection ends with BYE, whether or not the input has ended too.
 abbrev pub BatchesAreSeen : Type 0
 BatchesAreSeen = (g : Grounds) (is_over : Bool) → g.secret ≡ codes "s3cret"
     → g.verdict credential_text credential_assertion ≡ 0 → g.verdict policy_text policy_assertion ≡ 0

@@ -64,7 +64,8 @@ returns-in-Ok-None g c = λ link. record {
   outcome = NoCommand;
   cause = (
     no_command c.args.words.now c.requires.serve
-        (no_serve_text c.args.words.now (no_value c.in-Ok-None.field-0 c.in-Ok-None.field-0-is c.in-Ok-None.ensures.none)),
+        (no_serve_text c.args.words.now
+        (no_value c.in-Ok-None.field-0 c.in-Ok-None.field-0-is c.in-Ok-None.ensures.none)),
     record { files = refl; net = refl; link = refl },
   );
   told = c.end.ensures;

@@ -9,19 +9,24 @@ use Rattle.kn_answer.proofs.built.build.Goals as goal
 
 pub numbered_query-requires-clause-readable : goal.numbered_query-requires-clause-readable
 numbered_query-requires-clause-readable c =
-    texts_readable c.readings_are_computed.ensures.reading c.readings_are_sound.ensures c.requires.texts c.args.list.now c.requires.read
+    texts_readable c.readings_are_computed.ensures.reading c.readings_are_sound.ensures c.requires.texts c.args.list.now
+    c.requires.read
 
 pub numbered_query-requires-clause-small : goal.numbered_query-requires-clause-small
-numbered_query-requires-clause-small c = texts_small c.readings_are_computed.ensures.reading c.readings_are_sound.ensures c.args.list.now c.requires
+numbered_query-requires-clause-small c =
+    texts_small c.readings_are_computed.ensures.reading c.readings_are_sound.ensures c.args.list.now c.requires
 
 pub invariant_of-result : goal.invariant_of-result
 invariant_of-result c =
     let of = c.in_ok-names.ensures.system in
     let e = equations_over c.args.query.now c.args.list.now in
-    let rows : length e.statements ≡ length c.in_ok-names.field-0.system.rows = length-rows e.top c.in_ok-names.field-0.names e.statements c.in_ok-names.field-0.system.rows of.rows in
+    let rows : length e.statements ≡ length c.in_ok-names.field-0.system.rows =
+    length-rows e.top c.in_ok-names.field-0.names e.statements c.in_ok-names.field-0.system.rows of.rows in
     let many : length e.statements ≡ length c.args.list.now = simp length-map in
-    let ids : length c.in_ok-ids.ids ≡ length c.args.list.now = ap length c.in_ok-ids.ensures ∙ simp length-map in
-    (AreNumbered-length e.requesters c.in_ok-names.field-0.names c.in_ok-names.field-0.system.requesters of.numbered, ids ∙ sym many ∙ rows)
+    let ids : length c.in_ok-ids.ids ≡ length c.args.list.now = ap length c.in_ok-ids.ensures ∙ simp length-map in (
+      AreNumbered-length e.requesters c.in_ok-names.field-0.names c.in_ok-names.field-0.system.requesters of.numbered,
+      ids ∙ sym many ∙ rows,
+    )
 
 pub returns-clause-built : goal.returns-clause-built
 returns-clause-built c = record {

@@ -3,4 +3,7 @@ use Rattle.kn_answer.proofs.Rowed.{IsBuilt-stated}
 use Rattle.kn_answer.proofs.laws.located_proofs.Goals as goal
 
 pub returns : goal.returns
-returns c = λ e built is differ rows located are level. (proof-named e built (IsBuilt-stated e built is) rows located are level, proof-numbered e built (IsBuilt-stated e built is) differ rows located are level)
+returns c = λ e built is differ rows located are level. (
+  proof-named e built (IsBuilt-stated e built is) rows located are level,
+  proof-numbered e built (IsBuilt-stated e built is) differ rows located are level,
+)

@@ -16,11 +16,15 @@ returns-clause-system c =
     let count : c.len.result ≡ length asked.values = c.len.ensures.count ∙ ap length values in
     let several : 2 ≤ c.len.result = omega (arith, c.len.ensures.count, c.len.ensures.at_least_two) in
     let whole : c.len.result ≡ length asked.values - 1 + 1 = omega arith in
-    let start : IsSystemOf (equations_over asked []) c.add_requesters.new.self.names c.add_requesters.new.self.system = record {
-      numbered = subst (λ rs. AreNumbered rs c.add_requesters.new.self.names c.add_requesters.new.self.system.requesters) requesters c.in_ok-add_requesters.ensures.numbered;
-      all = subst (λ rs. HaveNumbers rs c.add_requesters.new.self.names) requesters c.in_ok-add_requesters.ensures.principals.all;
+    let start : IsSystemOf (equations_over asked []) c.add_requesters.new.self.names c.add_requesters.new.self.system =
+    record {
+      numbered = subst (λ rs. AreNumbered rs c.add_requesters.new.self.names
+          c.add_requesters.new.self.system.requesters) requesters c.in_ok-add_requesters.ensures.numbered;
+      all = subst (λ rs. HaveNumbers rs c.add_requesters.new.self.names) requesters
+          c.in_ok-add_requesters.ensures.principals.all;
       top = c.in_ok-add_requesters.ensures.levels ∙ ap (λ s. s.levels) c.in_ok-numbered.ensures.system ∙ whole;
-      rows = subst (AreRowsOf (length asked.values - 1) c.add_requesters.new.self.names []) (sym (c.in_ok-add_requesters.ensures.rows ∙ ap (λ s. s.rows) c.in_ok-numbered.ensures.system)) tt;
+      rows = subst (AreRowsOf (length asked.values - 1) c.add_requesters.new.self.names [])
+          (sym (c.in_ok-add_requesters.ensures.rows ∙ ap (λ s. s.rows) c.in_ok-numbered.ensures.system)) tt;
     } in
     c.in_ok-add_statements.ensures.system start
 
@@ -31,7 +35,11 @@ returns-clause-principals c =
     let statements : List Statement = map (statement_of asked) c.args.list.now in
     let start : List (List ℕ) = c.in_ok-numbered.numbered.names in
     let first : AddsNames (policy ∷ []) [] start = AddsNames-longer [] start policy c.in_ok-numbered.ensures.names in
-    let second : AddsNames asked.requesters start c.add_requesters.new.self.names = subst (λ rs. AddsNames rs start c.add_requesters.new.self.names) requesters c.in_ok-add_requesters.ensures.principals in
+    let second : AddsNames asked.requesters start c.add_requesters.new.self.names =
+    subst (λ rs. AddsNames rs start c.add_requesters.new.self.names) requesters
+    c.in_ok-add_requesters.ensures.principals in
     AreNamesOf-added (occurring (equations_over asked c.args.list.now)) c.add_statements.new.self.names
-    (AddsNames-then (policy ∷ asked.requesters) (flat_map statement_names statements) [] c.add_requesters.new.self.names c.add_statements.new.self.names
-    (AddsNames-then (policy ∷ []) asked.requesters [] start c.add_requesters.new.self.names first second) c.in_ok-add_statements.ensures.principals)
+    (AddsNames-then (policy ∷ asked.requesters) (flat_map statement_names statements) [] c.add_requesters.new.self.names
+    c.add_statements.new.self.names
+    (AddsNames-then (policy ∷ []) asked.requesters [] start c.add_requesters.new.self.names first second)
+    c.in_ok-add_statements.ensures.principals)

@@ -16,6 +16,7 @@ returns c =
       one_fault = λ text f g h k. cc ((err text f).1 h, (err text g).1 k);
     }
   where
-    by : (text : List ℕ) (r : Result Assertion ReadFault) → reading_of text ≡ r → ((x : Assertion) × IsReading text x) ⊎ ((fault : ReadFault) × IsFirstReadFault text fault)
+    by : (text : List ℕ) (r : Result Assertion ReadFault) → reading_of text ≡ r → ((x : Assertion) × IsReading text x)
+        ⊎ ((fault : ReadFault) × IsFirstReadFault text fault)
     by text (Ok x) e = inl (x, (c.readings_are_computed.ensures.reading text x).0 e)
     by text (Err fault) e = inr (fault, (c.readings_are_computed.ensures.fault text fault).0 e)

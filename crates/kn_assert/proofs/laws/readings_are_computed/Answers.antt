@@ -20,7 +20,14 @@ returns c =
       authorizer = c.one_field_of_each_number.ensures.authorizer;
     } in
     record {
-      reading = λ text x. (tells_value (IsReading text) (IsFirstReadFault text) _ x (text_tells told text), spelled_reading told text x);
-      fault = λ text f. (tells_fault (IsReading text) (IsFirstReadFault text) _ f (text_tells told text), fault_reading told text f);
-      not_memory = λ text e. no_memory text (tells_fault (IsReading text) (IsFirstReadFault text) _ _ (text_tells told text) e);
+      reading = λ text x. (
+        tells_value (IsReading text) (IsFirstReadFault text) _ x (text_tells told text),
+        spelled_reading told text x,
+      );
+      fault = λ text f. (
+        tells_fault (IsReading text) (IsFirstReadFault text) _ f (text_tells told text),
+        fault_reading told text f,
+      );
+      not_memory = λ text e.
+          no_memory text (tells_fault (IsReading text) (IsFirstReadFault text) _ _ (text_tells told text) e);
     }

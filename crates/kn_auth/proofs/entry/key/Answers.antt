@@ -15,6 +15,7 @@ returns-then-is_empty-clause-key c = λ key spells.
 
 pub returns-clause-key : goal.returns-clause-key
 returns-clause-key c =
-    let decoded : decode_of c.args.digits.now ≡ Ok c.in_ok-key.key = rw (c.in_ok-key.ensures, c.as_slice.ensures.value) c.in-Ok.ensures.ok in
+    let decoded : decode_of c.args.digits.now ≡ Ok c.in_ok-key.key =
+    rw (c.in_ok-key.ensures, c.as_slice.ensures.value) c.in-Ok.ensures.ok in
     let some : 1 ≤ length c.args.digits.now = grind (arith, common_steps, c.if-is_empty.false, c.is_empty.ensures) in
     spelled_key c.args.digits.now c.in_ok-key.key decoded some (omega (arith, c.if-digits.false))

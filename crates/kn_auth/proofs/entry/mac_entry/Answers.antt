@@ -5,13 +5,15 @@ use Rattle.kn_auth.proofs.entry.mac_entry.Goals as goal
 
 pub returns-in_default-2-clause-read : goal.returns-in_default-2-clause-read
 returns-in_default-2-clause-read c = no_key c.args.text.now (λ mac stated.
-    let words = key_words c.args.text.now c.in-Some.digits.now c.in-Some.name.now mac c.in-Some.ensures.cut c.in-Some.ensures.first stated in
+    let words = key_words c.args.text.now c.in-Some.digits.now c.in-Some.name.now mac c.in-Some.ensures.cut
+    c.in-Some.ensures.first stated in
     let none = rw c.in_default-2.is at c.in_ok-key.ensures.key in
     none mac.key words.0)
 
 pub returns-in_default-3-clause-read : goal.returns-in_default-3-clause-read
 returns-in_default-3-clause-read c = no_key c.args.text.now (λ mac stated.
-    let words = key_words c.args.text.now c.in-Some.digits.now c.in-Some.name.now mac c.in-Some.ensures.cut c.in-Some.ensures.first stated in
+    let words = key_words c.args.text.now c.in-Some.digits.now c.in-Some.name.now mac c.in-Some.ensures.cut
+    c.in-Some.ensures.first stated in
     let none = rw c.in_default-3.is at c.in_ok-principal.ensures.principal in
     none mac.principal words.1)
 

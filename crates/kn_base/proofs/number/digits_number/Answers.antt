@@ -8,7 +8,11 @@ overflow_mul-number c =
 
 pub overflow_add-number : goal.overflow_add-number
 overflow_add-number c =
-    omega (arith, c.in-Some.ensures.some.2, nine_digits c.loop-byte.byte-index c.loop-byte.number (omega arith) c.loop-byte.invariant.small)
+    omega (
+      arith,
+      c.in-Some.ensures.some.2,
+      nine_digits c.loop-byte.byte-index c.loop-byte.number (omega arith) c.loop-byte.invariant.small,
+    )
 
 pub loop-byte-preserved : goal.loop-byte-preserved
 loop-byte-preserved c = record {

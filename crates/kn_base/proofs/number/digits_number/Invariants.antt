@@ -7,7 +7,8 @@ use Rattle.kn_base.proofs.number.digits_number.Given as goal
 abbrev pub invariant-loop-byte : goal.invariant-loop-byte
 invariant-loop-byte l =
     record {
-      value : l.number * 10 ^ length (drop l.byte-index l.text) + digits_value (drop l.byte-index l.text) ≡ digits_value l.text;
+      value : l.number * 10 ^ length (drop l.byte-index l.text) + digits_value (drop l.byte-index l.text)
+          ≡ digits_value l.text;
       digits : list_all is_digit (drop l.byte-index l.text) ≡ list_all is_digit l.text;
       small : l.number < 10 ^ l.byte-index;
     }

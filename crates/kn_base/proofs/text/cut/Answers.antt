@@ -9,7 +9,11 @@ returns-then-byte-at-clause-first c =
     cc
 
 pub loop-place-preserved : goal.loop-place-preserved
-loop-place-preserved c = All-more (λ b. (b == c.args.at) ≡ false) c.args.text.now c.loop-place.place 0 c.loop-place-test.true c.loop-place.invariant (ne_eqb _ _ c.if-byte-at.false)
+loop-place-preserved c =
+    All-more (λ b. (b == c.args.at) ≡ false) c.args.text.now c.loop-place.place 0 c.loop-place-test.true
+    c.loop-place.invariant (ne_eqb _ _ c.if-byte-at.false)
 
 pub returns-clause-cut : goal.returns-clause-cut
-returns-clause-cut c = list_any_none (λ b. b == c.args.at) c.args.text.now (rw (take_all _ _ c.loop-place-test.false) at c.loop-place.invariant)
+returns-clause-cut c =
+    list_any_none (λ b. b == c.args.at) c.args.text.now
+    (rw (take_all _ _ c.loop-place-test.false) at c.loop-place.invariant)

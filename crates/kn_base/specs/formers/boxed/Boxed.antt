@@ -48,8 +48,12 @@ module _ (R R' : RattleType) (h : R.Denot → R'.Denot) where
   unfolding part_of
   box_places alike = record {
     mir_same = λ k. (boxed_row (one_value R (alike.mir_same k) (λ _. ftrue) (λ _ _. nothing) gnil)).mir;
-    own_same = λ held k. (boxed_row (one_value R (alike.mir_same k) (alike.own_same held.value k) (alike.shr_same held.value k) gnil)).own_val (holding held tt);
-    shr_same = λ held k. (boxed_row (one_value R (alike.mir_same k) (alike.own_same held.value k) (alike.shr_same held.value k) gnil)).shr_at (holding held tt);
+    own_same = λ held k.
+        (boxed_row (one_value R (alike.mir_same k) (alike.own_same held.value k) (alike.shr_same held.value k)
+        gnil)).own_val (holding held tt);
+    shr_same = λ held k.
+        (boxed_row (one_value R (alike.mir_same k) (alike.own_same held.value k) (alike.shr_same held.value k)
+        gnil)).shr_at (holding held tt);
   }
 
   pub the_places : Alike R R' h → Alike (row.the_row R) (row.the_row R') ((the_former this).map R.Denot R'.Denot h)
@@ -58,8 +62,10 @@ module _ (R R' : RattleType) (h : R.Denot → R'.Denot) where
       (row.the_row R).coded (row.the_row R').coded
       (invariant R.Denot) (invariant R'.Denot) (λ _ p q. refl) (λ _ p q. refl) (λ _ _. tt) (λ _ _. tt)
       (over (inner.the_row R)) (over (inner.the_row R'))
-      (struct_places (inner.the_type R) (inner.the_type R') ((λ held. holding held (h held.value)), tt) _ (λ _. refl) refl
+      (struct_places (inner.the_type R) (inner.the_type R') ((λ held. holding held (h held.value)), tt) _ (λ _. refl)
+      refl
       (laid _ _ _ (box_places alike), tt))
 
-  pub the_codes_placed : Recodes R R' h → Recodes (row.the_row R) (row.the_row R') ((the_former this).map R.Denot R'.Denot h)
+  pub the_codes_placed : Recodes R R' h
+      → Recodes (row.the_row R) (row.the_row R') ((the_former this).map R.Denot R'.Denot h)
   the_codes_placed same value = same value

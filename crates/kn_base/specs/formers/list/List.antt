@@ -41,7 +41,8 @@ the_items_listed X items = list-listed X items
 
 -- its one field stores the items as a `Vec` does
 abbrev stored : Former {0}
-stored = via (vec.the_former this Global) Inside (λ X fields. fields.items) (λ X items. record { items = items }) (λ X fields. refl) (λ X items. refl)
+stored = via (vec.the_former this Global) Inside (λ X fields. fields.items) (λ X items. record { items = items })
+    (λ X fields. refl) (λ X items. refl)
 
 module _ (R R' : RattleType) (h : R.Denot → R'.Denot) where
   -- the length stays along h, and the bound on it has one proof at most
@@ -49,10 +50,12 @@ module _ (R R' : RattleType) (h : R.Denot → R'.Denot) where
   the_places alike =
       view_places stored (list this) view (λ X Y k fields. refl) (λ X fields. refl) R.Denot R'.Denot h
       (row.the_row R).coded (row.the_row R').coded
-      (invariant R.Denot) (invariant R'.Denot) (λ _ p q. le_prop p q) (λ _ p q. le_prop p q) (λ _ bound. bound) (λ _ bound. bound)
+      (invariant R.Denot) (invariant R'.Denot) (λ _ p q. le_prop p q) (λ _ p q. le_prop p q) (λ _ bound. bound)
+      (λ _ bound. bound)
       (over (inner.the_row R)) (over (inner.the_row R'))
       (struct_places (inner.the_type R) (inner.the_type R') (vec.mapped h, tt) _ (λ _. refl) refl
       (laid _ _ _ (vec.the_places heap.the_row ghosts R R' h alike), tt))
 
-  pub the_codes_placed : Recodes R R' h → Recodes (row.the_row R) (row.the_row R') ((the_former this).map R.Denot R'.Denot h)
+  pub the_codes_placed : Recodes R R' h
+      → Recodes (row.the_row R) (row.the_row R') ((the_former this).map R.Denot R'.Denot h)
   the_codes_placed same items = sym (code_map R.coded.code R'.coded.code h (λ x. sym (same x)) items)

@@ -21,6 +21,7 @@ returns-clause-least g c =
     let proof : IsProof s rows c.args.claimed = record {
       steps = c.in_ok-follow_rows.ensures.ok;
       closed = subst (IsClosed s) after c.in_ok-test_closed.ensures.ok;
-      claim = let same : slice_index c.follow_rows.new.levels 0 ≡ slice_index (levels_after (at_first s) rows) 0 = ap (λ (levels : List ℕ). slice_index levels 0) after in omega arith;
+      claim = let same : slice_index c.follow_rows.new.levels 0 ≡ slice_index (levels_after (at_first s) rows) 0 =
+          ap (λ (levels : List ℕ). slice_index levels 0) after in omega arith;
     } in
     (c.proof_determines_level.ensures s rows c.args.claimed proof).claim

@@ -20,6 +20,8 @@ loop-assertion-preserved g c =
     record {
       closed = search rules;
       ticks = λ fits.
-          let before = c.loop-assertion.invariant.ticks fits in
-          (omega (arith, before, c.worth-found.ensures.ticks), omega (arith, before, more, c.worth-found.ensures.ticks));
+          let before = c.loop-assertion.invariant.ticks fits in (
+            omega (arith, before, c.worth-found.ensures.ticks),
+            omega (arith, before, more, c.worth-found.ensures.ticks),
+          );
     }

@@ -6,6 +6,7 @@ use Rattle.kn_check.proofs.rows.test_closed.Given as goal
 
 abbrev pub invariant-loop-assertion : goal.invariant-loop-assertion
 invariant-loop-assertion g l = record {
-  closed : (j : ℕ) → j < l.assertion → worth_at l.system l.levels j ≤ slice_index l.levels (row_at l.system.rows j).authorizer;
+  closed : (j : ℕ) → j < l.assertion
+      → worth_at l.system l.levels j ≤ slice_index l.levels (row_at l.system.rows j).authorizer;
   ticks : IsWithin (node_total (take l.assertion l.system.rows)) l.initial.steps l.steps;
 }

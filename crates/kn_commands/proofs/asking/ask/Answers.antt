@@ -15,5 +15,10 @@ returns g c =
     let named : c.names.inside.policy.now ≡ name = ap (λ (n : AskNames). n.policy) c.names.view_is in
     let asked : HasAsked (name ∷ []) before behind = rw named at c.in-Ok.ensures.asked in
     let content : HasContent before name c.in-Ok.file = rw named at c.in-Ok.ensures.content in
-    let stops : StopsLoading (pieces_of c.in-Ok.file) c.in-Err-load_file.fault = rw c.as_slice.ensures at c.in-Err-load_file.ensures.stopped in
-    (unloaded_policy before behind name c.in-Ok.file c.in-Err-load_file.fault c.from.result c.from.ensures asked content stops, refl)
+    let stops : StopsLoading (pieces_of c.in-Ok.file) c.in-Err-load_file.fault =
+    rw c.as_slice.ensures at c.in-Err-load_file.ensures.stopped in (
+      unloaded_policy before behind name c.in-Ok.file c.in-Err-load_file.fault c.from.result c.from.ensures asked
+          content
+          stops,
+      refl,
+    )

@@ -14,5 +14,7 @@ returns g c =
     let named = c.name.ensures in
     let asked : HasAsked (name ∷ []) before behind = rw named at c.in-Ok.ensures.asked in
     let content : HasContent before name c.in-Ok.file = rw named at c.in-Ok.ensures.content in
-    let stops : StopsLoading (pieces_of c.in-Ok.file) c.in-Err-load_file.fault = rw c.as_slice.ensures at c.in-Err-load_file.ensures.stopped in
-    load_stops before behind c.args.names.now c.in-Ok.file c.in-Err-load_file.fault c.from-stop.result c.from-stop.ensures asked content stops
+    let stops : StopsLoading (pieces_of c.in-Ok.file) c.in-Err-load_file.fault =
+    rw c.as_slice.ensures at c.in-Err-load_file.ensures.stopped in
+    load_stops before behind c.args.names.now c.in-Ok.file c.in-Err-load_file.fault c.from-stop.result
+    c.from-stop.ensures asked content stops

@@ -15,7 +15,8 @@ returns-in-Ok g c = λ f session opened query before.
     let mid = g.F.Files.seen c.args.files.now in
     let names = c.args.names.now in
     let values = c.args.meant.now.values in
-    let asked : HasAsked (names.reply ∷ []) mid (g.F.Files.seen c.read_file.new.files) = rw c.name.ensures at c.in-Ok.ensures.asked in
+    let asked : HasAsked (names.reply ∷ []) mid (g.F.Files.seen c.read_file.new.files) =
+    rw c.name.ensures at c.in-Ok.ensures.asked in
     let has : HasContent mid names.reply c.in-Ok.text = rw c.name.ensures at c.in-Ok.ensures.content in
     let both : Some session ≡ Some (session_of_view c.view.result) = sym opened ∙ c.view.ensures.session in
     let same : session_of_view c.view.result ≡ session = cc in
@@ -24,5 +25,7 @@ returns-in-Ok g c = λ f session opened query before.
       query = query;
       content = content_there f mid names.reply c.in-Ok.text (keeps_content (take 2 (in_order names)) f mid before) has;
     } in
-    let told : ReplyShows (session_of_view c.view.result) values c.in-Ok.text c.judge.result = rw c.as_slice.ensures at c.judge.ensures in
-    shown_cause f _ names session values c.in-Ok.text c.judge.result tried (subst (λ (s : Session). ReplyShows s values c.in-Ok.text c.judge.result) same told)
+    let told : ReplyShows (session_of_view c.view.result) values c.in-Ok.text c.judge.result =
+    rw c.as_slice.ensures at c.judge.ensures in
+    shown_cause f _ names session values c.in-Ok.text c.judge.result tried
+    (subst (λ (s : Session). ReplyShows s values c.in-Ok.text c.judge.result) same told)

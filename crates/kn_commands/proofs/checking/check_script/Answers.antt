@@ -18,11 +18,15 @@ pub returns-in-Some : goal.returns-in-Some
 returns-in-Some g c = λ f bytes has loaded before.
     let mid = g.F.Files.seen c.args.files.now in
     let names = c.args.names.now in
-    let asked : HasAsked (names.script ∷ []) mid (g.F.Files.seen c.read_file.new.files) = rw c.name.ensures at c.in-Ok.ensures.asked in
+    let asked : HasAsked (names.script ∷ []) mid (g.F.Files.seen c.read_file.new.files) =
+    rw c.name.ensures at c.in-Ok.ensures.asked in
     let content : HasContent mid names.script c.in-Ok.script = rw c.name.ensures at c.in-Ok.ensures.content in
     let seen : c.into_book-book.result ≡ loaded_history (pieces_of bytes) =
-    c.into_book-book.ensures.book ∙ looks_alone c.args.root c.into_book-book.new.pass loaded.root.number loaded.root.unsplit c.into_book-book.ensures.sound c.into_book-book.ensures.looked ∙ loaded.seen in
-    let first : IsMeantQuery c.into_book-book.result c.as_slice.result.now c.in-Some.meant = rw c.in-Some.is at c.in-Ok-find_query.ensures.some in
+    c.into_book-book.ensures.book
+    ∙ looks_alone c.args.root c.into_book-book.new.pass loaded.root.number loaded.root.unsplit
+    c.into_book-book.ensures.sound c.into_book-book.ensures.looked ∙ loaded.seen in
+    let first : IsMeantQuery c.into_book-book.result c.as_slice.result.now c.in-Some.meant =
+    rw c.in-Some.is at c.in-Ok-find_query.ensures.some in
     let second : IsMeantQuery c.into_book-book.result c.in-Ok.script c.in-Some.meant = rw c.as_slice.ensures at first in
     let found : IsMeantQuery (loaded_history (pieces_of bytes)) c.in-Ok.script c.in-Some.meant =
     subst (λ (h : Of Update). IsMeantQuery h c.in-Ok.script c.in-Some.meant) seen second in
@@ -30,7 +34,8 @@ returns-in-Some g c = λ f bytes has loaded before.
       bytes = bytes;
       policy = record { content = has; loadable = loaded.loadable };
       script = c.in-Ok.script;
-      content = content_there f mid names.script c.in-Ok.script (keeps_content (take 1 (in_order names)) f mid before) content;
+      content = content_there f mid names.script c.in-Ok.script (keeps_content (take 1 (in_order names)) f mid before)
+          content;
       query = found.2;
     } in
     c.check_reply.ensures f found.0 found.1 query (read_more f mid _ names TheScript before asked)
@@ -39,18 +44,26 @@ pub returns : goal.returns
 returns g c = λ f bytes has loaded before.
     let mid = g.F.Files.seen c.args.files.now in
     let names = c.args.names.now in
-    let asked : HasAsked (names.script ∷ []) mid (g.F.Files.seen c.read_file.new.files) = rw c.name.ensures at c.in-Ok.ensures.asked in
+    let asked : HasAsked (names.script ∷ []) mid (g.F.Files.seen c.read_file.new.files) =
+    rw c.name.ensures at c.in-Ok.ensures.asked in
     let content : HasContent mid names.script c.in-Ok.script = rw c.name.ensures at c.in-Ok.ensures.content in
     let seen : c.into_book-book.result ≡ loaded_history (pieces_of bytes) =
-    c.into_book-book.ensures.book ∙ looks_alone c.args.root c.into_book-book.new.pass loaded.root.number loaded.root.unsplit c.into_book-book.ensures.sound c.into_book-book.ensures.looked ∙ loaded.seen in
-    let first : (session : Session) (values : Of (Of ℕ)) → ¬ Means c.into_book-book.result c.as_slice.result.now session values = rw c.in-None.is at c.in-Ok-find_query.ensures.none in
-    let second : (session : Session) (values : Of (Of ℕ)) → ¬ Means c.into_book-book.result c.in-Ok.script session values = rw c.as_slice.ensures at first in (
+    c.into_book-book.ensures.book
+    ∙ looks_alone c.args.root c.into_book-book.new.pass loaded.root.number loaded.root.unsplit
+    c.into_book-book.ensures.sound c.into_book-book.ensures.looked ∙ loaded.seen in
+    let first : (session : Session) (values : Of (Of ℕ))
+    → ¬ Means c.into_book-book.result c.as_slice.result.now session values =
+    rw c.in-None.is at c.in-Ok-find_query.ensures.none in
+    let second : (session : Session) (values : Of (Of ℕ))
+    → ¬ Means c.into_book-book.result c.in-Ok.script session values = rw c.as_slice.ensures at first in (
       read_more f mid _ names TheScript before asked,
       record {
         bytes = bytes;
         policy = record { content = has; loadable = loaded.loadable };
         script = c.in-Ok.script;
-        content = content_there f mid names.script c.in-Ok.script (keeps_content (take 1 (in_order names)) f mid before) content;
-        none = subst (λ (h : Of Update). (session : Session) (values : Of (Of ℕ)) → ¬ Means h c.in-Ok.script session values) seen second;
+        content = content_there f mid names.script c.in-Ok.script (keeps_content (take 1 (in_order names)) f mid before)
+            content;
+        none = subst (λ (h : Of Update). (session : Session) (values : Of (Of ℕ))
+            → ¬ Means h c.in-Ok.script session values) seen second;
       },
     )

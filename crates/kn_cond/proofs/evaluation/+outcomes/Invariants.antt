@@ -21,12 +21,14 @@ decreases-chained l = 1 + 2 * greatest_of (link_depths l.links)
 -- what is left decides
 abbrev pub invariant-value_of_parts-loop-k : goal.invariant-value_of_parts-loop-k
 invariant-value_of_parts-loop-k l = record {
-  value : value_by l.decisive (map (meaning_of l.env) (drop l.k l.parts)) ≡ value_by l.decisive (map (meaning_of l.env) l.parts);
+  value : value_by l.decisive (map (meaning_of l.env) (drop l.k l.parts))
+      ≡ value_by l.decisive (map (meaning_of l.env) l.parts);
   memory : list_any joins (drop l.k l.parts) ≡ true → list_any joins l.parts ≡ true;
 }
 
 abbrev pub invariant-chained-loop-k : goal.invariant-chained-loop-k
 invariant-chained-loop-k l = record {
-  value : chained (meant l.left) (links_of l.env (drop l.k l.links)) ≡ chained (meant l.initial.left) (links_of l.env l.links);
+  value : chained (meant l.left) (links_of l.env (drop l.k l.links))
+      ≡ chained (meant l.initial.left) (links_of l.env l.links);
   memory : list_any link_joins (drop l.k l.links) ≡ true → list_any link_joins l.links ≡ true;
 }

@@ -5,7 +5,8 @@ use Rattle.kn_cond.proofs.numbers.digits_number.Goals as goal
 
 pub loop-digit-preserved : goal.loop-digit-preserved
 loop-digit-preserved c =
-    let digit = digit_here c.args.digits.now c.loop-digit.digit-index c.loop-digit-test.true c.loop-digit.invariant.digits in
+    let digit = digit_here c.args.digits.now c.loop-digit.digit-index c.loop-digit-test.true
+    c.loop-digit.invariant.digits in
     let small : get_or c.args.digits.now c.loop-digit.digit-index 0 - 48 ≤ 9 = digit_small _ digit in
     record {
       value = rw c.from.ensures (digit_read_at _ _ _ _ c.loop-digit-test.true c.loop-digit.invariant.value);
@@ -15,5 +16,6 @@ loop-digit-preserved c =
 
 pub returns-then-number-gt-BEYOND : goal.returns-then-number-gt-BEYOND
 returns-then-number-gt-BEYOND c =
-    let least = read_within c.args.digits.now c.loop-digit.digit-index c.loop-digit.number c.loop-digit.invariant.value in
+    let least = read_within c.args.digits.now c.loop-digit.digit-index c.loop-digit.number
+    c.loop-digit.invariant.value in
     omega (arith, least)

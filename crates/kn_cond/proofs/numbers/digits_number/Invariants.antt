@@ -7,7 +7,8 @@ use Rattle.kn_cond.proofs.numbers.digits_number.Given as goal
 abbrev pub invariant-loop-digit : goal.invariant-loop-digit
 invariant-loop-digit l =
     record {
-      value : l.number * 10 ^ length (drop l.digit-index l.digits) + digits_value (drop l.digit-index l.digits) ≡ digits_value l.digits;
+      value : l.number * 10 ^ length (drop l.digit-index l.digits) + digits_value (drop l.digit-index l.digits)
+          ≡ digits_value l.digits;
       digits : list_all is_digit (drop l.digit-index l.digits) ≡ true;
       small : l.number ≤ 21474836489;
     }

@@ -8,4 +8,5 @@ pub digits_number-requires : goal.digits_number-requires
 digits_number-requires c = ap (list_all is_digit) c.front_digits.ensures ∙ all_digits c.in-Some.rest.now
 
 pub digits_number-requires-else-first-eq45 : goal.digits_number-requires-else-first-eq45
-digits_number-requires-else-first-eq45 c = ap (list_all is_digit) c.front_digits-else-first-eq45.ensures ∙ all_digits c.args.text.now
+digits_number-requires-else-first-eq45 c = ap (list_all is_digit) c.front_digits-else-first-eq45.ensures
+    ∙ all_digits c.args.text.now

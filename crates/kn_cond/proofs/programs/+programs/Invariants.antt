@@ -6,7 +6,8 @@ use Rattle.kn_cond.proofs.programs.+programs.Given as goal
 
 abbrev pub invariant-conditions_value-loop-clause : goal.invariant-conditions_value-loop-clause
 invariant-conditions_value-loop-clause l = record {
-  value : max l.highest (highest (map (clause_value l.env) (drop l.clause-index l.clause-items))) ≡ program_value l.env l.program;
+  value : max l.highest (highest (map (clause_value l.env) (drop l.clause-index l.clause-items)))
+      ≡ program_value l.env l.program;
   memory : list_any clause_joins (drop l.clause-index l.clause-items) ≡ true → program_joins l.program ≡ true;
   within : 0 < length l.env.asked.values → l.highest < length l.env.asked.values;
 }

@@ -15,12 +15,16 @@ loop-count-preserved g c =
       whole = c.value_without_run.ensures.whole;
       critical = λ none.
           let alone : row + count ≡ suc row = omega (arith, none) in
-          alone-critical asked parts rows c.args.answer.now.value c.requires.least c.requires.ids row c.in_ok-value.value c.requires.named
-          (subst (λ end. IsLevelWithoutRun asked rows parts row end c.in_ok-value.value) alone c.in_ok-value.ensures.least) (omega arith);
+          alone-critical asked parts rows c.args.answer.now.value c.requires.least c.requires.ids row
+          c.in_ok-value.value c.requires.named
+          (subst (λ end. IsLevelWithoutRun asked rows parts row end c.in_ok-value.value) alone
+          c.in_ok-value.ensures.least) (omega arith);
     }
 
 pub returns-then-value-answer-clause-cleared : goal.returns-then-value-answer-clause-cleared
 returns-then-value-answer-clause-cleared g c =
-    run-uncritical c.args.question.now.query.now c.args.question.now.list.now c.args.answer.now.rows c.args.answer.now.value c.requires.least c.requires.ids
+    run-uncritical c.args.question.now.query.now c.args.question.now.list.now c.args.answer.now.rows
+    c.args.answer.now.value c.requires.least c.requires.ids
     c.every_query_has_a_level.ensures.one c.unnamed_is_not_critical.ensures.uncritical c.requires.proof
-    c.args.row (c.args.row + c.loop-count.count) c.in_ok-value.value (omega arith) c.in_ok-value.ensures.least (omega arith)
+    c.args.row (c.args.row + c.loop-count.count) c.in_ok-value.value (omega arith) c.in_ok-value.ensures.least
+    (omega arith)

@@ -30,10 +30,12 @@ loop-row-preserved c =
           w.base-is ∙ w.remove.ensures
           ∙ ap (λ (b : BaseView). record b { live = slice_set b.live row false }) c.loop-row.invariant
           ∙ ap (λ (fs : List Bool). record c.args.base.now { live = fs })
-          (one-out rows parts start row c.id.result (omega arith) c.id.ensures named ∙ ap (flags_without rows parts start) (sym (add-one row)))
+          (one-out rows parts start row c.id.result (omega arith) c.id.ensures named
+          ∙ ap (flags_without rows parts start) (sym (add-one row)))
       | else-is_named w ↦
           let unnamed : is_row_by rows c.id.result ≡ false = sym c.is_named.ensures ∙ w.if-is_named.false in
           w.base-is ∙ c.loop-row.invariant
           ∙ ap (λ (fs : List Bool). record c.args.base.now { live = fs })
-          (one-stays rows parts start row c.id.result (omega arith) c.id.ensures unnamed ∙ ap (flags_without rows parts start) (sym (add-one row)))
+          (one-stays rows parts start row c.id.result (omega arith) c.id.ensures unnamed
+          ∙ ap (flags_without rows parts start) (sym (add-one row)))
     ]

@@ -5,12 +5,14 @@ use Rattle.kn_critical.proofs.Flags.{length-with, none-back, one-back}
 use Rattle.kn_critical.proofs.runs.restore_run.Goals as goal
 
 pub loop-row-init : goal.loop-row-init
-loop-row-init c = ap (λ (fs : List Bool). record c.args.base.now { live = fs }) (sym (none-back c.args.base.now.live c.args.start))
+loop-row-init c =
+    ap (λ (fs : List Bool). record c.args.base.now { live = fs }) (sym (none-back c.args.base.now.live c.args.start))
 
 pub restore-requires : goal.restore-requires
 restore-requires c =
     let long : length c.loop-row.base.live ≡ length c.args.base.now.live =
-    ap (λ (b : BaseView). length b.live) c.loop-row.invariant ∙ length-with c.args.base.now.live c.args.start c.loop-row.row in
+    ap (λ (b : BaseView). length b.live) c.loop-row.invariant
+    ∙ length-with c.args.base.now.live c.args.start c.loop-row.row in
     omega (arith, long)
 
 pub loop-row-preserved : goal.loop-row-preserved
@@ -20,4 +22,5 @@ loop-row-preserved c =
     c.restore.ensures
     ∙ ap (λ (b : BaseView). record b { live = slice_set b.live row true }) c.loop-row.invariant
     ∙ ap (λ (fs : List Bool). record c.args.base.now { live = fs })
-    (one-back flags c.args.start row (omega arith) (omega arith) ∙ ap (flags_with flags c.args.start) (sym (add-one row)))
+    (one-back flags c.args.start row (omega arith) (omega arith)
+    ∙ ap (flags_with flags c.args.start) (sym (add-one row)))

@@ -12,7 +12,9 @@ pub loop-row-init : goal.loop-row-init
 loop-row-init g c = record {
   whole = c.requires.whole;
   cleared = λ row from to. absurd (omega (arith, to));
-  found = λ rest behind. subst (λ ids. AreCritical c.args.question.now.query.now c.args.question.now.list.now c.args.question.now.list.now (ids ++ rest)) (sym c.new-ids.ensures) behind;
+  found = λ rest behind.
+      subst (λ ids. AreCritical c.args.question.now.query.now c.args.question.now.list.now c.args.question.now.list.now
+      (ids ++ rest)) (sym c.new-ids.ensures) behind;
 }
 
 pub loop-row-preserved : goal.loop-row-preserved
@@ -28,7 +30,8 @@ loop-row-preserved g c =
         | then-critical+in_ok-add w ↦
             subst (AreFound asked parts (row + 1)) (sym (w.ids-is ∙ w.in_ok-add.ensures.ok))
             (found-critical asked parts row w.id.result w.id.ensures c.loop-row.ids
-            ((c.in_ok-critical.ensures.critical w.id.result w.id.ensures).0 w.if-critical.true) c.loop-row.invariant.found)
+            ((c.in_ok-critical.ensures.critical w.id.result w.id.ensures).0 w.if-critical.true)
+            c.loop-row.invariant.found)
         | else-critical w ↦
             let own = row-has parts row within in
             subst (AreFound asked parts (row + 1)) (sym w.ids-is)
@@ -44,4 +47,5 @@ loop-row-preserved g c =
 pub returns : goal.returns
 returns g c =
     let past : length c.args.question.now.list.now ≤ c.loop-row.row = omega arith in
-    all-found c.args.question.now.query.now c.args.question.now.list.now c.loop-row.row c.loop-row.ids (drop_all c.loop-row.row c.args.question.now.list.now past) c.loop-row.invariant.found
+    all-found c.args.question.now.query.now c.args.question.now.list.now c.loop-row.row c.loop-row.ids
+    (drop_all c.loop-row.row c.args.question.now.list.now past) c.loop-row.invariant.found

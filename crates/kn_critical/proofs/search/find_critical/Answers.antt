@@ -1,4 +1,5 @@
-use Rattle.std.proofs.Common.{◌≡◌, ◌<◌, ◌≤◌, ℕ, Bool, true, false, cond, nat_lt, Some, None, refl, ap, ◌∙◌, subst, arith}
+use Rattle.std.proofs.Common.{◌≡◌, ◌<◌, ◌≤◌, ℕ, Bool, true, false, cond, nat_lt, Some, None, refl, ap, ◌∙◌, subst}
+use Rattle.std.proofs.Common.{arith}
 use Rattle.std.proofs.lemmas.Bool.{ltb-true}
 use Rattle.kn_base.specs.declared.limits.TheConstants.{CRITICAL_NODES}
 use Rattle.kn_meaning.specs.Critical.{equation_nodes}
@@ -18,5 +19,6 @@ pub returns-clause-accepted : goal.returns-clause-accepted
 returns-clause-accepted c =
     let nodes : c.nodes-nodes.result ≡ equation_nodes (equations_over c.args.query.now c.args.list.now) =
     c.nodes-nodes.ensures
-    ∙ c.bases_have_nodes.ensures c.args.list.now c.in_ok-base.base.names c.in_ok-base.base.system c.in_ok-base.ensures.base c.args.query.now in
+    ∙ c.bases_have_nodes.ensures c.args.list.now c.in_ok-base.base.names c.in_ok-base.base.system
+    c.in_ok-base.ensures.base c.args.query.now in
     subst (λ n. critical_fault n ≡ None) nodes (few c.nodes-nodes.result c.if-nodes-gt-CRITICAL_NODES.false)

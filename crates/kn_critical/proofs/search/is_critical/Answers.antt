@@ -5,12 +5,14 @@ use Rattle.kn_critical.proofs.search.is_critical.Goals as goal
 
 pub returns-then-row-gallop-clause-critical : goal.returns-then-row-gallop-clause-critical
 returns-then-row-gallop-clause-critical g c =
-    decides-cleared c.args.question.now.query.now c.args.question.now.list.now c.args.row c.args.gallop.now.cleared c.args.row (le_refl c.args.row)
+    decides-cleared c.args.question.now.query.now c.args.question.now.list.now c.args.row c.args.gallop.now.cleared
+    c.args.row (le_refl c.args.row)
     c.if-row-gallop.true c.requires.cleared
 
 pub returns-then-row-gallop-clause-cleared : goal.returns-then-row-gallop-clause-cleared
 returns-then-row-gallop-clause-cleared g c =
-    later-uncritical c.args.question.now.query.now c.args.question.now.list.now c.args.row c.args.gallop.now.cleared c.requires.cleared
+    later-uncritical c.args.question.now.query.now c.args.question.now.list.now c.args.row c.args.gallop.now.cleared
+    c.requires.cleared
 
 pub returns-then-not-is_named-clause-critical : goal.returns-then-not-is_named-clause-critical
 returns-then-not-is_named-clause-critical g c =
@@ -22,7 +24,8 @@ returns-then-not-is_named-clause-critical g c =
 
 pub returns-then-not-is_named-clause-cleared : goal.returns-then-not-is_named-clause-cleared
 returns-then-not-is_named-clause-cleared g c =
-    later-uncritical c.args.question.now.query.now c.args.question.now.list.now c.args.row c.args.gallop.now.cleared c.requires.cleared
+    later-uncritical c.args.question.now.query.now c.args.question.now.list.now c.args.row c.args.gallop.now.cleared
+    c.requires.cleared
 
 pub clear_rows-requires-clause-named : goal.clear_rows-requires-clause-named
 clear_rows-requires-clause-named g c =
@@ -38,4 +41,5 @@ returns-clause-critical g c =
 
 pub returns-clause-cleared : goal.returns-clause-cleared
 returns-clause-cleared g c =
-    later-uncritical c.args.question.now.query.now c.args.question.now.list.now c.args.row (c.args.row + c.in_ok-cleared.cleared) c.in_ok-cleared.ensures.cleared
+    later-uncritical c.args.question.now.query.now c.args.question.now.list.now c.args.row
+    (c.args.row + c.in_ok-cleared.cleared) c.in_ok-cleared.ensures.cleared

@@ -8,17 +8,23 @@ use Rattle.kn_critical.proofs.search.search.Goals as goal
 pub critical_ids-requires-clause-proof : goal.critical_ids-requires-clause-proof
 critical_ids-requires-clause-proof g c =
     let parts : List Part = c.args.list.now in
-    let all : live_parts parts c.args.base.now.live ≡ parts = ap (live_parts parts) c.requires.whole.live ∙ live-all parts (length parts) refl in
-    subst (λ (ps : List Part). IsProof (equations_over c.args.query.now ps) c.in_ok-answer.answer.rows c.in_ok-answer.answer.value) all c.in_ok-answer.ensures.proof
+    let all : live_parts parts c.args.base.now.live ≡ parts = ap (live_parts parts) c.requires.whole.live
+    ∙ live-all parts (length parts) refl in
+    subst (λ (ps : List Part). IsProof (equations_over c.args.query.now ps) c.in_ok-answer.answer.rows
+    c.in_ok-answer.answer.value) all c.in_ok-answer.ensures.proof
 
 pub critical_ids-requires-clause-least : goal.critical_ids-requires-clause-least
 critical_ids-requires-clause-least g c =
     let parts : List Part = c.args.list.now in
-    let all : live_parts parts c.args.base.now.live ≡ parts = ap (live_parts parts) c.requires.whole.live ∙ live-all parts (length parts) refl in
-    subst (λ (ps : List Part). IsPolicyLevel (equations_over c.args.query.now ps) c.in_ok-answer.answer.value) all c.in_ok-answer.ensures.least
+    let all : live_parts parts c.args.base.now.live ≡ parts = ap (live_parts parts) c.requires.whole.live
+    ∙ live-all parts (length parts) refl in
+    subst (λ (ps : List Part). IsPolicyLevel (equations_over c.args.query.now ps) c.in_ok-answer.answer.value) all
+    c.in_ok-answer.ensures.least
 
 pub returns-clause-least : goal.returns-clause-least
 returns-clause-least g c =
     let parts : List Part = c.args.list.now in
-    let all : live_parts parts c.args.base.now.live ≡ parts = ap (live_parts parts) c.requires.whole.live ∙ live-all parts (length parts) refl in
-    subst (λ (ps : List Part). IsPolicyLevel (equations_over c.args.query.now ps) c.in_ok-answer.answer.value) all c.in_ok-answer.ensures.least
+    let all : live_parts parts c.args.base.now.live ≡ parts = ap (live_parts parts) c.requires.whole.live
+    ∙ live-all parts (length parts) refl in
+    subst (λ (ps : List Part). IsPolicyLevel (equations_over c.args.query.now ps) c.in_ok-answer.answer.value) all
+    c.in_ok-answer.ensures.least

@@ -8,5 +8,6 @@ pub returns : goal.returns
 returns g c =
     let a = c.as_bytes.result.now in
     let first : a ≡ decimal c.args.n = c.as_bytes.ensures.value ∙ c.format.ensures.text in
-    let same : codes "error link block " ++ (a ++ (codes "\n" ++ [])) ≡ block_line c.args.n = block_parts a c.args.n first in
+    let same : codes "error link block " ++ (a ++ (codes "\n" ++ [])) ≡ block_line c.args.n =
+    block_parts a c.args.n first in
     told _ _ _ _ _ same c.print_all.ensures

@@ -8,5 +8,6 @@ pub returns : goal.returns
 returns g c =
     let a = c.as_bytes.result.now in
     let first : a ≡ decimal c.args.held = c.as_bytes.ensures.value ∙ c.format.ensures.text in
-    let same : codes "error link cut " ++ (a ++ (codes "\n" ++ [])) ≡ cut_line c.args.held = cut_parts a c.args.held first in
+    let same : codes "error link cut " ++ (a ++ (codes "\n" ++ [])) ≡ cut_line c.args.held =
+    cut_parts a c.args.held first in
     told _ _ _ _ _ same c.print_all.ensures

@@ -9,5 +9,6 @@ pub returns : goal.returns
 returns g c =
     let a = c.as_bytes.result.now in
     let first : a ≡ decimal c.args.value = c.as_bytes.ensures.value ∙ c.format.ensures.text in
-    let same : codes "PROVED " ++ (a ++ (codes " " ++ (c.args.name.now ++ (codes "\n" ++ [])))) ≡ proved_line c.args.value c.args.name.now = proved_parts a c.args.name.now c.args.value first in
+    let same : codes "PROVED " ++ (a ++ (codes " " ++ (c.args.name.now ++ (codes "\n" ++ []))))
+    ≡ proved_line c.args.value c.args.name.now = proved_parts a c.args.name.now c.args.value first in
     told _ _ _ _ _ same c.print_all.ensures

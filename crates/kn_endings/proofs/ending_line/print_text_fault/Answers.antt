@@ -11,5 +11,6 @@ returns g c =
     let b = c.as_bytes-2.result.now in
     let first : a ≡ decimal c.args.fault = c.as_bytes.ensures.value ∙ c.format.ensures.text in
     let second : b ≡ decimal c.args.line = c.as_bytes-2.ensures.value ∙ c.format-2.ensures.text in
-    let same : codes "error proof text " ++ (a ++ (codes " " ++ (b ++ (codes "\n" ++ [])))) ≡ text_line c.args.fault c.args.line = text_parts a b c.args.fault c.args.line first second in
+    let same : codes "error proof text " ++ (a ++ (codes " " ++ (b ++ (codes "\n" ++ []))))
+    ≡ text_line c.args.fault c.args.line = text_parts a b c.args.fault c.args.line first second in
     told _ _ _ _ _ same c.print_all.ensures

@@ -25,5 +25,6 @@ returns g c = λ name named.
     let nodes : n ≡ decimal m.nodes = c.as_bytes-5.ensures.value ∙ c.format-5.ensures.text in
     let uses : u ≡ decimal m.uses = c.as_bytes-6.ensures.value ∙ c.format-6.ensures.text in
     let levels : k ≡ decimal m.levels = c.as_bytes-7.ensures.value ∙ c.format-7.ensures.text in
-    let same : gen_parts l w v r p n u k ≡ gen_line c.args.count name m = gen_told l w v r p n u k c.args.count name m level value version rows principals nodes uses levels in
+    let same : gen_parts l w v r p n u k ≡ gen_line c.args.count name m =
+    gen_told l w v r p n u k c.args.count name m level value version rows principals nodes uses levels in
     told _ _ _ _ _ same c.print_all.ensures

@@ -8,5 +8,6 @@ pub returns : goal.returns
 returns g c =
     let a = c.as_bytes.result.now in
     let first : a ≡ decimal c.args.line = c.as_bytes.ensures.value ∙ c.format.ensures.text in
-    let same : codes "error keys " ++ (a ++ (codes "\n" ++ [])) ≡ keys_line c.args.line = keys_parts a c.args.line first in
+    let same : codes "error keys " ++ (a ++ (codes "\n" ++ [])) ≡ keys_line c.args.line =
+    keys_parts a c.args.line first in
     told _ _ _ _ _ same c.print_all.ensures

@@ -11,5 +11,7 @@ returns g c =
     let p = c.as_bytes-2.result.now in
     let first : a ≡ decimal c.args.assertion = c.as_bytes.ensures.value ∙ c.format.ensures.text in
     let third : p ≡ decimal c.args.count = c.as_bytes-2.ensures.value ∙ c.format-2.ensures.text in
-    let same : parts_of c.args.name.now a (codes " limit ") b p ≡ limit_line c.args.name.now c.args.assertion c.args.word c.args.count = limit_parts c.args.name.now a b p c.args.assertion c.args.word c.args.count first c.text.ensures third in
+    let same : parts_of c.args.name.now a (codes " limit ") b p
+    ≡ limit_line c.args.name.now c.args.assertion c.args.word c.args.count =
+    limit_parts c.args.name.now a b p c.args.assertion c.args.word c.args.count first c.text.ensures third in
     told _ _ _ _ _ same c.print_all.ensures

@@ -9,15 +9,20 @@ loop-at-init c = place_first (stood_before c.args.names.now) (length c.args.name
 pub loop-at-preserved : goal.loop-at-preserved
 loop-at-preserved c =
     let told : stood_before c.args.names.now c.loop-at.at ≡ false =
-    asked_at c.args.names.now c.loop-at.at c.index-names-at.result c.as_slice.result.now c.is_there.result c.loop-at-test.true c.index-names-at.is c.as_slice.ensures c.is_there.ensures ∙ c.if-is_there.false in
-    place_behind (stood_before c.args.names.now) c.loop-at.at (length c.args.names.now) c.loop-at-test.true told ∙ c.loop-at.invariant
+    asked_at c.args.names.now c.loop-at.at c.index-names-at.result c.as_slice.result.now c.is_there.result
+    c.loop-at-test.true c.index-names-at.is c.as_slice.ensures c.is_there.ensures ∙ c.if-is_there.false in
+    place_behind (stood_before c.args.names.now) c.loop-at.at (length c.args.names.now) c.loop-at-test.true told
+    ∙ c.loop-at.invariant
 
 pub returns-then-is_there-clause-place : goal.returns-then-is_there-clause-place
 returns-then-is_there-clause-place c =
     let told : stood_before c.args.names.now c.loop-at.at ≡ true =
-    asked_at c.args.names.now c.loop-at.at c.index-names-at.result c.as_slice.result.now c.is_there.result c.loop-at-test.true c.index-names-at.is c.as_slice.ensures c.is_there.ensures ∙ c.if-is_there.true in
-    sym (place_here (stood_before c.args.names.now) c.loop-at.at (length c.args.names.now) c.loop-at-test.true told) ∙ c.loop-at.invariant
+    asked_at c.args.names.now c.loop-at.at c.index-names-at.result c.as_slice.result.now c.is_there.result
+    c.loop-at-test.true c.index-names-at.is c.as_slice.ensures c.is_there.ensures ∙ c.if-is_there.true in
+    sym (place_here (stood_before c.args.names.now) c.loop-at.at (length c.args.names.now) c.loop-at-test.true told)
+    ∙ c.loop-at.invariant
 
 pub returns-clause-place : goal.returns-clause-place
 returns-clause-place c =
-    sym (place_nowhere (stood_before c.args.names.now) c.loop-at.at (length c.args.names.now) c.loop-at-test.false) ∙ c.loop-at.invariant
+    sym (place_nowhere (stood_before c.args.names.now) c.loop-at.at (length c.args.names.now) c.loop-at-test.false)
+    ∙ c.loop-at.invariant

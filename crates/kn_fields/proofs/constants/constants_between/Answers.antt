@@ -11,12 +11,19 @@ loop-i-init c = grind (arith, common_steps)
 pub loop-i-preserved : goal.loop-i-preserved
 unfolding constants_of
 loop-i-preserved c =
-    let here = three_here c.args.tokens.now c.loop-i.i c.args.to (omega (arith, c.loop-i-test.true)) c.requires.within in
-    grind (arith, append_assoc, here.all, c.in_ok-push_constant.ensures here.name here.value here.name_there here.value_there)
+    let here = three_here c.args.tokens.now c.loop-i.i c.args.to (omega (arith, c.loop-i-test.true))
+    c.requires.within in
+    grind (
+      arith,
+      append_assoc,
+      here.all,
+      c.in_ok-push_constant.ensures here.name here.value here.name_there here.value_there,
+    )
 
 pub push_constant-requires : goal.push_constant-requires
 push_constant-requires c =
-    let here = three_here c.args.tokens.now c.loop-i.i c.args.to (omega (arith, c.loop-i-test.true)) c.requires.within in
+    let here = three_here c.args.tokens.now c.loop-i.i c.args.to (omega (arith, c.loop-i-test.true))
+    c.requires.within in
     grind (arith, here, c.ranges.to)
 
 pub returns : goal.returns

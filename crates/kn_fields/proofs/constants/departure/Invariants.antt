@@ -10,7 +10,8 @@ abbrev pub invariant-loop-i : goal.invariant-loop-i
 invariant-loop-i l =
     record {
       within : l.i ≤ l.to;
-      left : first_place departs [] (between l.from l.to l.tokens) ≡ first_place departs (between l.from l.i l.tokens) (between l.i l.to l.tokens);
+      left : first_place departs [] (between l.from l.to l.tokens)
+          ≡ first_place departs (between l.from l.i l.tokens) (between l.i l.to l.tokens);
       names : AreNames l.names (between l.from l.i l.tokens);
       due : l.turn ≡ turn_behind Setting (between l.from l.i l.tokens);
     }

@@ -6,7 +6,8 @@ pub loop-i-preserved-in_default-sign_byte : goal.loop-i-preserved-in_default-sig
 loop-i-preserved-in_default-sign_byte c =
     let before = c.loop-i.invariant in
     record {
-      left = quiet_step _ _ _ _ _ _ _ before.left c.in-Some.ensures c.loop-i-test.true c.in_default-sign_byte.ensures before.depth_few;
+      left = quiet_step _ _ _ _ _ _ _ before.left c.in-Some.ensures c.loop-i-test.true c.in_default-sign_byte.ensures
+          before.depth_few;
       depth_few = before.depth_few;
       run_few = omega arith;
     }

@@ -8,5 +8,6 @@ pub returns-clause-some : goal.returns-clause-some
 returns-clause-some c =
     let rest = c.in_ok-rest.rest.now in
     body-some c.args.answer.now rest c.strip_suffix.result
-    (strip_prefix_is Decides-eqb c.args.answer.now (78 ∷ 79 ∷ 32 ∷ []) (Some c.in_ok-rest.rest) c.in_ok-rest.ensures.cases)
+    (strip_prefix_is Decides-eqb c.args.answer.now (78 ∷ 79 ∷ 32 ∷ []) (Some c.in_ok-rest.rest)
+    c.in_ok-rest.ensures.cases)
     (strip_suffix_is Decides-eqb rest (10 ∷ []) c.strip_suffix.result c.strip_suffix.ensures.cases)

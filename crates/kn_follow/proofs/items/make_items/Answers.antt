@@ -11,7 +11,8 @@ loop-item-preserved c =
     let i : ℕ = c.loop-item.item-index in
     let within : i < length items = omega (arith, ap length same) in
     let none : BatchItem = B.Add (record { ref_ptr = (0, 0); now = [] }) in
-    asked_more c.as_slice-item-items.result.now items i none c.loop-item.made _ _ same within c.loop-item.invariant c.in-Ok.ensures.item c.in-Ok-push.ensures.ok
+    asked_more c.as_slice-item-items.result.now items i none c.loop-item.made _ _ same within c.loop-item.invariant
+    c.in-Ok.ensures.item c.in-Ok-push.ensures.ok
 
 pub returns-in-Err-clause-unreadable : goal.returns-in-Err-clause-unreadable
 returns-in-Err-clause-unreadable c =

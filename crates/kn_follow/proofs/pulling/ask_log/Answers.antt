@@ -8,4 +8,5 @@ use Rattle.kn_follow.proofs.pulling.ask_log.Goals as goal
 pub returns-in_err-line-clause-fault : goal.returns-in_err-line-clause-fault
 returns-in_err-line-clause-fault g c =
     let p = err_from_is_err_and c.from_residual.result c.from_residual.ensures.1 in
-    rw (p.1, p.2) (stopped-before Q.Log (log_line (length c.args.replica.now)) c.args.held.now (g.L.Sink.seen c.args.link.now) c.args.replica.now)
+    rw (p.1, p.2) (stopped-before Q.Log (log_line (length c.args.replica.now)) c.args.held.now
+    (g.L.Sink.seen c.args.link.now) c.args.replica.now)

@@ -9,7 +9,9 @@ rounds-init g c = record { here = c.length-number.ensures.length; rounds = follo
 pub returns-in-Ok-eq0-clause-followed : goal.returns-in-Ok-eq0-clause-followed
 returns-in-Ok-eq0-clause-followed g c =
     let none : c.in-Ok-eq0.field-0 ≡ 0 = omega arith in
-    let P : ℕ → Type 0 = λ n. IsRound c.rounds.replica c.ask_log.new.replica c.rounds.held c.ask_log.new.held (g.L.Sink.seen c.rounds.link) (g.L.Sink.seen c.ask_log.new.link) n in
+    let P : ℕ → Type 0 =
+    λ n. IsRound c.rounds.replica c.ask_log.new.replica c.rounds.held c.ask_log.new.held
+    (g.L.Sink.seen c.rounds.link) (g.L.Sink.seen c.ask_log.new.link) n in
     followed _ _ _ _ _ _ _ _ _ c.rounds.invariant.rounds (subst P none c.in-Ok-eq0.ensures.round)
 
 pub rounds-preserved : goal.rounds-preserved
@@ -28,4 +30,5 @@ rounds-smaller g c =
     omega (arith, size, some, c.length-number-in-Ok.ensures.length, c.rounds.invariant.here)
 
 pub returns-in-Err-clause-fault : goal.returns-in-Err-clause-fault
-returns-in-Err-clause-fault g c = unfollowed _ _ _ _ _ _ _ _ c.in-Err.fault c.rounds.invariant.rounds c.in-Err.ensures.fault
+returns-in-Err-clause-fault g c =
+    unfollowed _ _ _ _ _ _ _ _ c.in-Err.fault c.rounds.invariant.rounds c.in-Err.ensures.fault

@@ -12,8 +12,10 @@ returns-in_err-show_secret-clause-fault g c =
     let old = c.args.replica.now in
     let l = g.L.Sink.seen c.args.link.now in
     let m = g.L.Sink.seen c.show_secret.new.link in
-    let P : List ℕ → Type 0 = λ h. IsStopped Q.Admin (admin_line c.args.secret.now) h l m old old c.in_err-show_secret.field-0.0 in
-    rw (p.1, p.2) (pull-refused c.args.secret.now old l m c.in_err-show_secret.field-0.0 (subst P c.requires (c.in_err-show_secret.ensures.fault old)))
+    let P : List ℕ → Type 0 =
+    λ h. IsStopped Q.Admin (admin_line c.args.secret.now) h l m old old c.in_err-show_secret.field-0.0 in
+    rw (p.1, p.2) (pull-refused c.args.secret.now old l m c.in_err-show_secret.field-0.0
+    (subst P c.requires (c.in_err-show_secret.ensures.fault old)))
 
 pub returns-in_err-follow-clause-fault : goal.returns-in_err-follow-clause-fault
 returns-in_err-follow-clause-fault g c =
@@ -22,7 +24,8 @@ returns-in_err-follow-clause-fault g c =
     let m = g.L.Sink.seen c.show_secret.new.link in
     let P : List ℕ → Type 0 = λ h. Passes Q.Admin (admin_line c.args.secret.now) ok_line h c.show_secret.new.held l m in
     rw (p.1, p.2)
-    (pull-unfollowed c.args.secret.now c.args.replica.now l m c.show_secret.new.held (subst P c.requires c.in_ok-show_secret.ensures.passes)
+    (pull-unfollowed c.args.secret.now c.args.replica.now l m c.show_secret.new.held
+    (subst P c.requires c.in_ok-show_secret.ensures.passes)
     c.follow.new.replica (g.L.Sink.seen c.follow.new.link) c.in_err-follow.field-0.0 c.in_err-follow.ensures.fault)
 
 pub returns-in_err-ask_plain-clause-fault : goal.returns-in_err-ask_plain-clause-fault
@@ -33,7 +36,8 @@ returns-in_err-ask_plain-clause-fault g c =
     let new = c.follow.new.replica in
     let P : List ℕ → Type 0 = λ h. Passes Q.Admin (admin_line c.args.secret.now) ok_line h c.show_secret.new.held l m in
     rw (p.1, p.2)
-    (pull-unfinished c.args.secret.now c.args.replica.now l m c.show_secret.new.held (subst P c.requires c.in_ok-show_secret.ensures.passes)
+    (pull-unfinished c.args.secret.now c.args.replica.now l m c.show_secret.new.held
+    (subst P c.requires c.in_ok-show_secret.ensures.passes)
     new (g.L.Sink.seen c.follow.new.link) c.follow.new.held c.in_ok-follow.ensures.followed
     (g.L.Sink.seen c.ask_plain.new.link) c.in_err-ask_plain.field-0.0 (c.in_err-ask_plain.ensures.fault new))
 
@@ -42,6 +46,8 @@ returns-clause-pulled g c =
     let l = g.L.Sink.seen c.args.link.now in
     let m = g.L.Sink.seen c.show_secret.new.link in
     let P : List ℕ → Type 0 = λ h. Passes Q.Admin (admin_line c.args.secret.now) ok_line h c.show_secret.new.held l m in
-    pull-done c.args.secret.now c.args.replica.now l m c.show_secret.new.held (subst P c.requires c.in_ok-show_secret.ensures.passes)
+    pull-done c.args.secret.now c.args.replica.now l m c.show_secret.new.held
+    (subst P c.requires c.in_ok-show_secret.ensures.passes)
     c.follow.new.replica (g.L.Sink.seen c.follow.new.link) c.follow.new.held c.in_ok-follow.ensures.followed
-    (g.L.Sink.seen c.ask_plain.new.link) c.ask_plain.new.held c.length.result c.in_ok-ask_plain.ensures.passes c.length.ensures.length
+    (g.L.Sink.seen c.ask_plain.new.link) c.ask_plain.new.held c.length.result c.in_ok-ask_plain.ensures.passes
+    c.length.ensures.length

@@ -7,4 +7,5 @@ use Rattle.kn_follow.proofs.pulling.show_secret.Goals as goal
 pub returns-in_err-line-clause-fault : goal.returns-in_err-line-clause-fault
 returns-in_err-line-clause-fault g c =
     let p = err_from_is_err_and c.from_residual.result c.from_residual.ensures.1 in
-    rw (p.1, p.2) (λ holds. stopped-before Q.Admin (admin_line c.args.secret.now) c.args.held.now (g.L.Sink.seen c.args.link.now) holds)
+    rw (p.1, p.2) (λ holds. stopped-before Q.Admin (admin_line c.args.secret.now) c.args.held.now
+    (g.L.Sink.seen c.args.link.now) holds)

@@ -5,4 +5,5 @@ use Rattle.kn_follow.proofs.Loops.{with_front}
 use Rattle.kn_follow.proofs.reading.read_updates.Given as goal
 
 abbrev pub invariant-loop : goal.invariant-loop
-invariant-loop l = with_front (updates_of l.updates) (times update_at (l.count - l.counter) l.rest) ≡ times update_at l.count l.text
+invariant-loop l = with_front (updates_of l.updates) (times update_at (l.count - l.counter) l.rest)
+    ≡ times update_at l.count l.text

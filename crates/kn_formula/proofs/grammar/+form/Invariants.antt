@@ -20,7 +20,12 @@ decreases-bracketed l = 3 * l.budget + 1
 
 -- the parts so far with those that are read from here on are all
 abbrev pub invariant-more_parts-loop-left : goal.invariant-more_parts-loop-left
-invariant-more_parts-loop-left l = record { some : l.parts ≡ [] → ⊥; going : Parts l.rule l.budget l.left l.parts l.cursor (more_parts_at l.budget l.rule l.fn.first l.fn.cursor) }
+invariant-more_parts-loop-left l =
+    record {
+      some : l.parts ≡ []
+          → ⊥;
+      going : Parts l.rule l.budget l.left l.parts l.cursor (more_parts_at l.budget l.rule l.fn.first l.fn.cursor);
+    }
 
 abbrev pub decreases-more_parts-loop-left : goal.decreases-more_parts-loop-left
 decreases-more_parts-loop-left l = l.left

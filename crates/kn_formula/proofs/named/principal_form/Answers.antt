@@ -5,5 +5,6 @@ use Rattle.kn_formula.proofs.named.principal_form.Goals as goal
 
 pub returns-in-Err-TooLong : goal.returns-in-Err-TooLong
 returns-in-Err-TooLong c =
-    let long = (c.in-Err-TooLong.ensures.too_long c.in-Err-TooLong.field-0-0).0 (ap (λ (fault : PrincipalFault). Err fault) c.in-Err-TooLong.field-0-is) in
+    let long = (c.in-Err-TooLong.ensures.too_long c.in-Err-TooLong.field-0-0).0
+    (ap (λ (fault : PrincipalFault). Err fault) c.in-Err-TooLong.field-0-is) in
     long_text c.in-Some.text.now _ c.in-Some.ensures (omega (arith, long))

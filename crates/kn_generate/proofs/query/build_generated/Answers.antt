@@ -14,11 +14,14 @@ pub build_asked-requires-clause-requesters : goal.build_asked-requires-clause-re
 build_asked-requires-clause-requesters c =
     let most = c.requires.most in
     let low : c.args.count - 1 ≤ 2047 = omega (arith, most) in
-    last_requests c.args.count c.in_ok-requesters.requesters (length-decimal-le 20 (c.args.count - 1) (omega arith) (omega (arith, low)) (omega (arith, low))) c.in_ok-requesters.ensures
+    last_requests c.args.count c.in_ok-requesters.requesters
+    (length-decimal-le 20 (c.args.count - 1) (omega arith) (omega (arith, low)) (omega (arith, low)))
+    c.in_ok-requesters.ensures
 
 pub returns : goal.returns
 returns c =
     subst (λ (e : Equations). IfOk c.build_asked.result (λ built. IsBuilt e built))
-    (query_is (arc_value c.args.snapshot.now) c.args.count c.new-private.result c.in_ok-attributes.attributes c.in_ok-requesters.requesters c.in_ok-values.values c.new-private.ensures c.in_ok-attributes.ensures
+    (query_is (arc_value c.args.snapshot.now) c.args.count c.new-private.result c.in_ok-attributes.attributes
+    c.in_ok-requesters.requesters c.in_ok-values.values c.new-private.ensures c.in_ok-attributes.ensures
     c.in_ok-requesters.ensures c.in_ok-values.ensures)
     c.build_asked.ensures

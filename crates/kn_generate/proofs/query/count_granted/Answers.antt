@@ -9,6 +9,8 @@ loop-principal-preserved c =
     let test = c.loop-principal-test.true in
     let end = c.principals-principal-end.ensures.exact in
     let below : c.loop-principal.principal < length c.args.system.now.requesters = omega (arith, test, end) in (
-      granted_count_more c.args.system.now.requesters c.args.levels.now c.loop-principal.principal c.loop-principal.count c.count_if_granted-count.result _ below c.requires.one_each c.count_if_granted-count.ensures.one c.loop-principal.invariant.0,
+      granted_count_more c.args.system.now.requesters c.args.levels.now c.loop-principal.principal
+          c.loop-principal.count c.count_if_granted-count.result _ below c.requires.one_each
+          c.count_if_granted-count.ensures.one c.loop-principal.invariant.0,
       omega (arith, few, before),
     )

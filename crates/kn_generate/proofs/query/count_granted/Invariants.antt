@@ -4,4 +4,5 @@ use Rattle.kn_generate.proofs.query.count_granted.Given as goal
 
 abbrev pub invariant-loop-principal : goal.invariant-loop-principal
 invariant-loop-principal l =
-    (l.count + granted_count (drop l.principal l.system.requesters) (drop l.principal l.levels) ≡ granted_count l.system.requesters l.levels) × (l.count ≤ l.principal)
+    (l.count + granted_count (drop l.principal l.system.requesters) (drop l.principal l.levels)
+    ≡ granted_count l.system.requesters l.levels) × (l.count ≤ l.principal)

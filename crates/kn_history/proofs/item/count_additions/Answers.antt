@@ -6,5 +6,6 @@ use Rattle.kn_history.proofs.item.count_additions.Goals as goal
 pub returns : goal.returns
 returns c = λ next.
     let all : length c.as_slice-all.result.now ≤ c.loop-i.i = search rules in
-    c.loop-i.invariant.count ∙ ap (sum_by added_by) (take_all c.loop-i.i c.as_slice-all.result.now all ∙ c.as_slice-all.ensures)
+    c.loop-i.invariant.count
+    ∙ ap (sum_by added_by) (take_all c.loop-i.i c.as_slice-all.result.now all ∙ c.as_slice-all.ensures)
     ∙ sym (additions-numbered next c.args.items.now)

@@ -7,4 +7,10 @@ pub returns-clause-least : goal.returns-clause-least
 returns-clause-least c = table-is_least
 
 pub returns-clause-policy : goal.returns-clause-policy
-returns-clause-policy c top requesters stated = record { levels = level_in (last_table top requesters stated); least = table-is_least top requesters stated; here = refl }
+returns-clause-policy c top requesters stated =
+    record {
+      levels = level_in (last_table top requesters stated);
+      least = table-is_least top requesters stated;
+      here =
+          refl;
+    }

@@ -2,4 +2,5 @@ use Rattle.kn_laws.proofs.Followed.{ends_proof-Decides}
 use Rattle.kn_laws.proofs.plain.is_proof.Goals as goal
 
 pub returns : goal.returns
-returns c = ends_proof-Decides c.args.top c.args.requesters.now c.args.statements.now c.args.rows.now c.args.level _ c.in_ok-found.ensures
+returns c = ends_proof-Decides c.args.top c.args.requesters.now c.args.statements.now c.args.rows.now c.args.level _
+    c.in_ok-found.ensures

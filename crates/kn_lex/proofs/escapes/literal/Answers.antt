@@ -10,4 +10,5 @@ returns-in_default c =
     (sym (value_same _ c.in_default.ensures) ∙ ap (value_behind 0) c.inside-inside.ensures) c.from_slice.ensures
 
 pub returns : goal.returns
-returns c = value_whole c.loop-at.value c.inside-inside.result.now c.loop-at.at (omega arith) c.loop-at.invariant.value ∙ ap (value_behind 0) c.inside-inside.ensures
+returns c = value_whole c.loop-at.value c.inside-inside.result.now c.loop-at.at (omega arith) c.loop-at.invariant.value
+    ∙ ap (value_behind 0) c.inside-inside.ensures

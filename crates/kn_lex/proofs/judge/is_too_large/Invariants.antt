@@ -7,6 +7,7 @@ use Rattle.kn_lex.proofs.judge.is_too_large.Given as goal
 abbrev pub invariant-loop-byte : goal.invariant-loop-byte
 invariant-loop-byte l =
     record {
-      value : l.value * 10 ^ length (drop l.byte-index l.digits) + digits_value (drop l.byte-index l.digits) ≡ digits_value l.digits;
+      value : l.value * 10 ^ length (drop l.byte-index l.digits) + digits_value (drop l.byte-index l.digits)
+          ≡ digits_value l.digits;
       small : l.value ≤ number_max;
     }

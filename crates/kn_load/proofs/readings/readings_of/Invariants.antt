@@ -6,4 +6,5 @@ use Rattle.kn_load.proofs.ReadingLaws.{AreLeft}
 use Rattle.kn_load.proofs.readings.readings_of.Given as goal
 
 abbrev pub invariant-loop-draft : goal.invariant-loop-draft
-invariant-loop-draft l = (texts : List (List ℕ)) → AllZip IsDraftOf texts l.fn.drafts.items → AreLeft texts l.readings (into_iter_items l.draft-iterator)
+invariant-loop-draft l = (texts : List (List ℕ)) → AllZip IsDraftOf texts l.fn.drafts.items
+    → AreLeft texts l.readings (into_iter_items l.draft-iterator)

@@ -15,4 +15,5 @@ loop-entry-preserved c =
     ∙ ap (λ so_far. so_far ++ entry_of c.in_ok-name.name c.in_ok-level.level ∷ []) c.loop-entry.invariant
     ∙ ap (λ n. front ++ entry_of n c.in_ok-level.level ∷ []) name
     ∙ ap (λ v. front ++ entry_of c.entry-item.result.name v ∷ []) level
-    ∙ sym (next_levels_take e c.args.table.now c.loop-entry.entry-index c.entry-item.result c.loop-entry-test.true c.entry-item.is)
+    ∙ sym (next_levels_take e c.args.table.now c.loop-entry.entry-index c.entry-item.result c.loop-entry-test.true
+    c.entry-item.is)

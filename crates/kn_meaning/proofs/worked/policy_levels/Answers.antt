@@ -30,14 +30,17 @@ returns-clause-cycle c at least = omega (arith, least.least levels_above no_rise
 levels_granted : Levels
 levels_granted name = if bytes_eq name (codes "alice") then 1 else (if bytes_eq (codes "POLICY") name then 1 else 0)
 
-granted_solves : (name : List ℕ) → round (question (codes "alice") direct_policy) levels_granted name ≡ levels_granted name
+granted_solves : (name : List ℕ) → round (question (codes "alice") direct_policy) levels_granted name
+    ≡ levels_granted name
 unfolding levels_granted
 granted_solves name = grind (arith, formula_level_who 1 levels_granted (codes "alice"))
 
-granted_below : (other : Levels) → ((name : List ℕ) → round (question (codes "alice") direct_policy) other name ≤ other name) → (name : List ℕ)
+granted_below : (other : Levels)
+    → ((name : List ℕ) → round (question (codes "alice") direct_policy) other name ≤ other name) → (name : List ℕ)
     → levels_granted name ≤ other name
 unfolding levels_granted
-granted_below other closed name = grind (arith, formula_level_who 1 other (codes "alice"), closed (codes "alice"), closed name)
+granted_below other closed name =
+    grind (arith, formula_level_who 1 other (codes "alice"), closed (codes "alice"), closed name)
 
 pub returns-clause-some : goal.returns-clause-some
 returns-clause-some c = (levels_granted, record { solves = granted_solves; least = granted_below })

@@ -5,4 +5,5 @@ use Rattle.kn_play.specs.Playing.{IsBeingPlayed}
 use Rattle.kn_play.proofs.playing.play.Given as goal
 
 abbrev pub invariant-loop-before : goal.invariant-loop-before
-invariant-loop-before l = (requests : List Request) × IsBeingPlayed l.book l.script l.from (held l.feed) requests l.sessions l.last l.before
+invariant-loop-before l = (requests : List Request)
+    × IsBeingPlayed l.book l.script l.from (held l.feed) requests l.sessions l.last l.before

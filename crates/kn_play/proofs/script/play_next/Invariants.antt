@@ -9,7 +9,8 @@ abbrev pub invariant-pieces : goal.invariant-pieces
 invariant-pieces l = record {
   same : l.sessions ≡ l.fn.sessions;
   within : l.from ≤ length l.script;
-  fed : (requests : List Request) → IsFed l.script l.fn.from (held l.fn.feed) requests → IsFed l.script l.from (held l.feed) requests;
+  fed : (requests : List Request) → IsFed l.script l.fn.from (held l.fn.feed) requests
+      → IsFed l.script l.from (held l.feed) requests;
 }
 
 abbrev pub decreases-pieces : goal.decreases-pieces

@@ -6,7 +6,8 @@ use Rattle.kn_play.proofs.script.push_piece.Goals as goal
 use Rattle.kn_play.proofs.script.push_piece.Goals.{then-script-from-gt-PIECE_BYTES, else-script-from-gt-PIECE_BYTES}
 
 -- the piece ends behind its beginning, within the script
-bounds : (c : goal.After-push) → (c.args.from ≤ c.if-script-from-gt-PIECE_BYTES.end) × (c.if-script-from-gt-PIECE_BYTES.end ≤ length c.args.script.now)
+bounds : (c : goal.After-push) → (c.args.from ≤ c.if-script-from-gt-PIECE_BYTES.end)
+    × (c.if-script-from-gt-PIECE_BYTES.end ≤ length c.args.script.now)
 bounds c =
     elim c.if-script-from-gt-PIECE_BYTES.branch [
       | then-script-from-gt-PIECE_BYTES w ↦ (omega arith, omega arith)
@@ -15,6 +16,7 @@ bounds c =
 
 pub returns-clause-fed : goal.returns-clause-fed
 returns-clause-fed c = λ requests fed.
-    feeds-piece c.args.script.now c.args.from c.if-script-from-gt-PIECE_BYTES.end (held c.args.feed.now) (held c.push.new.self)
+    feeds-piece c.args.script.now c.args.from c.if-script-from-gt-PIECE_BYTES.end (held c.args.feed.now)
+    (held c.push.new.self)
     (slice_range c.args.script.now c.args.from c.if-script-from-gt-PIECE_BYTES.end) requests fed (bounds c).1
     (range-joins c.args.script.now c.args.from c.if-script-from-gt-PIECE_BYTES.end (bounds c).0) c.push.ensures

@@ -10,7 +10,8 @@ clauses-loop-left-init t c = record { fewer = omega arith; going = program_start
 pub clauses-returns-then-not-take_sign : goal.clauses-returns-then-not-take_sign
 clauses-returns-then-not-take_sign t c =
     going_last c.loop-left.invariant.going c.loop-left-test.true c.in_ok-found.ensures
-    (passed _ _ _ _ _ c.if-not-take_sign.true c.take_sign.ensures.taken c.as_slice.ensures) (c.take_sign.ensures.kept c.if-not-take_sign.true) c.in_ok-add.ensures
+    (passed _ _ _ _ _ c.if-not-take_sign.true c.take_sign.ensures.taken c.as_slice.ensures)
+    (c.take_sign.ensures.kept c.if-not-take_sign.true) c.in_ok-add.ensures
 
 pub clauses-loop-left-preserved : goal.clauses-loop-left-preserved
 clauses-loop-left-preserved t c = record {

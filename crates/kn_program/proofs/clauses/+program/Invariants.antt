@@ -16,7 +16,8 @@ decreases-value l = 2 * l.budget + 1
 
 -- the clauses so far with those that are read from here on are all
 abbrev pub invariant-clauses-loop-left : goal.invariant-clauses-loop-left
-invariant-clauses-loop-left l = record { fewer : l.left ≤ l.budget; going : Clauses l.budget l.left l.list l.cursor l.fn.cursor }
+invariant-clauses-loop-left l =
+    record { fewer : l.left ≤ l.budget; going : Clauses l.budget l.left l.list l.cursor l.fn.cursor }
 
 abbrev pub decreases-clauses-loop-left : goal.decreases-clauses-loop-left
 decreases-clauses-loop-left l = l.left

@@ -6,7 +6,8 @@ use Rattle.kn_program.proofs.expression.+expression.Goals as goal
 pub more_tests-returns-then-not-take_sign : goal.more_tests-returns-then-not-take_sign
 more_tests-returns-then-not-take_sign t c below first stood =
     parts_last (c.loop-left.invariant.going below first stood) c.loop-left-test.true c.in_ok-test.ensures
-    (passed _ _ _ _ _ c.if-not-take_sign.true c.take_sign.ensures.taken c.joint_text.ensures) (c.take_sign.ensures.kept c.if-not-take_sign.true)
+    (passed _ _ _ _ _ c.if-not-take_sign.true c.take_sign.ensures.taken c.joint_text.ensures)
+    (c.take_sign.ensures.kept c.if-not-take_sign.true)
     c.in_ok-join_tests.ensures
 
 pub more_tests-loop-left-preserved : goal.more_tests-loop-left-preserved
@@ -21,14 +22,17 @@ more_tests-loop-left-preserved t c = record {
 
 pub links-returns-in_default : goal.links-returns-in_default
 links-returns-in_default t c below first stood =
-    rights_last (c.loop-left.invariant.going below first stood) c.loop-left-test.true c.in_ok-side.ensures c.in_ok-add.ensures.ok
-    (sym c.in_default.ensures.taken) (c.in_default.ensures.kept refl) (rw c.as_slice.ensures at c.in_ok-chain.ensures.ok)
+    rights_last (c.loop-left.invariant.going below first stood) c.loop-left-test.true c.in_ok-side.ensures
+    c.in_ok-add.ensures.ok
+    (sym c.in_default.ensures.taken) (c.in_default.ensures.kept refl)
+    (rw c.as_slice.ensures at c.in_ok-chain.ensures.ok)
 
 pub links-loop-left-preserved : goal.links-loop-left-preserved
 links-loop-left-preserved t c = record {
   there = grind (arith, length-append);
   going = λ below first stood.
-      rights_more (c.loop-left.invariant.going below first stood) c.loop-left-test.true c.in_ok-side.ensures c.in_ok-add.ensures.ok
+      rights_more (c.loop-left.invariant.going below first stood) c.loop-left-test.true c.in_ok-side.ensures
+      c.in_ok-add.ensures.ok
       (sym c.in-Some.ensures.taken);
 }
 

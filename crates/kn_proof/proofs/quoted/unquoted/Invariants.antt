@@ -4,7 +4,8 @@ use Rattle.kn_proof.specs.Lines.{AreBytes}
 use Rattle.kn_proof.proofs.quoted.unquoted.Given as goal
 
 abbrev pub invariant-bytes : goal.invariant-bytes
-invariant-bytes l = record { spelled : l.text ≡ flat_map quoted_byte l.principal ++ l.rest; bytes : AreBytes l.principal }
+invariant-bytes l =
+    record { spelled : l.text ≡ flat_map quoted_byte l.principal ++ l.rest; bytes : AreBytes l.principal }
 
 abbrev pub decreases-bytes : goal.decreases-bytes
 decreases-bytes l = length l.rest

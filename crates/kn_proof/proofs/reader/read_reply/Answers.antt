@@ -13,7 +13,9 @@ pub returns-in-Ok-clause-told : goal.returns-in-Ok-clause-told
 returns-in-Ok-clause-told c = told_first c.args.text.now _ _ _ c.read.result c.in-Ok.ensures.ok
 
 pub returns-in-Err-clause-only : goal.returns-in-Err-clause-only
-returns-in-Err-clause-only c = λ reply is. absurd (reply_without_fault c.args.text.now reply c.in-Err.fault is c.in-Err.ensures.err)
+returns-in-Err-clause-only c =
+    λ reply is. absurd (reply_without_fault c.args.text.now reply c.in-Err.fault is c.in-Err.ensures.err)
 
 pub returns-in-Err-clause-told : goal.returns-in-Err-clause-told
-returns-in-Err-clause-told c = λ fault first. one_first_fault c.args.text.now c.in-Err.fault fault c.in-Err.ensures.err first
+returns-in-Err-clause-told c =
+    λ fault first. one_first_fault c.args.text.now c.in-Err.fault fault c.in-Err.ensures.err first

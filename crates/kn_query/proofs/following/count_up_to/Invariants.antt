@@ -6,7 +6,8 @@ use Rattle.kn_query.proofs.following.count_up_to.Given as goal
 abbrev pub invariant-loop-count : goal.invariant-loop-count
 invariant-loop-count l = record {
   in_range : l.count ≤ length (credentials_of l.version);
-  enough : (earlier later : List NumberedText) → credentials_of l.version ≡ earlier ++ later → AreUpTo l.last earlier → AreAbove l.last later → length earlier ≤ l.count;
+  enough : (earlier later : List NumberedText) → credentials_of l.version ≡ earlier ++ later → AreUpTo l.last earlier
+      → AreAbove l.last later → length earlier ≤ l.count;
 }
 
 abbrev pub decreases-loop-count : goal.decreases-loop-count

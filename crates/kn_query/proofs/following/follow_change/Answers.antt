@@ -9,5 +9,6 @@ returns-in-Add c = follows-addition c.args.rows.now c.args.numbered.now _ c.args
 
 pub returns-in-Remove : goal.returns-in-Remove
 returns-in-Remove c =
-    subst (λ (change : Change). FollowsRemovals (record { change = change; id = c.args.numbered.now.id } ∷ []) c.args.rows.now c.args.base.now c.remove_row.new.base)
+    subst (λ (change : Change). FollowsRemovals (record { change = change; id = c.args.numbered.now.id } ∷ [])
+    c.args.rows.now c.args.base.now c.remove_row.new.base)
     (sym c.in-Remove.is) c.remove_row.ensures

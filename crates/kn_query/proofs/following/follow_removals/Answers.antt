@@ -10,7 +10,8 @@ use Rattle.kn_query.proofs.following.follow_removals.Goals as goal
 
 pub loop-place-init : goal.loop-place-init
 loop-place-init c =
-    subst (λ (us : List Update). FollowsRemovals (all_changes us) c.args.rows.now c.args.base.now c.args.base.now) (sym (none_before c.args.version.now c.args.first))
+    subst (λ (us : List Update). FollowsRemovals (all_changes us) c.args.rows.now c.args.base.now c.args.base.now)
+    (sym (none_before c.args.version.now c.args.first))
     (follows-none c.args.rows.now c.args.base.now)
 
 pub loop-place-preserved : goal.loop-place-preserved
@@ -22,7 +23,9 @@ loop-place-preserved c =
     let seen : List Update = drop first (take place version) in
     let update : Update = c.update.result.now in
     let changes : all_changes seen ++ update.changes ≡ all_changes (drop first (take (suc place) version)) =
-    sym (changes-push seen update) ∙ ap all_changes (sym (more-from version first place update (omega arith) c.update.ensures.update)) in
+    sym (changes-push seen update)
+    ∙ ap all_changes (sym (more-from version first place update (omega arith) c.update.ensures.update)) in
     subst (λ (cs : List Numbered). FollowsRemovals cs c.args.rows.now c.args.base.now c.follow_update.new.base)
     (changes ∙ ap (λ (n : ℕ). all_changes (drop first (take n version))) next)
-    (follows-then c.args.rows.now (all_changes seen) update.changes c.args.base.now c.loop-place.base c.follow_update.new.base c.loop-place.invariant c.follow_update.ensures)
+    (follows-then c.args.rows.now (all_changes seen) update.changes c.args.base.now c.loop-place.base
+    c.follow_update.new.base c.loop-place.invariant c.follow_update.ensures)

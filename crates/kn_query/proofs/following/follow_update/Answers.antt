@@ -13,8 +13,12 @@ loop-numbered-preserved c =
     let changes : List Numbered = c.args.update.now.changes in
     let i : ℕ = c.loop-numbered.numbered-index in
     let here : Numbered = c.numbered-item.result in
-    let within : c.loop-numbered.numbered-index < length changes = omega (arith, c.loop-numbered-test.true, ap length c.as_slice-numbered-items.ensures) in
-    let is : here ≡ get_or changes i here = c.numbered-item.is ∙ ap (λ (l : List Numbered). get_or l i here) c.as_slice-numbered-items.ensures in
-    let more : take i changes ++ here ∷ [] ≡ take (i + 1) changes = ap (λ (x : Numbered). take i changes ++ x ∷ []) is ∙ sym (take_more changes i here within) in
+    let within : c.loop-numbered.numbered-index < length changes =
+    omega (arith, c.loop-numbered-test.true, ap length c.as_slice-numbered-items.ensures) in
+    let is : here ≡ get_or changes i here = c.numbered-item.is
+    ∙ ap (λ (l : List Numbered). get_or l i here) c.as_slice-numbered-items.ensures in
+    let more : take i changes ++ here ∷ [] ≡ take (i + 1) changes = ap (λ (x : Numbered). take i changes ++ x ∷ []) is
+    ∙ sym (take_more changes i here within) in
     subst (λ (cs : List Numbered). FollowsRemovals cs c.args.rows.now c.args.base.now c.follow_change.new.base) more
-    (follows-then c.args.rows.now (take i changes) (here ∷ []) c.args.base.now c.loop-numbered.base c.follow_change.new.base c.loop-numbered.invariant c.follow_change.ensures)
+    (follows-then c.args.rows.now (take i changes) (here ∷ []) c.args.base.now c.loop-numbered.base
+    c.follow_change.new.base c.loop-numbered.invariant c.follow_change.ensures)

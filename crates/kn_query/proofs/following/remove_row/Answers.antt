@@ -12,7 +12,8 @@ remove-requires c =
 pub returns-in-Some : goal.returns-in-Some
 returns-in-Some c =
     let here = c.in-Some.ensures in
-    follows-removal c.args.rows.now c.args.id c.in-Some.row c.args.base.now c.remove.new.self c.len-ids.ensures.ids c.requires.flags
+    follows-removal c.args.rows.now c.args.id c.in-Some.row c.args.base.now c.remove.new.self c.len-ids.ensures.ids
+    c.requires.flags
     (id-here c.args.rows.now c.in-Some.row c.args.id here.credential here.there here.same) c.remove.ensures
 
 pub returns-in-None : goal.returns-in-None

@@ -14,40 +14,54 @@ use Rattle.kn_query.proofs.query.answer_query.Goals as goal
 
 pub answer_shared-requires : goal.answer_shared-requires
 answer_shared-requires c = record {
-  of_history = subst (λ (u : List Update). EachKept (IsOfHistory u) c.args.kept.now) (sym c.deref.ensures) c.requires.of_history;
+  of_history = subst (λ (u : List Update). EachKept (IsOfHistory u) c.args.kept.now) (sym c.deref.ensures)
+      c.requires.of_history;
 }
 
 pub returns-then-is_empty : goal.returns-then-is_empty
 returns-then-is_empty c =
     let session : Session = session_of_view c.args.view.now in
     let none : session.privates ≡ [] = ap (map numbered_text) (c.is_empty.ensures.0 c.if-is_empty.true) in
-    let same : equations_over c.in_ok-query.query (shared_parts c.deref.result.now) ≡ equations_of session c.args.values.now =
+    let same : equations_over c.in_ok-query.query (shared_parts c.deref.result.now)
+    ≡ equations_of session c.args.values.now =
     ap (λ (u : List Update). equations_over c.in_ok-query.query (shared_parts u)) c.deref.ensures
-    ∙ asked-alone session c.in_ok-query.query c.args.values.now c.in_ok-query.ensures.attributes c.in_ok-query.ensures.values c.in_ok-query.ensures.requesters none in
+    ∙ asked-alone session c.in_ok-query.query c.args.values.now c.in_ok-query.ensures.attributes
+    c.in_ok-query.ensures.values c.in_ok-query.ensures.requesters none in
     record {
-      proof = subst (λ (e : Equations). IfOk c.answer_shared.result (λ a. proof.IsProof e a.rows a.value)) same c.answer_shared.ensures.proof;
-      least = subst (λ (e : Equations). IfOk c.answer_shared.result (λ a. IsPolicyLevel e a.value)) same c.answer_shared.ensures.least;
-      below = subst (λ (vs : List (List ℕ)). IfOk c.answer_shared.result (λ a. a.value < length vs)) c.in_ok-query.ensures.values c.answer_shared.ensures.below;
-      of_version = subst (λ (u : List Update). EachKept (IsKeptOrOf u c.args.kept.now) c.answer_shared.new.kept) c.deref.ensures c.answer_shared.ensures.of_version;
+      proof = subst (λ (e : Equations). IfOk c.answer_shared.result (λ a. proof.IsProof e a.rows a.value)) same
+          c.answer_shared.ensures.proof;
+      least = subst (λ (e : Equations). IfOk c.answer_shared.result (λ a. IsPolicyLevel e a.value)) same
+          c.answer_shared.ensures.least;
+      below = subst (λ (vs : List (List ℕ)). IfOk c.answer_shared.result (λ a. a.value < length vs))
+          c.in_ok-query.ensures.values c.answer_shared.ensures.below;
+      of_version = subst (λ (u : List Update). EachKept (IsKeptOrOf u c.args.kept.now) c.answer_shared.new.kept)
+          c.deref.ensures c.answer_shared.ensures.of_version;
     }
 
 pub answer_own-requires : goal.answer_own-requires
 answer_own-requires c = record {
   privates = c.requires.privates;
   readings = c.requires.readings;
-  of_history = subst (λ (u : List Update). EachKept (IsOfHistory u) c.args.kept.now) (sym c.deref-else-is_empty.ensures) c.requires.of_history;
+  of_history = subst (λ (u : List Update). EachKept (IsOfHistory u) c.args.kept.now) (sym c.deref-else-is_empty.ensures)
+      c.requires.of_history;
 }
 
 pub returns : goal.returns
 returns c =
     let session : Session = session_of_view c.args.view.now in
     let own : List Part = private_parts c.args.view.now.private.now in
-    let same : equations_over c.in_ok-query.query (shared_parts c.deref-else-is_empty.result.now ++ own) ≡ equations_of session c.args.values.now =
+    let same : equations_over c.in_ok-query.query (shared_parts c.deref-else-is_empty.result.now ++ own)
+    ≡ equations_of session c.args.values.now =
     ap (λ (u : List Update). equations_over c.in_ok-query.query (shared_parts u ++ own)) c.deref-else-is_empty.ensures
-    ∙ asked-with session c.in_ok-query.query c.args.values.now c.in_ok-query.ensures.attributes c.in_ok-query.ensures.values c.in_ok-query.ensures.requesters in
+    ∙ asked-with session c.in_ok-query.query c.args.values.now c.in_ok-query.ensures.attributes
+    c.in_ok-query.ensures.values c.in_ok-query.ensures.requesters in
     record {
-      proof = subst (λ (e : Equations). IfOk c.answer_own.result (λ a. proof.IsProof e a.rows a.value)) same c.answer_own.ensures.proof;
-      least = subst (λ (e : Equations). IfOk c.answer_own.result (λ a. IsPolicyLevel e a.value)) same c.answer_own.ensures.least;
-      below = subst (λ (vs : List (List ℕ)). IfOk c.answer_own.result (λ a. a.value < length vs)) c.in_ok-query.ensures.values c.answer_own.ensures.below;
-      of_version = subst (λ (u : List Update). EachKept (IsKeptOrOf u c.args.kept.now) c.answer_own.new.kept) c.deref-else-is_empty.ensures c.answer_own.ensures.of_version;
+      proof = subst (λ (e : Equations). IfOk c.answer_own.result (λ a. proof.IsProof e a.rows a.value)) same
+          c.answer_own.ensures.proof;
+      least = subst (λ (e : Equations). IfOk c.answer_own.result (λ a. IsPolicyLevel e a.value)) same
+          c.answer_own.ensures.least;
+      below = subst (λ (vs : List (List ℕ)). IfOk c.answer_own.result (λ a. a.value < length vs))
+          c.in_ok-query.ensures.values c.answer_own.ensures.below;
+      of_version = subst (λ (u : List Update). EachKept (IsKeptOrOf u c.args.kept.now) c.answer_own.new.kept)
+          c.deref-else-is_empty.ensures c.answer_own.ensures.of_version;
     }

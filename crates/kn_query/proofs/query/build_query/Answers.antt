@@ -5,4 +5,6 @@ use Rattle.kn_query.proofs.query.build_query.Goals as goal
 
 -- the ids are those of the parts, which differ
 pub returns-clause-ids : goal.returns-clause-ids
-returns-clause-ids c = IfOk-weaker c.build.result _ _ (λ built same. subst AreDistinct (sym same) c.in_ok-parts.ensures.ids) c.build.ensures.ids
+returns-clause-ids c =
+    IfOk-weaker c.build.result _ _ (λ built same. subst AreDistinct (sym same) c.in_ok-parts.ensures.ids)
+    c.build.ensures.ids

@@ -15,14 +15,18 @@ returns-in-Ok g c = λ f bytes policy loaded before.
     let mid = g.F.Files.seen c.args.files.now in
     let named : option_map (λ n. n.now) c.service-inside.inside.0.0.keys ≡ c.args.service.now.files.keys =
     ap (λ (s : Inside). s.files.keys) c.service-inside.view_is ∙ ap (λ (o : Order). o.files.keys) c.service.view_is in
-    let asked : HasAsked (option_to_list c.args.service.now.files.keys) mid (g.F.Files.seen c.keys_of.new.files) = rw named at c.in-Ok.ensures.asked in
+    let asked : HasAsked (option_to_list c.args.service.now.files.keys) mid (g.F.Files.seen c.keys_of.new.files) =
+    rw named at c.in-Ok.ensures.asked in
     let known : AreKeys mid c.args.service.now.files.keys c.in-Ok.keys = rw named at c.in-Ok.ensures.known in
-    served_there _ _ f mid _ _ _ c.args.service.now bytes c.in-Ok.keys policy before asked known c.serve_address.result (c.serve_address.ensures (pieces_of bytes) loaded)
+    served_there _ _ f mid _ _ _ c.args.service.now bytes c.in-Ok.keys policy before asked known c.serve_address.result
+    (c.serve_address.ensures (pieces_of bytes) loaded)
 
 pub returns-in-Err : goal.returns-in-Err
 returns-in-Err g c = λ f bytes policy loaded before.
     let mid = g.F.Files.seen c.args.files.now in
     let named : option_map (λ n. n.now) c.service-inside.inside.0.0.keys ≡ c.args.service.now.files.keys =
     ap (λ (s : Inside). s.files.keys) c.service-inside.view_is ∙ ap (λ (o : Order). o.files.keys) c.service.view_is in
-    let stops : IsSomeAnd c.args.service.now.files.keys (λ name. StopsAtKeys mid (g.F.Files.seen c.keys_of.new.files) [] name c.in-Err.stop) = rw named at c.in-Err.ensures.err in
+    let stops : IsSomeAnd c.args.service.now.files.keys
+    (λ name. StopsAtKeys mid (g.F.Files.seen c.keys_of.new.files) [] name c.in-Err.stop) =
+    rw named at c.in-Err.ensures.err in
     (keys_stopped f mid _ c.args.service.now.files bytes c.in-Err.stop policy before stops, refl)

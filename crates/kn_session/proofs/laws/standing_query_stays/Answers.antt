@@ -1,4 +1,5 @@
-use Rattle.kn_session.proofs.StandingQueries.{calls_keep_standing, others_keep_standing, pins_keep_standing, moves_version_alone}
+use Rattle.kn_session.proofs.StandingQueries.{calls_keep_standing, others_keep_standing, pins_keep_standing}
+use Rattle.kn_session.proofs.StandingQueries.{moves_version_alone}
 use Rattle.kn_session.proofs.laws.standing_query_stays.Goals as goal
 
 pub returns : goal.returns

@@ -8,4 +8,5 @@ returns c =
     let n : ℕ = length c.args.buckets.now.items in
     let empty : List ℕ = [] in
     ext_get_or empty xs (replicate n empty) (c.loop-level.invariant.size ∙ sym (length-replicate n empty))
-    (λ k l. c.loop-level.invariant.done k (omega (arith, l, c.loop-level.invariant.size)) ∙ sym (get_or-replicate n k empty empty (omega (arith, l, c.loop-level.invariant.size))))
+    (λ k l. c.loop-level.invariant.done k (omega (arith, l, c.loop-level.invariant.size))
+    ∙ sym (get_or-replicate n k empty empty (omega (arith, l, c.loop-level.invariant.size))))

@@ -11,14 +11,21 @@ returns-in-Ok-reach-clause-settled g c =
     let s : SystemEquations = c.args.system.now in
     let levels : List ℕ = c.args.levels.now.values.items in
     let rows : List ProofRow = c.args.rows.now in
-    let granted : IsGranted s c.args.value levels rows c.args.row = c.settling_grants.ensures s c.args.value levels rows c.args.row c.requires.well_formed c.requires.above_lowest c.requires.settled c.requires.granted in
+    let granted : IsGranted s c.args.value levels rows c.args.row =
+    c.settling_grants.ensures s c.args.value levels rows c.args.row c.requires.well_formed c.requires.above_lowest
+    c.requires.settled c.requires.granted in
     subst (λ (ls : List ℕ). IsSettled s c.args.value ls c.push.new.self) (sym c.in-Ok-reach.ensures.levels)
-    (settled_read s c.args.value c.authorizer-principal.result c.args.row levels rows c.push.new.self c.authorizer-principal.ensures.exact c.in-Ok.ensures.ok granted)
+    (settled_read s c.args.value c.authorizer-principal.result c.args.row levels rows c.push.new.self
+    c.authorizer-principal.ensures.exact c.in-Ok.ensures.ok granted)
 
 pub returns-in-Ok-reach-clause-fewer : goal.returns-in-Ok-reach-clause-fewer
 returns-in-Ok-reach-clause-fewer g c =
     let s : SystemEquations = c.args.system.now in
     let levels : List ℕ = c.args.levels.now.values.items in
     let rows : List ProofRow = c.args.rows.now in
-    let granted : IsGranted s c.args.value levels rows c.args.row = c.settling_grants.ensures s c.args.value levels rows c.args.row c.requires.well_formed c.requires.above_lowest c.requires.settled c.requires.granted in
-    subst (λ (ls : List ℕ). unsettled ls < unsettled levels) (sym c.in-Ok-reach.ensures.levels) (fewer_read s c.args.value c.authorizer-principal.result c.args.row levels rows c.authorizer-principal.ensures.exact granted)
+    let granted : IsGranted s c.args.value levels rows c.args.row =
+    c.settling_grants.ensures s c.args.value levels rows c.args.row c.requires.well_formed c.requires.above_lowest
+    c.requires.settled c.requires.granted in
+    subst (λ (ls : List ℕ). unsettled ls < unsettled levels) (sym c.in-Ok-reach.ensures.levels)
+    (fewer_read s c.args.value c.authorizer-principal.result c.args.row levels rows
+    c.authorizer-principal.ensures.exact granted)

@@ -11,11 +11,16 @@ loop-principal-preserved g c =
     elim c.if-is_requester.branch [
       | then-is_requester+in-Ok w ↦
           let yes_now : c.is_requester.result ≡ true = search rules in
-          requesters-more s p c.loop-principal.numbers c.if-is_requester.numbers (omega arith) (omega arith) (sym yes_now ∙ c.is_requester.ensures) (w.numbers-is ∙ w.in-Ok.ensures.ok) c.loop-principal.invariant
+          requesters-more s p c.loop-principal.numbers c.if-is_requester.numbers (omega arith) (omega arith)
+          (sym yes_now ∙ c.is_requester.ensures) (w.numbers-is ∙ w.in-Ok.ensures.ok) c.loop-principal.invariant
       | else-is_requester w ↦
           let not_now : c.is_requester.result ≡ false = search rules in
-          subst (AreRequestersBelow s (p + 1)) (sym w.numbers-is) (requesters-other s p c.loop-principal.numbers (sym not_now ∙ c.is_requester.ensures) c.loop-principal.invariant)
+          subst (AreRequestersBelow s (p + 1)) (sym w.numbers-is)
+          (requesters-other s p c.loop-principal.numbers (sym not_now
+          ∙ c.is_requester.ensures) c.loop-principal.invariant)
     ]
 
 pub returns-clause-flags : goal.returns-clause-flags
-returns-clause-flags g c = requesters-flags c.args.system.now c.loop-principal.principal c.loop-principal.numbers (omega arith) c.loop-principal.invariant
+returns-clause-flags g c =
+    requesters-flags c.args.system.now c.loop-principal.principal c.loop-principal.numbers (omega arith)
+    c.loop-principal.invariant

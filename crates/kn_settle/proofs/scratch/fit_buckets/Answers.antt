@@ -12,6 +12,7 @@ loop-alloc-init c =
     let size : length new ≡ length (take c.args.size old) = ap length cut in
     let short = length-take c.args.size old in
     record {
-      none = subst (λ (xs : List (List ℕ)). xs ≡ replicate (length xs) empty) (sym cut) (same-taken old (length old) c.args.size empty c.requires);
+      none = subst (λ (xs : List (List ℕ)). xs ≡ replicate (length xs) empty) (sym cut)
+          (same-taken old (length old) c.args.size empty c.requires);
       short = omega (arith, size, short);
     }

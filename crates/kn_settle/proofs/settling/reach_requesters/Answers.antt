@@ -8,7 +8,9 @@ loop-place-preserved g c =
     let s : SystemEquations = c.args.system.now in
     let i : ℕ = c.loop-place.place in
     record {
-      begun = begun-next s c.reach_requester.new.levels.values.items c.args.requesters.now i (get_or c.args.requesters.now i 0) (omega arith) refl (c.in_ok-reach_requester.ensures.begun _ c.loop-place.invariant.begun);
+      begun = begun-next s c.reach_requester.new.levels.values.items c.args.requesters.now i
+          (get_or c.args.requesters.now i 0) (omega arith) refl
+          (c.in_ok-reach_requester.ensures.begun _ c.loop-place.invariant.begun);
       one_each = c.in_ok-reach_requester.ensures.one_each ∙ c.loop-place.invariant.one_each;
       counts = c.in_ok-reach_requester.ensures.counts ∙ c.loop-place.invariant.counts;
       buckets = c.in_ok-reach_requester.ensures.buckets ∙ c.loop-place.invariant.buckets;
@@ -20,4 +22,6 @@ loop-place-preserved g c =
     }
 
 pub returns-clause-levels : goal.returns-clause-levels
-returns-clause-levels g c = begun-all c.args.system.now c.loop-place.levels.values.items c.args.requesters.now c.loop-place.place (omega arith) c.requires.flags c.loop-place.invariant.begun
+returns-clause-levels g c =
+    begun-all c.args.system.now c.loop-place.levels.values.items c.args.requesters.now c.loop-place.place (omega arith)
+    c.requires.flags c.loop-place.invariant.begun

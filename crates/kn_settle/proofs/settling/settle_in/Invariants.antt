@@ -13,7 +13,8 @@ invariant-loop-value g l = record {
   counted : AreTrailed l.counters.counts.items l.counters.trail;
   counts : length l.counters.counts.items ≡ node_total l.system.rows;
   buckets : length l.counters.buckets.items ≡ l.system.levels;
-  marked : (marks : List Bool) × IsUsed l.system marks l.levels.values.items l.fn.steps l.steps × IsCounting l.system l.value l.levels.values.items marks l.counters.counts.items l.counters.buckets.items;
+  marked : (marks : List Bool) × IsUsed l.system marks l.levels.values.items l.fn.steps l.steps
+      × IsCounting l.system l.value l.levels.values.items marks l.counters.counts.items l.counters.buckets.items;
 }
 
 abbrev pub decreases-loop-value : goal.decreases-loop-value

@@ -14,11 +14,15 @@ invariant-loop-row g l = record {
   nodes : length l.counters.counts.items ≡ node_total l.system.rows;
   buckets : length l.counters.buckets.items ≡ length l.initial.counters.buckets.items;
   levels : length l.counters.buckets.items ≡ l.system.levels;
-  reached : AreTrailed l.initial.levels.values.items l.initial.levels.trail → AreTrailed l.levels.values.items l.levels.trail;
-  counted : AreTrailed l.initial.counters.counts.items l.initial.counters.trail → AreTrailed l.counters.counts.items l.counters.trail;
+  reached : AreTrailed l.initial.levels.values.items l.initial.levels.trail
+      → AreTrailed l.levels.values.items l.levels.trail;
+  counted : AreTrailed l.initial.counters.counts.items l.initial.counters.trail
+      → AreTrailed l.counters.counts.items l.counters.trail;
   within : l.at ≤ length (bucket_at l.counters.buckets.items l.value);
   passed : ArePassed l.system l.levels.values.items (bucket_at l.counters.buckets.items l.value) l.at;
-  continues : Continues l.system l.value l.initial.levels.values.items l.initial.counters.counts.items l.initial.counters.buckets.items l.initial.steps l.levels.values.items l.counters.counts.items l.counters.buckets.items l.steps;
+  continues : Continues l.system l.value l.initial.levels.values.items l.initial.counters.counts.items
+      l.initial.counters.buckets.items l.initial.steps l.levels.values.items l.counters.counts.items
+      l.counters.buckets.items l.steps;
 }
 
 abbrev pub decreases-loop-row : goal.decreases-loop-row

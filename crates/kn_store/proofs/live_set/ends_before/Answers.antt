@@ -5,5 +5,6 @@ use Rattle.kn_store.proofs.live_set.ends_before.Goals as goal
 
 pub returns-in-Some : goal.returns-in-Some
 returns-in-Some c =
-    let last = ends_at c.args.id c.args.page.now c.in-Some.last.now (length c.args.page.now - 1) (search rules) (sym c.in-Some.ensures.value) in
+    let last = ends_at c.args.id c.args.page.now c.in-Some.last.now (length c.args.page.now - 1) (search rules)
+    (sym c.in-Some.ensures.value) in
     ap (λ n. nat_lt n c.args.id) (search rules) ∙ sym last

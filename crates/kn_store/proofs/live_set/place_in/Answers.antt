@@ -7,7 +7,8 @@ returns-then-id c = search (rules, found_at)
 
 pub loop-place-preserved : goal.loop-place-preserved
 loop-place-preserved c =
-    passed c.args.id c.args.page.now c.loop-place.place c.index-page-place.result c.loop-place-test.true c.index-page-place.is
+    passed c.args.id c.args.page.now c.loop-place.place c.index-page-place.result c.loop-place-test.true
+    c.index-page-place.is
     (λ same. c.if-id.false (c.id.ensures ∙ same)) c.loop-place.invariant
 
 pub returns : goal.returns

@@ -10,7 +10,8 @@ abbrev pub invariant-loop-part : goal.invariant-loop-part
 invariant-loop-part g l = record {
   further : l.at < l.next;
   inside : l.next ≤ length l.pieces;
-  rest : drop l._part (form_levels l.top l.values (drop (l.at + 1) l.pieces)) ≡ form_levels l.top l.values (drop l.next l.pieces);
+  rest : drop l._part (form_levels l.top l.values (drop (l.at + 1) l.pieces))
+      ≡ form_levels l.top l.values (drop l.next l.pieces);
   tallied : AreTallied l.tally (take l._part (form_levels l.top l.values (drop (l.at + 1) l.pieces)));
   size : length l.tally ≡ 64;
   ticks : l.steps ≡ min (l.fn.steps + (l.next - l.at)) (2 ^ 64 - 1);

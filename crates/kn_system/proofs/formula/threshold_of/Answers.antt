@@ -15,8 +15,10 @@ loop-level-init c = record {
 pub returns-then-reaching-from-clause-exact : goal.returns-then-reaching-from-clause-exact
 returns-then-reaching-from-clause-exact c = λ levels tallied low.
     let level = c.loop-level.level in
-    let here = reaching-at c.args.tally.now level c.loop-level.reaching levels (omega arith) tallied (c.loop-level.invariant.counted levels tallied low) in
-    threshold-is c.args.top c.args.need level levels c.loop-level.invariant.low (λ _. omega (arith, here)) (c.loop-level.invariant.few levels tallied low)
+    let here = reaching-at c.args.tally.now level c.loop-level.reaching levels (omega arith) tallied
+    (c.loop-level.invariant.counted levels tallied low) in
+    threshold-is c.args.top c.args.need level levels c.loop-level.invariant.low (λ _. omega (arith, here))
+    (c.loop-level.invariant.few levels tallied low)
 
 pub loop-level-preserved : goal.loop-level-preserved
 loop-level-preserved c =
@@ -25,11 +27,13 @@ loop-level-preserved c =
       low = omega arith;
       fits = omega (arith, c.fits-tally level);
       counted = λ levels tallied low.
-          let here = reaching-at c.args.tally.now level c.loop-level.reaching levels (omega arith) tallied (c.loop-level.invariant.counted levels tallied low) in
+          let here = reaching-at c.args.tally.now level c.loop-level.reaching levels (omega arith) tallied
+          (c.loop-level.invariant.counted levels tallied low) in
           let same : level ≡ level - 1 + 1 = omega arith in
           ap (λ r. c.loop-level.reaching + r) c.from-reaching.ensures ∙ here ∙ ap (λ v. reaching v levels) same;
       few = λ levels tallied low u above most.
-          let here = reaching-at c.args.tally.now level c.loop-level.reaching levels (omega arith) tallied (c.loop-level.invariant.counted levels tallied low) in
+          let here = reaching-at c.args.tally.now level c.loop-level.reaching levels (omega arith) tallied
+          (c.loop-level.invariant.counted levels tallied low) in
           elim (cases_lt level u) [
             | inl higher ↦ c.loop-level.invariant.few levels tallied low u higher most
             | inr not_higher ↦

@@ -7,14 +7,17 @@ use Rattle.kn_transcript.proofs.admitting.judge_secret.Goals as goal
 
 pub returns-then-digits-lt2 : goal.returns-then-digits-lt2
 returns-then-digits-lt2 c = record {
-  judged = λ past. wrong_judged past (state_of c.args.connection.now) (bytes_of_digits c.args.digits.now) c.args.left.now
-      c.behind_reply.result (λ found. option_map (λ rest. rest.now) found) (inl (no_bytes c.args.digits.now c.if-digits-lt2.true))
+  judged = λ past. wrong_judged past (state_of c.args.connection.now) (bytes_of_digits c.args.digits.now)
+      c.args.left.now
+      c.behind_reply.result (λ found. option_map (λ rest. rest.now) found)
+      (inl (no_bytes c.args.digits.now c.if-digits-lt2.true))
       c.behind_reply.ensures.behind;
 }
 
 pub returns-in-Some : goal.returns-in-Some
 returns-in-Some c = record {
-  judged = λ past. secret_taken past (state_of c.args.connection.now) c.args.digits.now c.args.left.now c.in-Some.rest.now
+  judged = λ past. secret_taken past (state_of c.args.connection.now) c.args.digits.now c.args.left.now
+      c.in-Some.rest.now
       c.if-digits-lt2.false
       (cut_of (λ rest. rest.now) c.args.left.now (reply_text Done) c.in_ok-rest.field-0 c.in-Some.rest c.in-Some.is
       c.in_ok-rest.ensures.behind);
@@ -22,7 +25,8 @@ returns-in-Some c = record {
 
 pub returns-in-None : goal.returns-in-None
 returns-in-None c = record {
-  judged = λ past. wrong_judged past (state_of c.args.connection.now) (bytes_of_digits c.args.digits.now) c.args.left.now
+  judged = λ past. wrong_judged past (state_of c.args.connection.now) (bytes_of_digits c.args.digits.now)
+      c.args.left.now
       c.behind_reply-in-None.result (λ found. option_map (λ rest. rest.now) found)
       (inr (missing_of (λ rest. rest.now) c.args.left.now (reply_text Done) c.in_ok-rest.field-0 c.in-None.is
       c.in_ok-rest.ensures.behind))

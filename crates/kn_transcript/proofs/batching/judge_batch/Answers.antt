@@ -1,4 +1,5 @@
-use Rattle.std.proofs.Common.{◌≡◌, ◌∙◌, ◌+◌, ◌≤◌, ℕ, ap, sym, map, None, Option, Ok, List, option_map, length, subst, arith}
+use Rattle.std.proofs.Common.{◌≡◌, ◌∙◌, ◌+◌, ◌≤◌, ℕ, ap, sym, map, None, Option, Ok, List, option_map, length, subst}
+use Rattle.std.proofs.Common.{arith}
 use Rattle.std.proofs.lemmas.List.{length-map}
 use Rattle.kn_wire.specs.declared.items.BatchItem.{BatchItem as ItemInCode}
 use Rattle.kn_wire.specs.Items.{items_of}
@@ -9,7 +10,8 @@ use Rattle.kn_transcript.specs.Judging.{state_of}
 use Rattle.kn_transcript.specs.Verdicts.{AreRead, IsBehindVerdicts}
 use Rattle.kn_transcript.proofs.VerdictLaws.{update_unshown}
 use Rattle.kn_transcript.proofs.ItemLaws.{read_within}
-use Rattle.kn_transcript.proofs.BatchingLaws.{batch_unread, batch_unadmitted, batch_unread_item, none_stand, none_behind_all, some_behind_all}
+use Rattle.kn_transcript.proofs.BatchingLaws.{batch_unread, batch_unadmitted, batch_unread_item, none_stand}
+use Rattle.kn_transcript.proofs.BatchingLaws.{none_behind_all, some_behind_all}
 use Rattle.kn_transcript.proofs.batching.judge_batch.Goals as goal
 
 pub returns-then-not-connection : goal.returns-then-not-connection
@@ -29,7 +31,8 @@ returns-in-Err c = record {
 pub behind_verdicts-requires : goal.behind_verdicts-requires
 behind_verdicts-requires c =
     let parts = map C.item_of c.as_slice-parts.result.now in
-    let few : length c.in_ok-read.read.items ≤ length parts = read_within parts c.in_ok-read.read c.in_ok-read.ensures.read in
+    let few : length c.in_ok-read.read.items ≤ length parts =
+    read_within parts c.in_ok-read.read c.in_ok-read.ensures.read in
     let size : length parts ≡ length c.as_slice-parts.result.now = length-map c.as_slice-parts.result.now C.item_of in
     let count = c.len-count.ensures in
     record { within = omega (arith, few, size, count) }
@@ -37,7 +40,8 @@ behind_verdicts-requires c =
 pub overflow_add-item : goal.overflow_add-item
 overflow_add-item c =
     let parts = map C.item_of c.as_slice-parts.result.now in
-    let few : length c.in_ok-read.read.items ≤ length parts = read_within parts c.in_ok-read.read c.in_ok-read.ensures.read in
+    let few : length c.in_ok-read.read.items ≤ length parts =
+    read_within parts c.in_ok-read.read c.in_ok-read.ensures.read in
     let size : length parts ≡ length c.as_slice-parts.result.now = length-map c.as_slice-parts.result.now C.item_of in
     let same : length c.as_slice-parts.result.now ≡ length c.in-Ok.items = ap length c.as_slice-parts.ensures in
     let all = c.in-Ok.ensures.few in
@@ -53,7 +57,8 @@ returns-in-Some c =
       judged = batch_unadmitted c.args.book.now (state_of c.args.connection.now) c.args.block.now c.args.left.now
           c.if-not-connection.false parts reads c.in_ok-read.read c.in_ok-read.ensures.read c.len-count.result
           c.len-count.ensures c.in-Some.rest.now
-          (some_behind_all (λ rest. rest.now) parts c.len-count.result c.args.left.now c.in_ok-rest.field-0 c.in-Some.rest
+          (some_behind_all (λ rest. rest.now) parts c.len-count.result c.args.left.now c.in_ok-rest.field-0
+          c.in-Some.rest
           c.in-Some.is c.in_ok-rest.ensures.behind);
     }
 
@@ -69,7 +74,8 @@ returns-in-Some-refusal c =
     record {
       judged = batch_unread_item past old block left c.if-not-connection.false parts reads c.in_ok-read.read
           c.in_ok-read.ensures.read
-          (none_stand past old block left c.if-not-connection.false parts reads c.in_ok-read.read c.in_ok-read.ensures.read
+          (none_stand past old block left c.if-not-connection.false parts reads c.in_ok-read.read
+          c.in_ok-read.ensures.read
           c.len-count.result c.len-count.ensures
           (none_behind_all (λ rest. rest.now) parts c.len-count.result left c.in_ok-rest.field-0 c.in-None.is
           c.in_ok-rest.ensures.behind))

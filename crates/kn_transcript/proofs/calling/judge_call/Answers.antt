@@ -15,7 +15,8 @@ pub returns-in-Ok : goal.returns-in-Ok
 returns-in-Ok c =
     let old = c.args.connection.now in
     record {
-      judged = λ past. call_done past old.sessions c.apply.new.self old.is_admin c.args.s (call_of c.args.call) c.args.left.now
+      judged = λ past. call_done past old.sessions c.apply.new.self old.is_admin c.args.s (call_of c.args.call)
+          c.args.left.now
           c.behind_reply.result (λ found. option_map (λ rest. rest.now) found) c.in-Ok.applied c.in-Ok.ensures.ok
           (as_text c.behind_reply.result (λ found. option_map (λ rest. rest.now) found) c.args.left.now
           (reply_text (reply_of c.reply_of_applied.result)) (reply_text (reply_of_call c.in-Ok.applied))
@@ -26,7 +27,8 @@ pub returns-in-Err : goal.returns-in-Err
 returns-in-Err c =
     let old = c.args.connection.now in
     record {
-      judged = λ past. call_untaken past old.sessions c.apply.new.self old.is_admin c.args.s (call_of c.args.call) c.args.left.now
+      judged = λ past. call_untaken past old.sessions c.apply.new.self old.is_admin c.args.s (call_of c.args.call)
+          c.args.left.now
           c.behind_refusal.result (λ found. option_map (λ rest. rest.now) found) c.in-Err.fault c.refusal_of_call.result
           c.in-Err.ensures.err c.refusal_of_call.ensures c.behind_refusal.ensures.behind;
     }

@@ -8,5 +8,6 @@ abbrev pub invariant-loop-part : goal.invariant-loop-part
 invariant-loop-part l =
     record {
       form : is_form (drop l.part-index l.form) ≡ true;
-      goes_on : (found : Option (List ℕ)) → IsBehindOne (IsOfForm (drop l.part-index l.form)) l.rest found → IsBehindOne (IsOfForm l.form) l.left found;
+      goes_on : (found : Option (List ℕ)) → IsBehindOne (IsOfForm (drop l.part-index l.form)) l.rest found
+          → IsBehindOne (IsOfForm l.form) l.left found;
     }

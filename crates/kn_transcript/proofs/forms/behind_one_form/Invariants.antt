@@ -8,6 +8,7 @@ abbrev pub invariant-loop-form : goal.invariant-loop-form
 invariant-loop-form l =
     record {
       forms : are_forms (drop l.form-index (map (λ form. form.now) l.forms)) ≡ true;
-      goes_on : (found : Option (List ℕ)) → IsBehindOne (IsOfOneForm (drop l.form-index (map (λ form. form.now) l.forms))) l.left found
+      goes_on : (found : Option (List ℕ))
+          → IsBehindOne (IsOfOneForm (drop l.form-index (map (λ form. form.now) l.forms))) l.left found
           → IsBehindOne (IsOfOneForm (map (λ form. form.now) l.forms)) l.left found;
     }

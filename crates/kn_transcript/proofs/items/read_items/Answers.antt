@@ -10,7 +10,8 @@ loop-item-preserved c =
     let i : ℕ = c.loop-item.item-index in
     let within : i < length items = omega arith in
     let none : ItemInCode = B.Add (record { ref_ptr = (0, 0); now = [] }) in (
-      read_more items i none within c.loop-item.read _ _ c.loop-item.invariant.0 c.in-Ok-push.ensures.ok c.in-Ok.ensures.item,
+      read_more items i none within c.loop-item.read _ _ c.loop-item.invariant.0 c.in-Ok-push.ensures.ok
+          c.in-Ok.ensures.item,
       readings_more items i none within c.loop-item.invariant.1 c.in-Ok.ensures.reading,
     )
 
@@ -27,6 +28,7 @@ returns-in-Err c =
     let within : i < length items = omega arith in
     let none : ItemInCode = B.Add (record { ref_ptr = (0, 0); now = [] }) in
     record {
-      read = read_ended items i none within c.end_reading.result c.loop-item.read c.in-Err.refusal c.loop-item.invariant.0
+      read = read_ended items i none within c.end_reading.result c.loop-item.read c.in-Err.refusal
+          c.loop-item.invariant.0
           c.loop-item.invariant.1 c.in-Err.ensures.unread c.end_reading.ensures;
     }

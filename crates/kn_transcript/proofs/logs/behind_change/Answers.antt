@@ -7,4 +7,5 @@ returns-in-Some c = change_added c.args.left.now c.in-Some.rest.now c.in-Some.en
 
 pub returns : goal.returns
 returns c =
-    change_removed c.args.left.now (option_map (λ rest. rest.now) c.behind_removal.result) c.in_default.ensures c.behind_removal.ensures
+    change_removed c.args.left.now (option_map (λ rest. rest.now) c.behind_removal.result) c.in_default.ensures
+    c.behind_removal.ensures

@@ -12,12 +12,15 @@ loop-init c = λ found is. items_init IsReadNumbered change_text c.args.count c.
 pub returns-in_err-rest : goal.returns-in_err-rest
 returns-in_err-rest c =
     rw c.from_residual.ensures
-    (c.loop.invariant None (many_none (TextOf IsReadNumbered change_text) c.args.count c.loop.counter c.loop.rest.now c.loop-test.true c.in_err-rest.ensures))
+    (c.loop.invariant None (many_none (TextOf IsReadNumbered change_text) c.args.count c.loop.counter c.loop.rest.now
+    c.loop-test.true c.in_err-rest.ensures))
 
 pub loop-preserved : goal.loop-preserved
 loop-preserved c = λ found next.
     c.loop.invariant found
-    (many_more (TextOf IsReadNumbered change_text) c.args.count c.loop.counter c.loop.rest.now c.in_ok-rest.rest.now found change_apart c.loop-test.true c.in_ok-rest.ensures next)
+    (many_more (TextOf IsReadNumbered change_text) c.args.count c.loop.counter c.loop.rest.now c.in_ok-rest.rest.now
+    found change_apart c.loop-test.true c.in_ok-rest.ensures next)
 
 pub returns : goal.returns
-returns c = c.loop.invariant (Some c.loop.rest.now) (many_done (TextOf IsReadNumbered change_text) c.args.count c.loop.counter c.loop.rest.now c.loop-test.false)
+returns c = c.loop.invariant (Some c.loop.rest.now)
+    (many_done (TextOf IsReadNumbered change_text) c.args.count c.loop.counter c.loop.rest.now c.loop-test.false)

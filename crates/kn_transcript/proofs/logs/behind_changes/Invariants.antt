@@ -7,5 +7,6 @@ use Rattle.kn_transcript.proofs.logs.behind_changes.Given as goal
 
 -- what is behind the others is behind all
 abbrev pub invariant-loop : goal.invariant-loop
-invariant-loop l = (found : Option (List ℕ)) → IsBehindOne (Many (TextOf IsReadNumbered change_text) (l.count - l.counter)) l.rest found
+invariant-loop l = (found : Option (List ℕ))
+    → IsBehindOne (Many (TextOf IsReadNumbered change_text) (l.count - l.counter)) l.rest found
     → IsBehindOne (Items IsReadNumbered change_text l.count) l.left found

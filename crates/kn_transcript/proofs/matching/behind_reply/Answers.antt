@@ -10,7 +10,8 @@ returns-in-Ok c =
     let text = reply_text (reply_of c.args.reply.now) in
     record {
       behind = behind_written (λ rest. rest.now) c.args.left.now text c.written.result.now c.behind.result
-          (c.written.ensures ∙ written_whole _ text c.of-sink.result c.print.new.out (ap is_whole c.in-Ok.is) c.print.ensures
+          (c.written.ensures
+          ∙ written_whole _ text c.of-sink.result c.print.new.out (ap is_whole c.in-Ok.is) c.print.ensures
           (ap (λ (s : SinkInMemory). s.written) c.of-sink.ensures))
           c.behind.ensures;
     }

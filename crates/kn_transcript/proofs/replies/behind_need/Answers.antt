@@ -10,5 +10,6 @@ behind_one_form-requires c = refl
 
 pub returns : goal.returns
 returns c =
-    behind_same (IsOfOneForm need_forms) IsNeed c.args.left.now (option_map (λ rest. rest.now) c.behind_one_form.result) need_from need_to
+    behind_same (IsOfOneForm need_forms) IsNeed c.args.left.now (option_map (λ rest. rest.now) c.behind_one_form.result)
+    need_from need_to
     c.behind_one_form.ensures

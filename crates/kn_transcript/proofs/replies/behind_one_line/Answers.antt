@@ -12,5 +12,6 @@ behind_one_form-requires c = refl
 
 pub returns : goal.returns
 returns c =
-    behind_same (IsOfOneForm one_line_forms) (IsTextOf OneLine) c.args.left.now (option_map (λ rest. rest.now) c.behind_one_form.result) one_line_from one_line_to
+    behind_same (IsOfOneForm one_line_forms) (IsTextOf OneLine) c.args.left.now
+    (option_map (λ rest. rest.now) c.behind_one_form.result) one_line_from one_line_to
     c.behind_one_form.ensures

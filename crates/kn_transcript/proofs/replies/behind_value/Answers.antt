@@ -6,9 +6,11 @@ returns-in_err-text c = rw c.from_residual.ensures (value_none c.args.left.now c
 
 pub returns-in-Ok : goal.returns-in-Ok
 returns-in-Ok c =
-    value_some c.args.left.now c.in_ok-text.text.now c.in_ok-text.rest.now c.in_ok-text.ensures.through c.in-Ok._head.value c.in-Ok._head.name.now
+    value_some c.args.left.now c.in_ok-text.text.now c.in_ok-text.rest.now c.in_ok-text.ensures.through
+    c.in-Ok._head.value c.in-Ok._head.name.now
     c.in-Ok._head.version c.in-Ok.ensures.ok
 
 pub returns-in-Err : goal.returns-in-Err
 returns-in-Err c =
-    value_faulty c.args.left.now c.in_ok-text.text.now c.in_ok-text.rest.now c.in_ok-text.ensures.through c.in-Err._fault c.in-Err.ensures.err
+    value_faulty c.args.left.now c.in_ok-text.text.now c.in_ok-text.rest.now c.in_ok-text.ensures.through
+    c.in-Err._fault c.in-Err.ensures.err

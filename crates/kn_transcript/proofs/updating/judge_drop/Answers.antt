@@ -15,14 +15,16 @@ returns-then-not-connection c = record {
 pub returns-in-Ok : goal.returns-in-Ok
 returns-in-Ok c = record {
   judged = drop_made c.args.book.now (state_of c.args.connection.now) c.args.k c.args.left.now c.if-not-connection.false
-      c.behind_reply-in-Ok.result (λ found. option_map (λ rest. rest.now) found) c.commit-version.new.self c.commit-version.result.version
+      c.behind_reply-in-Ok.result (λ found. option_map (λ rest. rest.now) found) c.commit-version.new.self
+      c.commit-version.result.version
       (c.commit-version.ensures.log ∙ c.in-Ok.ensures.log) c.in-Ok.ensures.follows c.commit-version.ensures.version
       c.behind_reply-in-Ok.ensures.behind;
 }
 
 pub returns-in-Err : goal.returns-in-Err
 returns-in-Err c = record {
-  judged = drop_refused c.args.book.now (state_of c.args.connection.now) c.args.k c.args.left.now c.if-not-connection.false
+  judged = drop_refused c.args.book.now (state_of c.args.connection.now) c.args.k c.args.left.now
+      c.if-not-connection.false
       c.behind_refusal.result (λ found. option_map (λ rest. rest.now) found) c.prepare_drop.new.self c.in-Err.fault
       c.refusal_of_store.result c.prepare_drop.ensures.kept c.in-Err.ensures.refused c.refusal_of_store.ensures
       c.behind_refusal.ensures.behind;

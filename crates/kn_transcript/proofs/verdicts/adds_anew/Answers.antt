@@ -10,4 +10,5 @@ returns-in-Add c =
     ∙ sym (anew_added c.args.items.now c.args.place _ c.requires c.in-Add.text.now (ap C.item_of c.in-Add.is))
 
 pub returns-in-Remove : goal.returns-in-Remove
-returns-in-Remove c = sym (anew_dropped c.args.items.now c.args.place _ c.requires c.in-Remove.k (ap C.item_of c.in-Remove.is))
+returns-in-Remove c =
+    sym (anew_dropped c.args.items.now c.args.place _ c.requires c.in-Remove.k (ap C.item_of c.in-Remove.is))

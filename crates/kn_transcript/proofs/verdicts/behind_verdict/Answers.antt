@@ -19,9 +19,11 @@ pub returns-in-Some : goal.returns-in-Some
 returns-in-Some c =
     let within : c.loop-fault.fault < AUTH_FAULTS + 1 = c.loop-fault-test.true in
     record {
-      behind = verdict_found c.args.item c.args.left.now c.in-Some.rest.now c.loop-fault.fault c.tell_verdict-refusal.result
+      behind = verdict_found c.args.item c.args.left.now c.in-Some.rest.now c.loop-fault.fault
+          c.tell_verdict-refusal.result
           (c.loop-fault.invariant.0, omega (arith, within)) c.tell_verdict-refusal.ensures
-          (cut_of (λ rest. rest.now) c.args.left.now (reply_text (No c.tell_verdict-refusal.result)) c.in_ok-rest.field-0
+          (cut_of (λ rest. rest.now) c.args.left.now (reply_text (No c.tell_verdict-refusal.result))
+          c.in_ok-rest.field-0
           c.in-Some.rest c.in-Some.is c.in_ok-rest.ensures.behind);
     }
 

@@ -16,7 +16,8 @@ loop-place-preserved c =
     let left = c.args.left.now in
     elim c.match-branch-2.branch [
       | in-Some+else-adds_anew w ↦
-          verdicts_again items left c.loop-place.place c.loop-place.invariant (sym w.adds_anew.ensures ∙ w.if-adds_anew.false)
+          verdicts_again items left c.loop-place.place c.loop-place.invariant (sym w.adds_anew.ensures
+          ∙ w.if-adds_anew.false)
       | in-None w ↦
           verdicts_more items left c.loop-place.place c.loop-place.invariant
           (none_behind (λ rest. rest.now) (Some (c.loop-place.place + 1)) left c.in_ok-rest.field-0 w.in-None.is

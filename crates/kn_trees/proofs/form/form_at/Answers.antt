@@ -9,14 +9,16 @@ use Rattle.kn_trees.proofs.form.form_at.Goals as goal
 
 node_is : (c : In-Some)
     → tree_at c.args.forest.now c.args.place
-    ≡ tree_of (pools c.forest.inside.parts.items c.forest.inside.links.items c.forest.inside.bytes.items) c.args.forest.now c.in-Some.node.now
+    ≡ tree_of (pools c.forest.inside.parts.items c.forest.inside.links.items c.forest.inside.bytes.items)
+    c.args.forest.now c.in-Some.node.now
 node_is c =
     let f = c.forest.inside in
     let ps = pools f.parts.items f.links.items f.bytes.items in
     let node = c.in-Some.node.now in
     let read : node ≡ get_or f.nodes.items c.args.place node =
     c.in-Some.ensures.lookup.1 ∙ ap (λ nodes. get_or nodes c.args.place node) c.deref.ensures.value in
-    let inside : c.args.place < length f.nodes.items = omega (arith, length-trees_of ps f.nodes.items, ap length c.forest.view_is) in
+    let inside : c.args.place < length f.nodes.items =
+    omega (arith, length-trees_of ps f.nodes.items, ap length c.forest.view_is) in
     let found = tree_at-trees_of ps f.nodes.items c.args.place node inside c.forest.invariant in
     rw (← read) at (rw c.forest.view_is at found)
 
@@ -61,13 +63,15 @@ returns-in-Deref c =
 pub returns-in-And : goal.returns-in-And
 returns-in-And c =
     let h = rw c.in-And.is at (node_is (goal.at.returns-in-And c).In-Some) in
-    let places = c.run-in-And.ensures ∙ ap (λ pool. slice_range pool c.in-And.span.start c.in-And.span.end) c.as_slice-in-And.ensures.value in
+    let places = c.run-in-And.ensures
+    ∙ ap (λ pool. slice_range pool c.in-And.span.start c.in-And.span.end) c.as_slice-in-And.ensures.value in
     h ∙ ap (λ parts. E.And (map (tree_at c.args.forest.now) parts)) (sym places)
 
 pub returns-in-Or : goal.returns-in-Or
 returns-in-Or c =
     let h = rw c.in-Or.is at (node_is (goal.at.returns-in-Or c).In-Some) in
-    let places = c.run-in-Or.ensures ∙ ap (λ pool. slice_range pool c.in-Or.span.start c.in-Or.span.end) c.as_slice-in-Or.ensures.value in
+    let places = c.run-in-Or.ensures
+    ∙ ap (λ pool. slice_range pool c.in-Or.span.start c.in-Or.span.end) c.as_slice-in-Or.ensures.value in
     h ∙ ap (λ parts. E.Or (map (tree_at c.args.forest.now) parts)) (sym places)
 
 pub returns-in-Compare : goal.returns-in-Compare
@@ -78,6 +82,7 @@ returns-in-Compare c =
 pub returns-in-Chain : goal.returns-in-Chain
 returns-in-Chain c =
     let h = rw c.in-Chain.is at (node_is (goal.at.returns-in-Chain c).In-Some) in
-    let links = c.run-in-Chain.ensures ∙ ap (λ pool. slice_range pool c.in-Chain.rest.start c.in-Chain.rest.end) c.as_slice-in-Chain.ensures.value in
+    let links = c.run-in-Chain.ensures
+    ∙ ap (λ pool. slice_range pool c.in-Chain.rest.start c.in-Chain.rest.end) c.as_slice-in-Chain.ensures.value in
     let rest = ap (map (link_at c.args.forest.now)) links in
     cc (h, c.at-in-Chain.ensures, rest)

@@ -12,7 +12,17 @@ returns-then-head-len c =
       | then-head-version w ↦
           let same : c.args.head.now.version ≡ c.args.version = grind (arith, common_steps) in
           let within : c.args.head.now.value < length c.args.values.now = grind (arith, common_steps) in
-          let reply : ReadReply = record { value = c.args.head.now.value; name = c.args.head.now.name.now; version = c.args.head.now.version; rows = [] } in
-          name_decides c.args.version c.args.values.now reply c.name.result.now c.eq.result same within c.name.ensures c.eq.ensures
-      | else-head-version w ↦ absurd (w.if-head-version.false (eqb-true c.args.head.now.version c.args.version (sym w.value-is ∙ c.if-head-len.true)))
+          let reply : ReadReply =
+          record {
+            value = c.args.head.now.value;
+            name = c.args.head.now.name.now;
+            version =
+                c.args.head.now.version;
+            rows = [];
+          } in
+          name_decides c.args.version c.args.values.now reply c.name.result.now c.eq.result same within c.name.ensures
+          c.eq.ensures
+      | else-head-version w ↦ absurd
+          (w.if-head-version.false (eqb-true c.args.head.now.version c.args.version (sym w.value-is
+          ∙ c.if-head-len.true)))
     ]

@@ -15,8 +15,12 @@ loop-preserved g c =
     let s : SystemEquations = c.args.system.now in
     let affected : List Bool = c.args.affected.now in
     let risen : c.raise_each.result ≡ true = search rules in
-    let less : room s affected c.raise_each.new.levels < room s affected c.loop.levels = subst (HasRisen s affected (length s.rows) c.loop.levels c.raise_each.new.levels) risen c.raise_each.ensures.risen in
-    raising-next s affected c.args.levels.now c.loop.levels c.raise_each.new.levels c.args.steps.now c.loop.steps c.raise_each.new.steps c.loop.invariant less (c.raise_each.ensures.raised c.args.levels.now c.loop.invariant.raised) c.raise_each.ensures.ticks
+    let less : room s affected c.raise_each.new.levels < room s affected c.loop.levels =
+    subst (HasRisen s affected (length s.rows) c.loop.levels c.raise_each.new.levels) risen
+    c.raise_each.ensures.risen in
+    raising-next s affected c.args.levels.now c.loop.levels c.raise_each.new.levels c.args.steps.now c.loop.steps
+    c.raise_each.new.steps c.loop.invariant less
+    (c.raise_each.ensures.raised c.args.levels.now c.loop.invariant.raised) c.raise_each.ensures.ticks
 
 pub loop-smaller : goal.loop-smaller
 loop-smaller g c =
@@ -30,8 +34,12 @@ returns-clause-least g c =
     let s : SystemEquations = c.args.system.now in
     let affected : List Bool = c.args.affected.now in
     let still : c.raise_each.result ≡ false = search rules in
-    let (same, closed) : HasRisen s affected (length s.rows) c.loop.levels c.raise_each.new.levels false = subst (HasRisen s affected (length s.rows) c.loop.levels c.raise_each.new.levels) still c.raise_each.ensures.risen in
+    let (same, closed) : HasRisen s affected (length s.rows) c.loop.levels c.raise_each.new.levels false =
+    subst (HasRisen s affected (length s.rows) c.loop.levels c.raise_each.new.levels) still
+    c.raise_each.ensures.risen in
     same ∙ raised-least s affected c.args.levels.now c.loop.levels c.requires.start c.loop.invariant.raised closed
 
 pub returns-clause-ticks : goal.returns-clause-ticks
-returns-clause-ticks g c = raising-ends c.args.system.now c.args.affected.now c.args.levels.now c.loop.levels c.args.steps.now c.loop.steps c.raise_each.new.steps c.loop.invariant c.raise_each.ensures.ticks
+returns-clause-ticks g c =
+    raising-ends c.args.system.now c.args.affected.now c.args.levels.now c.loop.levels c.args.steps.now c.loop.steps
+    c.raise_each.new.steps c.loop.invariant c.raise_each.ensures.ticks

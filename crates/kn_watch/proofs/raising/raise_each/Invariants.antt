@@ -9,6 +9,7 @@ abbrev pub invariant-loop-row : goal.invariant-loop-row
 invariant-loop-row g l = record {
   fit : AreLevels l.system l.levels;
   risen : HasRisen l.system l.affected l.row l.fn.levels l.levels l.risen;
-  raised : (start : List ℕ) → AreRaised l.system l.affected start l.fn.levels → AreRaised l.system l.affected start l.levels;
+  raised : (start : List ℕ) → AreRaised l.system l.affected start l.fn.levels
+      → AreRaised l.system l.affected start l.levels;
   ticks : IsWithin (affected_nodes l.affected (take l.row l.system.rows)) l.fn.steps l.steps;
 }

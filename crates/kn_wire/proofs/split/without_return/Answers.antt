@@ -8,9 +8,13 @@ use Rattle.kn_wire.proofs.split.without_return.Goals as goal
 
 pub returns-in-Some : goal.returns-in-Some
 returns-in-Some c =
-    let whole : c.args.line.now ≡ c.in-Some.bare.now ++ 13 ∷ [] = rw c.in-Some.is at (strip_suffix_is Decides-eqb c.args.line.now (13 ∷ []) c.strip_suffix.result c.strip_suffix.ensures.cases) in
+    let whole : c.args.line.now ≡ c.in-Some.bare.now ++ 13 ∷ [] =
+    rw c.in-Some.is at
+    (strip_suffix_is Decides-eqb c.args.line.now (13 ∷ []) c.strip_suffix.result c.strip_suffix.ensures.cases) in
     sym (ap without_return whole ∙ without_return-last c.in-Some.bare.now 13 ∙ append-nil c.in-Some.bare.now)
 
 pub returns-in-None : goal.returns-in-None
 returns-in-None c =
-    sym (without_return-kept c.args.line.now (rw c.in-None.is at (strip_suffix_is Decides-eqb c.args.line.now (13 ∷ []) c.strip_suffix.result c.strip_suffix.ensures.cases)))
+    sym (without_return-kept c.args.line.now
+    (rw c.in-None.is at
+    (strip_suffix_is Decides-eqb c.args.line.now (13 ∷ []) c.strip_suffix.result c.strip_suffix.ensures.cases)))

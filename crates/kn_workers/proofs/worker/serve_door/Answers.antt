@@ -9,8 +9,10 @@ use Rattle.kn_workers.proofs.worker.serve_door.Goals as goal
 pub connections-init : goal.connections-init
 connections-init g c =
     let none = c.new-kept.ensures in
-    let recent = subst (λ (o : Option SharedBase). IfSome o (λ shared. IsOfVersion (take shared.number c.args.pass.now.seen) shared)) (sym none.recent) tt in
-    let other = subst (λ (o : Option SharedBase). IfSome o (λ shared. IsOfVersion (take shared.number c.args.pass.now.seen) shared)) (sym none.other) tt in
+    let recent = subst (λ (o : Option SharedBase).
+    IfSome o (λ shared. IsOfVersion (take shared.number c.args.pass.now.seen) shared)) (sym none.recent) tt in
+    let other = subst (λ (o : Option SharedBase).
+    IfSome o (λ shared. IsOfVersion (take shared.number c.args.pass.now.seen) shared)) (sym none.other) tt in
     (c.requires.ready, works_nothing _ _ _ _, calm_nothing _, (recent, other))
 
 pub returns-in-Closed-clause-works : goal.returns-in-Closed-clause-works

@@ -9,7 +9,8 @@ use Rattle.kn_system.specs.Proofs.{IsProof}
 use Rattle.kn_settle.specs.QuerySystem.{query_system}
 use Rattle.kn_answer.specs.Based.{BaseView, AreNumbersOf, IsBaseOf, capped_values, ceilings_of}
 use Rattle.kn_answer.specs.Removed.{live_parts}
-use Rattle.kn_answer.proofs.Answered.{IsAnswering, answering-below, answering-each, answering-least, answering-low, answering-others, answering-proof, answering-rows}
+use Rattle.kn_answer.proofs.Answered.{IsAnswering, answering-below, answering-each, answering-least, answering-low}
+use Rattle.kn_answer.proofs.Answered.{answering-others, answering-proof, answering-rows}
 use Rattle.kn_answer.proofs.Basing.{length-base}
 use Rattle.kn_answer.proofs.Capped.{ceilings-capped}
 use Rattle.kn_answer.proofs.base.Base.answer_by.Goals as goal
@@ -36,10 +37,13 @@ settle_on_demand-requires-clause-others g c =
       several = omega (arith, c.len-levels.ensures.count, c.len-levels.ensures.at_least_two);
       few = omega (arith, c.len-levels.ensures.count, c.len-levels.ensures.at_most);
       well_formed = c.levels-levels.ensures.well_formed;
-      is = c.in_ok-requesters.ensures.base parts (subst (λ (b : BaseView). IsBaseOf parts b.names b.system) (sym c.self.view_is) c.requires.base);
+      is = c.in_ok-requesters.ensures.base parts
+          (subst (λ (b : BaseView). IsBaseOf parts b.names b.system) (sym c.self.view_is) c.requires.base);
       one_each = c.in_ok-requesters.ensures.one_each;
       flags = c.self.invariant.1 ∙ sym (ap length c.in_ok-requesters.ensures.rows);
-      are = subst (AreNumbersOf names asked.requesters) (sym c.as_slice.ensures) (subst (λ rs. AreNumbersOf names rs c.in_ok-requesters.requesters) c.requesters.ensures.requesters c.in_ok-requesters.ensures.numbers);
+      are = subst (AreNumbersOf names asked.requesters) (sym c.as_slice.ensures)
+          (subst (λ rs. AreNumbersOf names rs c.in_ok-requesters.requesters) c.requesters.ensures.requesters
+          c.in_ok-requesters.ensures.numbers);
       others = c.requesters.ensures.right.others;
     } in
     answering-others asked parts live names base numbers c.len-levels.result answering
@@ -57,15 +61,20 @@ settle_on_demand-requires-clause-one_each g c =
       several = omega (arith, c.len-levels.ensures.count, c.len-levels.ensures.at_least_two);
       few = omega (arith, c.len-levels.ensures.count, c.len-levels.ensures.at_most);
       well_formed = c.levels-levels.ensures.well_formed;
-      is = c.in_ok-requesters.ensures.base parts (subst (λ (b : BaseView). IsBaseOf parts b.names b.system) (sym c.self.view_is) c.requires.base);
+      is = c.in_ok-requesters.ensures.base parts
+          (subst (λ (b : BaseView). IsBaseOf parts b.names b.system) (sym c.self.view_is) c.requires.base);
       one_each = c.in_ok-requesters.ensures.one_each;
       flags = c.self.invariant.1 ∙ sym (ap length c.in_ok-requesters.ensures.rows);
-      are = subst (AreNumbersOf names asked.requesters) (sym c.as_slice.ensures) (subst (λ rs. AreNumbersOf names rs c.in_ok-requesters.requesters) c.requesters.ensures.requesters c.in_ok-requesters.ensures.numbers);
+      are = subst (AreNumbersOf names asked.requesters) (sym c.as_slice.ensures)
+          (subst (λ rs. AreNumbersOf names rs c.in_ok-requesters.requesters) c.requesters.ensures.requesters
+          c.in_ok-requesters.ensures.numbers);
       others = c.requesters.ensures.right.others;
     } in
     let each : List ℕ = g.V.ConditionValues.each c.args.values.now in
-    let capped : capped_values each live ≡ ceilings_of asked parts live = ap (λ vs. capped_values vs live) c.requires.each ∙ ceilings-capped asked parts live in
-    subst (λ cs. length cs ≡ length base.rows) (sym capped) (answering-each asked parts live names base numbers c.len-levels.result answering)
+    let capped : capped_values each live ≡ ceilings_of asked parts live =
+    ap (λ vs. capped_values vs live) c.requires.each ∙ ceilings-capped asked parts live in
+    subst (λ cs. length cs ≡ length base.rows) (sym capped)
+    (answering-each asked parts live names base numbers c.len-levels.result answering)
 
 pub settle_on_demand-requires-clause-low : goal.settle_on_demand-requires-clause-low
 settle_on_demand-requires-clause-low g c =
@@ -80,15 +89,20 @@ settle_on_demand-requires-clause-low g c =
       several = omega (arith, c.len-levels.ensures.count, c.len-levels.ensures.at_least_two);
       few = omega (arith, c.len-levels.ensures.count, c.len-levels.ensures.at_most);
       well_formed = c.levels-levels.ensures.well_formed;
-      is = c.in_ok-requesters.ensures.base parts (subst (λ (b : BaseView). IsBaseOf parts b.names b.system) (sym c.self.view_is) c.requires.base);
+      is = c.in_ok-requesters.ensures.base parts
+          (subst (λ (b : BaseView). IsBaseOf parts b.names b.system) (sym c.self.view_is) c.requires.base);
       one_each = c.in_ok-requesters.ensures.one_each;
       flags = c.self.invariant.1 ∙ sym (ap length c.in_ok-requesters.ensures.rows);
-      are = subst (AreNumbersOf names asked.requesters) (sym c.as_slice.ensures) (subst (λ rs. AreNumbersOf names rs c.in_ok-requesters.requesters) c.requesters.ensures.requesters c.in_ok-requesters.ensures.numbers);
+      are = subst (AreNumbersOf names asked.requesters) (sym c.as_slice.ensures)
+          (subst (λ rs. AreNumbersOf names rs c.in_ok-requesters.requesters) c.requesters.ensures.requesters
+          c.in_ok-requesters.ensures.numbers);
       others = c.requesters.ensures.right.others;
     } in
     let each : List ℕ = g.V.ConditionValues.each c.args.values.now in
-    let capped : capped_values each live ≡ ceilings_of asked parts live = ap (λ vs. capped_values vs live) c.requires.each ∙ ceilings-capped asked parts live in
-    subst (All (λ ceiling. ceiling < c.len-levels.result)) (sym capped) (answering-low asked parts live names base numbers c.len-levels.result answering)
+    let capped : capped_values each live ≡ ceilings_of asked parts live =
+    ap (λ vs. capped_values vs live) c.requires.each ∙ ceilings-capped asked parts live in
+    subst (All (λ ceiling. ceiling < c.len-levels.result)) (sym capped)
+    (answering-low asked parts live names base numbers c.len-levels.result answering)
 
 pub named_rows-requires-clause-numbers : goal.named_rows-requires-clause-numbers
 named_rows-requires-clause-numbers g c =
@@ -103,16 +117,22 @@ named_rows-requires-clause-numbers g c =
       several = omega (arith, c.len-levels.ensures.count, c.len-levels.ensures.at_least_two);
       few = omega (arith, c.len-levels.ensures.count, c.len-levels.ensures.at_most);
       well_formed = c.levels-levels.ensures.well_formed;
-      is = c.in_ok-requesters.ensures.base parts (subst (λ (b : BaseView). IsBaseOf parts b.names b.system) (sym c.self.view_is) c.requires.base);
+      is = c.in_ok-requesters.ensures.base parts
+          (subst (λ (b : BaseView). IsBaseOf parts b.names b.system) (sym c.self.view_is) c.requires.base);
       one_each = c.in_ok-requesters.ensures.one_each;
       flags = c.self.invariant.1 ∙ sym (ap length c.in_ok-requesters.ensures.rows);
-      are = subst (AreNumbersOf names asked.requesters) (sym c.as_slice.ensures) (subst (λ rs. AreNumbersOf names rs c.in_ok-requesters.requesters) c.requesters.ensures.requesters c.in_ok-requesters.ensures.numbers);
+      are = subst (AreNumbersOf names asked.requesters) (sym c.as_slice.ensures)
+          (subst (λ rs. AreNumbersOf names rs c.in_ok-requesters.requesters) c.requesters.ensures.requesters
+          c.in_ok-requesters.ensures.numbers);
       others = c.requesters.ensures.right.others;
     } in
     let each : List ℕ = g.V.ConditionValues.each c.args.values.now in
-    let capped : capped_values each live ≡ ceilings_of asked parts live = ap (λ vs. capped_values vs live) c.requires.each ∙ ceilings-capped asked parts live in
-    answering-rows asked parts live names base numbers c.len-levels.result answering c.in_ok-settled.settled.proof.rows _
-    (subst (ProvesOver base c.len-levels.result numbers c.in_ok-settled.settled.proof.rows) capped c.in_ok-settled.ensures.proof)
+    let capped : capped_values each live ≡ ceilings_of asked parts live =
+    ap (λ vs. capped_values vs live) c.requires.each ∙ ceilings-capped asked parts live in
+    answering-rows asked parts live names base numbers c.len-levels.result answering c.in_ok-settled.settled.proof.rows
+    _
+    (subst (ProvesOver base c.len-levels.result numbers c.in_ok-settled.settled.proof.rows) capped
+    c.in_ok-settled.ensures.proof)
 
 pub named_rows-requires-clause-one_each : goal.named_rows-requires-clause-one_each
 named_rows-requires-clause-one_each g c =
@@ -127,10 +147,13 @@ named_rows-requires-clause-one_each g c =
       several = omega (arith, c.len-levels.ensures.count, c.len-levels.ensures.at_least_two);
       few = omega (arith, c.len-levels.ensures.count, c.len-levels.ensures.at_most);
       well_formed = c.levels-levels.ensures.well_formed;
-      is = c.in_ok-requesters.ensures.base parts (subst (λ (b : BaseView). IsBaseOf parts b.names b.system) (sym c.self.view_is) c.requires.base);
+      is = c.in_ok-requesters.ensures.base parts
+          (subst (λ (b : BaseView). IsBaseOf parts b.names b.system) (sym c.self.view_is) c.requires.base);
       one_each = c.in_ok-requesters.ensures.one_each;
       flags = c.self.invariant.1 ∙ sym (ap length c.in_ok-requesters.ensures.rows);
-      are = subst (AreNumbersOf names asked.requesters) (sym c.as_slice.ensures) (subst (λ rs. AreNumbersOf names rs c.in_ok-requesters.requesters) c.requesters.ensures.requesters c.in_ok-requesters.ensures.numbers);
+      are = subst (AreNumbersOf names asked.requesters) (sym c.as_slice.ensures)
+          (subst (λ rs. AreNumbersOf names rs c.in_ok-requesters.requesters) c.requesters.ensures.requesters
+          c.in_ok-requesters.ensures.numbers);
       others = c.requesters.ensures.right.others;
     } in
     length-base names parts base.rows answering.is.rows
@@ -148,20 +171,27 @@ returns-clause-proof g c =
       several = omega (arith, c.len-levels.ensures.count, c.len-levels.ensures.at_least_two);
       few = omega (arith, c.len-levels.ensures.count, c.len-levels.ensures.at_most);
       well_formed = c.levels-levels.ensures.well_formed;
-      is = c.in_ok-requesters.ensures.base parts (subst (λ (b : BaseView). IsBaseOf parts b.names b.system) (sym c.self.view_is) c.requires.base);
+      is = c.in_ok-requesters.ensures.base parts
+          (subst (λ (b : BaseView). IsBaseOf parts b.names b.system) (sym c.self.view_is) c.requires.base);
       one_each = c.in_ok-requesters.ensures.one_each;
       flags = c.self.invariant.1 ∙ sym (ap length c.in_ok-requesters.ensures.rows);
-      are = subst (AreNumbersOf names asked.requesters) (sym c.as_slice.ensures) (subst (λ rs. AreNumbersOf names rs c.in_ok-requesters.requesters) c.requesters.ensures.requesters c.in_ok-requesters.ensures.numbers);
+      are = subst (AreNumbersOf names asked.requesters) (sym c.as_slice.ensures)
+          (subst (λ rs. AreNumbersOf names rs c.in_ok-requesters.requesters) c.requesters.ensures.requesters
+          c.in_ok-requesters.ensures.numbers);
       others = c.requesters.ensures.right.others;
     } in
     let same : live ≡ c.args.self.now.live = ap (λ (b : BaseView). b.live) c.self.view_is in
     let each : List ℕ = g.V.ConditionValues.each c.args.values.now in
-    let capped : capped_values each live ≡ ceilings_of asked parts live = ap (λ vs. capped_values vs live) c.requires.each ∙ ceilings-capped asked parts live in
-    subst (λ fs. proof.IsProof (equations_over asked (live_parts parts fs)) c.in_ok-named_rows.field-0 c.in_ok-settled.settled.value) same
+    let capped : capped_values each live ≡ ceilings_of asked parts live =
+    ap (λ vs. capped_values vs live) c.requires.each ∙ ceilings-capped asked parts live in
+    subst (λ fs. proof.IsProof (equations_over asked (live_parts parts fs)) c.in_ok-named_rows.field-0
+    c.in_ok-settled.settled.value) same
     (subst (λ v. proof.IsProof (equations_over asked (live_parts parts live)) c.in_ok-named_rows.field-0 v)
     (sym (c.in_ok-settled.ensures.value ∙ ap (policy_over base c.len-levels.result numbers) capped))
-    (answering-proof asked parts live names base numbers c.len-levels.result answering c.in_ok-named_rows.field-0 c.in_ok-settled.settled.proof.rows _ (c.in_ok-named_rows.ensures _)
-    (subst (ProvesOver base c.len-levels.result numbers c.in_ok-settled.settled.proof.rows) capped c.in_ok-settled.ensures.proof)))
+    (answering-proof asked parts live names base numbers c.len-levels.result answering c.in_ok-named_rows.field-0
+    c.in_ok-settled.settled.proof.rows _ (c.in_ok-named_rows.ensures _)
+    (subst (ProvesOver base c.len-levels.result numbers c.in_ok-settled.settled.proof.rows) capped
+    c.in_ok-settled.ensures.proof)))
 
 pub returns-clause-least : goal.returns-clause-least
 returns-clause-least g c =
@@ -176,18 +206,24 @@ returns-clause-least g c =
       several = omega (arith, c.len-levels.ensures.count, c.len-levels.ensures.at_least_two);
       few = omega (arith, c.len-levels.ensures.count, c.len-levels.ensures.at_most);
       well_formed = c.levels-levels.ensures.well_formed;
-      is = c.in_ok-requesters.ensures.base parts (subst (λ (b : BaseView). IsBaseOf parts b.names b.system) (sym c.self.view_is) c.requires.base);
+      is = c.in_ok-requesters.ensures.base parts
+          (subst (λ (b : BaseView). IsBaseOf parts b.names b.system) (sym c.self.view_is) c.requires.base);
       one_each = c.in_ok-requesters.ensures.one_each;
       flags = c.self.invariant.1 ∙ sym (ap length c.in_ok-requesters.ensures.rows);
-      are = subst (AreNumbersOf names asked.requesters) (sym c.as_slice.ensures) (subst (λ rs. AreNumbersOf names rs c.in_ok-requesters.requesters) c.requesters.ensures.requesters c.in_ok-requesters.ensures.numbers);
+      are = subst (AreNumbersOf names asked.requesters) (sym c.as_slice.ensures)
+          (subst (λ rs. AreNumbersOf names rs c.in_ok-requesters.requesters) c.requesters.ensures.requesters
+          c.in_ok-requesters.ensures.numbers);
       others = c.requesters.ensures.right.others;
     } in
     let each : List ℕ = g.V.ConditionValues.each c.args.values.now in
-    let capped : capped_values each live ≡ ceilings_of asked parts live = ap (λ vs. capped_values vs live) c.requires.each ∙ ceilings-capped asked parts live in
+    let capped : capped_values each live ≡ ceilings_of asked parts live =
+    ap (λ vs. capped_values vs live) c.requires.each ∙ ceilings-capped asked parts live in
     let same : live ≡ c.args.self.now.live = ap (λ (b : BaseView). b.live) c.self.view_is in
     subst (λ fs. IsPolicyLevel (equations_over asked (live_parts parts fs)) c.in_ok-settled.settled.value) same
     (subst (λ v. IsPolicyLevel (equations_over asked (live_parts parts live)) v)
-    (sym (c.in_ok-settled.ensures.value ∙ ap (policy_over base c.len-levels.result numbers) capped)) (answering-least asked parts live names base numbers c.len-levels.result answering (c.least_levels_are_least.ensures _)))
+    (sym (c.in_ok-settled.ensures.value ∙ ap (policy_over base c.len-levels.result numbers) capped))
+    (answering-least asked parts live names base numbers c.len-levels.result answering
+    (c.least_levels_are_least.ensures _)))
 
 pub returns-clause-below : goal.returns-clause-below
 returns-clause-below g c =
@@ -202,12 +238,17 @@ returns-clause-below g c =
       several = omega (arith, c.len-levels.ensures.count, c.len-levels.ensures.at_least_two);
       few = omega (arith, c.len-levels.ensures.count, c.len-levels.ensures.at_most);
       well_formed = c.levels-levels.ensures.well_formed;
-      is = c.in_ok-requesters.ensures.base parts (subst (λ (b : BaseView). IsBaseOf parts b.names b.system) (sym c.self.view_is) c.requires.base);
+      is = c.in_ok-requesters.ensures.base parts
+          (subst (λ (b : BaseView). IsBaseOf parts b.names b.system) (sym c.self.view_is) c.requires.base);
       one_each = c.in_ok-requesters.ensures.one_each;
       flags = c.self.invariant.1 ∙ sym (ap length c.in_ok-requesters.ensures.rows);
-      are = subst (AreNumbersOf names asked.requesters) (sym c.as_slice.ensures) (subst (λ rs. AreNumbersOf names rs c.in_ok-requesters.requesters) c.requesters.ensures.requesters c.in_ok-requesters.ensures.numbers);
+      are = subst (AreNumbersOf names asked.requesters) (sym c.as_slice.ensures)
+          (subst (λ rs. AreNumbersOf names rs c.in_ok-requesters.requesters) c.requesters.ensures.requesters
+          c.in_ok-requesters.ensures.numbers);
       others = c.requesters.ensures.right.others;
     } in
     let same : live ≡ c.args.self.now.live = ap (λ (b : BaseView). b.live) c.self.view_is in
-    answering-below asked parts live names base numbers c.len-levels.result answering c.in_ok-named_rows.field-0 c.in_ok-settled.settled.value
-    (subst (λ fs. proof.IsProof (equations_over asked (live_parts parts fs)) c.in_ok-named_rows.field-0 c.in_ok-settled.settled.value) (sym same) (returns-clause-proof g c))
+    answering-below asked parts live names base numbers c.len-levels.result answering c.in_ok-named_rows.field-0
+    c.in_ok-settled.settled.value
+    (subst (λ fs. proof.IsProof (equations_over asked (live_parts parts fs)) c.in_ok-named_rows.field-0
+    c.in_ok-settled.settled.value) (sym same) (returns-clause-proof g c))

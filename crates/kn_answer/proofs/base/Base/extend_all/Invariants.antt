@@ -7,7 +7,8 @@ use Rattle.kn_answer.proofs.base.Base.extend_all.Given as goal
 
 abbrev pub invariant-loop-part : goal.invariant-loop-part
 invariant-loop-part l = record {
-  base : (parts : List Part) → IsBaseOf parts l.fn.self.names l.fn.self.system → IsBaseOf (parts ++ take l.part-index l.list) l.base.names l.base.system;
+  base : (parts : List Part) → IsBaseOf parts l.fn.self.names l.fn.self.system
+      → IsBaseOf (parts ++ take l.part-index l.list) l.base.names l.base.system;
   live : l.base.live ≡ l.fn.self.live ++ replicate l.part-index true;
   names : length l.base.names ≤ length l.fn.self.names + total_size (take l.part-index l.list);
   nodes : node_total l.base.system.rows ≤ node_total l.fn.self.system.rows + total_size (take l.part-index l.list);

@@ -4,4 +4,10 @@ use Rattle.kn_answer.specs.Located.{AreLocated}
 use Rattle.kn_answer.proofs.base.Base.named_rows.Given as goal
 
 abbrev pub invariant-loop-row : goal.invariant-loop-row
-invariant-loop-row g l = (s : SystemEquations) → AreLocated (record { names = l.self.names; system = s; ids = map (λ part. part.id) (g.A.Assertions.parts l.assertions) }) l.rows (take l.row-index l.proof.rows)
+invariant-loop-row g l = (s : SystemEquations)
+    → AreLocated (record {
+      names = l.self.names;
+      system = s;
+      ids =
+          map (λ part. part.id) (g.A.Assertions.parts l.assertions);
+    }) l.rows (take l.row-index l.proof.rows)

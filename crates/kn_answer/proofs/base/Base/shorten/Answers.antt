@@ -14,7 +14,8 @@ pub shorten_principals-requires : goal.shorten_principals-requires
 shorten_principals-requires c =
     let seen = ap (λ (b : BaseView). length b.names) c.self.view_is in
     let rows : take c.args.rows c.args.self.now.system.rows ≡ c.shorten_rows.new.self.rows =
-    ap (λ (b : BaseView). take c.args.rows b.system.rows) (sym c.self.view_is) ∙ sym (ap (λ (s : SystemEquations). s.rows) c.shorten_rows.ensures) in
+    ap (λ (b : BaseView). take c.args.rows b.system.rows) (sym c.self.view_is)
+    ∙ sym (ap (λ (s : SystemEquations). s.rows) c.shorten_rows.ensures) in
     let principals = ap (λ (s : SystemEquations). length s.requesters) c.shorten_rows.ensures in
     record {
       some = c.requires.some;
@@ -32,7 +33,10 @@ invariant_of-self c =
     let s = c.self.inside in
     let names = ap length c.shorten.ensures ∙ length-take c.args.principals s.numbered.names in
     let flags = ap length c.shorten_flags.ensures ∙ length-take c.args.rows s.live in
-    let left = ap (λ (e : SystemEquations). length e.requesters) c.shorten_principals.ensures ∙ length-take c.args.principals c.shorten_rows.new.self.requesters in
+    let left = ap (λ (e : SystemEquations). length e.requesters) c.shorten_principals.ensures
+    ∙ length-take c.args.principals c.shorten_rows.new.self.requesters in
     let kept = ap (λ (e : SystemEquations). length e.requesters) c.shorten_rows.ensures in
-    let rows = ap (λ (e : SystemEquations). length e.rows) c.shorten_principals.ensures ∙ ap (λ (e : SystemEquations). length e.rows) c.shorten_rows.ensures ∙ length-take c.args.rows s.numbered.system.rows in
+    let rows = ap (λ (e : SystemEquations). length e.rows) c.shorten_principals.ensures
+    ∙ ap (λ (e : SystemEquations). length e.rows) c.shorten_rows.ensures
+    ∙ length-take c.args.rows s.numbered.system.rows in
     (omega (arith, names, left, kept, c.self.invariant.0), omega (arith, flags, rows, c.self.invariant.1))

@@ -13,6 +13,7 @@ decreases-add_gate l = 2 * total (map formula_nodes l.parts.now) + 1
 
 abbrev pub invariant-add_gate-loop-part : goal.invariant-add_gate-loop-part
 invariant-add_gate-loop-part l = record {
-  grown : Extends (total (map formula_nodes (take l.part-index l.parts))) (flat_map formula_names (take l.part-index l.parts)) l.initial.self l.self;
+  grown : Extends (total (map formula_nodes (take l.part-index l.parts)))
+      (flat_map formula_names (take l.part-index l.parts)) l.initial.self l.self;
   spelled : AddsSpelled l.self.names (take l.part-index l.parts) l.initial.pieces l.pieces;
 }

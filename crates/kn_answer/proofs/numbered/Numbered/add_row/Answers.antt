@@ -16,20 +16,33 @@ number-requires-clause-few c = omega (arith, length-with_name c.args.self.now.na
 pub returns : goal.returns
 returns c =
     let a : Assertion = c.args.assertion.now in
-    let first : Extends 1 (c.as_slice.result.now ∷ []) c.args.self.now c.number.new.self = c.in_ok-authorizer.ensures.ok in
-    let second : Extends (field_nodes a.licensees) (licensees_names a.licensees) c.number.new.self c.licensees.new.self = c.in_ok-pieces.ensures.ok in
+    let first : Extends 1 (c.as_slice.result.now ∷ []) c.args.self.now c.number.new.self =
+    c.in_ok-authorizer.ensures.ok in
+    let second : Extends (field_nodes a.licensees) (licensees_names a.licensees) c.number.new.self
+    c.licensees.new.self = c.in_ok-pieces.ensures.ok in
     let names : List (List ℕ) = c.licensees.new.self.names in
-    let row : SystemRow = record { authorizer = c.in_ok-authorizer.authorizer; ceiling = c.args.ceiling; formula = c.in_ok-pieces.pieces } in
+    let row : SystemRow =
+    record {
+      authorizer = c.in_ok-authorizer.authorizer;
+      ceiling = c.args.ceiling;
+      formula =
+          c.in_ok-pieces.pieces;
+    } in
     let name : c.as_slice.result.now ≡ a.authorizer = c.as_slice.ensures in
-    let own : AddsNames (a.authorizer ∷ []) c.args.self.now.names c.number.new.self.names = subst (λ n. AddsNames (n ∷ []) c.args.self.now.names c.number.new.self.names) name first.names in
-    let pushed : c.push_row.new.self ≡ record c.licensees.new.self.system { rows = c.licensees.new.self.system.rows ++ row ∷ [] } = c.in_ok-push_row.ensures.ok in
+    let own : AddsNames (a.authorizer ∷ []) c.args.self.now.names c.number.new.self.names =
+    subst (λ n. AddsNames (n ∷ []) c.args.self.now.names c.number.new.self.names) name first.names in
+    let pushed : c.push_row.new.self
+    ≡ record c.licensees.new.self.system { rows = c.licensees.new.self.system.rows ++ row ∷ [] } =
+    c.in_ok-push_row.ensures.ok in
     let rows : c.licensees.new.self.system.rows ≡ c.args.self.now.system.rows = second.rows ∙ first.rows in
     let system : record c.push_row.new.self { rows = c.args.self.now.system.rows } ≡ c.licensees.new.self.system =
-    ap (λ (s : SystemEquations). record s { rows = c.args.self.now.system.rows }) pushed ∙ ap (λ rs. record c.licensees.new.self.system { rows = rs }) (sym rows) in
+    ap (λ (s : SystemEquations). record s { rows = c.args.self.now.system.rows }) pushed
+    ∙ ap (λ rs. record c.licensees.new.self.system { rows = rs }) (sym rows) in
     record {
       ok = record {
         row = row;
-        names = AddsNames-then (a.authorizer ∷ []) (licensees_names a.licensees) c.args.self.now.names c.number.new.self.names names own second.names;
+        names = AddsNames-then (a.authorizer ∷ []) (licensees_names a.licensees) c.args.self.now.names
+            c.number.new.self.names names own second.names;
         few = omega (arith, first.few, second.few);
         one_each = second.one_each ∙ sym (ap (λ (s : SystemEquations). length s.requesters) pushed);
         distinct = λ h. second.distinct (first.distinct h);
@@ -38,7 +51,9 @@ returns c =
         short = c.in_ok-pieces.ensures.short;
         capped = refl;
         is = record {
-          authorizer = second.names.keeps c.in_ok-authorizer.authorizer a.authorizer (subst (λ n. IsNumber c.number.new.self.names n c.in_ok-authorizer.authorizer) name c.in_ok-authorizer.ensures.number);
+          authorizer = second.names.keeps c.in_ok-authorizer.authorizer a.authorizer
+              (subst (λ n. IsNumber c.number.new.self.names n c.in_ok-authorizer.authorizer) name
+              c.in_ok-authorizer.ensures.number);
           pieces = c.in_ok-pieces.ensures.pieces;
           licensees = c.in_ok-pieces.ensures.level;
         };

@@ -15,5 +15,6 @@ invariant-loop-part l = record {
   levels : l.self.system.levels ≡ l.initial.self.system.levels;
   system : IsSystemOf (equations_over l.query []) l.initial.self.names l.initial.self.system
       → IsSystemOf (equations_over l.query (take l.part-index l.list)) l.self.names l.self.system;
-  principals : AddsNames (flat_map statement_names (map (statement_of l.query) (take l.part-index l.list))) l.initial.self.names l.self.names;
+  principals : AddsNames (flat_map statement_names (map (statement_of l.query) (take l.part-index l.list)))
+      l.initial.self.names l.self.names;
 }

@@ -9,8 +9,10 @@ pub returns-in-Ok-insert-clause-ok : goal.returns-in-Ok-insert-clause-ok
 returns-in-Ok-insert-clause-ok c =
     let name = c.in-Ok.ensures.items ∙ c.as_slice.ensures in
     let none : has_key c.in-Ok.principal.items (map mac_key_of c.self.inside.keys.entries) ≡ false =
-    ap (λ (n : List _). has_key n (map mac_key_of c.self.inside.keys.entries)) name ∙ ap (has_key c.args.mac.principal) c.self.view_is ∙ c.requires in
+    ap (λ (n : List _). has_key n (map mac_key_of c.self.inside.keys.entries)) name
+    ∙ ap (has_key c.args.mac.principal) c.self.view_is ∙ c.requires in
     ap (map mac_key_of) c.in-Ok-insert.ensures.entries
     ∙ inserted_last c.in-Ok.principal c.args.mac.key c.self.inside.keys.entries none
-    ∙ ap (λ (n : List _). map mac_key_of c.self.inside.keys.entries ++ record { principal = n; key = c.args.mac.key } ∷ []) name
+    ∙ ap (λ (n : List _). map mac_key_of c.self.inside.keys.entries ++ record { principal = n; key = c.args.mac.key }
+    ∷ []) name
     ∙ ap (λ (keys : List MacKey). keys ++ c.args.mac ∷ []) c.self.view_is

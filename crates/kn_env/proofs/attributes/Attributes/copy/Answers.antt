@@ -6,11 +6,15 @@ use Rattle.kn_env.proofs.attributes.Attributes.copy.Goals as goal
 use Rattle.kn_env.proofs.attributes.Attributes.copy.Goals.{In-Some}
 
 -- what is copied, the next attribute, and what is left
-all : (c : In-Some) → c.loop-name.copy ++ attribute_of (c.in-Some.name.now, c.in-Some.value.now) ∷ map attribute_of c.next.new.self ≡ map attribute_of c.self.inside.entries.entries
-all c = ap (λ entries. c.loop-name.copy ++ map attribute_of entries) (sym c.in-Some.ensures.steps) ∙ c.loop-name.invariant ∙ sym c.self.view_is
+all : (c : In-Some) → c.loop-name.copy ++ attribute_of (c.in-Some.name.now, c.in-Some.value.now)
+    ∷ map attribute_of c.next.new.self ≡ map attribute_of c.self.inside.entries.entries
+all c = ap (λ entries. c.loop-name.copy ++ map attribute_of entries) (sym c.in-Some.ensures.steps)
+    ∙ c.loop-name.invariant ∙ sym c.self.view_is
 
 next : (c : In-Some) → IsNext c.loop-name.copy (attribute_of (c.in-Some.name.now, c.in-Some.value.now))
-next c = next_copied c.self.inside.entries.entries c.loop-name.copy (attribute_of (c.in-Some.name.now, c.in-Some.value.now)) (map attribute_of c.next.new.self) c.self.invariant c.iter-name-items.ensures.unique (all c)
+next c = next_copied c.self.inside.entries.entries c.loop-name.copy
+    (attribute_of (c.in-Some.name.now, c.in-Some.value.now)) (map attribute_of c.next.new.self) c.self.invariant
+    c.iter-name-items.ensures.unique (all c)
 
 pub enter-requires : goal.enter-requires
 enter-requires c = let is_next = next (goal.at.enter-requires c).In-Some in record { room = λ new. is_next.room }

@@ -10,7 +10,8 @@ loop-label-init c =
 pub loop-label-preserved : goal.loop-label-preserved
 loop-label-preserved c =
     let behind = c.stretch_from-behind in
-    let seen = more_seen _ _ _ _ _ _ _ c.loop-label.invariant (omega (arith, c.loop-label-test.true, c.len.ensures)) c.number_at-number.ensures
+    let seen = more_seen _ _ _ _ _ _ _ c.loop-label.invariant (omega (arith, c.loop-label-test.true, c.len.ensures))
+    c.number_at-number.ensures
     behind.ensures.end behind.ensures.has_stray in
     grind (arith, seen)
 

@@ -8,7 +8,11 @@ take_update-requires c =
     let same : c.as_slice-update-items.result.now ≡ us = c.as_slice-update-items.ensures in
     let i : ℕ = c.loop-update.update-index in
     let within : i < length us = omega (arith, ap length same) in
-    record { tellable = tellable_here c.as_slice-update-items.result.now us i c.update-item.result same c.update-item.is within c.requires.each }
+    record {
+      tellable =
+          tellable_here c.as_slice-update-items.result.now us i c.update-item.result same c.update-item.is within
+          c.requires.each;
+    }
 
 pub loop-update-preserved : goal.loop-update-preserved
 loop-update-preserved c =
@@ -16,7 +20,8 @@ loop-update-preserved c =
     let same : c.as_slice-update-items.result.now ≡ us = c.as_slice-update-items.ensures in
     let i : ℕ = c.loop-update.update-index in
     let within : i < length us = omega (arith, ap length same) in
-    taken_here _ c.loop-update.self _ c.as_slice-update-items.result.now us i c.update-item.result same c.update-item.is within c.loop-update.invariant c.in-Ok.ensures.may c.in-Ok.ensures.taken
+    taken_here _ c.loop-update.self _ c.as_slice-update-items.result.now us i c.update-item.result same
+    c.update-item.is within c.loop-update.invariant c.in-Ok.ensures.may c.in-Ok.ensures.taken
 
 pub returns-in-Err-clause-fault : goal.returns-in-Err-clause-fault
 returns-in-Err-clause-fault c =
@@ -24,4 +29,5 @@ returns-in-Err-clause-fault c =
     let same : c.as_slice-update-items.result.now ≡ us = c.as_slice-update-items.ensures in
     let i : ℕ = c.loop-update.update-index in
     let within : i < length us = omega (arith, ap length same) in
-    refused_here _ c.loop-update.self _ c.as_slice-update-items.result.now us i c.update-item.result _ same c.update-item.is within c.loop-update.invariant c.in-Err.ensures.fault c.in-Err.ensures.kept
+    refused_here _ c.loop-update.self _ c.as_slice-update-items.result.now us i c.update-item.result _ same
+    c.update-item.is within c.loop-update.invariant c.in-Err.ensures.fault c.in-Err.ensures.kept

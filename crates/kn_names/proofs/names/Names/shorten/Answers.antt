@@ -5,4 +5,5 @@ use Rattle.kn_names.proofs.names.Names.shorten.Goals as goal
 pub returns : goal.returns
 returns c =
     let short = ap length c.self.view_is in
-    sym (take_all c.args.len c.loop-self.self (omega (arith, c.loop-self-test.false, c.len.ensures, short))) ∙ c.loop-self.invariant
+    sym (take_all c.args.len c.loop-self.self (omega (arith, c.loop-self-test.false, c.len.ensures, short)))
+    ∙ c.loop-self.invariant

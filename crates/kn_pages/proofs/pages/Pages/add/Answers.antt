@@ -7,7 +7,8 @@ use Rattle.kn_pages.proofs.pages.Pages.add.Goals as goal
 pub returns-then-len-most-clause-added : goal.returns-then-len-most-clause-added
 returns-then-len-most-clause-added g c =
     on_ok_weaker c.add.result
-    (λ longer. shared-room c.args.most c.self.inside.closed c.self.inside.last c.add.new.self c.args.item c.self.invariant (search rules) longer
+    (λ longer. shared-room c.args.most c.self.inside.closed c.self.inside.last c.add.new.self c.args.item
+    c.self.invariant (search rules) longer
     ∙ ap (λ pages. with_item c.args.most pages c.args.item) c.self.view_is)
     c.add.ensures.ok
 

@@ -10,5 +10,6 @@ follow-requires c =
     let later : c.in-Some.shared.number ≤ length c.args.version.now = omega (arith, low, c.number.ensures.number) in
     record {
       later = later;
-      of_earlier = kept-has (IsOfHistory c.args.version.now) c.args.self.now c.in-Some.shared c.requires.of_history taken.0 later;
+      of_earlier = kept-has (IsOfHistory c.args.version.now) c.args.self.now c.in-Some.shared c.requires.of_history
+          taken.0 later;
     }

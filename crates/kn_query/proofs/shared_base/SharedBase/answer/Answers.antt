@@ -26,9 +26,13 @@ returns c =
     let left : live_parts (parts_of Shared rows) flags ≡ parts_of Shared (live_credentials rows flags) =
     live-parts Shared rows flags c.len-read.ensures.read c.requires.rows.flags in
     record {
-      proof = λ version held. subst (λ (ps : List Part). IfOk c.answer.result (λ a. proof.IsProof (equations_over c.args.query.now ps) a.rows a.value))
+      proof = λ version held.
+          subst (λ (ps : List Part).
+          IfOk c.answer.result (λ a. proof.IsProof (equations_over c.args.query.now ps) a.rows a.value))
           (left ∙ ap (parts_of Shared) held.live) c.answer.ensures.proof;
-      least = λ version held. subst (λ (ps : List Part). IfOk c.answer.result (λ a. IsPolicyLevel (equations_over c.args.query.now ps) a.value))
+      least = λ version held.
+          subst (λ (ps : List Part).
+          IfOk c.answer.result (λ a. IsPolicyLevel (equations_over c.args.query.now ps) a.value))
           (left ∙ ap (parts_of Shared) held.live) c.answer.ensures.least;
       below = c.answer.ensures.below;
       credentials = λ version held. record {

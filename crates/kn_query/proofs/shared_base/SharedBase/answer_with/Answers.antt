@@ -23,15 +23,24 @@ use Rattle.kn_query.proofs.shared_base.SharedBase.answer_with.Goals as goal
 pub answer_with-requires : goal.answer_with-requires
 answer_with-requires c =
     let privates = c.args.privates.now in
-    let own : c.push_private.new.parts ≡ private_parts privates = c.in_ok-push_private.ensures ∙ ap (λ (ps : List Part). ps ++ private_parts privates) c.new-parts.ensures in
+    let own : c.push_private.new.parts ≡ private_parts privates = c.in_ok-push_private.ensures
+    ∙ ap (λ (ps : List Part). ps ++ private_parts privates) c.new-parts.ensures in
     let told = c.readings_are_computed.ensures.reading in
     let read = own_read privates c.requires.readings in
     let size = parts-size told c.readings_are_sound.ensures Own (map numbered_text privates) read in
     let total = ap total_size own in
     record {
       base = c.requires.rows.of;
-      readable = subst (All IsReadablePart) (sym own) (parts-readable told c.readings_are_sound.ensures Own (map numbered_text privates) read);
-      room = omega (arith, total, size, c.requires.privates.short, c.requires.few_names, c.requesters-requesters.ensures.right.few);
+      readable = subst (All IsReadablePart) (sym own)
+          (parts-readable told c.readings_are_sound.ensures Own (map numbered_text privates) read);
+      room = omega (
+        arith,
+        total,
+        size,
+        c.requires.privates.short,
+        c.requires.few_names,
+        c.requesters-requesters.ensures.right.few,
+      );
       nodes_fit = omega (arith, total, size, c.requires.privates.short, c.requires.few_nodes);
     }
 
@@ -40,18 +49,24 @@ returns c =
     let privates = c.args.privates.now in
     let rows : List NumberedText = c.args.self.rows in
     let flags = c.args.self.base.live in
-    let own : c.push_private.new.parts ≡ private_parts privates = c.in_ok-push_private.ensures ∙ ap (λ (ps : List Part). ps ++ private_parts privates) c.new-parts.ensures in
+    let own : c.push_private.new.parts ≡ private_parts privates = c.in_ok-push_private.ensures
+    ∙ ap (λ (ps : List Part). ps ++ private_parts privates) c.new-parts.ensures in
     let left : live_parts (parts_of Shared rows) flags ≡ parts_of Shared (live_credentials rows flags) =
     live-parts Shared rows flags c.len-read.ensures.read c.requires.rows.flags in
-    let all : (version : List Update) → HasCredentials version c.args.self → live_parts (parts_of Shared rows) flags ++ c.push_private.new.parts ≡ shared_parts version ++ private_parts privates =
+    let all : (version : List Update) → HasCredentials version c.args.self
+    → live_parts (parts_of Shared rows) flags ++ c.push_private.new.parts ≡ shared_parts version
+    ++ private_parts privates =
     λ version held. ap (λ (ps : List Part). ps ++ c.push_private.new.parts) (left ∙ ap (parts_of Shared) held.live)
     ∙ ap (λ (ps : List Part). shared_parts version ++ ps) own in
     let names = c.in_ok-answer.ensures.names in
     let system = c.in_ok-answer.ensures.rows in
     record {
-      proof = λ version held. subst (λ (ps : List Part). proof.IsProof (equations_over c.args.query.now ps) c.in_ok-answer.answer.rows c.in_ok-answer.answer.value)
+      proof = λ version held.
+          subst (λ (ps : List Part). proof.IsProof (equations_over c.args.query.now ps) c.in_ok-answer.answer.rows
+          c.in_ok-answer.answer.value)
           (all version held) c.in_ok-answer.ensures.proof;
-      least = λ version held. subst (λ (ps : List Part). IsPolicyLevel (equations_over c.args.query.now ps) c.in_ok-answer.answer.value)
+      least = λ version held.
+          subst (λ (ps : List Part). IsPolicyLevel (equations_over c.args.query.now ps) c.in_ok-answer.answer.value)
           (all version held) c.in_ok-answer.ensures.least;
       below = c.in_ok-answer.ensures.below;
       credentials = λ version held. record {
@@ -60,8 +75,10 @@ returns c =
           of = record {
             first = subst (λ ns. IsNumber ns policy 0) (sym names) held.has_rows.of.first;
             distinct = subst (λ (ns : List (List ℕ)). AreDistinct ns) (sym names) held.has_rows.of.distinct;
-            rows = subst (λ (rs : List SystemRow). AreBaseRows c.in_ok-answer.base.names (parts_of Shared rows) rs) (sym system)
-                (subst (λ (ns : List (List ℕ)). AreBaseRows ns (parts_of Shared rows) c.args.self.base.system.rows) (sym names) held.has_rows.of.rows);
+            rows = subst (λ (rs : List SystemRow). AreBaseRows c.in_ok-answer.base.names (parts_of Shared rows) rs)
+                (sym system)
+                (subst (λ (ns : List (List ℕ)). AreBaseRows ns (parts_of Shared rows) c.args.self.base.system.rows)
+                (sym names) held.has_rows.of.rows);
           };
           flags = ap length c.in_ok-answer.ensures.live ∙ held.has_rows.flags;
         };

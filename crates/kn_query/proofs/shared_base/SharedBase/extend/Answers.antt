@@ -1,4 +1,5 @@
-use Rattle.std.proofs.Common.{◌≡◌, ◌≤◌, ◌++◌, ℕ, All, Bool, List, drop, length, replicate, take, true, sym, ap, subst, ◌∙◌, arith}
+use Rattle.std.proofs.Common.{◌≡◌, ◌≤◌, ◌++◌, ℕ, All, Bool, List, drop, length, replicate, take, true, sym, ap, subst}
+use Rattle.std.proofs.Common.{◌∙◌, arith}
 use Rattle.std.proofs.lemmas.List.{drop_at, length-append, length-replicate}
 use Rattle.kn_proof.specs.declared.named.Id.TheVariants.{Shared}
 use Rattle.kn_meaning.specs.Equations.{Part}
@@ -32,13 +33,17 @@ extend_all-requires c =
     ap (drop c.args.kept) lacks.live ∙ drop_at left more c.args.kept (sym c.requires.kept) in
     let read : AreRead more = subst (λ (l : List NumberedText). AreRead l) rest c.in_ok-push_shared.ensures.read in
     let pushed : c.push_shared.new.parts ≡ parts_of Shared more =
-    c.in_ok-push_shared.ensures.parts ∙ ap (λ (l : List Part). l ++ parts_of Shared (drop c.args.kept (credentials_of version))) c.new-parts.ensures ∙ ap (parts_of Shared) rest in
+    c.in_ok-push_shared.ensures.parts
+    ∙ ap (λ (l : List Part). l ++ parts_of Shared (drop c.args.kept (credentials_of version))) c.new-parts.ensures
+    ∙ ap (parts_of Shared) rest in
     let told = c.readings_are_computed.ensures.reading in
     let size = parts-size told c.readings_are_sound.ensures Shared more read in
-    let bytes : text_bytes more ≤ text_bytes (credentials_of version) = subst (λ (l : List NumberedText). text_bytes more ≤ text_bytes l) (sym lacks.live) (later-bytes left more) in
+    let bytes : text_bytes more ≤ text_bytes (credentials_of version) =
+    subst (λ (l : List NumberedText). text_bytes more ≤ text_bytes l) (sym lacks.live) (later-bytes left more) in
     let total = ap total_size pushed in
     record {
-      readable = subst (All IsReadablePart) (sym pushed) (parts-readable told c.readings_are_sound.ensures Shared more read);
+      readable = subst (All IsReadablePart) (sym pushed)
+          (parts-readable told c.readings_are_sound.ensures Shared more read);
       names_fit = omega (arith, total, size, bytes, c.len-live.ensures.bytes_limit, c.requires.names);
       nodes_fit = omega (arith, total, size, bytes, c.len-live.ensures.bytes_limit, c.requires.nodes);
     }
@@ -55,7 +60,8 @@ push_from-requires c =
     let rest : drop c.args.kept (credentials_of version) ≡ more =
     ap (drop c.args.kept) lacks.live ∙ drop_at left more c.args.kept (sym c.requires.kept) in
     let later : IdsAscend most more =
-    ascend-last 0 most left more (subst (IdsAscend 0) lacks.live c.len-live.ensures.ids) (newer-above version n c.number-number.ensures.valid) in
+    ascend-last 0 most left more (subst (IdsAscend 0) lacks.live c.len-live.ensures.ids)
+    (newer-above version n c.number-number.ensures.valid) in
     record {
       first = omega (arith, c.requires.kept, ap length lacks.live, length-append left more);
       ids = subst (λ (l : List NumberedText). IdsAscend 0 (rows ++ l)) (sym rest)
@@ -76,10 +82,14 @@ returns c =
     ap (drop c.args.kept) lacks.live ∙ drop_at left more c.args.kept (sym c.requires.kept) in
     let read : AreRead more = subst (λ (l : List NumberedText). AreRead l) rest c.in_ok-push_shared.ensures.read in
     let pushed : c.push_shared.new.parts ≡ parts_of Shared more =
-    c.in_ok-push_shared.ensures.parts ∙ ap (λ (l : List Part). l ++ parts_of Shared (drop c.args.kept (credentials_of version))) c.new-parts.ensures ∙ ap (parts_of Shared) rest in
-    let all : c.push_from.new.self ≡ rows ++ more = c.in_ok-push_from.ensures ∙ ap (λ (l : List NumberedText). rows ++ l) rest in
+    c.in_ok-push_shared.ensures.parts
+    ∙ ap (λ (l : List Part). l ++ parts_of Shared (drop c.args.kept (credentials_of version))) c.new-parts.ensures
+    ∙ ap (parts_of Shared) rest in
+    let all : c.push_from.new.self ≡ rows ++ more = c.in_ok-push_from.ensures
+    ∙ ap (λ (l : List NumberedText). rows ++ l) rest in
     let whole : parts_of Shared rows ++ c.push_shared.new.parts ≡ parts_of Shared c.push_from.new.self =
-    ap (λ (ps : List Part). parts_of Shared rows ++ ps) pushed ∙ sym (later-parts Shared rows more) ∙ ap (parts_of Shared) (sym all) in
+    ap (λ (ps : List Part). parts_of Shared rows ++ ps) pushed ∙ sym (later-parts Shared rows more)
+    ∙ ap (parts_of Shared) (sym all) in
     let count : length c.push_shared.new.parts ≡ length more = ap length pushed ∙ parts-count Shared more read in
     let longer : c.in_ok-base.base.live ≡ flags ++ replicate (length more) true =
     c.in_ok-base.ensures.live ∙ ap (λ (k : ℕ). flags ++ replicate k true) count in
@@ -88,11 +98,21 @@ returns c =
       has_rows = record {
         of = subst (λ (ps : List Part). IsBaseOf ps c.in_ok-base.base.names c.in_ok-base.base.system) whole
             (c.in_ok-base.ensures.base (parts_of Shared rows) lacks.has_rows.of);
-        flags = omega (arith, ap length longer, length-append flags (replicate (length more) true), length-replicate (length more) true, lacks.has_rows.flags, ap length all, length-append rows more);
+        flags = omega (
+          arith,
+          ap length longer,
+          length-append flags (replicate (length more) true),
+          length-replicate (length more) true,
+          lacks.has_rows.flags,
+          ap length all,
+          length-append rows more,
+        );
       };
-      live = ap (λ (l : List NumberedText). live_credentials l c.in_ok-base.base.live) all ∙ ap (live_credentials (rows ++ more)) longer
+      live = ap (λ (l : List NumberedText). live_credentials l c.in_ok-base.base.live) all
+          ∙ ap (live_credentials (rows ++ more)) longer
           ∙ live-both rows more flags lacks.has_rows.flags ∙ sym lacks.live;
       newest = subst (AreUpTo most) (sym all)
-          (all-both (λ x. x.id ≤ most) rows more (up_to-more (additions (all_changes (take n version))) most rows (additions-grow version n) lacks.newest)
+          (all-both (λ x. x.id ≤ most) rows more
+          (up_to-more (additions (all_changes (take n version))) most rows (additions-grow version n) lacks.newest)
           (newer-up_to version n c.number-number.ensures.valid));
     }

@@ -22,14 +22,16 @@ extend-requires c =
     let most : ℕ = additions (all_changes (take n version)) in
     let live : credentials_of version ≡ live_credentials rows base.live ++ more =
     credentials-since version n
-    ∙ ap (λ (l : List NumberedText). l ++ more) (ap (without_removed (all_changes (drop n version))) (sym held.live) ∙ sym follows.live) in
+    ∙ ap (λ (l : List NumberedText). l ++ more) (ap (without_removed (all_changes (drop n version))) (sym held.live)
+    ∙ sym follows.live) in
     let few : length c.args.self.base.names ≤ MOST_PRINCIPALS = search rules in
     let small : node_total c.args.self.base.system.rows ≤ MOST_NODES = search rules in
     record {
       lacks = record {
         earlier = c.requires.later;
         has_rows = record {
-          of = same-base (parts_of Shared rows) c.args.self.base.names base.names c.args.self.base.system base.system follows.names follows.system held.has_rows.of;
+          of = same-base (parts_of Shared rows) c.args.self.base.names base.names c.args.self.base.system base.system
+              follows.names follows.system held.has_rows.of;
           flags = follows.flags ∙ held.has_rows.flags;
         };
         live = live;
@@ -37,6 +39,8 @@ extend-requires c =
       };
       names = omega (arith, ap length follows.names, few);
       nodes = omega (arith, ap (λ (s : SystemEquations). node_total s.rows) follows.system, small);
-      kept = c.count_up_to-kept.ensures (live_credentials rows base.live) more live (live-up_to c.last_id.result rows base.live c.last_id.ensures.last)
-          (above-lower c.last_id.result most more (c.last_id.ensures.least most held.newest) (newer-above version n c.number.ensures.valid));
+      kept = c.count_up_to-kept.ensures (live_credentials rows base.live) more live
+          (live-up_to c.last_id.result rows base.live c.last_id.ensures.last)
+          (above-lower c.last_id.result most more (c.last_id.ensures.least most held.newest)
+          (newer-above version n c.number.ensures.valid));
     }

@@ -17,21 +17,26 @@ use Rattle.kn_query.proofs.shared_base.SharedBase.of.Goals as goal
 
 pub of-requires : goal.of-requires
 of-requires c =
-    let whole = c.in_ok-push_shared.ensures.parts ∙ ap (λ (l : List Part). l ++ shared_parts c.args.version.now) c.new-parts.ensures in
+    let whole = c.in_ok-push_shared.ensures.parts
+    ∙ ap (λ (l : List Part). l ++ shared_parts c.args.version.now) c.new-parts.ensures in
     subst (λ (l : List Part). HaveTexts l) (sym whole)
-    (shared-texts c.assertions_of_a_session.ensures.bytes (credentials_of c.args.version.now) c.in_ok-push_shared.ensures.read c.len-live.ensures.bytes_limit)
+    (shared-texts c.assertions_of_a_session.ensures.bytes (credentials_of c.args.version.now)
+    c.in_ok-push_shared.ensures.read c.len-live.ensures.bytes_limit)
 
 pub push_from-requires-clause-ids : goal.push_from-requires-clause-ids
 push_from-requires-clause-ids c =
-    subst (λ (l : List NumberedText). IdsAscend 0 (l ++ credentials_of c.args.version.now)) (sym c.new-rows.ensures) c.len-live.ensures.ids
+    subst (λ (l : List NumberedText). IdsAscend 0 (l ++ credentials_of c.args.version.now)) (sym c.new-rows.ensures)
+    c.len-live.ensures.ids
 
 pub returns : goal.returns
 returns c =
     let version : List Update = c.args.version.now in
     let live : List NumberedText = credentials_of version in
     let read = c.in_ok-push_shared.ensures.read in
-    let whole = c.in_ok-push_shared.ensures.parts ∙ ap (λ (l : List Part). l ++ shared_parts version) c.new-parts.ensures in
-    let rows : c.push_from.new.self ≡ live = c.in_ok-push_from.ensures ∙ ap (λ (l : List NumberedText). l ++ live) c.new-rows.ensures in
+    let whole = c.in_ok-push_shared.ensures.parts
+    ∙ ap (λ (l : List Part). l ++ shared_parts version) c.new-parts.ensures in
+    let rows : c.push_from.new.self ≡ live = c.in_ok-push_from.ensures
+    ∙ ap (λ (l : List NumberedText). l ++ live) c.new-rows.ensures in
     let size = parts-size c.readings_are_computed.ensures.reading c.readings_are_sound.ensures Shared live read in
     let total = ap total_size whole in
     let count : length c.push_shared.new.parts ≡ length live = ap length whole ∙ parts-count Shared live read in
@@ -39,13 +44,16 @@ returns c =
       credentials = record {
         number = c.number.ensures.number;
         has_rows = record {
-          of = subst (λ (ps : List Part). IsBaseOf ps c.in_ok-base.base.names c.in_ok-base.base.system) (whole ∙ ap (parts_of Shared) (sym rows)) c.in_ok-base.ensures.base;
-          flags = ap length c.in_ok-base.ensures.all ∙ length-replicate (length c.push_shared.new.parts) true ∙ count ∙ ap length (sym rows);
+          of = subst (λ (ps : List Part). IsBaseOf ps c.in_ok-base.base.names c.in_ok-base.base.system) (whole
+              ∙ ap (parts_of Shared) (sym rows)) c.in_ok-base.ensures.base;
+          flags = ap length c.in_ok-base.ensures.all ∙ length-replicate (length c.push_shared.new.parts) true ∙ count
+              ∙ ap length (sym rows);
         };
         live = ap (λ (l : List NumberedText). live_credentials l c.in_ok-base.base.live) rows
             ∙ ap (live_credentials live) (c.in_ok-base.ensures.all ∙ ap (λ (n : ℕ). replicate n true) count)
             ∙ live-everything live;
-        newest = subst (AreUpTo (additions (all_changes version))) (sym rows) (ids-up_to version c.number.ensures.valid);
+        newest = subst (AreUpTo (additions (all_changes version))) (sym rows)
+            (ids-up_to version c.number.ensures.valid);
       };
       few_names = omega (arith, total, size, c.in_ok-base.ensures.few_names, c.len-live.ensures.bytes_limit);
       few_nodes = omega (arith, total, size, c.in_ok-base.ensures.few_nodes, c.len-live.ensures.bytes_limit);

@@ -1,4 +1,5 @@
-use Rattle.std.proofs.Common.{◌≡◌, ◌++◌, ◌∷◌, [], ℕ, suc, ◌+◌, List, drop, take, Some, sym, ap, subst, ◌∙◌, arith, append_assoc}
+use Rattle.std.proofs.Common.{◌≡◌, ◌++◌, ◌∷◌, [], ℕ, suc, ◌+◌, List, drop, take, Some, sym, ap, subst, ◌∙◌, arith}
+use Rattle.std.proofs.Common.{append_assoc}
 use Rattle.std.specs.Prelude.{slice_get}
 use Rattle.kn_history.specs.History.{NumberedText, credentials_of}
 use Rattle.kn_history.specs.Ids.{IdsAscend}
@@ -11,7 +12,8 @@ push-requires c =
     let place : ℕ = c.loop-place.place in
     let row : NumberedText = c.of.result in
     let here : slice_get live place ≡ Some row =
-    pair-at live place row (c.id.ensures.id ∙ ap (λ (n : ℕ). Some n) (sym c.of.ensures.id)) (c.in_ok-credential.ensures.text ∙ ap (λ (t : List ℕ). Some t) (sym c.of.ensures.text)) in
+    pair-at live place row (c.id.ensures.id ∙ ap (λ (n : ℕ). Some n) (sym c.of.ensures.id))
+    (c.in_ok-credential.ensures.text ∙ ap (λ (t : List ℕ). Some t) (sym c.of.ensures.text)) in
     subst (λ (l : List NumberedText). IdsAscend 0 (l ++ row ∷ [])) (sym c.loop-place.invariant)
     (next-ascends c.args.self.now live c.args.first place row (omega arith) here c.requires.ids)
 
@@ -24,7 +26,8 @@ loop-place-preserved c =
     let row : NumberedText = c.of.result in
     let next : suc place ≡ place + 1 = omega arith in
     let here : slice_get live place ≡ Some row =
-    pair-at live place row (c.id.ensures.id ∙ ap (λ (n : ℕ). Some n) (sym c.of.ensures.id)) (c.in_ok-credential.ensures.text ∙ ap (λ (t : List ℕ). Some t) (sym c.of.ensures.text)) in
+    pair-at live place row (c.id.ensures.id ∙ ap (λ (n : ℕ). Some n) (sym c.of.ensures.id))
+    (c.in_ok-credential.ensures.text ∙ ap (λ (t : List ℕ). Some t) (sym c.of.ensures.text)) in
     c.in_ok-push.ensures
     ∙ ap (λ (l : List NumberedText). l ++ row ∷ []) c.loop-place.invariant
     ∙ append_assoc old (drop first (take place live)) (row ∷ [])

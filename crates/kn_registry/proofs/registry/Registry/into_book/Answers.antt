@@ -9,4 +9,6 @@ returns-clause-looked g c =
     let taken = c.take-shared.ensures in
     let look = c.look.ensures in
     looks_held c.args.pass.now c.look.new.pass
-    (looks_of c.args.pass.now (after_give c.look.new.pass) c.take-shared.result (ap after_give look.looked ∙ ap (λ p. after_give (after_look p)) taken.taken) taken.seen (subst IsSoundPass taken.taken taken.sound) look.sound)
+    (looks_of c.args.pass.now (after_give c.look.new.pass) c.take-shared.result (ap after_give look.looked
+    ∙ ap (λ p. after_give (after_look p)) taken.taken) taken.seen (subst IsSoundPass taken.taken taken.sound)
+    look.sound)

@@ -7,10 +7,14 @@ use Rattle.kn_registry.proofs.registry.Registry.pin.Goals as goal
 pub returns-in-Ok-clause-looked : goal.returns-in-Ok-clause-looked
 returns-in-Ok-clause-looked g c =
     let taken = c.take-shared.ensures in
-    looks_of c.args.pass.now c.look.new.pass c.take-shared.result (c.look.ensures.looked ∙ ap (λ p. after_give (after_look p)) taken.taken) taken.seen (subst IsSoundPass taken.taken taken.sound) c.look.ensures.sound
+    looks_of c.args.pass.now c.look.new.pass c.take-shared.result (c.look.ensures.looked
+    ∙ ap (λ p. after_give (after_look p)) taken.taken) taken.seen (subst IsSoundPass taken.taken taken.sound)
+    c.look.ensures.sound
 
 pub returns-in-Err-clause-refused : goal.returns-in-Err-clause-refused
 returns-in-Err-clause-refused g c =
     let taken = c.take-shared.ensures in
     stays_of c.args.pass.now c.look.new.pass
-    (looks_of c.args.pass.now c.look.new.pass c.take-shared.result (c.look.ensures.looked ∙ ap (λ p. after_give (after_look p)) taken.taken) taken.seen (subst IsSoundPass taken.taken taken.sound) c.look.ensures.sound)
+    (looks_of c.args.pass.now c.look.new.pass c.take-shared.result (c.look.ensures.looked
+    ∙ ap (λ p. after_give (after_look p)) taken.taken) taken.seen (subst IsSoundPass taken.taken taken.sound)
+    c.look.ensures.sound)

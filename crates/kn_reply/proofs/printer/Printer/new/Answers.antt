@@ -5,4 +5,5 @@ use Rattle.kn_reply.proofs.printer.Printer.new.Goals as goal
 
 pub returns : goal.returns
 unfolding Gathered
-returns g c = λ seen. subst (λ (pending : List ℕ). GatheredBy false pending [] seen seen) (sym c.new.ensures) (gathered_nothing seen)
+returns g c = λ seen. subst (λ (pending : List ℕ). GatheredBy false pending [] seen seen) (sym c.new.ensures)
+    (gathered_nothing seen)

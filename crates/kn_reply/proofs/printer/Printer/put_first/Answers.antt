@@ -15,10 +15,12 @@ returns-in-Ok g c = λ text first before.
     let empty : printer.pending.items ≡ [] = c.requires going in
     let same : c.gather.new.self ≡ printer = c.gather.ensures.full c.if-gather.false in
     let begun : GatheredBy false [] text first old =
-    subst (λ (items : List ℕ). GatheredBy false items text first old) empty (subst (λ (failed : Bool). GatheredBy failed printer.pending.items text first old) going before) in
+    subst (λ (items : List ℕ). GatheredBy false items text first old) empty
+    (subst (λ (failed : Bool). GatheredBy failed printer.pending.items text first old) going before) in
     subst (λ (p : Printer g.row.N). GatheredBy p.failed p.pending.items (text ++ bytes) first new) (sym same)
     (subst (λ (failed : Bool). GatheredBy failed printer.pending.items (text ++ bytes) first new) (sym going)
-    (subst (λ (items : List ℕ). GatheredBy false items (text ++ bytes) first new) (sym empty) (gathered_direct bytes text first old new begun c.in-Ok.ensures)))
+    (subst (λ (items : List ℕ). GatheredBy false items (text ++ bytes) first new) (sym empty)
+    (gathered_direct bytes text first old new begun c.in-Ok.ensures)))
 
 pub returns-in-Err : goal.returns-in-Err
 unfolding Gathered
@@ -29,5 +31,6 @@ returns-in-Err g c = λ text first before.
     let going : printer.failed ≡ false = c.gather.ensures.going c.if-gather.false in
     let empty : printer.pending.items ≡ [] = c.requires going in
     let begun : GatheredBy false [] text first old =
-    subst (λ (items : List ℕ). GatheredBy false items text first old) empty (subst (λ (failed : Bool). GatheredBy failed printer.pending.items text first old) going before) in
+    subst (λ (items : List ℕ). GatheredBy false items text first old) empty
+    (subst (λ (failed : Bool). GatheredBy failed printer.pending.items text first old) going before) in
     gathered_direct_cut c.args.bytes.now c.gather.new.self.pending.items text first old new begun c.in-Err.ensures

@@ -15,10 +15,15 @@ invariant_of-self c =
     let ps : List Private = c.self.inside.private in
     let n : ℕ = c.self.inside.private_bytes in
     let x : Session = the_view c.self.inside in
-    let absent : is_named x.requesters text ≡ false = subst (λ (y : Session). is_named y.requesters text ≡ false) (sym c.self.view_is) c.requires.absent in
-    let accepted : auth_fault text x ≡ None = subst (λ (y : Session). auth_fault text y ≡ None) (sym c.self.view_is) c.requires.accepted in
-    let entered : IsKept ps n (record x { requesters = x.requesters ++ normal_form text ∷ [] }) = kept_entered ps n x text c.self.invariant (may_enter text x accepted absent) absent in
+    let absent : is_named x.requesters text ≡ false =
+    subst (λ (y : Session). is_named y.requesters text ≡ false) (sym c.self.view_is) c.requires.absent in
+    let accepted : auth_fault text x ≡ None =
+    subst (λ (y : Session). auth_fault text y ≡ None) (sym c.self.view_is) c.requires.accepted in
+    let entered : IsKept ps n (record x { requesters = x.requesters ++ normal_form text ∷ [] }) =
+    kept_entered ps n x text c.self.invariant (may_enter text x accepted absent) absent in
     elim c.match-push.branch [
-      | in-Ok w ↦ subst (λ (rs : List (List ℕ)). IsKept ps n (record x { requesters = rs })) (sym (w.in-Ok.ensures.ok ∙ ap (λ (f : List ℕ). x.requesters ++ f ∷ []) c.in_ok-form.ensures.ok)) entered
-      | in-Err w ↦ subst (λ (rs : List (List ℕ)). IsKept ps n (record x { requesters = rs })) (sym w.in-Err.ensures.err) c.self.invariant
+      | in-Ok w ↦ subst (λ (rs : List (List ℕ)). IsKept ps n (record x { requesters = rs }))
+          (sym (w.in-Ok.ensures.ok ∙ ap (λ (f : List ℕ). x.requesters ++ f ∷ []) c.in_ok-form.ensures.ok)) entered
+      | in-Err w ↦ subst (λ (rs : List (List ℕ)). IsKept ps n (record x { requesters = rs })) (sym w.in-Err.ensures.err)
+          c.self.invariant
     ]

@@ -15,10 +15,15 @@ invariant_of-self-2 c =
     let p : Private = record { id = c.self.inside.made + 1; text = c.in-Ok.octets; assertion = c.args.assertion } in
     let text : c.in-Ok.octets ≡ c.args.text.now = c.in-Ok.ensures in
     let accepted : private_fault c.args.text.now c.args.assertion x ≡ None =
-    subst (λ (y : Session). private_fault c.args.text.now c.args.assertion y ≡ None) (sym c.self.view_is) c.requires.accepted in
-    let room : HasRoom p.text x = subst (λ (t : List ℕ). HasRoom t x) (sym text) (room_for_private c.args.text.now c.args.assertion x accepted) in
+    subst (λ (y : Session). private_fault c.args.text.now c.args.assertion y ≡ None) (sym c.self.view_is)
+    c.requires.accepted in
+    let room : HasRoom p.text x =
+    subst (λ (t : List ℕ). HasRoom t x) (sym text) (room_for_private c.args.text.now c.args.assertion x accepted) in
     let reading : IsReadPrivate p = rw text c.requires.reading in
-    let kept : IsKept (ps ++ p ∷ []) (n + length c.in-Ok.octets) (record x { privates = map numbered_text (ps ++ p ∷ []); made = x.made + 1 }) =
+    let kept : IsKept (ps ++ p ∷ []) (n + length c.in-Ok.octets)
+    (record x { privates = map numbered_text (ps ++ p ∷ []); made = x.made + 1 }) =
     kept_added ps n x p c.self.invariant refl refl reading room in
-    subst (λ (qs : List Private). IsKept qs (n + length c.args.text.now) (record x { privates = map numbered_text qs; made = x.made + 1 })) (sym c.in-Ok-push.ensures.ok)
-    (subst (λ (t : List ℕ). IsKept (ps ++ p ∷ []) (n + length t) (record x { privates = map numbered_text (ps ++ p ∷ []); made = x.made + 1 })) text kept)
+    subst (λ (qs : List Private). IsKept qs (n + length c.args.text.now)
+    (record x { privates = map numbered_text qs; made = x.made + 1 })) (sym c.in-Ok-push.ensures.ok)
+    (subst (λ (t : List ℕ). IsKept (ps ++ p ∷ []) (n + length t)
+    (record x { privates = map numbered_text (ps ++ p ∷ []); made = x.made + 1 })) text kept)

@@ -6,8 +6,12 @@ use Rattle.kn_session.proofs.sessions.Sessions.apply.Goals as goal
 
 pub returns-in-Close : goal.returns-in-Close
 returns-in-Close c = rw c.in-Close.is (record {
-  ok = plain-ok c.args.self.now c.close.new.self c.args.s C.Close (λ x. None) (record { fault = λ x. refl; answer = λ x. refl }) c.close.result _ c.answer_done.ensures c.close.ensures.accepted c.close.ensures.ok;
-  err = plain-err c.args.self.now c.close.new.self c.args.s C.Close (λ x. None) (record { fault = λ x. refl; answer = λ x. refl }) c.close.result _ c.answer_done.ensures (λ lacks x e. absurd (cc (e))) c.close.ensures.fault c.close.ensures.err;
+  ok = plain-ok c.args.self.now c.close.new.self c.args.s C.Close (λ x. None)
+      (record { fault = λ x. refl; answer = λ x. refl }) c.close.result _ c.answer_done.ensures c.close.ensures.accepted
+      c.close.ensures.ok;
+  err = plain-err c.args.self.now c.close.new.self c.args.s C.Close (λ x. None)
+      (record { fault = λ x. refl; answer = λ x. refl }) c.close.result _ c.answer_done.ensures
+      (λ lacks x e. absurd (cc (e))) c.close.ensures.fault c.close.ensures.err;
 })
 
 pub assert_text-requires : goal.assert_text-requires

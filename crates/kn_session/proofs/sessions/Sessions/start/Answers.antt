@@ -14,4 +14,5 @@ invariant_of-self-2 c =
     let room : length (map number xs) < SESSIONS = omega (arith, length-map xs number, c.len-count.ensures) in
     let numbers : map number (xs ++ c.new.result ∷ []) ≡ map number xs ++ (n + 1) ∷ [] =
     map-append number xs (c.new.result ∷ []) ∙ ap (λ (k : ℕ). map number xs ++ k ∷ []) (ap number c.new.ensures) in
-    subst (AreOpen (n + 1)) (sym c.in-Ok.ensures.items) (subst (AreNumbers (n + 1)) (sym numbers) (numbers_more n (map number xs) c.self.invariant room))
+    subst (AreOpen (n + 1)) (sym c.in-Ok.ensures.items)
+    (subst (AreNumbers (n + 1)) (sym numbers) (numbers_more n (map number xs) c.self.invariant room))

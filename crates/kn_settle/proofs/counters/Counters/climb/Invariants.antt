@@ -11,7 +11,8 @@ invariant-loop-up g l = record {
   counts : length l.self.counts.items ≡ length l.fn.self.counts.items;
   buckets : l.self.buckets.items ≡ l.fn.self.buckets.items;
   trailed : AreTrailed l.fn.self.counts.items l.fn.self.trail → AreTrailed l.self.counts.items l.self.trail;
-  climbing : GoesOn l.system l.value l.node l.fn.self.counts.items l.fn.self.buckets.items l.up l.self.counts.items l.self.buckets.items l.fn.steps l.steps;
+  climbing : GoesOn l.system l.value l.node l.fn.self.counts.items l.fn.self.buckets.items l.up l.self.counts.items
+      l.self.buckets.items l.fn.steps l.steps;
 }
 
 abbrev pub decreases-loop-up : goal.decreases-loop-up

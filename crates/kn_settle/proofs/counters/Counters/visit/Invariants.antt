@@ -11,7 +11,8 @@ invariant-loop-node g l = record {
   buckets : length l.self.buckets.items ≡ length l.fn.self.buckets.items;
   longer : AreLonger l.fn.self.buckets.items l.self.buckets.items;
   trailed : AreTrailed l.fn.self.counts.items l.fn.self.trail → AreTrailed l.self.counts.items l.self.trail;
-  visiting : VisitsAt l.system l.value l.principal l.k l.levels.values.items l.fn.self.counts.items l.fn.self.buckets.items l.self.counts.items l.self.buckets.items l.fn.steps l.steps;
+  visiting : VisitsAt l.system l.value l.principal l.k l.levels.values.items l.fn.self.counts.items
+      l.fn.self.buckets.items l.self.counts.items l.self.buckets.items l.fn.steps l.steps;
 }
 
 abbrev pub decreases-loop-node : goal.decreases-loop-node

@@ -7,11 +7,17 @@ use Rattle.kn_settle.proofs.query_system.QuerySystem.uses.Goals as goal
 pub uses-requires : goal.uses-requires
 uses-requires g c =
     let base : SystemEquations = c.self.inside.base.now in
-    omega (arith, ap (λ (e : SystemEquations). length e.requesters) c.self.view_is, length-flags c.self.inside.requesters.now 0 (length base.requesters), c.requires)
+    omega (
+      arith,
+      ap (λ (e : SystemEquations). length e.requesters) c.self.view_is,
+      length-flags c.self.inside.requesters.now 0 (length base.requesters),
+      c.requires,
+    )
 
 pub returns-clause-exact : goal.returns-clause-exact
 returns-clause-exact g c =
     let base : SystemEquations = c.self.inside.base.now in
     c.uses.ensures.exact
-    ∙ ap (λ ps. slice_get (uses_of c.args.principal ps) c.args.k) (sym (pieces-capped (g.C.Ceilings.each c.self.inside.ceilings.now) 0 base.rows))
+    ∙ ap (λ ps. slice_get (uses_of c.args.principal ps) c.args.k)
+    (sym (pieces-capped (g.C.Ceilings.each c.self.inside.ceilings.now) 0 base.rows))
     ∙ ap (λ (e : SystemEquations). slice_get (uses_of c.args.principal (pieces_of e.rows)) c.args.k) c.self.view_is

@@ -15,6 +15,7 @@ returns-then-len-lt-UPDATES_PAGE c =
 
 pub returns : goal.returns
 returns c =
-    seen-full arc_value UPDATES_PAGE c.self.inside.full c.full-3.inside.items.items c.self.inside.last c.in-Ok.page c.in_ok-with_update.field-0 c.args.update
+    seen-full arc_value UPDATES_PAGE c.self.inside.full c.full-3.inside.items.items c.self.inside.last c.in-Ok.page
+    c.in_ok-with_update.field-0 c.args.update
     (omega arith) (search rules) (search rules) (search rules) (search rules)
     ∙ ap (λ pages. with_item UPDATES_PAGE pages c.args.update) c.self.view_is

@@ -7,5 +7,6 @@ use Rattle.kn_system.proofs.interned.System.node.Goals as goal
 pub node-requires : goal.node-requires
 node-requires g c =
     let s = c.self.inside in
-    let size = ap length (sym c.self.invariant.1.pieces) ∙ length-pieces_of (kept_rows s.flat.pieces s.rows) ∙ ap (λ (e : SystemEquations). node_total e.rows) c.self.view_is in
+    let size = ap length (sym c.self.invariant.1.pieces) ∙ length-pieces_of (kept_rows s.flat.pieces s.rows)
+    ∙ ap (λ (e : SystemEquations). node_total e.rows) c.self.view_is in
     omega (arith, size, c.requires)

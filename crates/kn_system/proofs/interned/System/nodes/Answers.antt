@@ -7,4 +7,5 @@ use Rattle.kn_system.proofs.interned.System.nodes.Goals as goal
 pub returns : goal.returns
 returns g c =
     let s = c.self.inside in
-    c.len.ensures.nodes ∙ ap length (sym c.self.invariant.1.pieces) ∙ length-pieces_of (kept_rows s.flat.pieces s.rows) ∙ ap (λ (e : SystemEquations). node_total e.rows) c.self.view_is
+    c.len.ensures.nodes ∙ ap length (sym c.self.invariant.1.pieces) ∙ length-pieces_of (kept_rows s.flat.pieces s.rows)
+    ∙ ap (λ (e : SystemEquations). node_total e.rows) c.self.view_is

@@ -12,8 +12,14 @@ invariant_of-self g c =
     elim c.match-push.branch [
       | in-Ok w ↦
           let size = ap length w.in-Ok.ensures.ok in
-          let more : length (false ∷ s.others) ≤ length (false ∷ c.push.new.self) = omega (arith, length-append s.others (c.args.requester ∷ [])) in
-          let fit : length (false ∷ c.push.new.self) ≤ 2 ^ 24 = omega (arith, length-append s.others (c.args.requester ∷ [])) in
-          (IsSystem-more_principals s.levels (false ∷ s.others) (false ∷ c.push.new.self) (kept_rows s.flat.pieces s.rows) more fit refl c.self.invariant.0, c.self.invariant.1, c.self.invariant.2)
+          let more : length (false ∷ s.others) ≤ length (false ∷ c.push.new.self) =
+          omega (arith, length-append s.others (c.args.requester ∷ [])) in
+          let fit : length (false ∷ c.push.new.self) ≤ 2 ^ 24 =
+          omega (arith, length-append s.others (c.args.requester ∷ [])) in (
+            IsSystem-more_principals s.levels (false ∷ s.others) (false ∷ c.push.new.self)
+                (kept_rows s.flat.pieces s.rows) more fit refl c.self.invariant.0,
+            c.self.invariant.1,
+            c.self.invariant.2,
+          )
       | in-Err w ↦ rw w.in-Err.ensures.err c.self.invariant
     ]

@@ -8,6 +8,12 @@ pub pop_principal-requires-clause-over_others : goal.pop_principal-requires-clau
 pop_principal-requires-clause-over_others g c =
     let rows = ap (λ (e : SystemEquations). e.rows) c.loop-principal.invariant.same in
     let more : c.args.principals ≤ length c.loop-principal.self.requesters - 1 =
-    omega (arith, c.loop-principal.invariant.size, c.loop-principal-test.true, c.principals-principal-end.ensures.exact) in
+    omega (
+      arith,
+      c.loop-principal.invariant.size,
+      c.loop-principal-test.true,
+      c.principals-principal-end.ensures.exact,
+    ) in
     subst (λ (rs : List SystemRow). All (IsRowOver (length c.loop-principal.self.requesters - 1)) rs) (sym rows)
-    (over-more c.args.principals (length c.loop-principal.self.requesters - 1) more c.args.self.now.rows c.requires.over_them)
+    (over-more c.args.principals (length c.loop-principal.self.requesters - 1) more c.args.self.now.rows
+    c.requires.over_them)

@@ -13,10 +13,15 @@ returns-clause-placed c =
     let nodes : List ℕ = c.args.self.now.nodes.items in
     let moved : Block = c.in_ok-block.block in
     let there : q < length wide = c.in_ok-widen.ensures.there in
-    let read : c.index.result.now ≡ block_at blocks q = c.index.ensures ∙ get_or_default wide q c.index.result.now (record { start = 0; len = 0; room = 0 }) there ∙ c.in_ok-widen.ensures.same q in
-    let place : (moved ≡ block_at blocks q) ⊎ (moved.start ≡ length nodes) = (elim c.in_ok-block.ensures.place [ inl e ↦ inl (e ∙ read) | inr e ↦ inr e ]) in
+    let read : c.index.result.now ≡ block_at blocks q = c.index.ensures
+    ∙ get_or_default wide q c.index.result.now (record { start = 0; len = 0; room = 0 }) there
+    ∙ c.in_ok-widen.ensures.same q in
+    let place : (moved ≡ block_at blocks q) ⊎ (moved.start ≡ length nodes) =
+    (elim c.in_ok-block.ensures.place [ inl e ↦ inl (e ∙ read) | inr e ↦ inr e ]) in
     let (more, longer) = c.in_ok-block.ensures.longer in
-    let all : IsPushed blocks _ nodes _ q c.args.node = pushed blocks wide _ nodes c.make_room.new.nodes.items more _ q c.args.node moved c.requires c.in_ok-widen.ensures.same there longer c.in_ok-block.ensures.within c.in_ok-block.ensures.room
+    let all : IsPushed blocks _ nodes _ q c.args.node =
+    pushed blocks wide _ nodes c.make_room.new.nodes.items more _ q c.args.node moved c.requires
+    c.in_ok-widen.ensures.same there longer c.in_ok-block.ensures.within c.in_ok-block.ensures.room
     (c.in_ok-block.ensures.same ∙ ap (list_in nodes) read) place refl refl in
     all.placed
 
@@ -28,10 +33,15 @@ returns-clause-ok c =
     let nodes : List ℕ = c.args.self.now.nodes.items in
     let moved : Block = c.in_ok-block.block in
     let there : q < length wide = c.in_ok-widen.ensures.there in
-    let read : c.index.result.now ≡ block_at blocks q = c.index.ensures ∙ get_or_default wide q c.index.result.now (record { start = 0; len = 0; room = 0 }) there ∙ c.in_ok-widen.ensures.same q in
-    let place : (moved ≡ block_at blocks q) ⊎ (moved.start ≡ length nodes) = (elim c.in_ok-block.ensures.place [ inl e ↦ inl (e ∙ read) | inr e ↦ inr e ]) in
+    let read : c.index.result.now ≡ block_at blocks q = c.index.ensures
+    ∙ get_or_default wide q c.index.result.now (record { start = 0; len = 0; room = 0 }) there
+    ∙ c.in_ok-widen.ensures.same q in
+    let place : (moved ≡ block_at blocks q) ⊎ (moved.start ≡ length nodes) =
+    (elim c.in_ok-block.ensures.place [ inl e ↦ inl (e ∙ read) | inr e ↦ inr e ]) in
     let (more, longer) = c.in_ok-block.ensures.longer in
-    let all : IsPushed blocks _ nodes _ q c.args.node = pushed blocks wide _ nodes c.make_room.new.nodes.items more _ q c.args.node moved c.requires c.in_ok-widen.ensures.same there longer c.in_ok-block.ensures.within c.in_ok-block.ensures.room
+    let all : IsPushed blocks _ nodes _ q c.args.node =
+    pushed blocks wide _ nodes c.make_room.new.nodes.items more _ q c.args.node moved c.requires
+    c.in_ok-widen.ensures.same there longer c.in_ok-block.ensures.within c.in_ok-block.ensures.room
     (c.in_ok-block.ensures.same ∙ ap (list_in nodes) read) place refl refl in
     all.lists
 
@@ -43,6 +53,10 @@ returns-clause-room c =
     let moved : Block = c.in_ok-block.block in
     let grown : Block = record { start = moved.start; len = moved.len + 1; room = moved.room } in
     let there : q < length wide = c.in_ok-widen.ensures.there in
-    let read : c.index.result.now ≡ block_at blocks q = c.index.ensures ∙ get_or_default wide q c.index.result.now (record { start = 0; len = 0; room = 0 }) there ∙ c.in_ok-widen.ensures.same q in
-    let own : block_at (slice_set wide q grown) q ≡ grown = get_or-set_same wide q grown (record { start = 0; len = 0; room = 0 }) there in
-    subst (IsSameOrDouble (block_at blocks q)) (sym own) (subst (λ b. IsSameOrDouble b moved) read c.in_ok-block.ensures.wide)
+    let read : c.index.result.now ≡ block_at blocks q = c.index.ensures
+    ∙ get_or_default wide q c.index.result.now (record { start = 0; len = 0; room = 0 }) there
+    ∙ c.in_ok-widen.ensures.same q in
+    let own : block_at (slice_set wide q grown) q ≡ grown =
+    get_or-set_same wide q grown (record { start = 0; len = 0; room = 0 }) there in
+    subst (IsSameOrDouble (block_at blocks q)) (sym own)
+    (subst (λ b. IsSameOrDouble b moved) read c.in_ok-block.ensures.wide)

@@ -26,4 +26,9 @@ returns c =
     trees-chain f.parts.items f.links.items f.bytes.items f.nodes.items c.self.invariant
     c.args.signs.now c.args.rights.now _ c.in_ok-rest.ensures.kept.ok _
     c.in_ok-rest.rest c.in_ok-rest.ensures.kept.span c.args.first c.in_ok-place.ensures.ok in
-    rw (← c.self.view_is) (record { place = c.in_ok-place.ensures.place ∙ sym (length-trees_of _ f.nodes.items); ok = ok; err = tt })
+    rw (← c.self.view_is) (record {
+      place = c.in_ok-place.ensures.place ∙ sym (length-trees_of _ f.nodes.items);
+      ok =
+          ok;
+      err = tt;
+    })

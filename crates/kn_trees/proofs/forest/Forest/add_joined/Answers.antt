@@ -14,7 +14,8 @@ returns-in_err-place c =
 pub invariant_of-self-2 : goal.invariant_of-self-2
 invariant_of-self-2 c =
     let f = c.self.inside in
-    forest-joined f.parts.items f.links.items f.bytes.items f.nodes.items c.self.invariant c.args.parts.now _ c.in_ok-span.ensures.kept.ok _
+    forest-joined f.parts.items f.links.items f.bytes.items f.nodes.items c.self.invariant c.args.parts.now _
+    c.in_ok-span.ensures.kept.ok _
     c.in_ok-span.span c.in_ok-span.ensures.kept.span c.keep_parts.ensures.short (rw c.self.view_is c.requires)
     c.node.result c.in_ok-place.ensures.ok c.node.ensures.placed
 
@@ -22,6 +23,13 @@ pub returns : goal.returns
 returns c =
     let f = c.self.inside in
     let ok =
-    trees-joined f.parts.items f.links.items f.bytes.items f.nodes.items c.self.invariant c.args.parts.now _ c.in_ok-span.ensures.kept.ok _
-    c.in_ok-span.span c.in_ok-span.ensures.kept.span c.args.joint c.node.result c.in_ok-place.ensures.ok (c.node.ensures.tree _ _) in
-    rw (← c.self.view_is) (record { place = c.in_ok-place.ensures.place ∙ sym (length-trees_of _ f.nodes.items); ok = ok; err = tt })
+    trees-joined f.parts.items f.links.items f.bytes.items f.nodes.items c.self.invariant c.args.parts.now _
+    c.in_ok-span.ensures.kept.ok _
+    c.in_ok-span.span c.in_ok-span.ensures.kept.span c.args.joint c.node.result c.in_ok-place.ensures.ok
+    (c.node.ensures.tree _ _) in
+    rw (← c.self.view_is) (record {
+      place = c.in_ok-place.ensures.place ∙ sym (length-trees_of _ f.nodes.items);
+      ok =
+          ok;
+      err = tt;
+    })

@@ -8,9 +8,11 @@ use Rattle.kn_trees.proofs.stack.ExprStack.apply.Goals as goal
 pub invariant_of-self-2 : goal.invariant_of-self-2
 invariant_of-self-2 c =
     let s = c.self.inside in
-    let part = root-found s.forest s.roots.items (c.len-at.result - 1) c.root_at-part.result c.root_at-part.ensures c.self.invariant in
+    let part = root-found s.forest s.roots.items (c.len-at.result - 1) c.root_at-part.result c.root_at-part.ensures
+    c.self.invariant in
     rw c.in_ok-place.ensures.ok
-    (roots-put s.forest (tree_of no_pools s.forest c.node.result) s.roots.items _ (c.len-at.result - 1) _ c.in_ok-place.ensures.place c.self.invariant
+    (roots-put s.forest (tree_of no_pools s.forest c.node.result) s.roots.items _ (c.len-at.result - 1) _
+    c.in_ok-place.ensures.place c.self.invariant
     c.replace_from.ensures (c.kind-kind.ensures _ part.kind ∙ ap kind_of (sym (c.node.ensures.tree s.forest))))
 
 pub returns-clause-ok : goal.returns-clause-ok
@@ -21,6 +23,8 @@ returns-clause-ok c = λ front part same.
     tree-found s.forest s.roots.items (c.len-at.result - 1) c.root_at-part.result c.root_at-part.ensures front [] part
     (c.self.view_is ∙ same) at in
     let put =
-    trees-put s.forest (tree_of no_pools s.forest c.node.result) s.roots.items _ (c.len-at.result - 1) _ c.in_ok-place.ensures.place c.self.invariant
+    trees-put s.forest (tree_of no_pools s.forest c.node.result) s.roots.items _ (c.len-at.result - 1) _
+    c.in_ok-place.ensures.place c.self.invariant
     c.replace_from.ensures front (part ∷ []) (c.self.view_is ∙ same) at in
-    rw c.in_ok-place.ensures.ok (put ∙ ap (λ t. front ++ t ∷ []) (c.node.ensures.tree s.forest ∙ ap (prefixed c.args.sign) found))
+    rw c.in_ok-place.ensures.ok (put
+    ∙ ap (λ t. front ++ t ∷ []) (c.node.ensures.tree s.forest ∙ ap (prefixed c.args.sign) found))

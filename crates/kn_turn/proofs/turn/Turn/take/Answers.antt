@@ -7,11 +7,20 @@ use Rattle.kn_turn.proofs.turn.Turn.take.Goals as goal
 
 pub fetch_add-ticket-requires : goal.fetch_add-ticket-requires
 fetch_add-ticket-requires g c =
-    let idle : c.pass.inside.seat.me.0.stage ≡ Idle = idle_stage _ (ap (λ p. p.is_idle) c.pass.view_is ∙ c.requires.idle) in
-    (search rules, search rules, draws g.S.Logged.by g.S.Logged.log _ _ c.pass.inside.seat.me idle c.pass.invariant.live)
+    let idle : c.pass.inside.seat.me.0.stage ≡ Idle =
+    idle_stage _ (ap (λ p. p.is_idle) c.pass.view_is ∙ c.requires.idle) in (
+      search rules,
+      search rules,
+      draws g.S.Logged.by g.S.Logged.log _ _ c.pass.inside.seat.me idle c.pass.invariant.live,
+    )
 
 pub load-requires : goal.load-requires
-load-requires g c = (search rules, search rules, takes_out g.S.Logged.by g.S.Logged.log _ _ c.await_turn.new.seat.me (ap (λ m. m.0.stage) c.await_turn.ensures.served))
+load-requires g c = (
+  search rules,
+  search rules,
+  takes_out g.S.Logged.by g.S.Logged.log _ _ c.await_turn.new.seat.me
+      (ap (λ m. m.0.stage) c.await_turn.ensures.served),
+)
 
 pub exchange-requires : goal.exchange-requires
 exchange-requires g c =

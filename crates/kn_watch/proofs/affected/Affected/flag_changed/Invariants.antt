@@ -9,6 +9,8 @@ abbrev pub invariant-loop-place : goal.invariant-loop-place
 invariant-loop-place g l = record {
   size : length l.self.flags.items ≡ length l.system.requesters;
   found : AreFound l.self.flags.items l.self.found;
-  rows : (i : ℕ) (change : Changed) → i < l.place → slice_get l.changed i ≡ Some change → is_affected l.self.flags.items (row_at l.system.rows change.row).authorizer ≡ true;
-  within : (others : List Bool) → HasChanged l.system l.changed others → IsSubset l.fn.self.flags.items others → IsSubset l.self.flags.items others;
+  rows : (i : ℕ) (change : Changed) → i < l.place → slice_get l.changed i ≡ Some change
+      → is_affected l.self.flags.items (row_at l.system.rows change.row).authorizer ≡ true;
+  within : (others : List Bool) → HasChanged l.system l.changed others → IsSubset l.fn.self.flags.items others
+      → IsSubset l.self.flags.items others;
 }

@@ -12,8 +12,10 @@ invariant-loop-node g l = record {
   front : IsPrefix l.fn.self.found l.self.found;
   most : l.k ≤ use_count l.system l.principal;
   reached : AreReached l.system l.principal l.k l.self.flags.items;
-  within : (others : List Bool) → HasUsers l.system others → is_affected others l.principal ≡ true → IsSubset l.fn.self.flags.items others → IsSubset l.self.flags.items others;
-  ticks : (others : List Bool) → HasUsers l.system others → is_affected others l.principal ≡ true → AreUseTicks l.system others l.k l.fn.steps l.steps;
+  within : (others : List Bool) → HasUsers l.system others → is_affected others l.principal ≡ true
+      → IsSubset l.fn.self.flags.items others → IsSubset l.self.flags.items others;
+  ticks : (others : List Bool) → HasUsers l.system others → is_affected others l.principal ≡ true
+      → AreUseTicks l.system others l.k l.fn.steps l.steps;
 }
 
 abbrev pub decreases-loop-node : goal.decreases-loop-node

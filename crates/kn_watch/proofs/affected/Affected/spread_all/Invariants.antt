@@ -10,8 +10,10 @@ invariant-loop-at g l = record {
   found : AreFound l.self.flags.items l.self.found;
   kept : IsSubset l.fn.self.flags.items l.self.flags.items;
   spread : AreSpread l.system l.self.found l.at l.self.flags.items;
-  within : (others : List Bool) → HasUsers l.system others → IsSubset l.fn.self.flags.items others → IsSubset l.self.flags.items others;
-  ticks : (others : List Bool) → HasUsers l.system others → IsSubset l.fn.self.flags.items others → AreFindTicks l.system others l.self.found l.at l.fn.steps l.steps;
+  within : (others : List Bool) → HasUsers l.system others → IsSubset l.fn.self.flags.items others
+      → IsSubset l.self.flags.items others;
+  ticks : (others : List Bool) → HasUsers l.system others → IsSubset l.fn.self.flags.items others
+      → AreFindTicks l.system others l.self.found l.at l.fn.steps l.steps;
 }
 
 abbrev pub decreases-loop-at : goal.decreases-loop-at

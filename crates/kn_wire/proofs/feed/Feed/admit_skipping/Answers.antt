@@ -11,11 +11,14 @@ returns-then-line-bytes c =
     let self = c.args.self.now in
     let text = drop self.cursor.from (take self.end self.buf.items) in
     let piece = c.split_at-2.result.0.now in
-    let is : piece ≡ take c.args.bytes (drop self.end self.buf.items) = c.split_at-2.ensures.front ∙ ap (take c.args.bytes) (c.split_at.ensures.back ∙ ap (drop self.end) c.as_slice.ensures.value) in
+    let is : piece ≡ take c.args.bytes (drop self.end self.buf.items) = c.split_at-2.ensures.front
+    ∙ ap (take c.args.bytes) (c.split_at.ensures.back ∙ ap (drop self.end) c.as_slice.ensures.value) in
     ap (λ stage. held_by stage text) c.requires.stage
-    ∙ skips_all piece c.place_of-line.result c.place_of-line.ensures.place (c.if-line-bytes.true ∙ sym c.split_at-2.ensures.front_len)
+    ∙ skips_all piece c.place_of-line.result c.place_of-line.ensures.place (c.if-line-bytes.true
+    ∙ sym c.split_at-2.ensures.front_len)
     ∙ ap (pushed InLong) is
-    ∙ ap (λ stage. pushed (held_by stage text) (take c.args.bytes (drop self.end self.buf.items))) (sym c.requires.stage)
+    ∙ ap (λ stage. pushed (held_by stage text) (take c.args.bytes (drop self.end self.buf.items)))
+    (sym c.requires.stage)
 
 pub returns : goal.returns
 unfolding held
@@ -25,7 +28,8 @@ returns c =
     let text = drop self.cursor.from (take self.end self.buf.items) in
     let came = take (self.end + c.args.bytes) self.buf.items in
     let piece = c.split_at-2.result.0.now in
-    let is : piece ≡ take c.args.bytes (drop self.end self.buf.items) = c.split_at-2.ensures.front ∙ ap (take c.args.bytes) (c.split_at.ensures.back ∙ ap (drop self.end) c.as_slice.ensures.value) in
+    let is : piece ≡ take c.args.bytes (drop self.end self.buf.items) = c.split_at-2.ensures.front
+    ∙ ap (take c.args.bytes) (c.split_at.ensures.back ∙ ap (drop self.end) c.as_slice.ensures.value) in
     let place : self.end + line + 1 ≡ self.end + (line + 1) = omega arith in
     ap (λ k. held_by k.stage (drop (self.end + line + 1) came)) c.start-self.ensures
     ∙ ap (λ n. Bytes (drop n came)) place
@@ -33,4 +37,5 @@ returns c =
     ∙ ap (λ p. Bytes (drop (line + 1) p)) (sym is)
     ∙ skips_line piece line c.place_of-line.ensures.place (omega arith)
     ∙ ap (pushed InLong) is
-    ∙ ap (λ stage. pushed (held_by stage text) (take c.args.bytes (drop self.end self.buf.items))) (sym c.requires.stage)
+    ∙ ap (λ stage. pushed (held_by stage text) (take c.args.bytes (drop self.end self.buf.items)))
+    (sym c.requires.stage)

@@ -10,8 +10,15 @@ unfolding held
 returns-in-Reading-clause-room c =
     let bytes = take c.args.self.now.end c.args.self.now.buf.items in
     let text = drop c.args.self.now.cursor.from bytes in
-    let none : next_of (Bytes text) ≡ None = ap (λ stage. next_of (held_by stage text)) (sym c.in-Reading.is) ∙ c.requires.none in
+    let none : next_of (Bytes text) ≡ None = ap (λ stage. next_of (held_by stage text)) (sym c.in-Reading.is)
+    ∙ c.requires.none in
     let short = waiting_text_short text none in
     let size = length-drop c.args.self.now.cursor.from bytes in
     let all = length-take c.args.self.now.end c.args.self.now.buf.items in
-    omega (arith, c.args.self.now.buf.ok.0, c.args.self.now.within, c.args.self.now.full, c.move_front-self.ensures.count)
+    omega (
+      arith,
+      c.args.self.now.buf.ok.0,
+      c.args.self.now.within,
+      c.args.self.now.full,
+      c.move_front-self.ensures.count,
+    )
