@@ -1,11 +1,10 @@
 -- Updates of several changes.
-use Rattle.std.proofs.Common.{◌≡◌, ℕ, ◌+◌, Bool, true, false, List, [], ◌∷◌, ◌++◌, length, map, refl, sym, ap, ◌∙◌}
+use Rattle.std.proofs.Common.{◌≡◌, ℕ, Bool, true, List, [], ◌∷◌, ◌++◌, length, map, refl, sym, ap, ◌∙◌}
 use Rattle.std.proofs.Common.{Option, Some, None, subst, inl, inr}
-use Rattle.std.specs.Prelude.{Result, Ok, Err, option_and_then, option_map, option_to_list}
+use Rattle.std.specs.Prelude.{Result, Ok, option_and_then, option_map, option_to_list}
 use Rattle.kn_trees.specs.declared.assertion.Assertion.{Assertion}
 use Rattle.kn_outside.specs.Seen.{LinkSeen}
 use Rattle.kn_outside.specs.Printing.{Prints}
-use Rattle.kn_history.specs.declared.update.Update.{Update}
 use Rattle.kn_history.specs.declared.item.Item.{Item}
 use Rattle.kn_history.specs.declared.fault.StoreFault.{StoreFault}
 use Rattle.kn_history.specs.declared.fault.BatchFault.{BatchFault}
@@ -19,7 +18,7 @@ use Rattle.kn_wire.specs.ItemsInCode.{HasFault}
 use Rattle.kn_reply.specs.declared.refusal.Refusal.{Refusal}
 use Rattle.kn_reply.specs.declared.refusal.Refusal.TheVariants as R
 use Rattle.kn_reply.specs.Logs.{item_of}
-use Rattle.kn_reply.specs.Replies.{Batched, No, NoMemory, reply_text}
+use Rattle.kn_reply.specs.Replies.{Batched, reply_text}
 use Rattle.kn_daemon.specs.Shapes.{Shape, Updates, ApplyBlock}
 use Rattle.kn_daemon.specs.Daemon.{Grounds, State, IsBatchCommitted, own_refusal, placed_refusal, refusal_of_update}
 use Rattle.kn_daemon.specs.Daemon.{refusal_of_block, refusal_of_batch, refusal_of_item_fault}

@@ -17,7 +17,7 @@ use Rattle.kn_reply.specs.declared.refusal.Refusal.TheVariants as R
 use Rattle.kn_reply.specs.declared.refusal.ItemRefusal.{ItemRefusal}
 use Rattle.kn_reply.specs.declared.refusal.ItemRefusal.TheVariants as I
 use Rattle.kn_reply.specs.declared.refusal.LimitWord.TheVariants as W
-use Rattle.kn_reply.specs.Replies.{Number, Added, No, NoMemory, reply_text}
+use Rattle.kn_reply.specs.Replies.{Number, Added, No, reply_text}
 use Rattle.kn_daemon.specs.Shapes.{Updating, Updates, AddText, DropId}
 use Rattle.kn_daemon.specs.Daemon.{Grounds, State, own_refusal, placed_refusal, refusal_of_store, refusal_of_update}
 use Rattle.kn_daemon.specs.Daemon.{refusal_of_reading, refusal_of_verdict, refusal_at_reading, refusal_at_verdict}

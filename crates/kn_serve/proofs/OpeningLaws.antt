@@ -14,14 +14,14 @@ use Rattle.kn_session.specs.Connection.{with_open_session}
 use Rattle.kn_reply.specs.declared.refusal.Refusal.{Refusal}
 use Rattle.kn_reply.specs.declared.refusal.Refusal.TheVariants as R
 use Rattle.kn_reply.specs.declared.refusal.LimitWord.TheVariants as W
-use Rattle.kn_reply.specs.Replies.{Reply, Started, Number, PinnedAt, No, NoMemory, reply_text}
+use Rattle.kn_reply.specs.Replies.{Started, Number, PinnedAt, No, NoMemory, reply_text}
 use Rattle.kn_daemon.specs.Shapes.{Shape, Looks, ForNew, ForOpen, ForRetained}
 use Rattle.kn_daemon.specs.Daemon.{Grounds, State, session_of, own_refusal, placed_refusal, refuse_if, pinned_to}
 use Rattle.kn_daemon.specs.Daemon.{refusal_by}
 use Rattle.kn_registry.specs.declared.answer.PinFault.{PinFault}
 use Rattle.kn_registry.specs.declared.answer.PinFault.TheVariants as P
 use Rattle.kn_registry.specs.Passes.{PassSeen, Looks as PassLooks, Stays, RefusesVersion}
-use Rattle.kn_serve.specs.Handling.{Moment, in_state, Handles, Tells, refusal_of_version, refused_reply}
+use Rattle.kn_serve.specs.Handling.{in_state, Handles, Tells, refusal_of_version, refused_reply}
 use Rattle.kn_serve.proofs.HandlingLaws.{told_refused, looked_handled, lacking_handled, unserved_handled}
 use Rattle.kn_serve.proofs.HandlingLaws.{refused_handled}
 use Rattle.kn_serve.proofs.CallingLaws.{state_with, none_found}

@@ -3,14 +3,17 @@ ghost use Rattle.std.specs.Prelude.{◌≡◌};
 ghost use Rattle.kn_daemon.specs.Daemon.{first_state};
 ghost use Rattle.kn_serve.specs.Handling.{state_of};
 
+use crate::last_values::LastValues;
 use kn_session::Sessions;
 use std::alloc::Global;
 
-/// The sessions of a connection, and whether it has shown the administrators' secret.
+/// The sessions of a connection, whether it has shown the administrators' secret, and the compliance values that it
+/// asked by last.
 #[derive(Drop)]
 pub(crate) struct Connection {
     pub sessions: Sessions,
     pub is_admin: bool,
+    pub last: LastValues,
 }
 
 impl Connection {
@@ -20,6 +23,7 @@ impl Connection {
         Connection {
             sessions: Sessions::new(alloc),
             is_admin: false,
+            last: LastValues::new(alloc),
         }
     }
 }

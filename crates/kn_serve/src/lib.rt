@@ -11,6 +11,7 @@ mod config;
 mod connection;
 mod filling;
 mod judging;
+mod last_values;
 mod logging;
 mod opening;
 mod querying;

@@ -1,5 +1,5 @@
 //! Asking with a session.
-ghost use Rattle.std.specs.Prelude.{◌≡◌, Some, IfOk, IfErr};
+ghost use Rattle.std.specs.Prelude.{◌≡◌, Some, IfOk, IfErr, IfSome};
 ghost use Rattle.kn_env.specs.Environment.{AreRequesters};
 ghost use Rattle.kn_env.specs.Values.{values_of};
 ghost use Rattle.kn_outside.specs.Printing.{is_whole};
@@ -20,14 +20,16 @@ use kn_reply::{Refusal, Reply, print};
 use kn_session::View;
 use std::alloc::Global;
 
-/// What a session asks with, and the compliance values of a text. The refusal is that of each question with these; it
-/// is None when out of memory.
+/// What a session asks with, and the compliance values of a text, which need not be read where they are at hand. The
+/// refusal is that of each question with these; it is None when out of memory.
 pub(crate) fn read_question<'a>(
     alloc: Global,
     connection: &'a Connection,
+    at_hand: Option<Values>,
     s: u32,
     names: &[u8],
 ) -> Result<(View<'a>, Values), Option<Refusal>>
+    requires at_hand { IfSome at_hand (λ values. values_of names.now ≡ Some values) }
     ensures session { IfOk result (λ asked. session_of (state_of connection.now) s ≡ Some (session_of_view asked.0)) }
     ensures privates { IfOk result (λ asked. ArePrivates (session_of_view asked.0).privates) }
     ensures readings { IfOk result (λ asked. AreReadPrivates asked.0.private.now) }
@@ -39,31 +41,35 @@ pub(crate) fn read_question<'a>(
         Ok(view) => view,
         Err(_) => return Err(Some(Refusal::Session)),
     };
+    if let Some(values) = at_hand {
+        return Ok((view, values));
+    }
     match Values::of(alloc, names) {
         Ok(values) => Ok((view, values)),
         Err(fault) => Err(refusal_of_values(fault)),
     }
 }
 
-/// Answers QUERY.
+/// Answers QUERY. Its compliance values are kept for the next one.
 pub(crate) fn query<L: Link>(
     alloc: Global,
-    connection: &Connection,
+    connection: &mut Connection,
     kept: &mut KeptBases,
     s: u32,
     names: &[u8],
     link: &mut L,
 ) -> Result<(), Failed>
-    requires one_history { AreAllOfOne (state_of connection.now) kept.old }
-    ensures stays { StaysOf (state_of connection.now) kept.old kept.new }
+    requires one_history { AreAllOfOne (state_of connection.old) kept.old }
+    ensures stays { StaysOf (state_of connection.old) kept.old kept.new }
     ensures told { (g : Grounds) → Tells g (Asks WithProof s names.now) (is_whole result)
-        (state_of connection.now) (state_of connection.now) (L.seen link.old) (L.seen link.new) }
+        (state_of connection.old) (state_of connection.new) (L.seen link.old) (L.seen link.new) }
 {
-    let (view, values) = match read_question(alloc, connection, s, names) {
+    let at_hand = connection.last.take(names);
+    let (view, values) = match read_question(alloc, connection, at_hand, s, names) {
         Ok(asked) => asked,
         Err(refusal) => return print_refusal(refusal, link),
     };
-    match answer_query(alloc, &view, &values, kept) {
+    let told = match answer_query(alloc, &view, &values, kept) {
         Ok(answer) => {
             let index = answer.value;
             let name = values.name(index);
@@ -80,7 +86,9 @@ pub(crate) fn query<L: Link>(
             )
         }
         Err(NoMemory) => print(&Reply::NoMemory, link),
-    }
+    };
+    connection.last.keep(alloc, names, values);
+    told
 }
 
 /// Answers CRITICAL.
@@ -94,7 +102,7 @@ pub(crate) fn critical<L: Link>(
     ensures told { (g : Grounds) → Tells g (Asks WithCritical s names.now) (is_whole result)
         (state_of connection.now) (state_of connection.now) (L.seen link.old) (L.seen link.new) }
 {
-    let (view, values) = match read_question(alloc, connection, s, names) {
+    let (view, values) = match read_question(alloc, connection, None, s, names) {
         Ok(asked) => asked,
         Err(refusal) => return print_refusal(refusal, link),
     };

@@ -35,7 +35,7 @@ pub(crate) fn watch<L: Link>(
     ensures told { (g : Grounds) → Tells g (Asks ToKeep s names.now) (is_whole result)
         (state_of connection.old) (state_of connection.new) (L.seen link.old) (L.seen link.new) }
 {
-    let (view, values) = match read_question(alloc, connection, s, names) {
+    let (view, values) = match read_question(alloc, connection, None, s, names) {
         Ok(asked) => asked,
         Err(refusal) => return print_refusal(refusal, link),
     };
