@@ -1,9 +1,10 @@
 -- What stops a command at its files.
-use Rattle.std.proofs.Common.{◌≡◌, ℕ, List, [], ◌∷◌, refl, sym, subst, ◌⊎◌, inl, inr, ⊎_elim, append-nil, Option, Some}
+use Rattle.std.proofs.Common.{◌≡◌, ℕ, List, [], ◌∷◌, refl, sym, subst, inl, inr, ⊎_elim, append-nil, Option, Some}
 use Rattle.std.proofs.Common.{None}
 use Rattle.std.specs.Prelude.{IsSomeAnd}
 use Rattle.kn_outside.specs.Seen.{FilesSeen}
 use Rattle.kn_outside.specs.Asked.{HasAsked}
+use Rattle.kn_auth.specs.Causes.{TakesMemory}
 use Rattle.kn_auth.specs.declared.key_file.KeyFile.{KeyFile}
 use Rattle.kn_files.specs.Pieces.{pieces_of}
 use Rattle.kn_words.specs.Names.{AskNames}
@@ -86,7 +87,13 @@ keys_behind front f mid f' name Memory before stops =
     (λ (none : HasAsked [] mid f').
     inl (subst (λ (l : List (List ℕ)). HasAsked l f f') (append-nil front)
     (asked_both front [] f mid f' before none)))
-    (λ (one : HasAsked (name ∷ []) mid f'). inr (asked_both front (name ∷ []) f mid f' before one))
+    (λ (one : HasAsked (name ∷ []) mid f' × (text : List ℕ) × HasContent mid name text × TakesMemory text).
+    inr (
+      asked_both front (name ∷ []) f mid f' before one.0,
+      one.1,
+      content_there f mid name one.1 (keeps_content front f mid before) one.2,
+      one.3,
+    ))
     stops
 keys_behind front f mid f' name Words before stops = absurd stops
 keys_behind front f mid f' name (Policy n fault) before stops = absurd stops

@@ -3,6 +3,7 @@ use Rattle.std.specs.Prelude.{ℕ, ◌≡◌, ◌⊎◌, List, [], ◌∷◌, �
 use Rattle.kn_outside.specs.Seen.{FilesSeen}
 use Rattle.kn_outside.specs.Asked.{HasAsked, HasFailed}
 use Rattle.kn_files.specs.Pieces.{pieces_of}
+use Rattle.kn_auth.specs.Causes.{TakesMemory}
 use Rattle.kn_auth.specs.KeyFiles.{IsFirstMalformed}
 use Rattle.kn_auth.specs.Verdicts.{verdict_of}
 use Rattle.kn_auth.specs.declared.key_file.KeyFile.{KeyFile}
@@ -41,13 +42,16 @@ StopsAtPolicy f f' name (Limit n word count) = (bytes : List ℕ) × IsFileRead 
 StopsAtPolicy f f' name Memory = (f' ≡ f) ⊎ HasAsked (name ∷ []) f f'
 StopsAtPolicy f f' name stop = ⊥
 
--- why reading a key file stops a command, behind files of these names
+-- Why reading a key file stops a command, behind files of these names. Memory runs out for reading the file, or at a
+-- line that takes some.
 abbrev pub StopsAtKeys : FilesSeen → FilesSeen → List (List ℕ) → List ℕ → Stop → Type 0
 StopsAtKeys f f' front name FileFailed = HasFailed (front ++ name ∷ []) f f'
 StopsAtKeys f f' front name FileTooLarge = HasAsked (front ++ name ∷ []) f f' × IsTooLarge f name
 StopsAtKeys f f' front name (KeyLine n) = HasAsked (front ++ name ∷ []) f f' × (text : List ℕ) × HasContent f name text
     × IsFirstMalformed text n
-StopsAtKeys f f' front name Memory = HasAsked front f f' ⊎ HasAsked (front ++ name ∷ []) f f'
+StopsAtKeys f f' front name Memory =
+    HasAsked front f f'
+    ⊎ (HasAsked (front ++ name ∷ []) f f' × (text : List ℕ) × HasContent f name text × TakesMemory text)
 StopsAtKeys f f' front name stop = ⊥
 
 -- a key file is named, the policy file is a policy, and this stops the command
