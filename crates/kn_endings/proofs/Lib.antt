@@ -1,4 +1,4 @@
 pub mod Printed
-pub mod Told
+pub mod LineParts
 pub mod Lines
 pub mod GenLines

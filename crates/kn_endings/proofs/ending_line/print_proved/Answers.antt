@@ -1,7 +1,7 @@
 use Rattle.std.proofs.Common.{◌≡◌, ◌∙◌, [], ◌++◌, codes}
 use Rattle.std.specs.Prelude.{decimal}
 use Rattle.kn_endings.specs.CheckEndings.{proved_line}
-use Rattle.kn_endings.proofs.Told.{told}
+use Rattle.kn_endings.proofs.LineParts.{prints_line}
 use Rattle.kn_endings.proofs.Lines.{proved_parts}
 use Rattle.kn_endings.proofs.ending_line.print_proved.Goals as goal
 
@@ -11,4 +11,4 @@ returns g c =
     let first : a ≡ decimal c.args.value = c.as_bytes.ensures.value ∙ c.format.ensures.text in
     let same : codes "PROVED " ++ (a ++ (codes " " ++ (c.args.name.now ++ (codes "\n" ++ []))))
     ≡ proved_line c.args.value c.args.name.now = proved_parts a c.args.name.now c.args.value first in
-    told _ _ _ _ _ same c.print_all.ensures
+    prints_line _ _ _ _ _ same c.print_all.ensures

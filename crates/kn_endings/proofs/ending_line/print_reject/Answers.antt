@@ -2,7 +2,7 @@ use Rattle.std.proofs.Common.{◌≡◌, ◌∙◌, [], ◌++◌, ap, codes}
 use Rattle.std.specs.Prelude.{decimal}
 use Rattle.kn_check.specs.Rejects.{reason_number, reason_row, reason_found}
 use Rattle.kn_endings.specs.CheckEndings.{reject_line}
-use Rattle.kn_endings.proofs.Told.{told}
+use Rattle.kn_endings.proofs.LineParts.{prints_line}
 use Rattle.kn_endings.proofs.Lines.{reject_parts}
 use Rattle.kn_endings.proofs.ending_line.print_reject.Goals as goal
 
@@ -19,4 +19,4 @@ returns g c =
     ∙ ap decimal c.found.ensures in
     let same : codes "error proof reject " ++ (a ++ (codes " " ++ (b ++ (codes " " ++ (p ++ (codes "\n" ++ []))))))
     ≡ reject_line c.args.reject.now = reject_parts a b p c.args.reject.now first second third in
-    told _ _ _ _ _ same c.print_all.ensures
+    prints_line _ _ _ _ _ same c.print_all.ensures

@@ -1,7 +1,7 @@
 use Rattle.std.proofs.Common.{◌≡◌, ◌∙◌, [], ◌++◌, codes}
 use Rattle.std.specs.Prelude.{decimal}
 use Rattle.kn_endings.specs.CheckEndings.{text_line}
-use Rattle.kn_endings.proofs.Told.{told}
+use Rattle.kn_endings.proofs.LineParts.{prints_line}
 use Rattle.kn_endings.proofs.Lines.{text_parts}
 use Rattle.kn_endings.proofs.ending_line.print_text_fault.Goals as goal
 
@@ -13,4 +13,4 @@ returns g c =
     let second : b ≡ decimal c.args.line = c.as_bytes-2.ensures.value ∙ c.format-2.ensures.text in
     let same : codes "error proof text " ++ (a ++ (codes " " ++ (b ++ (codes "\n" ++ []))))
     ≡ text_line c.args.fault c.args.line = text_parts a b c.args.fault c.args.line first second in
-    told _ _ _ _ _ same c.print_all.ensures
+    prints_line _ _ _ _ _ same c.print_all.ensures

@@ -1,7 +1,7 @@
 use Rattle.std.proofs.Common.{◌≡◌, ◌∙◌, sym, Some}
 use Rattle.std.specs.Prelude.{decimal}
 use Rattle.kn_endings.specs.GenLine.{gen_line}
-use Rattle.kn_endings.proofs.Told.{told}
+use Rattle.kn_endings.proofs.LineParts.{prints_line}
 use Rattle.kn_endings.proofs.GenLines.{gen_parts, gen_told}
 use Rattle.kn_endings.proofs.gen_line.print_gen.Goals as goal
 
@@ -27,4 +27,4 @@ returns g c = λ name named.
     let levels : k ≡ decimal m.levels = c.as_bytes-7.ensures.value ∙ c.format-7.ensures.text in
     let same : gen_parts l w v r p n u k ≡ gen_line c.args.count name m =
     gen_told l w v r p n u k c.args.count name m level value version rows principals nodes uses levels in
-    told _ _ _ _ _ same c.print_all.ensures
+    prints_line _ _ _ _ _ same c.print_all.ensures

@@ -3,7 +3,7 @@ use Rattle.std.specs.Prelude.{decimal}
 use Rattle.std.specs.Option.{unwrap_or}
 use Rattle.kn_fields.specs.Numbers.{fault_number, fault_place}
 use Rattle.kn_inputs.specs.Stops.{policy_fault_line}
-use Rattle.kn_endings.proofs.Told.{parts_of, fault_parts, told}
+use Rattle.kn_endings.proofs.LineParts.{parts_of, fault_parts, prints_line}
 use Rattle.kn_endings.proofs.line.print_fault.Goals as goal
 
 pub returns : goal.returns
@@ -19,4 +19,4 @@ returns g c =
     let same : parts_of c.args.name.now a (codes " ") b p
     ≡ policy_fault_line c.args.name.now c.args.assertion c.args.fault =
     fault_parts c.args.name.now a b p c.args.assertion c.args.fault first second third in
-    told _ _ _ _ _ same c.print_all.ensures
+    prints_line _ _ _ _ _ same c.print_all.ensures

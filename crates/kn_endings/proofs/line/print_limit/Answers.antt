@@ -1,7 +1,7 @@
 use Rattle.std.proofs.Common.{◌≡◌, ◌∙◌, codes}
 use Rattle.std.specs.Prelude.{decimal}
 use Rattle.kn_inputs.specs.Stops.{limit_line}
-use Rattle.kn_endings.proofs.Told.{parts_of, limit_parts, told}
+use Rattle.kn_endings.proofs.LineParts.{parts_of, limit_parts, prints_line}
 use Rattle.kn_endings.proofs.line.print_limit.Goals as goal
 
 pub returns : goal.returns
@@ -14,4 +14,4 @@ returns g c =
     let same : parts_of c.args.name.now a (codes " limit ") b p
     ≡ limit_line c.args.name.now c.args.assertion c.args.word c.args.count =
     limit_parts c.args.name.now a b p c.args.assertion c.args.word c.args.count first c.text.ensures third in
-    told _ _ _ _ _ same c.print_all.ensures
+    prints_line _ _ _ _ _ same c.print_all.ensures

@@ -1,6 +1,6 @@
 use Rattle.std.proofs.Common.{◌≡◌, ◌∙◌}
 use Rattle.std.specs.Prelude.{decimal}
-use Rattle.kn_endings.proofs.Told.{told}
+use Rattle.kn_endings.proofs.LineParts.{prints_line}
 use Rattle.kn_endings.proofs.Lines.{transcript_parts}
 use Rattle.kn_endings.proofs.verify_line.print_place.Goals as goal
 
@@ -10,4 +10,4 @@ returns g c =
     let b = c.as_bytes-2.result.now in
     let first : a ≡ decimal c.args.fault = c.as_bytes.ensures.value ∙ c.format.ensures.text in
     let second : b ≡ decimal c.args.place = c.as_bytes-2.ensures.value ∙ c.format-2.ensures.text in
-    told _ _ _ _ _ (transcript_parts a b c.args.fault c.args.place first second) c.print_all.ensures
+    prints_line _ _ _ _ _ (transcript_parts a b c.args.fault c.args.place first second) c.print_all.ensures

@@ -12,9 +12,9 @@ use Rattle.kn_inputs.specs.Stops.{policy_fault_line, limit_line, keys_line}
 use Rattle.kn_endings.specs.AskEndings.{cut_line, block_line}
 
 -- the same line, printed whole or in part
-pub told : (whole : Bool) (text line : List ℕ) (l l' : LinkSeen) → text ≡ line → Prints whole text l l'
+pub prints_line : (whole : Bool) (text line : List ℕ) (l l' : LinkSeen) → text ≡ line → Prints whole text l l'
     → Prints whole line l l'
-told whole text line l l' same prints = subst (λ (t : List ℕ). Prints whole t l l') same prints
+prints_line whole text line l l' same prints = subst (λ (t : List ℕ). Prints whole t l l') same prints
 
 -- the parts of a line, one after the other
 abbrev pub parts_of : List ℕ → List ℕ → List ℕ → List ℕ → List ℕ → List ℕ
