@@ -1,6 +1,8 @@
-pub mod Known
-pub mod Leading
-pub mod Came
-pub mod Called
-pub mod Gen
-pub mod Specified
+pub mod ServeLines
+pub mod ServingLaws
+pub mod FileLaws
+pub mod OneStatusLaws
+pub mod CauseLaws
+pub mod CallingLaws
+pub mod GenLaws
+pub mod RunLaws

@@ -25,7 +25,7 @@ use Rattle.kn_words.specs.declared.gen_words.GenNumbers.{GenNumbers}
 use Rattle.kn_words.specs.Commands.{AskFor, CheckFor, FollowFor, GenFor, ServeFor, VerifyFor}
 use Rattle.keynoted.specs.Outcomes.{OutsideSeen, AreServeTexts}
 
--- the contents of the files are told, and the file of this name has these bytes
+-- the contents of the files are specified, and the file of this name has these bytes
 abbrev pub Holds : FilesSeen → List ℕ → List ℕ → Type 0
 Holds f name bytes = IsSomeAnd f.content (λ content_of. content_of name ≡ Some bytes)
 
@@ -113,7 +113,7 @@ AnyScriptLeads f names bytes status =
 abbrev pub TranscriptLeads : FilesSeen → VerifyNames → ℕ → Type 0
 TranscriptLeads f names status = PolicyLeads f names.policy (λ bytes next. AnyScriptLeads f names bytes next) status
 
--- the link's input is told and in order, and no call of the link failed
+-- the link's input is specified and in order, and no call of the link failed
 pub record IsOrderlyLink (o o' : LinkSeen) : Type 0 where
   pub input : List ℕ
   pub left : o.left ≡ Some input

@@ -1,3 +1,5 @@
+pub mod ServeEndings
+pub mod Serving
 pub mod Outcomes
 pub mod Calling
 pub mod Generating

@@ -11,18 +11,18 @@ use Rattle.kn_words.specs.Orders.{Order}
 use Rattle.kn_endings.specs.AskEndings.{status_of_ask, line_of_ask}
 use Rattle.kn_endings.specs.CheckEndings.{status_of_ending, line_of_ending}
 use Rattle.kn_endings.specs.FollowEndings.{status_of_follow, line_of_follow}
-use Rattle.kn_service.specs.ServeEndings.{status_of_serve, line_of_serve}
+use Rattle.keynoted.specs.ServeEndings.{status_of_serve, line_of_serve}
 use Rattle.kn_endings.specs.VerifyEndings.{status_of_verify, line_of_verify}
 use Rattle.kn_endings.specs.declared.ask_ending.AskEnding.{AskEnding}
 use Rattle.kn_endings.specs.declared.ending.Ending.{Ending}
 use Rattle.kn_endings.specs.declared.follow_ending.FollowEnding.{FollowEnding}
-use Rattle.kn_service.specs.declared.serve_ending.ServeEnding.{ServeEnding}
+use Rattle.keynoted.specs.declared.serve_ending.ServeEnding.{ServeEnding}
 use Rattle.kn_endings.specs.declared.verify_ending.VerifyEnding.{VerifyEnding}
 use Rattle.kn_commands.specs.Asking.{AskCause}
 use Rattle.kn_commands.specs.Checking.{CheckCause}
 use Rattle.kn_commands.specs.Following.{FollowCause}
 use Rattle.kn_commands.specs.Generating.{IsGenLine}
-use Rattle.kn_service.specs.Serving.{ServeCause}
+use Rattle.keynoted.specs.Serving.{ServeCause}
 use Rattle.kn_commands.specs.Verifying.{VerifyCause}
 use Rattle.kn_words.specs.declared.gen_words.GenNumbers.{GenNumbers}
 use Rattle.kn_words.specs.Commands.{AskFor, CheckFor, FollowFor, GenFor, ServeFor, VerifyFor, IsNoCommand}
@@ -109,4 +109,4 @@ module _ {C R : Type 0} (door : R → DoorSeen (ServedSeen C)) (connection : C �
   pub record IsEnded (status : ℕ) : Type 0 where
     pub outcome : Outcome
     pub cause : IsOutcome outcome
-    pub told : IsPrintedOrCut (line_of outcome) (status_of outcome) before.output after.output status
+    pub printed : IsPrintedOrCut (line_of outcome) (status_of outcome) before.output after.output status

@@ -1,12 +1,12 @@
 //! keynoted: may these principals do this?
 #![tactic(auto)]
 
-mod following;
-mod generating;
+mod endings;
 mod idle;
 mod run;
-mod run_service;
-mod verifying;
+mod serve_ending;
+mod serve_line;
+mod serving;
 mod words;
 
 use crate::idle::{IdleFault, idle_timeout};
@@ -45,7 +45,7 @@ fn main(rt: HostRuntime) -> ExitCode {
             &mut out,
             &Passing,
         ),
-        Err(NoMemory) => run::end(&mut out, Stop::Memory),
+        Err(NoMemory) => endings::end(&mut out, Stop::Memory),
     };
     ExitCode::from(status)
 }

@@ -1,60 +1,41 @@
 //! The program over whatever files, link and output it is given.
-ghost use Rattle.std.specs.Prelude.{◌≡◌, [], None};
-ghost use Rattle.kn_inputs.specs.Stops.{stop_line, status_of};
-ghost use Rattle.kn_endings.specs.AskEndings.{line_of_ask, status_of_ask};
-ghost use Rattle.kn_endings.specs.CheckEndings.{line_of_ending, status_of_ending};
-ghost use Rattle.keynoted.specs.Outcomes.{IsPrintedOrCut, IsEnded};
+ghost use Rattle.std.specs.Prelude.{◌≡◌, ◌≤◌, [], None};
+ghost use Rattle.keynoted.specs.Generating.{IsGenPrinted};
+ghost use Rattle.keynoted.specs.Outcomes.{IsEnded};
 ghost use Rattle.keynoted.specs.Specified.{IsRun};
 
-use crate::following::end_follow;
-use crate::generating::run_gen;
-use crate::run_service::run_service;
-use crate::verifying::end_verify;
-use kn_base::Octets;
-use kn_commands::{ask, check, follow, verify};
-use kn_endings::{AskEnding, Ending, print_ask, print_ending, print_line};
+use crate::endings::{end, end_ask, end_check, end_follow, end_verify};
+use crate::serving::run_service;
+use kn_base::limits::GENERATED_CREDENTIALS;
+use kn_base::{NoMemory, Octets};
+use kn_commands::{ask, check, follow, generate, verify};
+use kn_endings::print_gen;
 use kn_follow::laws::one_ending;
 use kn_inputs::Stop;
 use kn_outside::{Failed, Files, Gate, Link, Sink};
 use kn_play::laws::one_query_is_meant;
 use kn_transcript::laws::one_verdict;
 use kn_words::{
-    AskFiles, CheckFiles, ask_files, asks_to_serve, check_files, gen_numbers, log_file,
-    verify_files,
+    GenNumbers, ask_files, asks_to_serve, check_files, gen_numbers, log_file, verify_files,
 };
 use kn_workers::{Door, Net};
 use std::alloc::Global;
 use std::sync::Wait;
 use std::thread::Threads;
 
-/// Ends with the status and the line of what stopped the program, or with 9 where the line can't be written.
-pub(crate) fn end<O: Sink>(out: &mut O, stop: Stop) -> u8
-    ensures { IsPrintedOrCut (stop_line [] stop) (status_of stop) (O.seen out.old) (O.seen out.new) result }
+/// Settles the generator's query and ends with its line and status 0; with 5 when out of memory, and with 9 where the
+/// line can't be written.
+fn run_gen<R: Wait, O: Sink>(rt: &R, alloc: Global, numbers: GenNumbers, out: &mut O) -> u8
+    requires some { 1 ≤ numbers.count }
+    requires most { numbers.count ≤ GENERATED_CREDENTIALS }
+    ensures { IsGenPrinted numbers (O.seen out.old) (O.seen out.new) result }
 {
-    match print_line(out, stop, b"") {
-        Ok(()) => stop.status(),
-        Err(Failed) => 9,
-    }
-}
-
-/// Ends with the status and the line of serving a link, or with 9 where the line can't be written.
-fn end_ask<O: Sink>(out: &mut O, ending: AskEnding, names: &AskFiles<'_>) -> u8
-    ensures { IsPrintedOrCut (line_of_ask names.now ending) (status_of_ask ending)
-        (O.seen out.old) (O.seen out.new) result }
-{
-    match print_ask(out, ending, names) {
-        Ok(()) => ending.status(),
-        Err(Failed) => 9,
-    }
-}
-
-/// Ends with the status and the line of a check, or with 9 where the line can't be written.
-fn end_check<O: Sink>(out: &mut O, ending: Ending, names: &CheckFiles<'_>) -> u8
-    ensures { IsPrintedOrCut (line_of_ending names.now ending) (status_of_ending ending)
-        (O.seen out.old) (O.seen out.new) result }
-{
-    match print_ending(out, &ending, names) {
-        Ok(()) => ending.status(),
+    let measured = match generate(rt, alloc, numbers) {
+        Ok(measured) => measured,
+        Err(NoMemory) => return end(out, Stop::Memory),
+    };
+    match print_gen(out, numbers.count, measured) {
+        Ok(()) => 0,
         Err(Failed) => 9,
     }
 }

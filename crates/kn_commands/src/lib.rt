@@ -1,7 +1,7 @@
 //! What the commands do, over whatever files and link they are given: `ask` serves a link over a policy, `check` tells
 //! whether a reply proves the value of the query that a script means, `verify` tells whether a transcript is one that
 //! the daemon permits, `follow` tells what the replies of a log make of a replica, and `gen` settles a query over
-//! generated credentials. `serve` is a crate above, `kn_service`, which reads its files as `ask` does.
+//! generated credentials. `serve` is in the program itself, and reads its files as `ask` does.
 #![tactic(auto)]
 
 mod asking;

@@ -1,22 +1,20 @@
 //! A service of two workers over doors in memory.
-ghost use Rattle.std.specs.Prelude.{All, IfOk};
+ghost use Rattle.std.specs.Prelude.{◌≡◌, [], None, All, IfOk};
 ghost use Rattle.kn_workers.specs.InMemory.{IsNewLink};
+ghost use Rattle.kn_load.specs.Loaded.{IsUnsplitRoot};
+ghost use Rattle.kn_workers.specs.Rooms.{net_seen};
 
 use crate::lists::{link, numbers, with};
 use crate::meeting::Meeting;
-use crate::replies::{ASKS, KEYS, POLICY};
-use kn_base::{List, NoMemory, Octets};
-use kn_outside::{FileEntry, MemFiles, MemLink};
-use kn_service::{ServeEnding, serve};
-use kn_words::{AskFiles, Service};
-use kn_workers::{MemNet, MemRoom};
+use crate::replies::{ASKS, KEYS, registry};
+use kn_auth::{KeyFile, read_keys};
+use kn_base::{List, NoMemory};
+use kn_outside::MemLink;
+use kn_registry::{Pass, Registry};
+use kn_workers::{AddressEnding, MemNet, MemRoom, serve_address};
 use std::alloc::Global;
 use std::sync::Wait;
 use std::thread::Threads;
-
-const POLICY_NAME: &[u8] = b"p.kn";
-
-const KEYS_NAME: &[u8] = b"k.txt";
 
 const ADDRESS: &[u8] = b"memory";
 
@@ -41,7 +39,7 @@ const NONE: &[u8] = b"none";
 /// What a service has to leave.
 #[derive(Clone, Copy)]
 struct Due {
-    ending: ServeEnding,
+    ending: AddressEnding,
     /// What is written to the first connection of door 0, to the second one, and to the first one of door 1.
     written: (&'static [u8], &'static [u8], &'static [u8]),
     /// The calls that fail.
@@ -72,7 +70,7 @@ fn is_served_side_by_side<R: Threads + Wait + Sync>(
     let second = one_link(alloc, OPENS_AND_ADDS)?;
     let gate = Meeting::new(true);
     let due = Due {
-        ending: ServeEnding::Served {
+        ending: AddressEnding::Served {
             finished: 3,
             version: 2,
         },
@@ -86,7 +84,7 @@ fn is_served_side_by_side<R: Threads + Wait + Sync>(
 /// The address can't be bound.
 fn is_unbound_told<R: Threads + Wait + Sync>(rt: &R, alloc: Global) -> Result<bool, NoMemory> {
     let due = Due {
-        ending: ServeEnding::Unbound,
+        ending: AddressEnding::Unbound,
         written: (NONE, NONE, NONE),
         faults: 1,
     };
@@ -101,7 +99,7 @@ fn is_first_failure_told<R: Threads + Wait + Sync>(
     let first = two_links(alloc, (ASKS, OPENS), 0)?;
     let rooms = two_rooms(alloc, first, no_links(alloc, 1)?)?;
     let due = Due {
-        ending: ServeEnding::DoorFailed,
+        ending: AddressEnding::DoorFailed,
         written: (ANSWERS, b"OK 1 1\n", NONE),
         faults: 1,
     };
@@ -116,7 +114,7 @@ fn is_second_failure_told<R: Threads + Wait + Sync>(
     let first = two_links(alloc, (b"BYE\n", OPENS), 2)?;
     let rooms = two_rooms(alloc, first, one_link(alloc, OPENS_AND_ADDS)?)?;
     let due = Due {
-        ending: ServeEnding::DoorFailed,
+        ending: AddressEnding::DoorFailed,
         written: (b"OK\n", NONE, ADDED),
         faults: 1,
     };
@@ -130,7 +128,7 @@ fn is_want_of_links_told<R: Threads + Wait + Sync>(
 ) -> Result<bool, NoMemory> {
     let rooms = two_rooms(alloc, one_link(alloc, OPENS)?, no_links(alloc, 0)?)?;
     let due = Due {
-        ending: ServeEnding::DoorFailed,
+        ending: AddressEnding::DoorFailed,
         written: (b"OK 1 1\n", NONE, NONE),
         faults: 2,
     };
@@ -147,19 +145,30 @@ fn leaves<R: Threads + Wait + Sync>(
     gate: &Meeting,
     due: Due,
 ) -> Result<bool, NoMemory> {
-    let mut files = files(alloc)?;
-    let mut net = MemNet::of(alloc, rooms, numbers(alloc, failing)?);
-    let service = Service {
-        files: AskFiles {
-            policy: POLICY_NAME,
-            keys: Some(KEYS_NAME),
-        },
-        address: ADDRESS,
-        workers: 2,
-        connections: 3,
+    let Ok(keys) = read_keys(alloc, KEYS) else {
+        return Err(NoMemory);
     };
-    let ending = serve(rt, alloc, &service, &mut files, &mut net, gate);
+    let (registry, root) = registry(rt, alloc)?;
+    let mut net = MemNet::of(alloc, rooms, numbers(alloc, failing)?);
+    let ending = serve_net(rt, alloc, &registry, root, &keys, &mut net, gate);
     Ok(ending == due.ending && net.faults() == due.faults && are_written(&net, due.written))
+}
+
+/// How a service of three connections by two workers ends over this net.
+fn serve_net<R: Threads + Wait + Sync>(
+    rt: &R,
+    alloc: Global,
+    registry: &Registry,
+    root: Pass,
+    keys: &KeyFile,
+    net: &mut MemNet,
+    gate: &Meeting,
+) -> AddressEnding
+    requires root { IsUnsplitRoot registry.now root }
+    requires unbound { (net_seen net.old).bound ≡ None }
+    requires none { (net_seen net.old).rooms ≡ [] }
+{
+    serve_address(rt, alloc, registry, root, keys, ADDRESS, 2, 3, net, gate)
 }
 
 /// Whether this was written to the first connection of door 0, to its second one, and to the first one of door 1.
@@ -176,20 +185,6 @@ fn written(net: &MemNet, door: u32, i: usize) -> &[u8] {
         },
         None => NONE,
     }
-}
-
-/// The policy and the key file.
-fn files(alloc: Global) -> Result<MemFiles, NoMemory> {
-    let entries = with(List::new(alloc), entry(alloc, POLICY_NAME, POLICY)?)?;
-    let entries = with(entries, entry(alloc, KEYS_NAME, KEYS)?)?;
-    Ok(MemFiles::of(alloc, entries, List::new(alloc)))
-}
-
-fn entry(alloc: Global, name: &[u8], content: &[u8]) -> Result<FileEntry, NoMemory> {
-    Ok(FileEntry {
-        name: Octets::from_slice(alloc, name)?,
-        content: Octets::from_slice(alloc, content)?,
-    })
 }
 
 /// A link more.

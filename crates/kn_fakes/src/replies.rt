@@ -15,7 +15,7 @@ use std::sync::Wait;
 use std::thread::Threads;
 
 /// The policy by which alice may do all.
-pub const POLICY: &[u8] = b"Authorizer: \"POLICY\"\nLicensees: \"alice\"\n";
+const POLICY: &[u8] = b"Authorizer: \"POLICY\"\nLicensees: \"alice\"\n";
 
 /// The digest of the credential by which alice licenses bob, and the secret `s3cret`.
 pub const KEYS: &[u8] =
@@ -50,7 +50,10 @@ pub struct Left {
 }
 
 /// The registry of the policy, and its root.
-fn registry<R: Threads + Wait + Sync>(rt: &R, alloc: Global) -> Result<(Registry, Pass), NoMemory>
+pub(crate) fn registry<R: Threads + Wait + Sync>(
+    rt: &R,
+    alloc: Global,
+) -> Result<(Registry, Pass), NoMemory>
     ensures { IfOk result (λ made. IsUnsplitRoot made.0 made.1) }
 {
     match load_file(rt, alloc, POLICY) {

@@ -4,5 +4,6 @@ pub mod HiringLaws
 pub mod ServingAll
 pub mod RoomLaws
 pub mod ShareLaws
+pub mod AddressLaws
 pub mod MemoryLaws
 pub mod Crossing

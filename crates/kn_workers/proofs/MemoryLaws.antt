@@ -1,10 +1,9 @@
 -- What a door in memory keeps.
-use Rattle.std.proofs.Common.{◌≡◌, ℕ, zero, suc, ◌+◌, ◌<◌, ◌≤◌, List, [], ◌∷◌, ◌++◌, length, refl, sym, ap, ◌∙◌, arith}
-use Rattle.std.proofs.Common.{length-append, Option, Some, None, subst}
-use Rattle.std.specs.Prelude.{All, slice_get, slice_index_or, remove}
+use Rattle.std.proofs.Common.{◌≡◌, ℕ, suc, ◌+◌, ◌<◌, ◌≤◌, List, [], ◌∷◌, ◌++◌, length, ap, ◌∙◌, arith}
+use Rattle.std.proofs.Common.{length-append, Some, subst}
+use Rattle.std.specs.Prelude.{All, slice_get, remove}
 use Rattle.kn_base.specs.ListWithRoom.{ListWithRoom}
 use Rattle.kn_outside.specs.InMemory.{LinkInMemory}
-use Rattle.kn_outside.specs.Seen.{LinkSeen}
 use Rattle.kn_workers.specs.Connections.{ServedSeen, IsNew}
 use Rattle.kn_workers.specs.InMemory.{link_seen, IsNewLink, IsKept}
 use Rattle.kn_workers.proofs.HiringLaws.{first_taken}

@@ -1,6 +1,6 @@
 -- Rooms of a net in memory, their results, and the shares of doors.
-use Rattle.std.proofs.Common.{◌≡◌, ℕ, zero, suc, ◌+◌, ◌<◌, ◌≤◌, List, [], ◌∷◌, ◌++◌, length, drop, refl, sym, ap, ◌∙◌}
-use Rattle.std.proofs.Common.{arith, Option, Some, None, subst}
+use Rattle.std.proofs.Common.{◌≡◌, ℕ, zero, suc, ◌+◌, ◌≤◌, List, [], ◌∷◌, ◌++◌, length, drop, refl, sym, ap, ◌∙◌}
+use Rattle.std.proofs.Common.{arith, Some, None, subst}
 use Rattle.std.specs.Prelude.{slice_get, remove}
 use Rattle.kn_outside.specs.InMemory.{LinkInMemory}
 use Rattle.kn_workers.specs.Doors.{DoorSeen}

@@ -4,4 +4,5 @@ pub mod Nets
 pub mod InMemory
 pub mod Rooms
 pub mod Workers
+pub mod Addresses
 pub mod Posts

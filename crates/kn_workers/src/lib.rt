@@ -2,6 +2,7 @@
 #![tactic(auto)]
 
 mod accepted;
+mod address;
 mod binding;
 mod door;
 mod hiring;
@@ -14,6 +15,7 @@ mod worker;
 mod workers;
 
 pub use accepted::Accepted;
+pub use address::{AddressEnding, serve_address};
 pub use binding::{BindFault, Binding};
 pub use door::Door;
 pub use mem_door::{MemDoor, MemRoom};

@@ -1,28 +1,28 @@
 use Rattle.std.proofs.Common.{refl}
 use Rattle.keynoted.specs.Outcomes.{NoCommand, AskEnded, CheckEnded, FollowEnded, VerifyEnded}
 use Rattle.kn_words.proofs.Apart.{no_serve_otherwise}
-use Rattle.keynoted.proofs.Gen.{gen_ended}
+use Rattle.keynoted.proofs.GenLaws.{gen_ended}
 use Rattle.keynoted.proofs.run.dispatch.Goals as goal
 
 pub returns-in-Some : goal.returns-in-Some
 returns-in-Some g c = record {
   outcome = AskEnded c.in-Some.names c.ask-ending.result;
   cause = (c.in-Some.ensures.some, c.ask-ending.ensures, refl);
-  told = c.end_ask.ensures;
+  printed = c.end_ask.ensures;
 }
 
 pub returns-in-Some-log_file : goal.returns-in-Some-log_file
 returns-in-Some-log_file g c = record {
   outcome = FollowEnded c.in-Some-log_file.name.now c.follow-ending.result;
   cause = (c.in-Some-log_file.ensures.some, c.follow-ending.ensures, refl, refl);
-  told = c.end_follow.ensures;
+  printed = c.end_follow.ensures;
 }
 
 pub returns-in-Some-verify_files : goal.returns-in-Some-verify_files
 returns-in-Some-verify_files g c = record {
   outcome = VerifyEnded c.in-Some-verify_files.names c.verify-ending.result;
   cause = (c.in-Some-verify_files.ensures.some, c.verify-ending.ensures, refl, refl);
-  told = c.end_verify.ensures;
+  printed = c.end_verify.ensures;
 }
 
 pub run_gen-requires : goal.run_gen-requires
@@ -38,7 +38,7 @@ pub returns-in-Some-check_files : goal.returns-in-Some-check_files
 returns-in-Some-check_files g c = record {
   outcome = CheckEnded c.in-Some-check_files.names c.check-ending.result;
   cause = (c.in-Some-check_files.ensures.some, c.check-ending.ensures, refl, refl);
-  told = c.end_check.ensures;
+  printed = c.end_check.ensures;
 }
 
 pub returns-in-None : goal.returns-in-None
@@ -55,5 +55,5 @@ returns-in-None g c = record {
     },
     record { files = refl; net = refl; link = refl },
   );
-  told = c.end.ensures;
+  printed = c.end.ensures;
 }

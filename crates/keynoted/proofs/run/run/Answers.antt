@@ -1,4 +1,4 @@
-use Rattle.keynoted.proofs.Specified.{specified}
+use Rattle.keynoted.proofs.RunLaws.{specified}
 use Rattle.keynoted.proofs.run.run.Goals as goal
 
 pub returns : goal.returns

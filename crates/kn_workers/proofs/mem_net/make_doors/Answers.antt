@@ -1,9 +1,9 @@
-use Rattle.std.proofs.Common.{◌≡◌, ◌+◌, ◌≤◌, ℕ, List, [], ◌∷◌, ◌++◌, length, length-append, drop, ap, sym, ◌∙◌, subst}
+use Rattle.std.proofs.Common.{◌≡◌, ◌+◌, ◌≤◌, ℕ, List, [], ◌∷◌, length, length-append, drop, ap, sym, ◌∙◌, subst}
 use Rattle.std.proofs.Common.{arith}
 use Rattle.std.proofs.lemmas.List.{drop-drop}
 use Rattle.kn_outside.specs.InMemory.{LinkInMemory}
 use Rattle.kn_workers.specs.InMemory.{DoorInMemory, door_seen}
-use Rattle.kn_workers.specs.Nets.{share, IsBound, AreBound}
+use Rattle.kn_workers.specs.Nets.{share, AreBound}
 use Rattle.kn_workers.specs.Rooms.{Results, AreFit, HaveRooms, links_of, failing_of}
 use Rattle.kn_workers.specs.declared.mem_door.MemRoom.{MemRoom}
 use Rattle.kn_workers.proofs.RoomLaws.{fit_first, rest_length, bound_one_more, bound_new, have_one_more, links_from}

@@ -1,2 +1,0 @@
-pub mod ServeLines
-pub mod ServingLaws

@@ -1,2 +1,0 @@
-pub mod ServeEndings
-pub mod Serving
