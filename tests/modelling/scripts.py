@@ -39,6 +39,8 @@ class Script:
 
     def __init__(self, rng, daemon, drawn):
         self.rng, self.daemon, self.texts = rng, daemon, drawn
+        # the last question
+        self.asked = None
 
     def is_likely(self, chance):
         return self.rng.random() < chance
@@ -145,7 +147,10 @@ class Script:
         return self.line(b"%s %d %s", word, self.last, values)
 
     def draw_query(self):
-        return self.question(b"QUERY")
+        """A question, often the last one again: what came between decides whether the answer is the same."""
+        if not self.asked or self.is_likely(0.6):
+            self.asked = self.question(b"QUERY")
+        return self.asked
 
     def draw_watch(self):
         return self.question(b"WATCH")

@@ -6,6 +6,7 @@ pub mod StepLaws
 pub mod ServingLaws
 pub mod PinnedLaws
 pub mod KeptLaws
+pub mod LastLaws
 pub mod CompletenessLaws
 pub mod OpeningLaws
 pub mod QueryingLaws

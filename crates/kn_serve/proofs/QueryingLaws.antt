@@ -8,11 +8,11 @@ use Rattle.kn_base.specs.declared.limits.TheConstants.{CRITICAL_NODES}
 use Rattle.kn_env.specs.Values.{values_of, values_fault}
 use Rattle.kn_env.specs.declared.values.ValuesFault.{ValuesFault}
 use Rattle.kn_env.specs.declared.values.ValuesFault.TheVariants as V
+use Rattle.kn_answer.specs.declared.types.Answer.{Answer}
 use Rattle.kn_critical.specs.Faults.{critical_fault}
 use Rattle.kn_critical.specs.declared.fault.CriticalFault.{CriticalFault}
 use Rattle.kn_critical.specs.declared.fault.CriticalFault.TheVariants as C
 use Rattle.kn_proof.specs.declared.named.Id.{Id}
-use Rattle.kn_proof.specs.declared.named.NamedRow.{NamedRow}
 use Rattle.kn_outside.specs.Seen.{LinkSeen}
 use Rattle.kn_outside.specs.Printing.{Prints}
 use Rattle.kn_session.specs.declared.fault.SessionFault.{SessionFault}
@@ -22,13 +22,13 @@ use Rattle.kn_reply.specs.declared.refusal.Refusal.TheVariants as R
 use Rattle.kn_reply.specs.declared.refusal.LimitWord.TheVariants as W
 use Rattle.kn_meaning.specs.Critical.{AreCritical, equation_nodes}
 use Rattle.kn_meaning.specs.Equations.{IsPolicyLevel}
-use Rattle.kn_meaning.specs.Proofs.{IsProof}
 use Rattle.kn_reply.specs.Replies.{Value, Critical, reply_text}
 use Rattle.kn_daemon.specs.Shapes.{Question, WithProof, WithCritical, Asks}
 use Rattle.kn_daemon.specs.Daemon.{Grounds, State, session_of, session_parts, asked_of, equations_of, own_refusal}
 use Rattle.kn_daemon.specs.Daemon.{refuse_if, refusal_of_nodes}
 use Rattle.kn_refusals.specs.Refusals.{refusal_of_values}
 use Rattle.kn_serve.specs.Handling.{Tells, RefusesQuestions, refusal_of_critical, refused_reply}
+use Rattle.kn_serve.specs.LastQuestions.{IsRight}
 use Rattle.kn_serve.proofs.HandlingLaws.{told_refused, told_memory, told_either, told_done}
 use Rattle.kn_serve.proofs.CallingLaws.{none_found}
 
@@ -96,21 +96,25 @@ nodes_refusal n = by (nat_lt CRITICAL_NODES n)
 module _ (g : Grounds) (whole : Bool) (old : State) (s : ℕ) (names : List ℕ) (l l' : LinkSeen) (session : Session)
     (values : List (List ℕ)) (there : session_of old s ≡ Some session) (named : values_of names ≡ Some values) where
   -- the query is answered with its proof
-  pub query_answered : (level version : ℕ) (name : List ℕ) (rows : List NamedRow) →
-      IsProof (equations_of session values) rows level → IsPolicyLevel (equations_of session values) level →
-      slice_get values level ≡ Some name → version ≡ length session.pinned →
-      Prints whole (reply_text (Value level name version rows)) l l' →
+  pub query_answered : (version : ℕ) (answer : Answer) → IsRight session values answer →
+      version ≡ length session.pinned →
+      Prints whole (reply_text (Value answer.value (slice_index_or values answer.value []) version answer.rows)) l l' →
       Tells g (Asks WithProof s names) whole old old l l'
-  query_answered level version name rows proved least got at prints =
-      let named_so : slice_index_or values level [] ≡ name = called values level name got in
-      told_done g (Asks WithProof s names) whole old l l' old (Value level name version rows) refl
-      (rw there (rw named refl))
+  query_answered version answer right at prints =
+      told_done g (Asks WithProof s names) whole old l l' old
+      (Value answer.value (slice_index_or values answer.value []) version answer.rows) refl (rw there (rw named refl))
       (λ caller past. record {
         session = session;
         values = values;
         found = there;
         named = named;
-        answer = record { level = level; rows = rows; told = rw (named_so, at) refl; proved = proved; least = least };
+        answer = record {
+          level = answer.value;
+          rows = answer.rows;
+          told = rw at refl;
+          proved = right.proof;
+          least = right.least;
+        };
       }) (λ past. refl) (λ caller. refl) refl prints
 
   -- how many nodes are looked through

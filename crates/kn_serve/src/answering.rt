@@ -1,4 +1,5 @@
 //! The reply to a request.
+ghost use Rattle.std.specs.Prelude.{◌≡◌, true};
 ghost use Rattle.kn_outside.specs.Printing.{is_whole};
 ghost use Rattle.kn_wire.specs.Digits.{IsWellFormed};
 ghost use Rattle.kn_wire.specs.Wired.{request_of};
@@ -8,6 +9,7 @@ ghost use Rattle.kn_daemon.specs.Daemon.{Grounds, State};
 ghost use Rattle.kn_serve.specs.Grounds.{grounds_of};
 ghost use Rattle.kn_serve.specs.Handling.{moment, state_of, HasRoom, Handles, Tells};
 ghost use Rattle.kn_serve.specs.Kept.{ArePinned, IsKept};
+ghost use Rattle.kn_serve.specs.LastQuestions.{IsLastOf, may_keep_answer};
 
 use crate::admitting::show_secret;
 use crate::calling::{call as answer_call, set_digits};
@@ -29,7 +31,7 @@ use kn_wire::{Request, WireFault};
 use std::alloc::Global;
 use std::sync::Wait;
 
-/// Answers a request.
+/// Answers a request. The answer of the last question is forgotten where the request may change what it hangs on.
 pub(crate) fn answer<R: Wait, A: Authenticator, L: Link, G: Gate>(
     rt: &R,
     alloc: Global,
@@ -45,10 +47,61 @@ pub(crate) fn answer<R: Wait, A: Authenticator, L: Link, G: Gate>(
     requires form { IsWellFormed (request_of request) }
     requires pinned { ArePinned pass.old.seen (state_of connection.old) }
     requires of_history { IsKept pass.old.seen kept.old }
+    requires last { IsLastOf pass.old.seen (state_of connection.old) connection.old.last }
+    ensures ready { IsReady config.now.registry.now pass.new }
+    ensures of_history { IsKept pass.new.seen kept.new }
+    ensures last { IsLastOf pass.new.seen (state_of connection.new) connection.new.last }
+    ensures handled { Handles (grounds_of A.verdict config.now) (shape_of (request_of request.entry)) (is_whole result)
+        (moment pass.old connection.old (L.seen link.old)) (moment pass.new connection.new (L.seen link.new)) }
+{
+    let keeps = keeps_answer(&request);
+    let told = dispatch(rt, alloc, config, pass, connection, kept, request, link);
+    if !keeps {
+        connection.last.forget();
+    }
+    told
+}
+
+// Whether a request changes nothing that the answer of the last question hangs on.
+fn keeps_answer(request: &Request<'_>) -> bool
+    ensures { result ≡ true → may_keep_answer (shape_of (request_of request.now)) ≡ true }
+{
+    matches!(
+        request,
+        Request::Query { .. }
+            | Request::Critical { .. }
+            | Request::Pin { .. }
+            | Request::PinAt { .. }
+            | Request::Add { .. }
+            | Request::Remove { .. }
+            | Request::Batch { .. }
+            | Request::Log { .. }
+    )
+}
+
+/// Answers a request by its shape.
+fn dispatch<R: Wait, A: Authenticator, L: Link, G: Gate>(
+    rt: &R,
+    alloc: Global,
+    config: &DaemonConfig<'_, A, G>,
+    pass: &mut Pass,
+    connection: &mut Connection,
+    kept: &mut KeptBases,
+    request: Request<'_>,
+    link: &mut L,
+) -> Result<(), Failed>
+    requires ready { IsReady config.now.registry.now pass.old }
+    requires room { HasRoom (state_of connection.old) }
+    requires form { IsWellFormed (request_of request) }
+    requires pinned { ArePinned pass.old.seen (state_of connection.old) }
+    requires of_history { IsKept pass.old.seen kept.old }
+    requires last { IsLastOf pass.old.seen (state_of connection.old) connection.old.last }
     ensures ready { IsReady config.now.registry.now pass.new }
     ensures of_history { IsKept pass.new.seen kept.new }
     ensures handled { Handles (grounds_of A.verdict config.now) (shape_of (request_of request.entry)) (is_whole result)
         (moment pass.old connection.old (L.seen link.old)) (moment pass.new connection.new (L.seen link.new)) }
+    ensures last { may_keep_answer (shape_of (request_of request.entry)) ≡ true
+        → IsLastOf pass.new.seen (state_of connection.new) connection.new.last }
 {
     match shape_of(request) {
         Shape::Open => open(rt, config.registry, pass, connection, link),

@@ -11,7 +11,7 @@ mod config;
 mod connection;
 mod filling;
 mod judging;
-mod last_values;
+mod last_question;
 mod logging;
 mod opening;
 mod querying;

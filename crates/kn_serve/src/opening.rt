@@ -1,4 +1,5 @@
 //! Opening a session, and pinning one to the newest version or to a retained one.
+ghost use Rattle.std.specs.Prelude.{◌≡◌};
 ghost use Rattle.kn_outside.specs.Printing.{is_whole};
 ghost use Rattle.kn_registry.specs.Passes.{IsReady};
 ghost use Rattle.kn_daemon.specs.Shapes.{Looks, ForNew, ForOpen, ForRetained};
@@ -57,6 +58,7 @@ pub(crate) fn pin<R: Wait, L: Link>(
     requires ready { IsReady reg.now pass.old }
     requires pinned { ArePinned pass.old.seen (state_of connection.old) }
     ensures ready { IsReady reg.now pass.new }
+    ensures last { connection.new.last ≡ connection.old.last }
     ensures handled { (g : Grounds) → Handles g (Looks (ForOpen s)) (is_whole result)
         (moment pass.old connection.old (L.seen link.old)) (moment pass.new connection.new (L.seen link.new)) }
 {
@@ -87,6 +89,7 @@ pub(crate) fn pin_at<R: Wait, L: Link>(
 ) -> Result<(), Failed>
     requires ready { IsReady reg.now pass.old }
     ensures ready { IsReady reg.now pass.new }
+    ensures last { connection.new.last ≡ connection.old.last }
     ensures handled { (g : Grounds) → Handles g (Looks (ForRetained s version)) (is_whole result)
         (moment pass.old connection.old (L.seen link.old)) (moment pass.new connection.new (L.seen link.new)) }
 {

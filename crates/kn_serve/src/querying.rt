@@ -1,16 +1,20 @@
 //! Asking with a session.
-ghost use Rattle.std.specs.Prelude.{◌≡◌, Some, IfOk, IfErr, IfSome};
+ghost use Rattle.std.specs.Prelude.{◌≡◌, ◌<◌, [], None, Some, length, slice_index_or, IfOk, IfErr, IfSome};
 ghost use Rattle.kn_env.specs.Environment.{AreRequesters};
 ghost use Rattle.kn_env.specs.Values.{values_of};
-ghost use Rattle.kn_outside.specs.Printing.{is_whole};
+ghost use Rattle.kn_outside.specs.Printing.{Prints, is_whole};
+ghost use Rattle.kn_reply.specs.Replies.{Value, reply_text};
 ghost use Rattle.kn_session.specs.Views.{session_of_view, AreReadPrivates, ArePrivates};
 ghost use Rattle.kn_daemon.specs.Shapes.{Asks, WithProof, WithCritical};
 ghost use Rattle.kn_daemon.specs.Daemon.{Grounds, session_of};
 ghost use Rattle.kn_serve.specs.Handling.{state_of, RefusesQuestions, Tells};
-ghost use Rattle.kn_serve.specs.Kept.{AreAllOfOne, StaysOf};
+ghost use Rattle.kn_serve.specs.Kept.{StaysOf};
+ghost use Rattle.kn_serve.specs.LastQuestions.{AreAllOfOneWithLast, IsAnswerTo, IsRightAgain, LastStays};
 
 use crate::connection::Connection;
+use crate::last_question::LastAnswer;
 use crate::refusals::{print_refusal, refusal_of_critical};
+use kn_answer::Answer;
 use kn_base::NoMemory;
 use kn_env::Values;
 use kn_outside::{Failed, Link};
@@ -50,7 +54,7 @@ pub(crate) fn read_question<'a>(
     }
 }
 
-/// Answers QUERY. Its compliance values are kept for the next one.
+/// Answers QUERY. Its compliance values and its answer are kept for the next one.
 pub(crate) fn query<L: Link>(
     alloc: Global,
     connection: &mut Connection,
@@ -59,36 +63,75 @@ pub(crate) fn query<L: Link>(
     names: &[u8],
     link: &mut L,
 ) -> Result<(), Failed>
-    requires one_history { AreAllOfOne (state_of connection.old) kept.old }
+    requires one_history { AreAllOfOneWithLast (state_of connection.old) kept.old connection.old.last }
     ensures stays { StaysOf (state_of connection.old) kept.old kept.new }
+    ensures last { LastStays (state_of connection.old) connection.old.last
+        (state_of connection.new) connection.new.last }
     ensures told { (g : Grounds) → Tells g (Asks WithProof s names.now) (is_whole result)
         (state_of connection.old) (state_of connection.new) (L.seen link.old) (L.seen link.new) }
 {
+    if let Some((values, answer, version)) = last_answer(connection, s, names) {
+        return tell_answer(answer, values, version, link);
+    }
     let at_hand = connection.last.take(names);
     let (view, values) = match read_question(alloc, connection, at_hand, s, names) {
         Ok(asked) => asked,
         Err(refusal) => return print_refusal(refusal, link),
     };
-    let told = match answer_query(alloc, &view, &values, kept) {
-        Ok(answer) => {
-            let index = answer.value;
-            let name = values.name(index);
-            let version = view.snapshot.number();
-            let rows = &answer.rows;
-            print(
-                &Reply::Value {
-                    index,
-                    name,
-                    version,
-                    rows,
-                },
-                link,
-            )
-        }
-        Err(NoMemory) => print(&Reply::NoMemory, link),
+    let answer = match answer_query(alloc, &view, &values, kept) {
+        Ok(answer) => answer,
+        Err(NoMemory) => return print(&Reply::NoMemory, link),
     };
-    connection.last.keep(alloc, names, values);
+    let version = view.snapshot.number();
+    let told = tell_answer(&answer, &values, version, link);
+    let last = LastAnswer { s, version, answer };
+    connection.last.keep(alloc, names, values, last);
     told
+}
+
+/// The answer of the last question with its compliance values and the number of its version, where it is the answer to
+/// this one.
+fn last_answer<'a>(
+    connection: &'a Connection,
+    s: u32,
+    names: &[u8],
+) -> Option<(&'a Values, &'a Answer, u32)>
+    requires last { IsRightAgain (state_of connection.now) connection.now.last }
+    ensures { IfSome result (λ last.
+        IsAnswerTo (state_of connection.now) s names.now last.0.now last.1.now last.2) }
+{
+    let Ok(view) = connection.sessions.view(s) else {
+        return None;
+    };
+    let version = view.snapshot.number();
+    let (values, answer) = connection.last.answer_to(s, version, names)?;
+    Some((values, answer, version))
+}
+
+/// Tells an answer with its rows, over the version of this number.
+fn tell_answer<L: Link>(
+    answer: &Answer,
+    values: &Values,
+    version: u32,
+    link: &mut L,
+) -> Result<(), Failed>
+    requires value { answer.now.value < length values.now }
+    ensures prints { Prints (is_whole result)
+        (reply_text (Value answer.now.value (slice_index_or values.now answer.now.value []) version answer.now.rows))
+        (L.seen link.old) (L.seen link.new) }
+{
+    let index = answer.value;
+    let name = values.name(index);
+    let rows = &answer.rows;
+    print(
+        &Reply::Value {
+            index,
+            name,
+            version,
+            rows,
+        },
+        link,
+    )
 }
 
 /// Answers CRITICAL.

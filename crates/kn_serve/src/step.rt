@@ -8,6 +8,7 @@ ghost use Rattle.kn_registry.specs.Passes.{IsReady};
 ghost use Rattle.kn_serve.specs.Grounds.{grounds_of};
 ghost use Rattle.kn_serve.specs.Handling.{moment, state_of, HasRoom, MakesStep};
 ghost use Rattle.kn_serve.specs.Kept.{ArePinned, IsKept};
+ghost use Rattle.kn_serve.specs.LastQuestions.{IsLastOf};
 
 use crate::answering::{answer, refuse};
 use crate::config::DaemonConfig;
@@ -47,8 +48,10 @@ pub(crate) fn answer_next<R: Wait, A: Authenticator, L: Link, G: Gate>(
     requires room { HasRoom (state_of connection.old) }
     requires pinned { ArePinned pass.old.seen (state_of connection.old) }
     requires of_history { IsKept pass.old.seen kept.old }
+    requires last { IsLastOf pass.old.seen (state_of connection.old) connection.old.last }
     ensures ready { IsReady config.now.registry.now pass.new }
     ensures of_history { IsKept pass.new.seen kept.new }
+    ensures last { IsLastOf pass.new.seen (state_of connection.new) connection.new.last }
     ensures stepped { MakesStep (grounds_of A.verdict config.now)
         (moment pass.old connection.old (L.seen link.old)) (moment pass.new connection.new (L.seen link.new))
         (held feed.old) (held feed.new) result }

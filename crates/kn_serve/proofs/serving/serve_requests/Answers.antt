@@ -3,6 +3,7 @@ use Rattle.kn_serve.proofs.ServingLaws.{serves_nothing, serving_begun, serving_r
 use Rattle.kn_serve.proofs.ServingLaws.{serving_still, none_still, end_still, serves_bye, serves_block, serves_write}
 use Rattle.kn_serve.proofs.ServingLaws.{serves_read, serves_end, serves_budget}
 use Rattle.kn_serve.proofs.KeptLaws.{serving_pinned}
+use Rattle.kn_serve.proofs.LastLaws.{none-last}
 use Rattle.kn_serve.proofs.serving.serve_requests.Goals as goal
 
 pub returns-in-Err-clause-serves : goal.returns-in-Err-clause-serves
@@ -12,8 +13,9 @@ pub requests-init : goal.requests-init
 requests-init g c = (
   c.requires.ready,
   omega arith,
-  serving_begun c.serving_begins.ensures _ _ _ _ _ c.new-connection.ensures c.in-Ok.ensures,
+  serving_begun c.serving_begins.ensures _ _ _ _ _ c.new-connection.ensures.state c.in-Ok.ensures,
   c.requires.of_history,
+  none-last _ _ _ c.new-connection.ensures.last,
 )
 
 pub returns-then-answered-ge-REQUESTS-clause-serves : goal.returns-then-answered-ge-REQUESTS-clause-serves
@@ -35,6 +37,7 @@ requests-preserved-else-answered-ge-REQUESTS g c =
       omega arith,
       serving_answers _ _ _ _ _ _ i.2 c.serving_answers.ensures _ _ _ t.1 t.2 t.3,
       c.in-Answered.ensures.of_history,
+      c.in-Answered.ensures.last,
     )
 
 pub returns-in-SaidBye-clause-serves : goal.returns-in-SaidBye-clause-serves
@@ -65,6 +68,7 @@ requests-preserved g c =
       i.1,
       serving_reads _ _ _ _ _ _ s c.serving_takes.ensures _ _ f.0 f.1 f.2,
       c.in-Dry.ensures.of_history,
+      c.in-Dry.ensures.last,
     )
 
 pub returns-in-Failed-clause-serves : goal.returns-in-Failed-clause-serves
@@ -97,3 +101,6 @@ answer_next-requires-clause-pinned g c =
 
 pub answer_next-requires-clause-of_history : goal.answer_next-requires-clause-of_history
 answer_next-requires-clause-of_history g c = λ κs within. c.requests.invariant.3
+
+pub answer_next-requires-clause-last : goal.answer_next-requires-clause-last
+answer_next-requires-clause-last g c = λ κs within. c.requests.invariant.4

@@ -3,8 +3,9 @@ use Rattle.kn_base.specs.declared.limits.TheConstants.{REQUESTS}
 use Rattle.kn_registry.specs.Passes.{IsReady}
 use Rattle.kn_wire.specs.Feeds.{held}
 use Rattle.kn_serve.specs.Grounds.{grounds_of}
-use Rattle.kn_serve.specs.Handling.{moment}
+use Rattle.kn_serve.specs.Handling.{moment, state_of}
 use Rattle.kn_serve.specs.Kept.{IsKept}
+use Rattle.kn_serve.specs.LastQuestions.{IsLastOf}
 use Rattle.kn_serve.specs.Serving.{Serving}
 use Rattle.kn_serve.proofs.serving.serve_requests.Given as goal
 
@@ -15,3 +16,4 @@ invariant-requests g l =
     × Serving (grounds_of g.A.Authenticator.verdict l.fn.config) l.fn.pass (g.L.Sink.seen l.fn.link)
     (moment l.pass l.connection (g.L.Sink.seen l.link)) (held l.feed) l.answered
     × IsKept l.pass.seen l.kept
+    × IsLastOf l.pass.seen (state_of l.connection) l.connection.last

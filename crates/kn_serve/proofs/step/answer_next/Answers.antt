@@ -11,6 +11,7 @@ pub returns-in-Syntax : goal.returns-in-Syntax
 returns-in-Syntax g c = record {
   ready = c.requires.ready;
   of_history = c.requires.of_history;
+  last = c.requires.last;
   stepped = refused_line _ _ _ _ _ _ _ _ c.in-Err.fault c.next.follows.holds-at-none c.in-Err.is
       (c.in-Ok-refuse.ensures.told _ _) c.in-Syntax.is;
 }

@@ -2,7 +2,8 @@ use Rattle.std.proofs.Common.{refl}
 use Rattle.kn_serve.specs.Grounds.{grounds_of}
 use Rattle.kn_serve.proofs.HandlingLaws.{told_handled, handles_as}
 use Rattle.kn_serve.proofs.KeptLaws.{kept-handled}
-use Rattle.kn_serve.proofs.answering.answer.Goals as goal
+use Rattle.kn_serve.proofs.LastLaws.{last-handled, last-handled-same, unkept}
+use Rattle.kn_serve.proofs.answering.dispatch.Goals as goal
 
 pub returns-in-Call-clause-handled : goal.returns-in-Call-clause-handled
 returns-in-Call-clause-handled g c =
@@ -116,10 +117,67 @@ returns-in-Watch-clause-of_history g c =
 
 pub query-requires : goal.query-requires
 query-requires g c = record {
-  one_history = record { history = c.args.pass.now.seen; pinned = c.requires.pinned; is = c.requires.of_history };
+  one_history = record {
+    history = c.args.pass.now.seen;
+    pinned = c.requires.pinned;
+    bases = c.requires.of_history;
+    still = c.requires.last;
+  };
 }
 
 pub watch-requires : goal.watch-requires
 watch-requires g c = record {
   one_history = record { history = c.args.pass.now.seen; pinned = c.requires.pinned; is = c.requires.of_history };
 }
+
+pub returns-in-Call-clause-last : goal.returns-in-Call-clause-last
+returns-in-Call-clause-last g c = λ k. unkept _ _ _ c.shape_of.ensures.shape c.in-Call.is refl k
+
+pub returns-in-SetDigits-clause-last : goal.returns-in-SetDigits-clause-last
+returns-in-SetDigits-clause-last g c = λ k. unkept _ _ _ c.shape_of.ensures.shape c.in-SetDigits.is refl k
+
+pub returns-in-Open-clause-last : goal.returns-in-Open-clause-last
+returns-in-Open-clause-last g c = λ k. unkept _ _ _ c.shape_of.ensures.shape c.in-Open.is refl k
+
+pub returns-in-News-clause-last : goal.returns-in-News-clause-last
+returns-in-News-clause-last g c = λ k. unkept _ _ _ c.shape_of.ensures.shape c.in-News.is refl k
+
+pub returns-in-Watch-clause-last : goal.returns-in-Watch-clause-last
+returns-in-Watch-clause-last g c = λ k. unkept _ _ _ c.shape_of.ensures.shape c.in-Watch.is refl k
+
+pub returns-in-Admin-clause-last : goal.returns-in-Admin-clause-last
+returns-in-Admin-clause-last g c = λ k. unkept _ _ _ c.shape_of.ensures.shape c.in-Admin.is refl k
+
+pub returns-in-Bye-clause-last : goal.returns-in-Bye-clause-last
+returns-in-Bye-clause-last g c = λ k. unkept _ _ _ c.shape_of.ensures.shape c.in-Bye.is refl k
+
+pub returns-in-Add-clause-last : goal.returns-in-Add-clause-last
+returns-in-Add-clause-last g c = λ k.
+    last-handled _ _ _ _ _ _ (returns-in-Add-clause-handled g c) k c.requires.last
+
+pub returns-in-Remove-clause-last : goal.returns-in-Remove-clause-last
+returns-in-Remove-clause-last g c = λ k.
+    last-handled _ _ _ _ _ _ (returns-in-Remove-clause-handled g c) k c.requires.last
+
+pub returns-in-Batch-clause-last : goal.returns-in-Batch-clause-last
+returns-in-Batch-clause-last g c = λ k.
+    last-handled _ _ _ _ _ _ (returns-in-Batch-clause-handled g c) k c.requires.last
+
+pub returns-in-Log-clause-last : goal.returns-in-Log-clause-last
+returns-in-Log-clause-last g c = λ k.
+    last-handled _ _ _ _ _ _ (returns-in-Log-clause-handled g c) k c.requires.last
+
+pub returns-in-Critical-clause-last : goal.returns-in-Critical-clause-last
+returns-in-Critical-clause-last g c = λ k.
+    last-handled _ _ _ _ _ _ (returns-in-Critical-clause-handled g c) k c.requires.last
+
+pub returns-in-Pin-clause-last : goal.returns-in-Pin-clause-last
+returns-in-Pin-clause-last g c = λ k.
+    last-handled-same _ _ _ _ _ _ _ (returns-in-Pin-clause-handled g c) c.pin.ensures.last k c.requires.last
+
+pub returns-in-PinAt-clause-last : goal.returns-in-PinAt-clause-last
+returns-in-PinAt-clause-last g c = λ k.
+    last-handled-same _ _ _ _ _ _ _ (returns-in-PinAt-clause-handled g c) c.pin_at.ensures.last k c.requires.last
+
+pub returns-in-Query-clause-last : goal.returns-in-Query-clause-last
+returns-in-Query-clause-last g c = λ k. c.query.ensures.last c.args.pass.now.seen c.requires.pinned c.requires.last
