@@ -38,7 +38,8 @@ last-weaker : (P Q : Values → LastAnswer → Type 0) → ((vs : Values) (a : L
     → IfSome last.values (λ vs. IfSome last.answer (Q vs))
 last-weaker P Q weaker last is = by last.values last.answer is
   where
-    by : (vs : Option Values) (a : Option LastAnswer) → IfSome vs (λ v. IfSome a (P v)) → IfSome vs (λ v. IfSome a (Q v))
+    by : (vs : Option Values) (a : Option LastAnswer) → IfSome vs (λ v. IfSome a (P v))
+        → IfSome vs (λ v. IfSome a (Q v))
     by None a p = tt
     by (Some v) None p = tt
     by (Some v) (Some a) p = weaker v a p
@@ -212,7 +213,8 @@ last-found state last s version session values answer found at right (inr (vs, a
       right = λ other there.
           let same : session ≡ other = cc (found, there) in
           subst (λ (x : Session). IsRight (at_version history version x) values answer) same
-          (subst (λ (x : Session). IsRight x values answer) (sym (at-own history session version first (sym at))) right);
+          (subst (λ (x : Session). IsRight x values answer) (sym (at-own history session version first (sym at)))
+          right);
     } in
     subst (λ (o : Option Values). IfSome o (λ v. IfSome last.answer (IsStillRight history state v))) (sym vs)
     (subst (λ (o : Option LastAnswer). IfSome o (IsStillRight history state values)) (sym a) still)

@@ -56,7 +56,8 @@ IsRightAgain state last = (session : Session) (values : List (List ℕ)) (answer
     → last.answer ≡ Some answer → session_of state answer.s ≡ Some session
     → length session.pinned ≡ answer.version → IsRight session values answer.answer
 
--- The answer is the right one to a question by these names of the session of this number, which is pinned to the version
+-- The answer is the right one to a question by these names of the session of this number, which is pinned to the
+-- version
 -- of this number.
 pub record IsAnswerTo (state : State) (s : ℕ) (names : List ℕ) (values : List (List ℕ)) (answer : Answer) (version : ℕ)
     : Type 0 where
