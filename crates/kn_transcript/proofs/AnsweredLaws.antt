@@ -9,12 +9,12 @@ use Rattle.std.proofs.lemmas.List.Sums.{length-filter}
 use Rattle.kn_history.specs.declared.update.Update.{Update}
 use Rattle.kn_wire.specs.Requests.{Request}
 use Rattle.kn_reply.specs.Replies.{Reply, reply_text}
+use Rattle.kn_reply_reader.specs.Texts.{HasText}
 use Rattle.kn_daemon.specs.Shapes.{shape_of}
 use Rattle.kn_daemon.specs.Daemon.{State, first_state}
 use Rattle.kn_daemon.proofs.Runs.{any-push}
 use Rattle.kn_transcript.specs.declared.progress.Progress.{Progress}
 use Rattle.kn_transcript.specs.Followed.{Answered, Follows, IsPermitted, history_behind}
-use Rattle.kn_transcript.specs.Texts.{HasText}
 use Rattle.kn_transcript.specs.Accepted.{IsFollowed, is_foreign, is_value, requests_in, text_in}
 use Rattle.kn_transcript.specs.Judging.{state_of}
 use Rattle.kn_transcript.specs.Progress.{IsAnsweredBy, HasComeTo, AreMeant, counted}

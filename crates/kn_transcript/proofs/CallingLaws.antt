@@ -11,11 +11,11 @@ use Rattle.kn_session.specs.Sessions.{Session, OpenSessions, session_in, fault_i
 use Rattle.kn_session.specs.Calls.{Call, call_fault_in, call_answer, lacks_memory, Accepts, Refuses}
 use Rattle.kn_reply.specs.declared.refusal.Refusal.{Refusal}
 use Rattle.kn_reply.specs.Replies.{Reply, No, reply_text}
+use Rattle.kn_reply_reader.specs.Texts.{HasText}
 use Rattle.kn_daemon.specs.Shapes.{Calls}
 use Rattle.kn_daemon.specs.Daemon.{Grounds, State, session_of, own_refusal, refusal_of_call, reply_of_call}
 use Rattle.kn_daemon.proofs.Faults.{lacking-untold}
 use Rattle.kn_transcript.specs.Followed.{history_behind}
-use Rattle.kn_transcript.specs.Texts.{HasText}
 use Rattle.kn_transcript.specs.Judging.{HasRoom, IsBehind, Judges}
 use Rattle.kn_transcript.proofs.Permitted.{is_acceptance}
 use Rattle.kn_transcript.proofs.Judged.{refused_ok, done_ok, told_by}

@@ -4,10 +4,10 @@ use Rattle.std.specs.Prelude.{Result, Ok, Err, IfOk}
 use Rattle.kn_history.specs.declared.update.Update.{Update}
 use Rattle.kn_reply.specs.declared.refusal.Refusal.{Refusal}
 use Rattle.kn_reply.specs.Replies.{Reply, No, reply_text}
+use Rattle.kn_reply_reader.specs.Texts.{HasText}
 use Rattle.kn_daemon.specs.Shapes.{Shape}
 use Rattle.kn_daemon.specs.Daemon.{Grounds, State, Answers, own_refusal, placed_refusal, changed}
 use Rattle.kn_transcript.specs.Followed.{IsPermitted, history_behind}
-use Rattle.kn_transcript.specs.Texts.{HasText}
 use Rattle.kn_transcript.specs.Judging.{IsBehind, Judges}
 use Rattle.kn_transcript.proofs.Permitted.{OnlyReply, DoesReply, grounds_at, is_acceptance, own_only, own_permitted}
 use Rattle.kn_transcript.proofs.Permitted.{placed_only, placed_permitted, done_only, done_permitted}

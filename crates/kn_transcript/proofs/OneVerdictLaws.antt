@@ -11,16 +11,15 @@ use Rattle.kn_wire.specs.Requests.{Request}
 use Rattle.kn_wire.proofs.Readings.{one_reading}
 use Rattle.kn_reply.specs.Replies.{Reply, Done, Started, Number, PrivateAdded, Added, Value, Batched, PinnedAt, Log}
 use Rattle.kn_reply.specs.Replies.{News, Critical, No, NoMemory, reply_text}
+use Rattle.kn_reply_reader.specs.Texts.{HasText, BeginsWith}
+use Rattle.kn_reply_reader.proofs.ApartLaws.{replies_apart}
 use Rattle.kn_daemon.specs.Shapes.{shape_of}
 use Rattle.kn_daemon.specs.Daemon.{State, first_state}
 use Rattle.kn_transcript.specs.declared.fault.TranscriptFault.{TranscriptFault}
 use Rattle.kn_transcript.specs.declared.fault.TranscriptFault.TheVariants as F
 use Rattle.kn_transcript.specs.Followed.{Answered, Follows, IsPermitted, history_behind}
-use Rattle.kn_transcript.specs.Texts.{HasText}
 use Rattle.kn_transcript.specs.Accepted.{IsFollowed, is_foreign, is_value, meant_of, requests_in, text_in}
-use Rattle.kn_transcript.specs.Faulty.{BeginsWith}
 use Rattle.kn_transcript.specs.Laws.{HasVerdict, OneVerdict}
-use Rattle.kn_transcript.proofs.ApartLaws.{replies_apart}
 use Rattle.kn_transcript.proofs.DeterminedLaws.{one_value, one_outcome}
 
 values_in : List Answered → ℕ

@@ -13,17 +13,18 @@ use Rattle.kn_session.specs.declared.fault.SessionFault.{SessionFault}
 use Rattle.kn_session.specs.Sessions.{Session, fault_in}
 use Rattle.kn_reply.specs.declared.refusal.Refusal.TheVariants as R
 use Rattle.kn_reply.specs.Replies.{Reply, Value, No, reply_text}
+use Rattle.kn_reply_reader.specs.declared.value_reply.ValueReply.{ValueReply}
+use Rattle.kn_reply_reader.specs.Texts.{HasText}
+use Rattle.kn_reply_reader.specs.ValueReplies.{IsValueAt}
 use Rattle.kn_daemon.specs.Shapes.{Asks, WithProof}
 use Rattle.kn_daemon.specs.Daemon.{Grounds, State, IsAnswered, IsAnswer, in_session, refusal_of_names}
 use Rattle.kn_daemon.specs.Daemon.{refusal_of_question}
 use Rattle.kn_daemon.specs.Daemon.{session_of, own_refusal}
 use Rattle.kn_daemon.proofs.Updates.{no-update}
 use Rattle.kn_verify.proofs.Accepted.{answers_are_proved}
-use Rattle.kn_transcript.specs.declared.value_reply.ValueReply.{ValueReply}
 use Rattle.kn_transcript.specs.Followed.{IsPermitted, with_update, history_behind}
-use Rattle.kn_transcript.specs.Texts.{HasText}
 use Rattle.kn_transcript.specs.Judging.{IsBehind, Judges}
-use Rattle.kn_transcript.specs.ValueReplies.{IsValueAt, JudgesValue, ProvesAnswer}
+use Rattle.kn_transcript.specs.ValueReplies.{JudgesValue, ProvesAnswer}
 use Rattle.kn_transcript.proofs.Permitted.{grounds_at, permits_cases, done_permitted}
 use Rattle.kn_transcript.proofs.Judged.{refused_ok, taken_by}
 use Rattle.kn_transcript.proofs.CallingLaws.{none_found}

@@ -7,11 +7,11 @@ use Rattle.kn_history.specs.declared.update.Update.{Update}
 use Rattle.kn_reply.specs.declared.refusal.Refusal.{Refusal}
 use Rattle.kn_reply.specs.declared.refusal.Refusal.TheVariants as R
 use Rattle.kn_reply.specs.Replies.{Reply, No, reply_text}
+use Rattle.kn_reply_reader.specs.Texts.{HasText}
 use Rattle.kn_daemon.specs.Shapes.{Updating, Shape, Updates}
 use Rattle.kn_daemon.specs.Daemon.{Grounds, State, IsUpdated, own_refusal, placed_refusal, refusal_of_update, refuse_if}
 use Rattle.kn_transcript.specs.declared.fault.TheConstants.{AUTH_FAULTS}
 use Rattle.kn_transcript.specs.Followed.{IsPermitted, history_behind}
-use Rattle.kn_transcript.specs.Texts.{HasText}
 use Rattle.kn_transcript.specs.Judging.{IsBehind, Judges}
 use Rattle.kn_transcript.proofs.Permitted.{OnlyAt, grounds_at, is_acceptance, own_only, own_permitted, placed_only}
 use Rattle.kn_transcript.proofs.Permitted.{placed_permitted, done_only, done_permitted}

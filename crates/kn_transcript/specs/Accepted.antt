@@ -7,12 +7,12 @@ use Rattle.kn_wire.specs.Requests.{Request, AreRequests}
 use Rattle.kn_session.specs.Calls.{Call, Unwatch}
 use Rattle.kn_reply.specs.Replies.{Reply, Done, Started, Number, PrivateAdded, Added, Value, Batched, PinnedAt}
 use Rattle.kn_reply.specs.Replies.{Log as Logged, News as Told, Critical as Needs, No, NoMemory, reply_text}
+use Rattle.kn_reply_reader.specs.Texts.{HasText}
 use Rattle.kn_daemon.specs.Daemon.{State, first_state}
 use Rattle.kn_daemon.specs.Shapes.{Shape, Calls, Updates, Looks, Asks, Controls, AtFault, ForNew, ForOpen, ForRetained}
 use Rattle.kn_daemon.specs.Shapes.{ForStanding, ForLog, Look, Question, WithProof, WithCritical, ToKeep, shape_of}
 use Rattle.kn_daemon.specs.Played.{up_to_end}
 use Rattle.kn_transcript.specs.Followed.{Answered, Follows}
-use Rattle.kn_transcript.specs.Texts.{HasText}
 
 -- What a transcript doesn't judge: standing queries, critical assertions, and updates that are handed on.
 

@@ -1,14 +1,14 @@
 -- Why a transcript isn't accepted (keynoted's own).
-use Rattle.std.specs.Prelude.{ℕ, ◌≡◌, ◌≢◌, ◌+◌, true, false, List, [], ◌∷◌, ◌++◌, length}
+use Rattle.std.specs.Prelude.{ℕ, ◌≡◌, ◌≢◌, ◌+◌, true, false, List, [], ◌∷◌, length}
 use Rattle.kn_history.specs.declared.update.Update.{Update}
 use Rattle.kn_wire.specs.Requests.{Request}
-use Rattle.kn_reply.specs.Replies.{Reply, reply_text}
+use Rattle.kn_reply.specs.Replies.{Reply}
+use Rattle.kn_reply_reader.specs.Texts.{BeginsWith}
 use Rattle.kn_daemon.specs.Shapes.{shape_of}
 use Rattle.kn_daemon.specs.Daemon.{State}
 use Rattle.kn_transcript.specs.declared.fault.TranscriptFault.{TranscriptFault}
 use Rattle.kn_transcript.specs.declared.fault.TranscriptFault.TheVariants as F
 use Rattle.kn_transcript.specs.Followed.{Answered, IsPermitted}
-use Rattle.kn_transcript.specs.Texts.{HasText}
 use Rattle.kn_transcript.specs.Accepted.{IsFollowed, is_foreign, text_in}
 
 -- The requests before this one were answered. It has this number, counted from 1, and these bytes are left for it and
@@ -21,12 +21,6 @@ pub record IsReached (past : List Update) (script replies : List ℕ) (request :
   pub state : State
   pub followed : IsFollowed past script replies answered (request ∷ others) left history state
   pub place : number ≡ length answered + 1
-
--- the bytes begin with the text of this reply
-pub record BeginsWith (left : List ℕ) (reply : Reply) : Type 0 where
-  pub more : List ℕ
-  pub text : HasText reply
-  pub cut : left ≡ reply_text reply ++ more
 
 -- a request that a transcript judges is reached
 pub record IsJudged (past : List Update) (script replies : List ℕ) (number : ℕ) (left : List ℕ) : Type 0 where

@@ -2,12 +2,12 @@
 use Rattle.std.specs.Prelude.{ℕ, ◌≡◌, ◌≢◌, ◌<◌, ◌^◌, List, ◌++◌, Option, Some, None}
 use Rattle.kn_history.specs.declared.update.Update.{Update}
 use Rattle.kn_reply.specs.Replies.{Reply, NoMemory, reply_text}
+use Rattle.kn_reply_reader.specs.Texts.{HasText}
 use Rattle.kn_daemon.specs.Shapes.{Shape}
 use Rattle.kn_daemon.specs.Daemon.{State}
 use Rattle.kn_daemon.specs.Underway.{IsSmall}
 use Rattle.kn_transcript.specs.declared.connection.Connection.{Connection}
 use Rattle.kn_transcript.specs.Followed.{IsPermitted, history_behind}
-use Rattle.kn_transcript.specs.Texts.{HasText}
 
 -- what a connection has come to
 abbrev pub state_of : Connection → State

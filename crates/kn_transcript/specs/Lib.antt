@@ -1,5 +1,4 @@
 pub mod Followed
-pub mod Texts
 pub mod Accepted
 pub mod Faulty
 pub mod Judging
@@ -7,9 +6,3 @@ pub mod ValueReplies
 pub mod Verdicts
 pub mod Laws
 pub mod Progress
-pub mod Numerals
-pub mod Fronts
-pub mod Forms
-pub mod OneLineForms
-pub mod Kinds
-pub mod Apart

@@ -9,16 +9,14 @@ use Rattle.kn_daemon.specs.Shapes.{shape_of}
 use Rattle.kn_daemon.specs.Daemon.{State, first_state}
 use Rattle.kn_daemon.specs.Played.{is_last}
 use Rattle.kn_reply.specs.Replies.{Reply}
+use Rattle.kn_reply_reader.specs.Texts.{HasText, BeginsWith, BeginsWithReply}
 use Rattle.kn_play.specs.Playing.{IsFed, TakesRequest, IsSpent}
 use Rattle.kn_transcript.specs.declared.fault.TranscriptFault.{TranscriptFault}
 use Rattle.kn_transcript.specs.declared.fault.TranscriptFault.TheVariants as F
 use Rattle.kn_transcript.specs.declared.progress.Progress.{Progress}
 use Rattle.kn_transcript.specs.declared.verifying.Verified.{Verified}
 use Rattle.kn_transcript.specs.Followed.{Answered, Follows, IsPermitted}
-use Rattle.kn_transcript.specs.Texts.{HasText}
 use Rattle.kn_transcript.specs.Accepted.{is_foreign, is_value, meant_of, requests_in, text_in}
-use Rattle.kn_transcript.specs.Faulty.{BeginsWith}
-use Rattle.kn_transcript.specs.Kinds.{BeginsWithReply}
 use Rattle.kn_transcript.specs.Judging.{state_of, Takes}
 
 -- the first byte is that of a reply that gives a value

@@ -10,11 +10,11 @@ ghost use Rattle.kn_transcript.specs.ValueReplies.{JudgesValue, ProvesAnswer};
 
 use crate::connection::Connection;
 use crate::matching::behind_reply;
-use crate::value_reply::read_value;
 use kn_base::NoMemory;
 use kn_env::{Values, ValuesFault};
 use kn_proof::ReadReply;
 use kn_reply::{Refusal, Reply};
+use kn_reply_reader::read_value;
 use kn_session::View;
 use kn_verify::laws::answers_are_accepted;
 use kn_verify::{Refused, verify};

@@ -1,0 +1,11 @@
+pub mod EndingLaws
+pub mod ValueReplyLaws
+pub mod Written
+pub mod Fronts
+pub mod FormLaws
+pub mod OneLineLaws
+pub mod ReplyLaws
+pub mod ValueTextLaws
+pub mod LogLaws
+pub mod AnyLaws
+pub mod ApartLaws
