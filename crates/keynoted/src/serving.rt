@@ -17,7 +17,7 @@ use kn_load::load_file;
 use kn_outside::{Files, Gate, Sink};
 use kn_registry::{Pass, Registry};
 use kn_words::{Service, service_of, texts_of};
-use kn_workers::{Door, Net, serve_address};
+use kn_workers::{Door, Net, ServedAddress, serve_address};
 use std::alloc::Global;
 use std::sync::Wait;
 use std::thread::Threads;
@@ -116,18 +116,14 @@ where
         (N.seen net.old) (N.seen net.new) service.now result }
 {
     match keys_of(alloc, service.files.keys, files) {
-        Ok(keys) => ServeEnding::Ended(serve_address(
-            rt,
-            alloc,
-            registry,
-            root,
-            &keys,
-            service.address,
-            service.workers,
-            service.connections,
-            net,
-            gate,
-        )),
+        Ok(keys) => {
+            let served = ServedAddress {
+                address: service.address,
+                doors: service.workers,
+                quota: service.connections,
+            };
+            ServeEnding::Ended(serve_address(rt, alloc, registry, root, &keys, &served, net, gate))
+        }
         Err(stop) => ServeEnding::KeysStopped(stop),
     }
 }

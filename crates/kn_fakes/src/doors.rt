@@ -11,12 +11,10 @@ use kn_auth::{KeyFile, read_keys};
 use kn_base::{List, NoMemory};
 use kn_outside::MemLink;
 use kn_registry::{Pass, Registry};
-use kn_workers::{AddressEnding, MemNet, MemRoom, serve_address};
+use kn_workers::{AddressEnding, MemNet, MemRoom, ServedAddress, serve_address};
 use std::alloc::Global;
 use std::sync::Wait;
 use std::thread::Threads;
-
-const ADDRESS: &[u8] = b"memory";
 
 const ANSWERS: &[u8] = b"OK 1 1\nOK\nVALUE 1 yes 1 1\nROW 1 a1 \"POLICY\"\nEND\n";
 
@@ -168,7 +166,12 @@ fn serve_net<R: Threads + Wait + Sync>(
     requires unbound { (net_seen net.old).bound ≡ None }
     requires none { (net_seen net.old).rooms ≡ [] }
 {
-    serve_address(rt, alloc, registry, root, keys, ADDRESS, 2, 3, net, gate)
+    let served = ServedAddress {
+        address: b"memory",
+        doors: 2,
+        quota: 3,
+    };
+    serve_address(rt, alloc, registry, root, keys, &served, net, gate)
 }
 
 /// Whether this was written to the first connection of door 0, to its second one, and to the first one of door 1.

@@ -10,8 +10,8 @@ ghost use Rattle.kn_tcp.specs.Tcp.{counted_seen, tcp_seen};
 ghost use Rattle.kn_workers.specs.Nets.{AreBound, Binds, share, with_faults};
 
 use crate::tcp_door::TcpDoor;
-use kn_base::{List, NoMemory, Octets, Reserved};
-use kn_workers::{BindFault, Binding, Net};
+use kn_base::{List, NoMemory, Reserved};
+use kn_workers::{BindFault, Binding, Net, ServedAddress};
 use std::alloc::Global;
 use std::io::{self, ErrorKind};
 use std::marker::Model;
@@ -66,24 +66,22 @@ impl Net for TcpNet {
         &mut self,
         _rt: &R,
         alloc: Global,
-        address: &[u8],
-        doors: u32,
-        quota: u32,
+        served: &ServedAddress<'_>,
     ) -> Result<List<TcpDoor>, BindFault>
-        requires doors { (1 ≤ doors) × (doors ≤ WORKERS) }
+        requires doors { (1 ≤ served.now.doors) × (served.now.doors ≤ WORKERS) }
         requires unbound { self.old.bound ≡ None }
-        ensures doors { IfOk result (λ rooms. length rooms ≡ doors) }
-        ensures new { IfOk result (λ rooms. AreBound counted_seen quota doors 0 rooms) }
-        ensures binds { Binds (record { address = address.now; doors = doors; quota = quota }) result
-            (tcp_seen self.old) (tcp_seen self.new) }
+        ensures doors { IfOk result (λ rooms. length rooms ≡ served.now.doors) }
+        ensures new { IfOk result (λ rooms. AreBound counted_seen served.now.quota served.now.doors 0 rooms) }
+        ensures binds { Binds served.now result (tcp_seen self.old) (tcp_seen self.new) }
         ensures failed { result ≡ Err B.Failed → self.new.faults ≡ raised self.old.faults }
-        ensures text { IfOk result (λ rooms. IsUtf8 address.now) }
+        ensures text { IfOk result (λ rooms. IsUtf8 served.now.address) }
     {
-        let text = match Octets::from_slice(alloc, address) {
-            Ok(text) => text,
+        let binding = match Binding::of(alloc, served) {
+            Ok(binding) => binding,
             Err(NoMemory) => return Err(BindFault::NoMemory),
         };
-        let made = match listen(&self.rt, alloc, address) {
+        let (doors, quota) = (binding.doors, binding.quota);
+        let made = match listen(&self.rt, alloc, served.address) {
             Ok(listener) => make_doors(self.rt, alloc, &listener, self.timeout, doors, quota),
             Err(fault) => Err(fault),
         };
@@ -92,11 +90,7 @@ impl Net for TcpNet {
             Err(BindFault::Failed) => self.faults = self.faults.saturating_add(1),
             Ok(_) => {}
         }
-        self.bound = Some(Binding {
-            address: text,
-            doors,
-            quota,
-        });
+        self.bound = Some(binding);
         made
     }
 

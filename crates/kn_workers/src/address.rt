@@ -6,7 +6,7 @@ ghost use Rattle.kn_registry.specs.Passes.{IsReady};
 ghost use Rattle.kn_serve.specs.Grounds.{grounds_by};
 ghost use Rattle.kn_workers.specs.Addresses.{ServesOver};
 
-use crate::binding::BindFault;
+use crate::binding::{BindFault, ServedAddress};
 use crate::door::Door;
 use crate::net::Net;
 use crate::workers::serve_all;
@@ -37,7 +37,7 @@ pub enum AddressEnding {
     },
 }
 
-/// Serves so many connections of an address, which so many workers share, by the secret and the keys of a key file.
+/// Serves the connections of an address, with a worker at each of its doors, by the secret and the keys of a key file.
 /// Each worker has a pass that is split from the root of the registry.
 ///
 /// What the net gave is given back, however the work ended.
@@ -47,9 +47,7 @@ pub fn serve_address<R: Threads + Wait + Sync, N: Net, G: Gate>(
     registry: &Registry,
     root: Pass,
     keys: &KeyFile,
-    address: &[u8],
-    workers: u32,
-    connections: u32,
+    served: &ServedAddress<'_>,
     net: &mut N,
     gate: &G,
 ) -> AddressEnding
@@ -58,15 +56,14 @@ where
     requires ready { IsReady registry.now root }
     requires root { root.number ≡ 0 }
     requires unsplit { root.splits ≡ 0 }
-    requires workers { (1 ≤ workers) × (workers ≤ WORKERS) }
-    requires connections { connections ≤ CONNECTIONS }
+    requires doors { (1 ≤ served.now.doors) × (served.now.doors ≤ WORKERS) }
+    requires quota { served.now.quota ≤ CONNECTIONS }
     requires unbound { (N.seen net.old).bound ≡ None }
     requires none { (N.seen net.old).rooms ≡ [] }
     ensures { ServesOver N.Room.seen N.Room.Conn.seen (grounds_by verdict_of keys.now.auth keys.now.secret) root.seen
-        (N.seen net.old) (N.seen net.new)
-        (record { address = address.now; doors = workers; quota = connections }) result }
+        (N.seen net.old) (N.seen net.new) served.now result }
 {
-    let mut rooms = match net.bind(rt, alloc, address, workers, connections) {
+    let mut rooms = match net.bind(rt, alloc, served) {
         Ok(rooms) => rooms,
         Err(BindFault::Failed) => return AddressEnding::Unbound,
         Err(BindFault::NoMemory) => return AddressEnding::BindMemory,

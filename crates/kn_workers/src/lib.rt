@@ -16,7 +16,7 @@ mod workers;
 
 pub use accepted::Accepted;
 pub use address::{AddressEnding, serve_address};
-pub use binding::{BindFault, Binding};
+pub use binding::{BindFault, Binding, ServedAddress};
 pub use door::Door;
 pub use mem_door::{MemDoor, MemRoom};
 pub use mem_net::MemNet;

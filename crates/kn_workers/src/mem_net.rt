@@ -5,11 +5,11 @@ ghost use Rattle.kn_workers.specs.InMemory.{door_seen};
 ghost use Rattle.kn_workers.specs.Nets.{AreBound, Binds, share, with_faults};
 ghost use Rattle.kn_workers.specs.Rooms.{AreFit, BindsRooms, HaveRooms, failing_of, links_of, net_seen};
 
-use crate::binding::{BindFault, Binding};
+use crate::binding::{BindFault, Binding, ServedAddress};
 use crate::mem_door::{MemDoor, MemRoom, fails};
 use crate::net::Net;
 use crate::served::Served;
-use kn_base::{List, NoMemory, Octets, Reserved};
+use kn_base::{List, NoMemory, Reserved};
 use kn_outside::MemLink;
 use std::alloc::Global;
 use std::marker::Model;
@@ -91,22 +91,20 @@ impl Net for MemNet {
         &mut self,
         _rt: &R,
         alloc: Global,
-        address: &[u8],
-        doors: u32,
-        quota: u32,
+        served: &ServedAddress<'_>,
     ) -> Result<List<MemDoor>, BindFault>
-        requires doors { (1 ≤ doors) × (doors ≤ WORKERS) }
+        requires doors { (1 ≤ served.now.doors) × (served.now.doors ≤ WORKERS) }
         requires unbound { self.old.bound ≡ None }
-        ensures doors { IfOk result (λ rooms. length rooms ≡ doors) }
-        ensures new { IfOk result (λ rooms. AreBound door_seen quota doors 0 rooms) }
-        ensures binds { Binds (record { address = address.now; doors = doors; quota = quota }) result
-            (net_seen self.old) (net_seen self.new) }
+        ensures doors { IfOk result (λ rooms. length rooms ≡ served.now.doors) }
+        ensures new { IfOk result (λ rooms. AreBound door_seen served.now.quota served.now.doors 0 rooms) }
+        ensures binds { Binds served.now result (net_seen self.old) (net_seen self.new) }
         ensures rooms { BindsRooms result self.old self.new }
     {
-        let address = match Octets::from_slice(alloc, address) {
-            Ok(address) => address,
+        let binding = match Binding::of(alloc, served) {
+            Ok(binding) => binding,
             Err(NoMemory) => return Err(BindFault::NoMemory),
         };
+        let (doors, quota) = (binding.doors, binding.quota);
         let mut room = Reserved::new(alloc);
         if room.reserve(doors).is_err() {
             return Err(BindFault::NoMemory);
@@ -116,11 +114,7 @@ impl Net for MemNet {
             Err(NoMemory) => return Err(BindFault::NoMemory),
         };
         self.calls = self.calls.saturating_add(1);
-        self.bound = Some(Binding {
-            address,
-            doors,
-            quota,
-        });
+        self.bound = Some(binding);
         if fails(&self.failing, self.calls) {
             self.faults = self.faults.saturating_add(1);
             return Err(BindFault::Failed);

@@ -3,7 +3,7 @@ ghost use Rattle.std.specs.Prelude.{◌≡◌, ◌≤◌, [], length, IsSomeAnd,
 ghost use Rattle.kn_base.specs.declared.limits.TheConstants.{WORKERS};
 ghost use Rattle.kn_workers.specs.Nets.{AreBound, Binds, with_faults};
 
-use crate::binding::BindFault;
+use crate::binding::{BindFault, ServedAddress};
 use crate::door::Door;
 use kn_base::List;
 use std::alloc::Global;
@@ -25,16 +25,13 @@ pub trait Net {
         &mut self,
         rt: &R,
         alloc: Global,
-        address: &[u8],
-        doors: u32,
-        quota: u32,
+        served: &ServedAddress<'_>,
     ) -> Result<List<Self::Room>, BindFault>
-        requires doors { (1 ≤ doors) × (doors ≤ WORKERS) }
+        requires doors { (1 ≤ served.now.doors) × (served.now.doors ≤ WORKERS) }
         requires unbound { (seen self.old).bound ≡ None }
-        ensures doors { IfOk result (λ rooms. length rooms ≡ doors) }
-        ensures new { IfOk result (λ rooms. AreBound Self.Room.seen quota doors 0 rooms) }
-        ensures binds { Binds (record { address = address.now; doors = doors; quota = quota }) result
-            (seen self.old) (seen self.new) };
+        ensures doors { IfOk result (λ rooms. length rooms ≡ served.now.doors) }
+        ensures new { IfOk result (λ rooms. AreBound Self.Room.seen served.now.quota served.now.doors 0 rooms) }
+        ensures binds { Binds served.now result (seen self.old) (seen self.new) };
 
     /// Takes back the rooms that it gave, in their order. Their faults are then counted with its own. It takes no
     /// memory.
