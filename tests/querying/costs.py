@@ -49,6 +49,7 @@ class Asking:
 
     def __init__(self, program, policy, requester):
         self.run = subprocess.Popen([program, "ask", policy], stdin=subprocess.PIPE, stdout=subprocess.PIPE, bufsize=0)
+        self.asked = 0
         for request in ("OPEN", f"SET 1 v {'x' * VALUE_BYTES}", f"AUTH 1 {requester}"):
             self.exchange(request, b"OK")
 
@@ -65,6 +66,9 @@ class Asking:
         return spent
 
     def query(self):
+        """The milliseconds of a question that isn't the last one again."""
+        self.asked += 1
+        self.exchange(f"SET 1 turn {self.asked}", b"OK")
         return self.exchange("QUERY 1 no,yes", b"VALUE 1 yes ", b"END\n")
 
     def close(self):
@@ -141,8 +145,9 @@ def peak_mib(pid):
 
 
 def ask_rounds(link, wanted):
-    for _ in range(ROUNDS):
-        (reply,) = link.ask([b"QUERY 1 no,yes\n"])
+    for number in range(ROUNDS):
+        # the last question again wouldn't look at a base
+        _, reply = link.ask([b"SET 1 turn %d\n" % number, b"QUERY 1 no,yes\n"])
         if not reply.startswith(wanted):
             raise Fault(f"QUERY is answered {reply!r:.100}")
 
